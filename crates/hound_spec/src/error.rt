@@ -1,0 +1,47 @@
+// Why a call on a reader or a writer failed.
+ghost use Rattle.std.specs.Prelude.{◌≡◌};
+ghost use Rattle.hound_spec.specs.declared.error.Error.TheVariants.{IoError};
+
+use std::{io, result};
+use thiserror::Error as DeriveError;
+
+/// Why a call on a `WavReader`, a `WavWriter` or a `Sample` failed.
+#[derive(Debug, Drop, DeriveError)]
+pub enum Error {
+    /// The reader, the writer or the medium failed, or the input ended early.
+    #[error(transparent)]
+    IoError(io::Error),
+    /// The bytes are no WAVE file, for this reason.
+    #[error("Ill-formed WAVE file: {0}")]
+    FormatError(&'static str),
+    /// The sample has more bits than the type that is read, or than the file that is written has
+    /// room for.
+    #[error("The sample has more bits than the destination type.")]
+    TooWide,
+    /// The samples are no whole number of frames: some channel lacks its last sample.
+    #[error("The number of samples written is not a multiple of the number of channels.")]
+    UnfinishedSample,
+    /// The format can't be read or written.
+    #[error("The wave format of the file is not supported.")]
+    Unsupported,
+    /// The file's samples are integers and floats were asked for, or the other way round.
+    #[error("The sample format differs from the destination format.")]
+    InvalidSampleFormat,
+    /// The size fields of the file, of 32 bits, could not say its length.
+    #[error("The file would be longer than its size fields can say.")]
+    TooLong,
+    /// A request for memory was refused.
+    #[error("There is not enough memory.")]
+    OutOfMemory,
+}
+
+impl From<io::Error> for Error {
+    ghost from_gives = { λ e r. r ≡ IoError e };
+
+    fn from(error: io::Error) -> Error {
+        Error::IoError(error)
+    }
+}
+
+/// The result of a call that may fail with an [`Error`].
+pub type Result<T> = result::Result<T, Error>;

@@ -1,0 +1,178 @@
+// The bytes that stand before the data.
+ghost use Rattle.std.specs.Prelude.{◌≡◌, ◌+◌, ◌-◌, ◌*◌, ◌^◌, ◌≤◌, ◌++◌, [], List, ℕ, length, take, min};
+ghost use Rattle.hound_spec.specs.Writable.{IsWritable};
+ghost use Rattle.hound_number.specs.Number.{bytes_of};
+ghost use Rattle.hound_spec.specs.Header.{is_short, fields, header, mask, short_fmt, long_fmt, sized_fmt, subformat};
+
+use crate::{SampleFormat, WavSpecEx};
+use hound_number::{le_u16, le_u32};
+use std::marker::Model;
+
+// The subformats of WAVEFORMATEXTENSIBLE, as GUIDs of mmreg.h: the first three groups are
+// little-endian numbers.
+const KSDATAFORMAT_SUBTYPE_PCM: [u8; 16] = [
+    0x01, 0x00, 0x00, 0x00, 0x00, 0x00, 0x10, 0x00, 0x80, 0x00, 0x00, 0xaa, 0x00, 0x38, 0x9b, 0x71,
+];
+
+const KSDATAFORMAT_SUBTYPE_IEEE_FLOAT: [u8; 16] = [
+    0x03, 0x00, 0x00, 0x00, 0x00, 0x00, 0x10, 0x00, 0x80, 0x00, 0x00, 0xaa, 0x00, 0x38, 0x9b, 0x71,
+];
+
+/// The bytes of a header, at most 68.
+#[derive(Drop)]
+pub struct Header {
+    bytes: [u8; 68],
+    len: usize,
+}
+
+impl Model for Header {
+    ghost Value = { List ℕ };
+
+    ghost view = { λ h. take h.len h.bytes };
+
+    ghost invariant = { λ h. h.len ≤ 68 };
+}
+
+impl Header {
+    // No bytes yet.
+    fn new() -> Header
+        ensures { result ≡ [] }
+    {
+        Header {
+            bytes: [0; 68],
+            len: 0,
+        }
+    }
+
+    // Adds bytes behind those that are there.
+    fn write_all(&mut self, bytes: &[u8])
+        requires { length self.old + length bytes.now ≤ 68 }
+        ensures { self.new ≡ self.old ++ bytes.now }
+    {
+        let end = self.len + bytes.len();
+        self.bytes[self.len..end].copy_from_slice(bytes);
+        self.len = end;
+    }
+
+    fn write_le_u16(&mut self, n: u16)
+        requires { length self.old + 2 ≤ 68 }
+        ensures { self.new ≡ self.old ++ bytes_of 2 n }
+    {
+        self.write_all(&le_u16(n));
+    }
+
+    fn write_le_u32(&mut self, n: u32)
+        requires { length self.old + 4 ≤ 68 }
+        ensures { self.new ≡ self.old ++ bytes_of 4 n }
+    {
+        self.write_all(&le_u32(n));
+    }
+
+    /// The bytes, in the file's order.
+    pub fn as_slice(&self) -> &[u8]
+        ensures { result.now ≡ self.now }
+    {
+        &self.bytes[..self.len]
+    }
+}
+
+// One low bit for each channel, of which 18 have a speaker.
+fn channel_mask(channels: u16) -> u32
+    ensures { result ≡ mask channels }
+{
+    (1 << channels.min(18)) - 1
+}
+
+// Whether the older fmt chunk is enough: the extensible one is required above two channels or 16
+// bits.
+fn is_short(spec_ex: WavSpecEx) -> bool
+    ensures { result ≡ is_short spec_ex }
+{
+    spec_ex.spec.channels <= 2 && spec_ex.spec.bits_per_sample <= 16
+}
+
+// The fields of a WAVEFORMAT, and the bits behind them.
+fn write_waveformat(header: &mut Header, tag: u16, bits: u16, spec_ex: WavSpecEx)
+    requires writable { IsWritable spec_ex }
+    requires room { length header.old + 16 ≤ 68 }
+    ensures { header.new ≡ header.old ++ fields tag bits spec_ex }
+{
+    let spec = spec_ex.spec;
+    let block_align = spec.channels as u32 * spec_ex.bytes_per_sample as u32;
+    let bytes_per_sec = block_align * spec.sample_rate;
+    header.write_le_u16(tag);
+    header.write_le_u16(spec.channels);
+    header.write_le_u32(spec.sample_rate);
+    header.write_le_u32(bytes_per_sec);
+    header.write_le_u16(block_align as u16);
+    header.write_le_u16(bits);
+}
+
+// The fmt chunk's length, and a PCMWAVEFORMAT.
+fn write_pcmwaveformat(header: &mut Header, spec_ex: WavSpecEx)
+    requires writable { IsWritable spec_ex }
+    requires room { length header.old + 20 ≤ 68 }
+    ensures { header.new ≡ header.old ++ bytes_of 4 16 ++ short_fmt spec_ex }
+{
+    header.write_le_u32(16);
+    write_waveformat(header, 1, spec_ex.spec.bits_per_sample, spec_ex);
+}
+
+// The fmt chunk's length, and a WAVEFORMATEXTENSIBLE.
+fn write_waveformatextensible(header: &mut Header, spec_ex: WavSpecEx)
+    requires writable { IsWritable spec_ex }
+    requires room { length header.old + 44 ≤ 68 }
+    ensures { header.new ≡ header.old ++ bytes_of 4 40 ++ long_fmt spec_ex }
+{
+    let spec = spec_ex.spec;
+    header.write_le_u32(40);
+    write_waveformat(header, 0xfffe, 8 * spec_ex.bytes_per_sample, spec_ex);
+    header.write_le_u16(22);
+    header.write_le_u16(spec.bits_per_sample);
+    header.write_le_u32(channel_mask(spec.channels));
+    write_subformat(header, spec.sample_format);
+}
+
+fn write_subformat(header: &mut Header, format: SampleFormat)
+    requires { length header.old + 16 ≤ 68 }
+    ensures { header.new ≡ header.old ++ subformat format }
+{
+    match format {
+        SampleFormat::Int => header.write_all(&KSDATAFORMAT_SUBTYPE_PCM),
+        SampleFormat::Float => header.write_all(&KSDATAFORMAT_SUBTYPE_IEEE_FLOAT),
+    }
+}
+
+// The fmt chunk's length and its content, in the older form where that is enough.
+fn write_fmt(header: &mut Header, spec_ex: WavSpecEx)
+    requires writable { IsWritable spec_ex }
+    requires room { length header.old + 44 ≤ 68 }
+    ensures chunk { header.new ≡ header.old ++ sized_fmt spec_ex }
+    ensures size { length header.new ≤ length header.old + 44 }
+{
+    if is_short(spec_ex) {
+        write_pcmwaveformat(header, spec_ex);
+    } else {
+        write_waveformatextensible(header, spec_ex);
+    }
+}
+
+/// The header of a file of this spec, up to the first data byte.
+///
+/// Both sizes are in bytes. The RIFF size counts all that stands behind its own field, the data
+/// length the content of the data chunk. One or two channels of 8 or 16 bits have the header of 44
+/// bytes with a PCMWAVEFORMAT, every other spec that of 68 with a WAVEFORMATEXTENSIBLE.
+pub fn header_of(spec_ex: WavSpecEx, riff_size: u32, data_length: u32) -> Header
+    requires { IsWritable spec_ex }
+    ensures { result ≡ header spec_ex riff_size data_length }
+{
+    let mut header = Header::new();
+    header.write_all(b"RIFF");
+    header.write_le_u32(riff_size);
+    header.write_all(b"WAVE");
+    header.write_all(b"fmt ");
+    write_fmt(&mut header, spec_ex);
+    header.write_all(b"data");
+    header.write_le_u32(data_length);
+    header
+}

@@ -1,0 +1,76 @@
+// What a file says of its samples.
+/// Whether a sample is stored as an integer or as an IEEE float.
+#[derive(Clone, Copy, Debug, PartialEq, Eq)]
+pub enum SampleFormat {
+    /// The bits of an IEEE float, as files with the format tag `WAVE_FORMAT_IEEE_FLOAT` hold them.
+    Float,
+    /// An integer, as files with the format tag `WAVE_FORMAT_PCM` hold it.
+    Int,
+}
+
+/// The properties of the audio data.
+#[derive(Clone, Copy, Debug, PartialEq, Eq)]
+pub struct WavSpec {
+    /// The number of channels, whose samples are interleaved.
+    pub channels: u16,
+
+    /// The number of frames a second, in hertz; 44100 on a CD.
+    pub sample_rate: u32,
+
+    /// The number of bits of a sample that are used; 16 on a CD.
+    pub bits_per_sample: u16,
+
+    /// Whether samples are integers or floats.
+    pub sample_format: SampleFormat,
+}
+
+/// The properties of the audio data, with the width of a sample in the file.
+#[derive(Clone, Copy)]
+pub struct WavSpecEx {
+    /// The properties of the audio data; its bits are those that are used.
+    pub spec: WavSpec,
+
+    /// The number of bytes that a sample takes in the file, its container.
+    pub bytes_per_sample: u16,
+}
+
+impl WavSpecEx {
+    ghost use Rattle.std.specs.Prelude.{◌↔◌, IsTrue};
+    ghost use Rattle.hound_spec.specs.Writable.{IsWritable};
+
+    /// Whether a file of this spec can be written.
+    ///
+    /// The pairs of bits and bytes are (8, 1), (16, 2), (24, 3), (24, 4) and (32, 4) for integers,
+    /// and (32, 4) for floats. There is at least one channel and one frame a second, and a frame
+    /// and a second have at most as many bytes as the header's fields can say.
+    pub fn is_writable(&self) -> bool
+        ensures { IsTrue result ↔ IsWritable self.now }
+    {
+        let spec = self.spec;
+        let block_align = spec.channels as u32 * self.bytes_per_sample as u32;
+        is_pair(
+            spec.sample_format,
+            spec.bits_per_sample,
+            self.bytes_per_sample,
+        ) && spec.channels >= 1
+            && spec.sample_rate >= 1
+            && block_align <= 65535
+            && block_align as u64 * spec.sample_rate as u64 <= 4_294_967_295
+    }
+}
+
+ghost use Rattle.std.specs.Prelude.{◌↔◌, IsTrue};
+ghost use Rattle.hound_spec.specs.Writable.{IsPair};
+
+// Whether samples of this format are written with so many bits in so many bytes.
+fn is_pair(format: SampleFormat, bits: u16, width: u16) -> bool
+    ensures { IsTrue result ↔ IsPair format bits width }
+{
+    match format {
+        SampleFormat::Int => match (bits, width) {
+            (8, 1) | (16, 2) | (24, 3) | (24, 4) | (32, 4) => true,
+            _ => false,
+        },
+        SampleFormat::Float => bits == 32 && width == 4,
+    }
+}
