@@ -1,0 +1,31 @@
+-- The container of a sample: its bytes in the file (WAVEFORMATEX, "wBitsPerSample", "nBlockAlign").
+use Rattle.std.specs.Prelude.{ℕ, ℤ, pos, negsuc, ◌+◌, ◌-◌, ◌^◌, Bool, ◌&&◌, ◌==◌, nat_lt, if◌then◌else◌, List, [], ◌∷◌, ◌++◌, Result, Ok, Err}
+use Rattle.hound_number.specs.Number.{bytes_of, signed_bytes_of}
+
+-- why a value has no container: it needs more bits, or its type is not written with these bits and bytes
+pub data Refusal : Type 0 where
+  too_wide : Refusal
+  unsupported : Refusal
+
+-- whether a number is one of so many signed bits: from -2 ^ (bits - 1) to 2 ^ (bits - 1) - 1
+abbrev pub fits : ℕ → ℤ → Bool
+fits bits (pos n) = nat_lt n (2 ^ (bits - 1))
+fits bits (negsuc n) = nat_lt n (2 ^ (bits - 1))
+
+-- a number of eight bits as an unsigned byte, which counts from -128
+abbrev pub offset_byte : ℤ → List ℕ
+offset_byte (pos n) = bytes_of 1 (128 + n)
+offset_byte (negsuc n) = bytes_of 1 (127 - n)
+
+abbrev pub if_fits : ℕ → ℤ → List ℕ → Result (List ℕ) Refusal
+if_fits bits v container = if fits bits v then Ok container else Err too_wide
+
+-- the container of an integer of up to 32 bits, by the used bits and the bytes
+unfoldable pub int_container : ℤ → ℕ → ℕ → Result (List ℕ) Refusal
+int_container v bits width =
+    if bits == 8 && width == 1 then if_fits 8 v (offset_byte v)
+    else if bits == 16 && width == 2 then if_fits 16 v (signed_bytes_of 2 v)
+    else if bits == 24 && width == 3 then if_fits 24 v (signed_bytes_of 3 v)
+    else if bits == 24 && width == 4 then if_fits 24 v (signed_bytes_of 3 v ++ 0 ∷ [])
+    else if bits == 32 && width == 4 then Ok (signed_bytes_of 4 v)
+    else Err unsupported

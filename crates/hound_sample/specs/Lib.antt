@@ -1,0 +1,3 @@
+pub mod Container
+pub mod ContainerLaws
+pub mod Encoding

@@ -1,0 +1,89 @@
+// The containers of integers.
+ghost use Rattle.std.specs.Prelude.{◌≡◌, ◌++◌, ◌∷◌, [], Ok, Err, if◌then◌else◌};
+ghost use Rattle.hound_number.specs.Number.{signed_bytes_of};
+ghost use Rattle.hound_sample.specs.Container.{fits, if_fits, offset_byte, int_container};
+ghost use Rattle.hound_sample.specs.Encoding.{IsEncoded};
+ghost use Rattle.hound_spec.specs.declared.error.Error.TheVariants.{TooWide};
+
+use hound_number::{le_i16, le_i32, u8_from_signed};
+use hound_spec::{Error, Result};
+
+// The number in eight bits.
+fn narrow_to_i8(x: i32) -> Result<i8>
+    ensures { result ≡ (if fits 8 x then Ok x else Err TooWide) }
+{
+    if x < -128 || x > 127 {
+        return Err(Error::TooWide);
+    }
+    Ok(x as i8)
+}
+
+// The number in sixteen bits.
+fn narrow_to_i16(x: i32) -> Result<i16>
+    ensures { result ≡ (if fits 16 x then Ok x else Err TooWide) }
+{
+    if x < -32768 || x > 32767 {
+        return Err(Error::TooWide);
+    }
+    Ok(x as i16)
+}
+
+// The number, if it has at most 24 bits.
+fn narrow_to_i24(x: i32) -> Result<i32>
+    ensures { result ≡ (if fits 24 x then Ok x else Err TooWide) }
+{
+    if x < -8_388_608 || x > 8_388_607 {
+        return Err(Error::TooWide);
+    }
+    Ok(x)
+}
+
+// One unsigned byte, which counts from -128.
+#[inline(always)]
+fn encode_8_bits(x: i32) -> Result<[u8; 4]>
+    ensures { IsEncoded (if_fits 8 x (offset_byte x)) result }
+{
+    let narrow = narrow_to_i8(x)?;
+    Ok([u8_from_signed(narrow), 0, 0, 0])
+}
+
+#[inline(always)]
+fn encode_16_bits(x: i32) -> Result<[u8; 4]>
+    ensures { IsEncoded (if_fits 16 x (signed_bytes_of 2 x)) result }
+{
+    let narrow = narrow_to_i16(x)?;
+    let [low, high] = le_i16(narrow);
+    Ok([low, high, 0, 0])
+}
+
+// Three bytes; a fourth, where the container has one, is zero.
+#[inline(always)]
+fn encode_24_bits(x: i32) -> Result<[u8; 4]>
+    ensures three { IsEncoded (if_fits 24 x (signed_bytes_of 3 x)) result }
+    ensures four { IsEncoded (if_fits 24 x (signed_bytes_of 3 x ++ 0 ∷ [])) result }
+{
+    let narrow = narrow_to_i24(x)?;
+    let [low, middle, high, _] = le_i32(narrow);
+    Ok([low, middle, high, 0])
+}
+
+/// The container of an integer in the first `byte_width` bytes, and zeros behind it.
+#[inline(always)]
+#[tactic(auto, unfolding(crate::specs::Container::int_container))]
+pub(crate) fn encode_integer(x: i32, bits: u16, byte_width: u16) -> Result<[u8; 4]>
+    ensures { IsEncoded (int_container x bits byte_width) result }
+{
+    if bits == 8 && byte_width == 1 {
+        return encode_8_bits(x);
+    }
+    if bits == 16 && byte_width == 2 {
+        return encode_16_bits(x);
+    }
+    if bits == 24 && (byte_width == 3 || byte_width == 4) {
+        return encode_24_bits(x);
+    }
+    if bits == 32 && byte_width == 4 {
+        return Ok(le_i32(x));
+    }
+    Err(Error::Unsupported)
+}
