@@ -1,5 +1,5 @@
 -- What contracts see of a medium, and what each call does to it.
-use Rattle.std.specs.Prelude.{◌≡◌, ℕ, ℤ, pos, negsuc, ◌+◌, ◌-◌, ◌^◌, ◌<◌, ◌≤◌, min, List, [], ◌++◌, length, take, drop, Ok, Err, Result, OnOk, MatchResult, Bool, IsTrue}
+use Rattle.std.specs.Prelude.{◌≡◌, ℕ, ℤ, pos, negsuc, ◌+◌, ◌-◌, ◌^◌, ◌<◌, ◌≤◌, min, List, [], ◌++◌, length, take, drop, Ok, Err, Result, OnOk, OnErr, MatchResult, Bool, IsTrue}
 use Rattle.hound_medium.specs.Bytes.{placed, overlay}
 
 -- A medium as contracts see it: its bytes, the place of the next one to be read or put, and how many calls failed.
@@ -98,10 +98,11 @@ pub record Flushes {T E : Type 0} (result : Result T E) (old new : Seen) : Type 
   pub flushed : MatchResult result (λ _. new.flushed ≡ length new.past) (λ _. new.flushed ≡ old.flushed)
   pub faults : new.faults ≡ faults_after result old.faults
 
--- what a loop over `put` does: it stops at the first fault, when `count` bytes have been put, and at an Ok these are all
+-- what a loop over `put` does: it puts `count` bytes, all of them at an Ok and fewer at an Err
 pub record PutsAll {T E : Type 0} (keeps : Bool) (bytes : List ℕ) (result : Result T E) (old new : Seen) : Type 0 where
   pub count : ℕ
   pub within : count ≤ length bytes
   pub whole : OnOk result (count ≡ length bytes)
+  pub part : OnErr result (count < length bytes)
   pub takes : Takes keeps bytes count old new
   pub faults : new.faults ≡ faults_after result old.faults

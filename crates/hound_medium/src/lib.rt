@@ -13,3 +13,6 @@ mod tape;
 pub use medium::{Medium, Placed, Source};
 pub use putting::put_all;
 pub use tape::Tape;
+
+#[cfg(test)]
+mod tests;

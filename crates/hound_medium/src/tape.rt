@@ -18,8 +18,8 @@ use std::io::{Error, ErrorKind};
 /// It keeps nothing of its past. A `put` fails only where no memory is left, or where its end would
 /// lie above `u64::MAX`; no other call but a `shift` fails.
 ///
-/// Where `io::Read` is in scope, `tape.bytes()` on a `&mut Tape` is the iterator of that trait:
-/// write `Tape::bytes(&tape)` there.
+/// Where `io::Read` is in scope, `tape.bytes()` on a `Tape` or a `&mut Tape` is the iterator of that
+/// trait: write `Tape::bytes(&tape)` there.
 #[derive(Drop)]
 pub struct Tape {
     bytes: Vec<u8>,
@@ -34,6 +34,7 @@ impl Tape {
         ensures contents { (⟦<Tape as Placed>⟧.seen result).contents ≡ bytes.items }
         ensures place { (⟦<Tape as Placed>⟧.seen result).place ≡ 0 }
         ensures faults { (⟦<Tape as Placed>⟧.seen result).faults ≡ 0 }
+        ensures flushed { (⟦<Tape as Placed>⟧.seen result).flushed ≡ 0 }
     {
         Tape {
             bytes,
@@ -46,14 +47,15 @@ impl Tape {
     pub fn bytes(&self) -> &[u8]
         ensures { result.now ≡ (⟦<Tape as Placed>⟧.seen self.now).contents }
     {
-        &self.bytes
+        self.bytes.as_slice()
     }
 
     /// All of its bytes, wherever the place is, with the memory that they take.
     pub fn into_bytes(self) -> Vec<u8>
         ensures { result.items ≡ (⟦<Tape as Placed>⟧.seen self).contents }
     {
-        self.bytes
+        let Tape { bytes, .. } = self;
+        bytes
     }
 }
 
@@ -125,6 +127,7 @@ impl Medium for Tape {
         ensures flushes { let seen = ⟦<Tape as Placed>⟧.seen in Flushes result (seen self.old) (seen self.new) }
         ensures ok { IsOk result }
     {
+        // Nothing lies behind the memory.
         Ok(())
     }
 }
@@ -139,7 +142,8 @@ impl io::Read for Tape {
             (⟦<Tape as io::Read>⟧.remaining self.new) result buf.new }
         ensures gets { let seen = ⟦<Tape as Placed>⟧.seen in
             Gets buf.new result (seen self.old) (seen self.new) }
-        ensures ok { IsOk result }
+        ensures all { let seen = ⟦<Tape as Placed>⟧.seen self.old in
+            result ≡ Ok (min (length (drop seen.place seen.contents)) (length buf.old)) }
     {
         self.get(buf)
     }
@@ -150,10 +154,11 @@ impl Source for Tape {
 
     #[inline]
     fn get(&mut self, buf: &mut [u8]) -> io::Result<usize>
+        ensures bound { IfOk result (λ n. n ≤ length buf.new) }
         ensures gets { let seen = ⟦<Tape as Placed>⟧.seen in
             Gets buf.new result (seen self.old) (seen self.new) }
-        ensures bound { IfOk result (λ n. n ≤ length buf.new) }
-        ensures ok { IsOk result }
+        ensures all { let seen = ⟦<Tape as Placed>⟧.seen self.old in
+            result ≡ Ok (min (length (drop seen.place seen.contents)) (length buf.old)) }
     {
         let n = copy_from(&self.bytes, self.place, buf);
         self.place += n as u64;

@@ -1,5 +1,4 @@
-use Rattle.std.proofs.Common.{rules, arith, ◌≡◌, ◌++◌, sym, ◌∙◌, ap}
-use Rattle.hound_medium.specs.Bytes.{placed, overlay}
+use Rattle.std.proofs.Common.{rules, arith}
 use Rattle.hound_medium.proofs.Overlays.{overlay_at_end}
 use Rattle.hound_medium.proofs.bytes.put_at.Goals as goal
 

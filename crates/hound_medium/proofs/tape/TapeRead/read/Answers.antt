@@ -1,4 +1,3 @@
-use Rattle.std.proofs.Common.{refl}
 use Rattle.hound_medium.proofs.Reading.{get_consumes}
 use Rattle.hound_medium.proofs.tape.TapeRead.read.Goals as goal
 
