@@ -1,5 +1,5 @@
 -- The container of a sample: its bytes in the file (WAVEFORMATEX, "wBitsPerSample", "nBlockAlign").
-use Rattle.std.specs.Prelude.{ℕ, ℤ, pos, negsuc, ◌+◌, ◌-◌, ◌^◌, Bool, ◌&&◌, ◌==◌, nat_lt, if◌then◌else◌, List, [], ◌∷◌, ◌++◌, Result, Ok, Err}
+use Rattle.std.specs.Prelude.{ℕ, zero, suc, ℤ, pos, negsuc, ◌+◌, ◌-◌, ◌^◌, Bool, ◌&&◌, ◌==◌, nat_lt, if◌then◌else◌, List, [], ◌∷◌, ◌++◌, take, drop, Result, Ok, Err}
 use Rattle.hound_number.specs.Number.{bytes_of, signed_bytes_of}
 
 -- why a value has no container: it needs more bits, or its type is not written with these bits and bytes
@@ -29,3 +29,8 @@ int_container v bits width =
     else if bits == 24 && width == 4 then if_fits 24 v (signed_bytes_of 3 v ++ 0 ∷ [])
     else if bits == 32 && width == 4 then Ok (signed_bytes_of 4 v)
     else Err unsupported
+
+-- the first containers of data, so many of this width
+abbrev pub containers : ℕ → ℕ → List ℕ → List (List ℕ)
+containers width zero bytes = []
+containers width (suc count) bytes = take width bytes ∷ containers width count (drop width bytes)

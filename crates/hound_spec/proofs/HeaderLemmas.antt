@@ -1,5 +1,5 @@
 -- How long a header is.
-use Rattle.std.proofs.Common.{◌≡◌, ℕ, ◌+◌, true, false, List, ◌++◌, length, refl, ◌∙◌, ap, inl, inr, arith, length-append}
+use Rattle.std.proofs.Common.{◌≡◌, ℕ, ◌+◌, ◌≤◌, true, false, List, ◌++◌, length, refl, sym, ◌∙◌, ap, inl, inr, arith, append_assoc, length-append}
 use Rattle.std.proofs.lemmas.Bool.{cases_Bool}
 use Rattle.hound_number.specs.Number.{bytes_of}
 use Rattle.hound_spec.specs.declared.spec.SampleFormat.{SampleFormat}
@@ -42,3 +42,25 @@ length-header s size data_length = elim (cases_Bool (is_short s)) [
 -- what was written so far, and bytes behind it
 pub and_then : (more all old new : List ℕ) → old ≡ all → new ≡ old ++ more → new ≡ all ++ more
 and_then more all old new so_far adds = adds ∙ ap (λ l. l ++ more) so_far
+
+pub data_start_least : (s : WavSpecEx) → 44 ≤ data_start s
+data_start_least s = elim (cases_Bool (is_short s)) [ inl short ↦ rw short (omega arith) | inr long ↦ rw long (omega arith) ]
+
+pub data_start_most : (s : WavSpecEx) → data_start s ≤ 68
+data_start_most s = elim (cases_Bool (is_short s)) [ inl short ↦ rw short (omega arith) | inr long ↦ rw long (omega arith) ]
+
+-- what stands in a header between the RIFF size and the data length
+abbrev pub described : WavSpecEx → List ℕ
+described s = wave_tag ++ (fmt_tag ++ (sized_fmt s ++ data_tag))
+
+-- a header, part by part
+pub header-parts : (s : WavSpecEx) (size data_length : ℕ) → header s size data_length ≡ riff_tag ++ (bytes_of 4 size ++ (described s ++ bytes_of 4 data_length))
+unfolding header
+header-parts s size data_length =
+    append_assoc (riff_tag ++ bytes_of 4 size ++ wave_tag ++ fmt_tag ++ sized_fmt s) data_tag (bytes_of 4 data_length)
+    ∙ append_assoc (riff_tag ++ bytes_of 4 size ++ wave_tag ++ fmt_tag) (sized_fmt s) (data_tag ++ bytes_of 4 data_length)
+    ∙ ap (λ l. riff_tag ++ (bytes_of 4 size ++ (wave_tag ++ (fmt_tag ++ l)))) (sym (append_assoc (sized_fmt s) data_tag (bytes_of 4 data_length)))
+
+pub length-described : (s : WavSpecEx) → length (described s) + 12 ≡ data_start s
+length-described s =
+    omega (arith, length-header s 0 0, ap length (header-parts s 0 0), length-append riff_tag (bytes_of 4 0 ++ (described s ++ bytes_of 4 0)), length-append (bytes_of 4 0) (described s ++ bytes_of 4 0), length-append (described s) (bytes_of 4 0))

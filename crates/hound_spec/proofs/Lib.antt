@@ -1,1 +1,2 @@
 pub mod HeaderLemmas
+pub mod WritableLemmas

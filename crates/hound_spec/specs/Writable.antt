@@ -1,7 +1,8 @@
 -- The specs that can be written.
-use Rattle.std.specs.Prelude.{◌≡◌, ℕ, ◌*◌, ◌≤◌, ◌⊎◌}
+use Rattle.std.specs.Prelude.{◌≡◌, ℕ, ◌+◌, ◌*◌, ◌/◌, ◌≤◌, ◌⊎◌}
 use Rattle.hound_spec.specs.declared.spec.SampleFormat.{SampleFormat}
 use Rattle.hound_spec.specs.declared.spec.SampleFormat.TheVariants.{Int, Float}
+use Rattle.hound_spec.specs.declared.spec.WavSpec.{WavSpec}
 use Rattle.hound_spec.specs.declared.spec.WavSpecEx.{WavSpecEx}
 
 -- The used bits and the container's bytes that a format is written with (WAVEFORMATEXTENSIBLE, "wValidBitsPerSample").
@@ -16,3 +17,7 @@ pub record IsWritable (s : WavSpecEx) : Type 0 where
   pub rate : 1 ≤ s.spec.sample_rate
   pub align : s.spec.channels * s.bytes_per_sample ≤ 65535
   pub byte_rate : s.spec.channels * s.bytes_per_sample * s.spec.sample_rate ≤ 4294967295
+
+-- a spec with as many bytes to a sample as its bits need, by a division that rounds down
+abbrev pub with_default_width : WavSpec → WavSpecEx
+with_default_width spec = record { spec = spec; bytes_per_sample = (spec.bits_per_sample + 7) / 8 }

@@ -7,4 +7,4 @@ mod spec;
 
 pub use error::{Error, Result};
 pub use header::{Header, header_of};
-pub use spec::{SampleFormat, WavSpec, WavSpecEx};
+pub use spec::{SampleFormat, WavSpec, WavSpecEx, with_default_width};

@@ -59,8 +59,18 @@ impl WavSpecEx {
     }
 }
 
-ghost use Rattle.std.specs.Prelude.{◌↔◌, IsTrue};
-ghost use Rattle.hound_spec.specs.Writable.{IsPair};
+ghost use Rattle.std.specs.Prelude.{◌≡◌, ◌↔◌, IsTrue};
+ghost use Rattle.hound_spec.specs.Writable.{IsPair, with_default_width};
+
+/// The spec with as many bytes to a sample as its bits need, rounded down: `(bits + 7) / 8`.
+pub fn with_default_width(spec: WavSpec) -> WavSpecEx
+    ensures { result ≡ with_default_width spec }
+{
+    WavSpecEx {
+        spec,
+        bytes_per_sample: spec.bits_per_sample.div_ceil(8),
+    }
+}
 
 // Whether samples of this format are written with so many bits in so many bytes.
 fn is_pair(format: SampleFormat, bits: u16, width: u16) -> bool

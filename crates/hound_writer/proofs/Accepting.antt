@@ -1,0 +1,174 @@
+-- What bytes behind the accepted ones change.
+use Rattle.std.proofs.Common.{◌≡◌, ℕ, suc, ◌+◌, ◌*◌, ◌-◌, ◌/◌, ◌%◌, ◌≤◌, max, Bool, true, false, List, [], ◌∷◌, ◌++◌, length, take, drop, replicate, Result, Ok, Err, IsErr, IsTrue, refl, sym, subst, ◌∙◌, ap, arith, length-append}
+use Rattle.std.proofs.lemmas.Bool.{true≢false, false≢true}
+use Rattle.std.proofs.lemmas.List.{take_at, take_all, drop_at, drop-drop, length-take-le}
+use Rattle.hound_number.specs.Number.{number}
+use Rattle.hound_medium.specs.Bytes.{put_at, placed, overlay}
+use Rattle.hound_medium.specs.Seen.{Seen}
+use Rattle.hound_medium.proofs.Overlays.{overlay_is, length-put_at, take_overlay_before, length_overlay_le, front_part}
+use Rattle.hound_spec.specs.declared.error.Error.{Error}
+use Rattle.hound_sample.specs.Container.{Refusal, containers}
+use Rattle.hound_sample.specs.Encoding.{IsEncoded}
+use Rattle.hound_writer.specs.Parts.{PutsAt, Stands, field}
+use Rattle.hound_writer.specs.Writer.{Written, IsSound, IsWhole, sample_count, accepted, AcceptsSample}
+use Rattle.hound_writer.proofs.Containers.{containers_front, containers_more, count_bytes, count_more}
+
+-- bytes at a place reach no further than the old end or their own
+length_overlay_max : (bs : List ℕ) (p : ℕ) (c : List ℕ) → length (overlay c (placed p bs)) ≤ max (length c) (p + length bs)
+length_overlay_max [] p c = omega arith
+length_overlay_max (b ∷ bs) p c = omega (arith, length_overlay_max bs (suc p) (put_at p b c), length-put_at p b c)
+
+module _ {T E : Type 0} (keeps : Bool) (start n : ℕ) (bytes : List ℕ) (result : Result T E) (old new : Seen) (puts : PutsAt keeps (start + n) bytes result old new) where
+  -- what stands before the place stays
+  pub front_stays : (m : ℕ) → m ≤ start + n → m ≤ length old.contents → take m new.contents ≡ take m old.contents
+  front_stays m before inside = ap (take m) puts.contents ∙ take_overlay_before (take puts.count bytes) m (start + n) old.contents before inside
+
+  -- no byte is lost
+  pub grows : length old.contents ≤ length new.contents
+  grows = omega (arith, ap length puts.contents, length_overlay_le (take puts.count bytes) (start + n) old.contents)
+
+  -- the data that was accepted before
+  pub data_stays : start + n ≤ length old.contents → take n (drop start new.contents) ≡ take n (drop start old.contents)
+  data_stays whole = front_part (start + n) start n new.contents old.contents (omega arith) (front_stays (start + n) (omega arith) whole)
+
+  module _ (all : puts.count ≡ length bytes) where
+    put : take puts.count bytes ≡ bytes
+    put = take_all puts.count bytes (omega (arith, all))
+
+    parts : start + n ≤ length old.contents → new.contents ≡ take (start + n) old.contents ++ (bytes ++ drop (start + n + length bytes) old.contents)
+    parts whole = puts.contents ∙ ap (λ l. overlay old.contents (placed (start + n) l)) put ∙ overlay_is old.contents (start + n) bytes whole
+
+    -- the bytes stand behind it
+    pub bytes_stand : start + n ≤ length old.contents → take (length bytes) (drop (start + n) new.contents) ≡ bytes
+    bytes_stand whole =
+        ap (λ l. take (length bytes) (drop (start + n) l)) (parts whole)
+        ∙ ap (take (length bytes)) (drop_at (take (start + n) old.contents) (bytes ++ drop (start + n + length bytes) old.contents) (start + n) (length-take-le (start + n) old.contents whole))
+        ∙ take_at bytes (drop (start + n + length bytes) old.contents) (length bytes) refl
+
+    pub bytes_inside : start + n ≤ length old.contents → start + (n + length bytes) ≤ length new.contents
+    bytes_inside whole =
+        omega (arith, ap length (parts whole), length-append (take (start + n) old.contents) (bytes ++ drop (start + n + length bytes) old.contents), length-append bytes (drop (start + n + length bytes) old.contents), length-take-le (start + n) old.contents whole)
+
+-- a medium whose next sample goes to the end of the data, after bytes were put there
+module _ {T E : Type 0} (keeps : Bool) (p n : ℕ) (bytes : List ℕ) (result : Result T E) (old new : Seen) (puts : PutsAt keeps (p + 4 + n) bytes result old new) where
+  field_stays : (moved : Bool) → Stands p n moved old → field p new.contents ≡ field p old.contents
+  field_stays moved stands =
+      ap number (front_part (p + 4) p 4 new.contents old.contents (omega arith) (front_stays keeps (p + 4) n bytes result old new puts (p + 4) (omega arith) stands.inside))
+
+  pub stands_moved : (moved : Bool) → Stands p n moved old → Stands p n true new
+  stands_moved moved stands = record {
+    inside = omega (arith, stands.inside, grows keeps (p + 4) n bytes result old new puts);
+    counted = omega (arith, stands.counted, field_stays moved stands);
+    place = λ e. absurd (true≢false e);
+  }
+
+  pub stands_behind : (moved : Bool) → new.place ≡ p + 4 + n + length bytes → Stands p n moved old → Stands p (n + length bytes) false new
+  stands_behind moved place stands = record {
+    inside = omega (arith, stands.inside, grows keeps (p + 4) n bytes result old new puts);
+    counted = omega (arith, stands.counted, field_stays moved stands);
+    place = λ e. omega (arith, place);
+  }
+
+-- the containers of more data
+module _ (width start n : ℕ) (some : 1 ≤ width) (whole : n % width ≡ 0) (old new : List ℕ) (same : take n (drop start new) ≡ take n (drop start old)) where
+  -- the containers stay where the data stays
+  pub containers_stay : containers width (n / width) (drop start new) ≡ containers width (n / width) (drop start old)
+  containers_stay =
+      containers_front width (n / width) (drop start new) (drop start old)
+      (ap (λ k. take k (drop start new)) (count_bytes n width whole) ∙ same ∙ ap (λ k. take k (drop start old)) (sym (count_bytes n width whole)))
+
+  -- and one that stands behind them is the last
+  pub containers_grow : (container : List ℕ) → take width (drop (start + n) new) ≡ container → containers width ((n + width) / width) (drop start new) ≡ containers width (n / width) (drop start old) ++ container ∷ []
+  containers_grow container stands =
+      ap (λ k. containers width k (drop start new)) (count_more n width some)
+      ∙ containers_more width (n / width) (drop start new)
+      ∙ (λ i. containers_stay i ++ last i ∷ [])
+    where
+      last : take width (drop (n / width * width) (drop start new)) ≡ container
+      last = ap (take width) (drop-drop (n / width * width) start new ∙ ap (λ k. drop (start + k) new) (count_bytes n width whole)) ∙ stands
+
+-- the container that was encoded
+pub record EncodedAs (sample : Result (List ℕ) Refusal) (array : List ℕ) : Type 0 where
+  pub container : List ℕ
+  pub is : sample ≡ Ok container
+  pub padded : array ≡ container ++ replicate (4 - length container) 0
+
+pub encoded : (sample : Result (List ℕ) Refusal) (array : List ℕ) → IsEncoded sample (Ok array) → EncodedAs sample array
+encoded (Ok container) array e = record { container = container; is = refl; padded = cc }
+encoded (Err refusal) array e = cc
+
+-- a writer before and after bytes were put behind its data
+module _ {W T E : Type 0} (keeps : Bool) (seen : W → Seen) (old new : Written W) (bytes : List ℕ) (result : Result T E) (sound : IsSound old.spec_ex old.data_start old.data_length)
+    (puts : PutsAt keeps (old.data_start + old.data_length) bytes result (seen old.medium) (seen new.medium)) (spec : new.spec_ex ≡ old.spec_ex) (start : new.data_start ≡ old.data_start) where
+  abbrev width : ℕ
+  width = old.spec_ex.bytes_per_sample
+
+  stays : IsWhole seen old → take old.data_length (drop old.data_start (seen new.medium).contents) ≡ take old.data_length (drop old.data_start (seen old.medium).contents)
+  stays whole = data_stays keeps old.data_start old.data_length bytes result (seen old.medium) (seen new.medium) puts whole
+
+  as_old : (n : ℕ) → new.data_length ≡ n → accepted seen new ≡ containers width (n / width) (drop old.data_start (seen new.medium).contents)
+  as_old n is = λ i. containers (spec i).bytes_per_sample (is i / (spec i).bytes_per_sample) (drop (start i) (seen new.medium).contents)
+
+  -- nothing was accepted
+  pub accepted_stay : new.data_length ≡ old.data_length → IsWhole seen old → accepted seen new ≡ accepted seen old
+  accepted_stay none whole =
+      as_old old.data_length none
+      ∙ containers_stay width old.data_start old.data_length sound.width sound.whole (seen old.medium).contents (seen new.medium).contents (stays whole)
+
+  -- one container was accepted
+  pub accepted_grow : (container : List ℕ) → bytes ≡ container → puts.count ≡ length bytes → length bytes ≡ width → new.data_length ≡ old.data_length + length bytes → IsWhole seen old
+      → accepted seen new ≡ accepted seen old ++ container ∷ []
+  accepted_grow container same all size more whole =
+      as_old (old.data_length + width) (more ∙ ap (λ n. old.data_length + n) size)
+      ∙ containers_grow width old.data_start old.data_length sound.width sound.whole (seen old.medium).contents (seen new.medium).contents (stays whole) container
+      (ap (λ n. take n (drop (old.data_start + old.data_length) (seen new.medium).contents)) (sym size)
+      ∙ bytes_stand keeps old.data_start old.data_length bytes result (seen old.medium) (seen new.medium) puts all whole ∙ same)
+
+  pub whole_stays : new.data_length ≡ old.data_length → IsWhole seen old → IsWhole seen new
+  whole_stays none whole =
+      omega (arith, start, none, whole, grows keeps old.data_start old.data_length bytes result (seen old.medium) (seen new.medium) puts)
+
+  pub whole_grows : puts.count ≡ length bytes → new.data_length ≡ old.data_length + length bytes → IsWhole seen old → IsWhole seen new
+  whole_grows all length whole =
+      omega (arith, start, length, bytes_inside keeps old.data_start old.data_length bytes result (seen old.medium) (seen new.medium) puts all whole)
+
+  -- what stands before the data stays
+  pub front_same : old.data_start ≤ length (seen old.medium).contents → take old.data_start (seen new.medium).contents ≡ take old.data_start (seen old.medium).contents
+  front_same inside = front_stays keeps old.data_start old.data_length bytes result (seen old.medium) (seen new.medium) puts old.data_start (omega arith) inside
+
+  -- no byte is behind both the old end and that of the new data
+  pub reach : puts.count ≡ length bytes → new.data_length ≡ old.data_length + length bytes → length (seen new.medium).contents ≤ max (length (seen old.medium).contents) (new.data_start + new.data_length)
+  reach all more =
+      omega (arith, start, more, ap length puts.contents, length_overlay_max (take puts.count bytes) (old.data_start + old.data_length) (seen old.medium).contents, ap length (put keeps old.data_start old.data_length bytes result (seen old.medium) (seen new.medium) puts all))
+
+-- one sample more
+pub count_grows : {W : Type 0} (old new : Written W) (more : ℕ) → IsSound old.spec_ex old.data_start old.data_length → new.spec_ex ≡ old.spec_ex → new.data_length ≡ old.data_length + more → more ≡ old.spec_ex.bytes_per_sample
+    → sample_count new ≡ sample_count old + 1
+count_grows old new more sound spec count one =
+    (λ i. (count ∙ ap (λ n. old.data_length + n) one) i / (spec i).bytes_per_sample) ∙ omega (arith, count_more old.data_length old.spec_ex.bytes_per_sample sound.width)
+
+-- what the fields of a writer say of it
+pub record Opened {W : Type 0} (tells : Bool) (seen : W → Seen) (w : Written W) : Type 0 where
+  pub sound : IsSound w.spec_ex w.data_start w.data_length
+  pub inside : IsTrue tells → w.data_start ≤ length (seen w.medium).contents
+
+pub opened : {W : Type 0} (tells : Bool) (seen : W → Seen) (a b : Written W) → a ≡ b → IsSound a.spec_ex a.data_start a.data_length → (IsTrue tells → a.data_start ≤ length (seen a.medium).contents) → Opened tells seen b
+opened tells seen a b same sound inside = subst (Opened tells seen) same (record { sound = sound; inside = inside })
+
+pub same_width : {W : Type 0} (a b : Written W) → a ≡ b → a.spec_ex.bytes_per_sample ≡ b.spec_ex.bytes_per_sample
+same_width a b same = λ i. (same i).spec_ex.bytes_per_sample
+
+-- the container of a sample, as a writer asks for it
+pub same_container : {W : Type 0} (container : ℕ → ℕ → Result (List ℕ) Refusal) (a b : Written W) → a ≡ b
+    → container a.spec_ex.spec.bits_per_sample a.spec_ex.bytes_per_sample ≡ container b.spec_ex.spec.bits_per_sample b.spec_ex.bytes_per_sample
+same_container container a b same = λ i. container (same i).spec_ex.spec.bits_per_sample (same i).spec_ex.bytes_per_sample
+
+pub cut : (width : ℕ) (container array : List ℕ) → array ≡ container ++ replicate (4 - length container) 0 → length container ≡ width → take width array ≡ container
+cut width container array padded size = ap (take width) padded ∙ take_at container (replicate (4 - length container) 0) width size
+
+pub accepts_none : {T : Type 0} (result : Result T Error) (sample : Result (List ℕ) Refusal) (old new : List (List ℕ)) → IsErr result → new ≡ old → AcceptsSample result sample old new
+accepts_none (Ok x) sample old new err same = absurd (false≢true err)
+accepts_none (Err e) sample old new err same = same
+
+pub accepts_one : {T : Type 0} (x : T) (sample : Result (List ℕ) Refusal) (container : List ℕ) (old new : List (List ℕ)) → sample ≡ Ok container → new ≡ old ++ container ∷ [] → AcceptsSample (Ok x) sample old new
+accepts_one x sample container old new is same = subst (λ s. AcceptsSample (Ok x) s old new) (sym is) same

@@ -1,0 +1,5 @@
+pub mod Containers
+pub mod Accepting
+pub mod Patching
+pub mod Publishing
+pub mod Beginning

@@ -1,0 +1,63 @@
+use Rattle.std.proofs.Common.{length, sym, ap, ◌∙◌}
+use Rattle.hound_writer.proofs.Accepting.{encoded, opened, same_container, cut, accepts_none, accepts_one, accepted_stay, accepted_grow, whole_stays, whole_grows, front_same, reach, count_grows}
+use Rattle.hound_writer.proofs.write.WavWriter.write_sample.Goals as goal
+
+pub returns-in_err-accept-clause-accepted : goal.returns-in_err-accept-clause-accepted
+returns-in_err-accept-clause-accepted g c tells whole =
+    let w = opened g.W.Placed.tells g.W.Placed.seen _ _ c.self.view_is c.self.invariant.0 (λ t. (c.self.invariant.1 t).inside) in
+    let accept = c.in_err-accept.ensures in
+    accepts_none c.from_residual-in_err-accept.result _ _ _ c.from_residual-in_err-accept.ensures.0
+    (accepted_stay g.W.Placed.keeps g.W.Placed.seen c.args.self.now c.accept.new.self _ _ w.sound (accept.puts tells) accept.spec_stays accept.start_stays accept.count whole)
+
+pub returns-in_err-accept-clause-whole : goal.returns-in_err-accept-clause-whole
+returns-in_err-accept-clause-whole g c tells whole =
+    let w = opened g.W.Placed.tells g.W.Placed.seen _ _ c.self.view_is c.self.invariant.0 (λ t. (c.self.invariant.1 t).inside) in
+    let accept = c.in_err-accept.ensures in
+    whole_stays g.W.Placed.keeps g.W.Placed.seen c.args.self.now c.accept.new.self _ _ w.sound (accept.puts tells) accept.spec_stays accept.start_stays accept.count whole
+
+pub returns-in_err-accept-clause-front : goal.returns-in_err-accept-clause-front
+returns-in_err-accept-clause-front g c tells =
+    let w = opened g.W.Placed.tells g.W.Placed.seen _ _ c.self.view_is c.self.invariant.0 (λ t. (c.self.invariant.1 t).inside) in
+    let accept = c.in_err-accept.ensures in
+    front_same g.W.Placed.keeps g.W.Placed.seen c.args.self.now c.accept.new.self _ _ w.sound (accept.puts tells) accept.spec_stays accept.start_stays (w.inside tells)
+
+pub returns-clause-accepted : goal.returns-clause-accepted
+returns-clause-accepted g c tells whole =
+    let w = opened g.W.Placed.tells g.W.Placed.seen _ _ c.self.view_is c.self.invariant.0 (λ t. (c.self.invariant.1 t).inside) in
+    let accept = c.in_ok-accept.ensures in
+    let sample = encoded _ c.in_ok-container.container c.in_ok-container.ensures in
+    let fits = g.met.S.Sample.in_width c.args.sample _ _ sample.container sample.is in
+    let bytes = cut _ sample.container c.in_ok-container.container sample.padded fits.0 in
+    let is = sym (same_container (g.S.Sample.container c.args.sample) _ _ c.self.view_is) ∙ sample.is in
+    let is_width = g.met.S.Sample.in_width c.args.sample _ _ sample.container is in
+    accepts_one {T = Unit {0}} tt _ sample.container _ _ is
+    (accepted_grow g.W.Placed.keeps g.W.Placed.seen c.args.self.now c.accept.new.self _ _ w.sound (accept.puts tells) accept.spec_stays accept.start_stays sample.container bytes (accept.puts tells).whole (ap length bytes ∙ is_width.0) accept.count whole)
+
+pub returns-clause-count : goal.returns-clause-count
+returns-clause-count g c =
+    let w = opened g.W.Placed.tells g.W.Placed.seen _ _ c.self.view_is c.self.invariant.0 (λ t. (c.self.invariant.1 t).inside) in
+    let accept = c.in_ok-accept.ensures in
+    let sample = encoded _ c.in_ok-container.container c.in_ok-container.ensures in
+    let fits = g.met.S.Sample.in_width c.args.sample _ _ sample.container sample.is in
+    let bytes = cut _ sample.container c.in_ok-container.container sample.padded fits.0 in
+    let is = sym (same_container (g.S.Sample.container c.args.sample) _ _ c.self.view_is) ∙ sample.is in
+    let is_width = g.met.S.Sample.in_width c.args.sample _ _ sample.container is in
+    count_grows c.args.self.now c.accept.new.self _ w.sound accept.spec_stays accept.count (ap length bytes ∙ is_width.0)
+
+pub returns-clause-whole : goal.returns-clause-whole
+returns-clause-whole g c tells whole =
+    let w = opened g.W.Placed.tells g.W.Placed.seen _ _ c.self.view_is c.self.invariant.0 (λ t. (c.self.invariant.1 t).inside) in
+    let accept = c.in_ok-accept.ensures in
+    whole_grows g.W.Placed.keeps g.W.Placed.seen c.args.self.now c.accept.new.self _ _ w.sound (accept.puts tells) accept.spec_stays accept.start_stays (accept.puts tells).whole accept.count whole
+
+pub returns-clause-front : goal.returns-clause-front
+returns-clause-front g c tells =
+    let w = opened g.W.Placed.tells g.W.Placed.seen _ _ c.self.view_is c.self.invariant.0 (λ t. (c.self.invariant.1 t).inside) in
+    let accept = c.in_ok-accept.ensures in
+    front_same g.W.Placed.keeps g.W.Placed.seen c.args.self.now c.accept.new.self _ _ w.sound (accept.puts tells) accept.spec_stays accept.start_stays (w.inside tells)
+
+pub returns-clause-reach : goal.returns-clause-reach
+returns-clause-reach g c tells =
+    let w = opened g.W.Placed.tells g.W.Placed.seen _ _ c.self.view_is c.self.invariant.0 (λ t. (c.self.invariant.1 t).inside) in
+    let accept = c.in_ok-accept.ensures in
+    reach g.W.Placed.keeps g.W.Placed.seen c.args.self.now c.accept.new.self _ _ w.sound (accept.puts tells) accept.spec_stays accept.start_stays (accept.puts tells).whole accept.count

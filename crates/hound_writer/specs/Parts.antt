@@ -1,0 +1,47 @@
+-- What the parts of a writer's calls do to its medium.
+use Rattle.std.specs.Prelude.{◌≡◌, ℕ, ◌+◌, ◌≤◌, List, ◌++◌, length, take, drop, Bool, true, false, IsTrue, Result, Ok, Err, OnOk}
+use Rattle.hound_number.specs.Number.{bytes_of, number}
+use Rattle.std.specs.declared.io.Error.{Error as IoFault}
+use Rattle.hound_spec.specs.declared.error.Error.{Error}
+use Rattle.hound_spec.specs.declared.error.Error.TheVariants.{IoError, UnfinishedSample}
+use Rattle.hound_medium.specs.Bytes.{placed, overlay}
+use Rattle.hound_medium.specs.Seen.{Seen, faults_after}
+
+-- these bytes were put at a place, or at an Err a beginning of them
+pub record PutsAt {T E : Type 0} (keeps : Bool) (at : ℕ) (bytes : List ℕ) (result : Result T E) (old new : Seen) : Type 0 where
+  pub count : ℕ
+  pub within : count ≤ length bytes
+  pub whole : OnOk result (count ≡ length bytes)
+  pub contents : new.contents ≡ overlay old.contents (placed at (take count bytes))
+  pub place : OnOk result (new.place ≡ at + length bytes)
+  pub start : new.start ≡ old.start
+  pub past : IsTrue keeps → new.past ≡ old.past ++ placed at (take count bytes)
+  pub flushed : new.flushed ≡ old.flushed
+  pub faults : new.faults ≡ faults_after result old.faults
+
+-- the number in the four bytes at a place
+abbrev pub field : ℕ → List ℕ → ℕ
+field p contents = number (take 4 (drop p contents))
+
+-- the contents with these two sizes: the RIFF size at 4, the data length at p
+unfoldable pub with_sizes : ℕ → ℕ → ℕ → List ℕ → List ℕ
+with_sizes p size data_length contents =
+    take 4 contents ++ (bytes_of 4 size ++ (drop 8 (take p contents) ++ (bytes_of 4 data_length ++ drop (p + 4) contents)))
+
+-- a patch: at an Ok both sizes stand, and the medium was flushed
+pub record Patches {T E : Type 0} (p size data_length : ℕ) (result : Result T E) (old new : Seen) : Type 0 where
+  pub contents : OnOk result (new.contents ≡ with_sizes p size data_length old.contents)
+  pub flushed : OnOk result (new.flushed ≡ length new.past)
+  pub faults : new.faults ≡ faults_after result old.faults
+
+-- A writer's medium: the field of the data length is there and counts no more than n bytes, and the next sample goes to their end.
+pub record Stands (p n : ℕ) (moved : Bool) (seen : Seen) : Type 0 where
+  pub inside : p + 4 ≤ length seen.contents
+  pub counted : field p seen.contents ≤ n
+  pub place : moved ≡ false → seen.place ≡ p + 4 + n
+
+-- the answer of a call that has patched the header, or met a fault: Ok exactly for whole frames
+abbrev pub IsTold : {T : Type 0} → Result T IoFault → Bool → Result T Error → Type 0
+IsTold (Err e) are_frames told = told ≡ Err (IoError e)
+IsTold (Ok x) true told = told ≡ Ok x
+IsTold (Ok x) false told = told ≡ Err UnfinishedSample

@@ -1,0 +1,103 @@
+-- What contracts see of a writer, and what its calls answer.
+use Rattle.std.specs.Prelude.{◌≡◌, ℕ, ◌+◌, ◌-◌, ◌/◌, ◌%◌, ◌≤◌, ⊤, nat_le, if◌then◌else◌, List, [], ◌∷◌, ◌++◌, length, take, drop, Bool, Option, Some, None, Result, Ok, Err}
+use Rattle.std.specs.Io.{StartsWith}
+use Rattle.hound_spec.specs.declared.error.Error.{Error}
+use Rattle.hound_spec.specs.declared.error.Error.TheVariants.{IoError, UnfinishedSample, TooLong}
+use Rattle.hound_spec.specs.declared.spec.WavSpecEx.{WavSpecEx}
+use Rattle.hound_spec.specs.Header.{header, data_start, riff_size}
+use Rattle.hound_sample.specs.Container.{Refusal, containers}
+use Rattle.hound_sample.specs.Encoding.{error_of}
+use Rattle.hound_medium.specs.Seen.{Seen, Takes, one_more}
+
+-- A writer: its medium, the spec, the place of the first data byte, and how many bytes of samples were accepted.
+pub record Written (W : Type 0) : Type 0 where
+  pub medium : W
+  pub spec_ex : WavSpecEx
+  pub data_start : ℕ
+  pub data_length : ℕ
+
+-- What holds of every writer, whatever its medium tells: it can divide by the channels and the width, its samples are whole, and the RIFF size fits its field.
+pub record IsSound (spec_ex : WavSpecEx) (data_start data_length : ℕ) : Type 0 where
+  pub channels : 1 ≤ spec_ex.spec.channels
+  pub width : 1 ≤ spec_ex.bytes_per_sample
+  pub whole : data_length % spec_ex.bytes_per_sample ≡ 0
+  pub behind : 12 ≤ data_start
+  pub fits : riff_size data_start data_length ≤ 4294967295
+
+-- the medium of a constructor's answer: that of the writer, or the one that is handed back
+abbrev pub medium_of : {W : Type 0} → Result (Written W) (W × Error) → W
+medium_of (Ok w) = w.medium
+medium_of (Err refused) = refused.0
+
+-- a writer of a file that has just begun: the data begin behind the header, and nothing is accepted
+pub record HasBegun {W : Type 0} (spec_ex : WavSpecEx) (w : Written W) : Type 0 where
+  pub spec : w.spec_ex ≡ spec_ex
+  pub start : w.data_start ≡ data_start spec_ex
+  pub empty : w.data_length ≡ 0
+
+-- the whole header was put where the medium stood, with both sizes 0, and nothing else
+pub record PutsHeader (keeps : Bool) (spec_ex : WavSpecEx) (old new : Seen) : Type 0 where
+  pub takes : Takes keeps (header spec_ex 0 0) (length (header spec_ex 0 0)) old new
+  pub faults : new.faults ≡ old.faults
+
+-- how many samples were accepted, of all channels together
+abbrev pub sample_count : {W : Type 0} → Written W → ℕ
+sample_count w = w.data_length / w.spec_ex.bytes_per_sample
+
+-- The accepted samples, as their containers: the first of the data.
+abbrev pub accepted : {W : Type 0} → (W → Seen) → Written W → List (List ℕ)
+accepted seen w = containers w.spec_ex.bytes_per_sample (sample_count w) (drop w.data_start (seen w.medium).contents)
+
+-- the medium has all bytes of the accepted samples
+abbrev pub IsWhole : {W : Type 0} → (W → Seen) → Written W → Type 0
+IsWhole seen w = w.data_start + w.data_length ≤ length (seen w.medium).contents
+
+-- the accepted samples are a whole number of frames
+abbrev pub AreFrames : {W : Type 0} → Written W → Type 0
+AreFrames w = sample_count w % w.spec_ex.spec.channels ≡ 0
+
+-- the contents begin with the header of this spec, with any two sizes
+abbrev pub HasHeader : WavSpecEx → List ℕ → Type 0
+HasHeader spec_ex contents = (size : ℕ) × (data_length : ℕ) × StartsWith contents (header spec_ex size data_length)
+
+-- why a sample isn't taken: its type's refusal, or that the file would be longer than its RIFF size can say
+abbrev pub sample_refusal : {W : Type 0} → Result (List ℕ) Refusal → Written W → Option Error
+sample_refusal (Err refusal) w = Some (error_of refusal)
+sample_refusal (Ok container) w = if nat_le (riff_size w.data_start (w.data_length + w.spec_ex.bytes_per_sample)) 4294967295 then None else Some TooLong
+
+-- the accepted samples after one was written: it is the last of them at an Ok, else they stay
+abbrev pub AcceptsSample : {T : Type 0} → Result T Error → Result (List ℕ) Refusal → List (List ℕ) → List (List ℕ) → Type 0
+AcceptsSample (Ok x) (Ok container) old new = new ≡ old ++ container ∷ []
+AcceptsSample (Ok x) (Err refusal) old new = ⊥
+AcceptsSample (Err e) sample old new = new ≡ old
+
+abbrev pub IsIoError : Error → Type 0
+IsIoError (IoError e) = ⊤
+IsIoError _ = ⊥
+
+abbrev pub IsOkOrIoError : {T : Type 0} → Result T Error → Type 0
+IsOkOrIoError (Ok x) = ⊤
+IsOkOrIoError (Err e) = IsIoError e
+
+-- the medium's faults after a call: one more where the call answers `IoError`, else the same
+abbrev pub faults_told : {T : Type 0} → Result T Error → ℕ → ℕ
+faults_told (Err (IoError e)) faults = one_more faults
+faults_told _ faults = faults
+
+-- a fact for an Ok and for `UnfinishedSample`, after which all accepted samples are published
+abbrev pub OnPublished : {T : Type 0} → Result T Error → Type 0 → Type 0
+OnPublished (Ok x) P = P
+OnPublished (Err UnfinishedSample) P = P
+OnPublished (Err _) P = ⊤
+
+-- the answer of a call that publishes: Ok exactly for whole frames, else `UnfinishedSample`; or an `IoError`
+abbrev pub IsPublishing : {T W : Type 0} → Result T Error → Written W → Type 0
+IsPublishing (Ok x) w = AreFrames w
+IsPublishing (Err UnfinishedSample) w = AreFrames w → ⊥
+IsPublishing (Err (IoError e)) w = ⊤
+IsPublishing (Err _) w = ⊥
+
+-- before the data only the RIFF size at 4 and the data length have changed
+pub record ChangesSizesOnly (data_start : ℕ) (old new : List ℕ) : Type 0 where
+  pub front : take 4 new ≡ take 4 old
+  pub middle : drop 8 (take (data_start - 4) new) ≡ drop 8 (take (data_start - 4) old)

@@ -1,0 +1,7 @@
+//! The writer.
+#![tactic(auto)]
+
+mod patch;
+mod write;
+
+pub use write::WavWriter;

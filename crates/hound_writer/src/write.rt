@@ -1,0 +1,288 @@
+// The writer of samples.
+ghost use Rattle.std.specs.Prelude.{◌≡◌, ◌+◌, ◌^◌, ◌≤◌, ◌↔◌, IsTrue};
+ghost use Rattle.hound_spec.specs.Header.{riff_size};
+ghost use Rattle.hound_writer.specs.Supported.{IsSupported};
+ghost use Rattle.hound_writer.specs.Parts.{IsTold};
+
+use crate::patch::{patch, put_at_end};
+use hound_medium::{Medium, put_all};
+use hound_sample::Sample;
+use hound_spec::{Error, Result, SampleFormat, WavSpec, WavSpecEx, header_of, with_default_width};
+use std::marker::Model;
+use std::{io, result};
+
+/// A writer that puts samples into a medium, as a WAVE file.
+#[derive(Drop)]
+pub struct WavWriter<W: Medium> {
+    // The properties of the audio data.
+    spec: WavSpec,
+
+    // The bytes of a container.
+    bytes_per_sample: u16,
+
+    // The medium that the file goes to.
+    writer: W,
+
+    // The bytes of the accepted samples.
+    data_bytes_written: u32,
+
+    // The place of the field of the data length, in bytes.
+    data_len_offset: u64,
+
+    // Whether a fault may have left the medium elsewhere than behind the accepted samples.
+    moved: bool,
+}
+
+impl<W: Medium> Model for WavWriter<W> {
+    ghost use Rattle.std.specs.Prelude.{◌+◌, IsTrue};
+    ghost use Rattle.hound_writer.specs.Writer.{Written, IsSound};
+    ghost use Rattle.hound_writer.specs.Parts.{Stands};
+
+    ghost Value = { Written W };
+
+    ghost view = { λ w. record {
+      medium = w.writer;
+      spec_ex = record { spec = w.spec; bytes_per_sample = w.bytes_per_sample };
+      data_start = w.data_len_offset + 4;
+      data_length = w.data_bytes_written;
+    } };
+
+    ghost invariant = { λ w. IsSound (record { spec = w.spec; bytes_per_sample = w.bytes_per_sample }) (w.data_len_offset + 4) w.data_bytes_written
+        × (IsTrue W.tells → Stands w.data_len_offset w.data_bytes_written w.moved (W.seen w.writer)) };
+}
+
+// Whether the RIFF size of so many data bytes behind a field at this place fits 32 bits.
+#[inline(always)]
+fn riff_fits(data_len_offset: u64, data_length: u64) -> bool
+    requires behind { 8 ≤ data_len_offset }
+    requires small { data_len_offset ≤ 2 ^ 33 }
+    requires few { data_length ≤ 2 ^ 33 }
+    ensures { IsTrue result ↔ (riff_size (data_len_offset + 4) data_length ≤ 4294967295) }
+{
+    data_len_offset - 4 + data_length <= 4_294_967_295
+}
+
+// What a call answers that has patched the header, or met a fault.
+fn told(patched: io::Result<()>, are_frames: bool) -> Result<()>
+    ensures { IsTold patched are_frames result }
+{
+    patched?;
+    if !are_frames {
+        return Err(Error::UnfinishedSample);
+    }
+    Ok(())
+}
+
+// Whether files of this spec are written: integers of 16 bits, of one or two channels.
+fn is_supported(spec_ex: WavSpecEx) -> bool
+    ensures { IsTrue result ↔ IsSupported spec_ex }
+{
+    let spec = spec_ex.spec;
+    spec_ex.is_writable()
+        && spec.sample_format == SampleFormat::Int
+        && spec.bits_per_sample == 16
+        && spec.channels <= 2
+}
+
+impl<W: Medium> WavWriter<W> {
+    ghost use Rattle.std.specs.Prelude.{◌≡◌, ◌+◌, ◌-◌, ◌/◌, ◌%◌, ◌≤◌, ◌<◌, ◌↔◌, max, IsTrue, IfErr, IfNone, IfOk, IfSome, Ok, Err, MatchResult, OnOk, length, take};
+    ghost use Rattle.std.specs.Io.{StartsWith};
+    ghost use Rattle.hound_medium.specs.Seen.{PutsAll};
+    ghost use Rattle.hound_spec.specs.declared.error.Error.TheVariants.{Unsupported};
+    ghost use Rattle.hound_spec.specs.Header.{header, data_start, riff_size, canonical};
+    ghost use Rattle.hound_spec.specs.Writable.{with_default_width};
+    ghost use Rattle.hound_writer.specs.Parts.{PutsAt, field};
+    ghost use Rattle.hound_writer.specs.Supported.{IsSupported};
+    ghost use Rattle.hound_writer.specs.Writer.{HasBegun, HasHeader, PutsHeader, medium_of, sample_refusal, AcceptsSample, accepted, IsWhole, IsIoError, IsOkOrIoError, IsPublishing, OnPublished, ChangesSizesOnly, faults_told, sample_count};
+
+    /// Begins a file of this spec in a medium that stands at its beginning, and puts the header.
+    ///
+    /// A sample takes the bytes that its bits need: `(bits_per_sample + 7) / 8`, rounded down. The
+    /// errors are those of [`WavWriter::try_new`], which hands the medium back.
+    pub fn new(writer: W, spec: WavSpec) -> Result<WavWriter<W>>
+        requires { IsTrue W.tells → (W.seen writer).place ≡ 0 }
+        ensures unsupported { (IsSupported (with_default_width spec) → ⊥) → result ≡ Err Unsupported }
+        ensures only_supported { OnOk result (IsSupported (with_default_width spec)) }
+        ensures supported { IsSupported (with_default_width spec) → IsOkOrIoError result }
+        ensures begun { IfOk result (λ w. HasBegun (with_default_width spec) w) }
+        ensures puts { IsTrue W.tells → IfOk result (λ w. PutsHeader W.keeps (with_default_width spec) (W.seen writer) (W.seen w.medium)) }
+        ensures header { IsTrue W.tells → IfOk result (λ w. HasHeader w.spec_ex (W.seen w.medium).contents) }
+        ensures whole { IsTrue W.tells → IfOk result (λ w. IsWhole W.seen w) }
+    {
+        match WavWriter::try_new(writer, with_default_width(spec)) {
+            Ok(writer) => Ok(writer),
+            Err((_, error)) => Err(error),
+        }
+    }
+
+    /// Begins a file of this spec in a medium that stands at its beginning, puts the header with
+    /// both sizes 0, and hands the medium back where it can't.
+    ///
+    /// The errors, in their order: `Unsupported`, for a spec that can't be written, and the medium
+    /// is as it was; `IoError`, where the medium failed, and a beginning of the header may be out.
+    /// No error leaves anything behind that would put more.
+    pub fn try_new(writer: W, spec_ex: WavSpecEx) -> result::Result<WavWriter<W>, (W, Error)>
+        requires { IsTrue W.tells → (W.seen writer).place ≡ 0 }
+        ensures unsupported { (IsSupported spec_ex → ⊥) → result ≡ Err (writer, Unsupported) }
+        ensures only_supported { OnOk result (IsSupported spec_ex) }
+        ensures supported { IsSupported spec_ex → IfErr result (λ refused. IsIoError refused.1) }
+        ensures begun { IfOk result (λ w. HasBegun spec_ex w) }
+        ensures puts { IsSupported spec_ex → IsTrue W.tells → PutsAll W.keeps (header spec_ex 0 0) result (W.seen writer) (W.seen (medium_of result)) }
+        ensures header { IsTrue W.tells → IfOk result (λ w. HasHeader w.spec_ex (W.seen w.medium).contents) }
+        ensures whole { IsTrue W.tells → IfOk result (λ w. IsWhole W.seen w) }
+    {
+        if !is_supported(spec_ex) {
+            return Err((writer, Error::Unsupported));
+        }
+        let mut writer = writer;
+        let header = header_of(spec_ex, 0, 0);
+        let bytes = header.as_slice();
+        let data_len_offset = bytes.len() as u64 - 4;
+        match put_all(&mut writer, bytes) {
+            Ok(()) => Ok(WavWriter {
+                spec: spec_ex.spec,
+                bytes_per_sample: spec_ex.bytes_per_sample,
+                writer,
+                data_bytes_written: 0,
+                data_len_offset,
+                moved: false,
+            }),
+            Err(error) => Err((writer, Error::IoError(error))),
+        }
+    }
+
+    // Whether so many more bytes leave the RIFF size within 32 bits.
+    #[inline(always)]
+    fn has_room(&self, more: u32) -> bool
+        ensures { IsTrue result ↔ (riff_size self.now.data_start (self.now.data_length + more) ≤ 4294967295) }
+    {
+        riff_fits(
+            self.data_len_offset,
+            self.data_bytes_written as u64 + more as u64,
+        )
+    }
+
+    // Puts whole containers behind the accepted ones, and accepts them once they are out.
+    #[inline(always)]
+    fn accept(&mut self, bytes: &[u8]) -> io::Result<()>
+        requires room { riff_size self.old.data_start (self.old.data_length + length bytes.now) ≤ 4294967295 }
+        requires whole { length bytes.now % self.old.spec_ex.bytes_per_sample ≡ 0 }
+        ensures spec_stays { self.new.spec_ex ≡ self.old.spec_ex }
+        ensures start_stays { self.new.data_start ≡ self.old.data_start }
+        ensures count { MatchResult result (λ _. self.new.data_length ≡ self.old.data_length + length bytes.now)
+            (λ _. self.new.data_length ≡ self.old.data_length) }
+        ensures puts { IsTrue W.tells → PutsAt W.keeps (self.old.data_start + self.old.data_length) bytes.now result
+            (W.seen self.old.medium) (W.seen self.new.medium) }
+    {
+        let end = self.data_len_offset + 4 + self.data_bytes_written as u64;
+        let moved = self.moved;
+        self.moved = true; // until the bytes are out
+        put_at_end(&mut self.writer, moved, end, bytes)?;
+        self.data_bytes_written += bytes.len() as u32;
+        self.moved = false;
+        Ok(())
+    }
+
+    /// Writes a sample of one channel; the channels of a frame follow one another.
+    ///
+    /// The errors, in the order in which they are looked for: `Unsupported` or `TooWide`, as the
+    /// type's table says of the file's bits and bytes; `TooLong`, where the RIFF size of the longer
+    /// file would pass 4294967295; `IoError`, where the medium failed. At each of them nothing is
+    /// accepted, and the writer may go on: the next sample goes where this one should have gone.
+    #[inline]
+    pub fn write_sample<S: Sample>(&mut self, sample: S) -> Result<()>
+        // A refusal leaves all as it was.
+        ensures refused { IfSome (sample_refusal (S.container sample self.old.spec_ex.spec.bits_per_sample self.old.spec_ex.bytes_per_sample) self.old)
+            (λ e. (result ≡ Err e) × (self.new ≡ self.old)) }
+        // Where nothing refuses the sample it is accepted, or the medium failed.
+        ensures failed { IfNone (sample_refusal (S.container sample self.old.spec_ex.spec.bits_per_sample self.old.spec_ex.bytes_per_sample) self.old)
+            (IfErr result IsIoError) }
+        ensures faults { IsTrue W.tells → (W.seen self.new.medium).faults ≡ faults_told result (W.seen self.old.medium).faults }
+
+        ensures spec_stays { self.new.spec_ex ≡ self.old.spec_ex }
+        ensures start_stays { self.new.data_start ≡ self.old.data_start }
+        ensures count { MatchResult result (λ _. sample_count self.new ≡ sample_count self.old + 1) (λ _. self.new.data_length ≡ self.old.data_length) }
+
+        // Over a medium that tells.
+        ensures accepted { IsTrue W.tells → IsWhole W.seen self.old →
+            AcceptsSample result (S.container sample self.old.spec_ex.spec.bits_per_sample self.old.spec_ex.bytes_per_sample) (accepted W.seen self.old) (accepted W.seen self.new) }
+        ensures whole { IsTrue W.tells → IsWhole W.seen self.old → IsWhole W.seen self.new }
+        ensures front { IsTrue W.tells → take self.old.data_start (W.seen self.new.medium).contents ≡ take self.old.data_start (W.seen self.old.medium).contents }
+        ensures reach { IsTrue W.tells → OnOk result (length (W.seen self.new.medium).contents ≤ max (length (W.seen self.old.medium).contents) (self.new.data_start + self.new.data_length)) }
+    {
+        let width = self.bytes_per_sample;
+        let container = sample.encode(self.spec.bits_per_sample, width)?;
+        if !self.has_room(width as u32) {
+            return Err(Error::TooLong);
+        }
+        self.accept(&container[..width as usize])?;
+        Ok(())
+    }
+
+    /// Publishes the accepted samples and closes the file.
+    ///
+    /// The errors are those of [`WavWriter::finalize_into`], which hands the medium back.
+    pub fn finalize(self) -> Result<()>
+        ensures { IsPublishing result self }
+    {
+        let (_, result) = self.finalize_into();
+        result
+    }
+
+    /// Puts both sizes into the header, flushes the medium, and hands it back: it stands where the
+    /// data begin.
+    ///
+    /// The errors, in their order: `IoError`, at the first fault of the medium, after which nothing
+    /// is tried again; `UnfinishedSample`, where the samples are no whole number of frames, although
+    /// all of them are published and the medium is flushed.
+    pub fn finalize_into(self) -> (W, Result<()>)
+        ensures answer { IsPublishing result.1 self }
+        ensures faults { IsTrue W.tells → (W.seen result.0).faults ≡ faults_told result.1 (W.seen self.medium).faults }
+        ensures flushed { IsTrue W.tells → OnPublished result.1 ((W.seen result.0).flushed ≡ length (W.seen result.0).past) }
+
+        // The two sizes, and what stands before and behind them.
+        ensures riff_size { IsTrue W.tells → OnPublished result.1 (field 4 (W.seen result.0).contents ≡ riff_size self.data_start self.data_length) }
+        ensures data_length { IsTrue W.tells → OnPublished result.1 (field (self.data_start - 4) (W.seen result.0).contents ≡ self.data_length) }
+        ensures front { IsTrue W.tells → OnPublished result.1 (ChangesSizesOnly self.data_start (W.seen self.medium).contents (W.seen result.0).contents) }
+        ensures accepted { IsTrue W.tells → OnPublished result.1 (accepted W.seen (record self { medium = result.0 }) ≡ accepted W.seen self) }
+
+        // A file that was begun with this header is then the canonical one.
+        ensures canonical { IsTrue W.tells → IsWhole W.seen self → HasHeader self.spec_ex (W.seen self.medium).contents → self.data_start ≡ data_start self.spec_ex →
+            OnPublished result.1 (StartsWith (W.seen result.0).contents (canonical self.spec_ex (accepted W.seen self))) }
+    {
+        let WavWriter {
+            spec,
+            bytes_per_sample,
+            writer,
+            data_bytes_written,
+            data_len_offset,
+            moved: _,
+        } = self;
+        let mut writer = writer;
+        let riff_size = (data_len_offset - 4 + data_bytes_written as u64) as u32;
+        let samples = data_bytes_written / bytes_per_sample as u32;
+        let patched = patch(&mut writer, data_len_offset, riff_size, data_bytes_written);
+        (writer, told(patched, samples % spec.channels as u32 == 0))
+    }
+
+    /// The spec that the file was begun with.
+    pub fn spec(&self) -> WavSpec
+        ensures { result ≡ self.now.spec_ex.spec }
+    {
+        self.spec
+    }
+
+    /// The number of frames, rounded down: samples for each channel.
+    pub fn duration(&self) -> u32
+        ensures { result ≡ sample_count self.now / self.now.spec_ex.spec.channels }
+    {
+        self.data_bytes_written / self.bytes_per_sample as u32 / self.spec.channels as u32
+    }
+
+    /// The number of samples, of all channels together.
+    pub fn len(&self) -> u32
+        ensures { result ≡ sample_count self.now }
+    {
+        self.data_bytes_written / self.bytes_per_sample as u32
+    }
+}
