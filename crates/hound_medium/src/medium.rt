@@ -8,7 +8,8 @@ use std::io;
 
 /// A place among bytes, counted in bytes from 0. It may lie behind the end.
 ///
-/// Of a value that `tells`, contracts know the bytes; `seen` says nothing of any other.
+/// Of a value that `tells`, contracts know the bytes; `seen` says nothing of any other. There an `Err`
+/// of any call, of `put`, `flush` and `get` too, changes nothing but the count of faults.
 pub trait Placed: Drop {
     /// Whether the bytes are known.
     ghost tells: { Bool };

@@ -6,7 +6,7 @@ ghost use Rattle.std.specs.Io.KnownBytes.{ReadConsumes};
 ghost use Rattle.std.specs.IoError.{error_kind};
 ghost use Rattle.std.proofs.lemmas.Bool.{false≢true};
 ghost use Rattle.hound_number.specs.Number.{AreBytes};
-ghost use Rattle.hound_medium.specs.Seen.{Seen, Goes, Shifts, Gets, Puts, Flushes};
+ghost use Rattle.hound_medium.specs.Seen.{Goes, Shifts, Gets, Puts, Flushes};
 
 use crate::bytes::{copy_from, put_at};
 use crate::{Medium, Placed, Source};
