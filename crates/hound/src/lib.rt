@@ -1,0 +1,7 @@
+//! WAV audio, written and read: a port of the crate `hound` with every function proved.
+#![tactic(auto)]
+
+pub use hound_medium::{Medium, Placed, Source, Tape};
+pub use hound_sample::Sample;
+pub use hound_spec::{Error, Result, SampleFormat, WavSpec, WavSpecEx};
+pub use hound_writer::WavWriter;
