@@ -5,3 +5,6 @@ pub use hound_medium::{Medium, Placed, Source, Tape};
 pub use hound_sample::Sample;
 pub use hound_spec::{Error, Result, SampleFormat, WavSpec, WavSpecEx};
 pub use hound_writer::WavWriter;
+
+#[cfg(test)]
+mod tests;

@@ -3,6 +3,8 @@
 
 mod numbers;
 mod run;
+#[cfg(test)]
+mod tests;
 
 use run::run;
 use std::io::{BufReader, BufWriter};
@@ -12,7 +14,11 @@ use std::{env, io};
 fn main(rt: HostRuntime) -> io::Result<ExitCode> {
     let alloc = rt.alloc();
     let arguments: Vec<String> = env::args(&rt)?.collect(alloc)?;
-    let words: Vec<&str> = arguments.iter().skip(1).map(|word| word.as_str()).collect(alloc)?;
+    let words: Vec<&str> = arguments
+        .iter()
+        .skip(1)
+        .map(|word| word.as_str())
+        .collect(alloc)?;
     let mut input = BufReader::new(alloc, rt.stdin())?;
     let mut output = BufWriter::new(alloc, rt.stdout())?;
     let status = run(alloc, &words, &mut input, &mut output, &mut rt.stderr());

@@ -137,7 +137,7 @@ impl<W: Medium> WavWriter<W> {
         let mut writer = writer;
         let header = header_of(spec_ex, 0, 0);
         let bytes = header.as_slice();
-        let data_len_offset = bytes.len() as u64 - 4;
+        let data_len_offset = bytes.len() as u64 - 4; // the last field of the header
         match put_all(&mut writer, bytes) {
             Ok(()) => Ok(WavWriter {
                 spec: spec_ex.spec,
@@ -276,7 +276,7 @@ impl<W: Medium> WavWriter<W> {
     pub fn duration(&self) -> u32
         ensures { result ≡ sample_count self.now / self.now.spec_ex.spec.channels }
     {
-        self.data_bytes_written / self.bytes_per_sample as u32 / self.spec.channels as u32
+        self.len() / self.spec.channels as u32
     }
 
     /// The number of samples, of all channels together.

@@ -1,0 +1,170 @@
+// The program's runs, over readers and writers in memory.
+use crate::run::run;
+use std::alloc::Global;
+use std::io;
+use std::io::{Error, ErrorKind};
+use std::process::Abort;
+use std::test::Fail;
+
+// What a run answers, writes, and says.
+struct Answer {
+    status: u8,
+    output: Vec<u8>,
+    errors: Vec<u8>,
+}
+
+fn run_on(alloc: Global, words: &[&str], input: &str) -> Answer {
+    let mut output = Vec::new(alloc);
+    let mut errors = Vec::new(alloc);
+    let mut bytes = input.as_bytes();
+    let status = run(alloc, words, &mut bytes, &mut output, &mut errors);
+    Answer {
+        status,
+        output,
+        errors,
+    }
+}
+
+const USAGE: &[u8] = b"usage: hound_tool pack CHANNELS RATE BITS | show | append FILE\n";
+
+// Mono, 44100 Hz, 16 bits: 2, -3, 5, -7.
+const FOUR_SAMPLES: [u8; 52] = [
+    0x52, 0x49, 0x46, 0x46, 0x2c, 0x00, 0x00, 0x00, 0x57, 0x41, 0x56, 0x45, 0x66, 0x6d, 0x74, 0x20,
+    0x10, 0x00, 0x00, 0x00, 0x01, 0x00, 0x01, 0x00, 0x44, 0xac, 0x00, 0x00, 0x88, 0x58, 0x01, 0x00,
+    0x02, 0x00, 0x10, 0x00, 0x64, 0x61, 0x74, 0x61, 0x08, 0x00, 0x00, 0x00, 0x02, 0x00, 0xfd, 0xff,
+    0x05, 0x00, 0xf9, 0xff,
+];
+
+#[test]
+fn pack_writes_a_file(rt: HostRuntime) -> Result<(), Fail> {
+    for input in ["2 -3 5 -7", "2\t-3\r\n5 -7\n", "002 -3 5 -07 "] {
+        let Answer {
+            status,
+            output,
+            errors,
+        } = run_on(rt.alloc(), &["pack", "1", "44100", "16"], input);
+        assert_eq!(rt; status, 0, "{input:?}");
+        assert_eq!(rt; output.as_slice(), FOUR_SAMPLES.as_slice(), "{input:?}");
+        assert!(rt; errors.is_empty(), "{input:?}");
+    }
+    Ok(())
+}
+
+#[test]
+fn pack_says_why_it_refuses(rt: HostRuntime) -> Result<(), Fail> {
+    let unfinished: &[u8] =
+        b"The number of samples written is not a multiple of the number of channels.\n";
+    let unsupported: &[u8] = b"The wave format of the file is not supported.\n";
+    let too_wide: &[u8] = b"The sample has more bits than the destination type.\n";
+    let bad: &[u8] = b"bad number\n";
+    let refusals = [
+        ("2", "16", "1", unfinished),
+        ("0", "16", "1", unsupported),
+        ("1", "12", "1", unsupported),
+        ("1", "16", "32767 32768", too_wide),
+        ("1", "16", "2 x", bad),
+        ("1", "16", "+2", bad),
+        ("1", "16", "2 -", bad),
+        ("1", "16", "1-2", bad),
+        ("1", "16", "--1", bad),
+        ("1", "16", "2147483648", bad),
+        ("1", "16", "-2147483649", bad),
+    ];
+    for (channels, bits, input, line) in refusals {
+        let Answer {
+            status,
+            output,
+            errors,
+        } = run_on(rt.alloc(), &["pack", channels, "44100", bits], input);
+        assert_eq!(rt; status, 1, "{input:?}");
+        assert!(rt; output.is_empty(), "{input:?}");
+        assert_eq!(rt; errors.as_slice(), line, "{input:?}");
+    }
+    Ok(())
+}
+
+fn expect_usage(rt: &impl Abort, alloc: Global, words: &[&str]) {
+    let Answer {
+        status,
+        output,
+        errors,
+    } = run_on(alloc, words, "1");
+    assert_eq!(rt; status, 2);
+    assert!(rt; output.is_empty());
+    assert_eq!(rt; errors.as_slice(), USAGE);
+}
+
+#[test]
+fn other_words_print_the_usage(rt: HostRuntime) -> Result<(), Fail> {
+    expect_usage(&rt, rt.alloc(), &[]);
+    expect_usage(&rt, rt.alloc(), &["show"]);
+    expect_usage(&rt, rt.alloc(), &["append", "a.wav"]);
+    expect_usage(&rt, rt.alloc(), &["pack", "1", "44100"]);
+    expect_usage(&rt, rt.alloc(), &["pack", "1", "44100", "16", "more"]);
+    expect_usage(&rt, rt.alloc(), &["pack", "+1", "44100", "16"]);
+    expect_usage(&rt, rt.alloc(), &["pack", "1", "", "16"]);
+    expect_usage(&rt, rt.alloc(), &["pack", "65536", "44100", "16"]);
+    expect_usage(&rt, rt.alloc(), &["pack", "1", "4294967296", "16"]);
+    Ok(())
+}
+
+// Gives some bytes, and then fails.
+#[derive(Drop)]
+struct BreaksOff {
+    given: bool,
+}
+
+impl io::Read for BreaksOff {
+    fn read(&mut self, buf: &mut [u8]) -> io::Result<usize> {
+        if self.given || buf.len() < 2 {
+            return Err(Error::from(ErrorKind::Other));
+        }
+        self.given = true;
+        buf[0] = b'1';
+        buf[1] = b' ';
+        Ok(2)
+    }
+}
+
+// Takes nothing.
+#[derive(Drop)]
+struct Broken;
+
+impl io::Write for Broken {
+    fn write(&mut self, _buf: &[u8]) -> io::Result<usize> {
+        Err(Error::from(ErrorKind::Other))
+    }
+
+    fn flush(&mut self) -> io::Result<()> {
+        Err(Error::from(ErrorKind::Other))
+    }
+}
+
+#[test]
+fn faults_of_input_and_output_are_told(rt: HostRuntime) -> Result<(), Fail> {
+    let alloc = rt.alloc();
+    let words = ["pack", "1", "44100", "16"];
+    let line: &[u8] = b"input or output failed\n";
+    let mut output = Vec::new(alloc);
+    let mut errors = Vec::new(alloc);
+    let mut input = BreaksOff { given: false };
+    assert_eq!(rt; run(alloc, &words, &mut input, &mut output, &mut errors), 1);
+    assert!(rt; output.is_empty());
+    assert_eq!(rt; errors.as_slice(), line);
+
+    let mut errors = Vec::new(alloc);
+    let mut numbers: &[u8] = b"1";
+    assert_eq!(rt;
+        run(alloc, &words, &mut numbers, &mut Broken, &mut errors),
+        1
+    );
+    assert_eq!(rt; errors.as_slice(), line);
+
+    // A fault while the line is written isn't told.
+    let mut letters: &[u8] = b"x";
+    assert_eq!(rt;
+        run(alloc, &words, &mut letters, &mut Broken, &mut Broken),
+        1
+    );
+    Ok(())
+}
