@@ -1,0 +1,50 @@
+-- Bytes put inside contents, over bytes that stood there.
+use Rattle.std.proofs.Common.{◌≡◌, ℕ, ◌+◌, ◌-◌, ◌≤◌, List, ◌++◌, length, take, drop, sym, ◌∙◌, ap, arith, append_assoc, length-append, length-drop}
+use Rattle.std.proofs.lemmas.List.{drop_at, take-take, drop-drop, take-append-le, length-take-le}
+use Rattle.hound_medium.specs.Bytes.{placed, overlay}
+use Rattle.hound_medium.proofs.Overlays.{overlay_is}
+
+module _ (c : List ℕ) (at : ℕ) (bs : List ℕ) (inside : at + length bs ≤ length c) where
+  new : List ℕ
+  new = overlay c (placed at bs)
+
+  parts : new ≡ take at c ++ (bs ++ drop (at + length bs) c)
+  unfolding new
+  parts = overlay_is c at bs (omega (arith, inside))
+
+  front : length (take at c) ≡ at
+  front = length-take-le at c (omega (arith, inside))
+
+  -- what stood before them stays
+  pub take_before : (n : ℕ) → n ≤ at → take n (overlay c (placed at bs)) ≡ take n c
+  unfolding new
+  take_before n h =
+      ap (take n) parts
+      ∙ take-append-le n (take at c) (bs ++ drop (at + length bs) c) (omega (arith, front))
+      ∙ take-take n at c h
+
+  -- what stood behind them stays
+  pub drop_behind : (n : ℕ) → at + length bs ≤ n → drop n (overlay c (placed at bs)) ≡ drop n c
+  unfolding new
+  drop_behind n h =
+      let m = n - (at + length bs) in
+      let e : n ≡ at + length bs + m = omega arith in
+      let all : new ≡ (take at c ++ bs) ++ drop (at + length bs) c = parts ∙ sym (append_assoc (take at c) bs (drop (at + length bs) c)) in
+      let size : length (take at c ++ bs) ≡ at + length bs = length-append (take at c) bs ∙ ap (λ k. k + length bs) front in
+      ap (drop n) all
+      ∙ ap (λ k. drop k ((take at c ++ bs) ++ drop (at + length bs) c)) e
+      ∙ sym (drop-drop m (at + length bs) ((take at c ++ bs) ++ drop (at + length bs) c))
+      ∙ ap (drop m) (drop_at (take at c ++ bs) (drop (at + length bs) c) (at + length bs) size)
+      ∙ drop-drop m (at + length bs) c
+      ∙ ap (λ k. drop k c) (sym e)
+
+  pub same_size : length (overlay c (placed at bs)) ≡ length c
+  unfolding new
+  same_size =
+      ap length parts ∙ length-append (take at c) (bs ++ drop (at + length bs) c)
+      ∙ omega (arith, front, length-append bs (drop (at + length bs) c), length-drop (at + length bs) c, inside)
+
+  -- from their place on: the bytes, and what stood behind them
+  pub drop_to : drop at (overlay c (placed at bs)) ≡ bs ++ drop (at + length bs) c
+  unfolding new
+  drop_to = ap (drop at) parts ∙ drop_at (take at c) (bs ++ drop (at + length bs) c) at front

@@ -1,0 +1,4 @@
+pub mod Overlays
+pub mod Inside
+pub mod Taking
+pub mod Reading

@@ -1,0 +1,39 @@
+-- Bytes that are put by several calls.
+use Rattle.std.proofs.Common.{◌≡◌, ℕ, ◌+◌, ◌≤◌, Bool, List, ◌++◌, length, take, drop, refl, sym, ◌∙◌, ap, arith, append_assoc}
+use Rattle.std.proofs.lemmas.List.{append-nil, length-take-le}
+use Rattle.std.proofs.Math.Seq.{take-add}
+use Rattle.hound_medium.specs.Bytes.{placed, overlay}
+use Rattle.hound_medium.specs.Seen.{Seen, Takes}
+use Rattle.hound_medium.proofs.Overlays.{placed-append, overlay-append}
+
+-- no byte put, nothing changed
+pub takes_none : (keeps : Bool) (bytes : List ℕ) (s : Seen) → Takes keeps bytes 0 s s
+takes_none keeps bytes s = record {
+  contents = refl;
+  place = omega arith;
+  start = refl;
+  past = λ _. sym (append-nil s.past);
+  flushed = refl;
+}
+
+-- a first bytes, and then n of those that are left
+pub takes_more : (keeps : Bool) (bytes : List ℕ) (a n : ℕ) (old mid new : Seen) → a ≤ length bytes → Takes keeps bytes a old mid → Takes keeps (drop a bytes) n mid new → Takes keeps bytes (a + n) old new
+takes_more keeps bytes a n old mid new within so_far more =
+    let size : length (take a bytes) ≡ a = length-take-le a bytes within in
+    let all : placed old.place (take (a + n) bytes) ≡ placed old.place (take a bytes) ++ placed mid.place (take n (drop a bytes)) =
+    ap (placed old.place) (take-add a n bytes)
+    ∙ placed-append old.place (take a bytes) (take n (drop a bytes))
+    ∙ ap (λ q. placed old.place (take a bytes) ++ placed q (take n (drop a bytes))) (omega (arith, so_far.place, size)) in
+    record {
+      contents = more.contents
+          ∙ ap (λ c. overlay c (placed mid.place (take n (drop a bytes)))) so_far.contents
+          ∙ sym (overlay-append old.contents (placed old.place (take a bytes)) (placed mid.place (take n (drop a bytes))))
+          ∙ ap (overlay old.contents) (sym all);
+      place = omega (arith, so_far.place, more.place);
+      start = more.start ∙ so_far.start;
+      past = λ k. more.past k
+          ∙ ap (λ (l : List (ℕ × ℕ)). l ++ placed mid.place (take n (drop a bytes))) (so_far.past k)
+          ∙ append_assoc old.past (placed old.place (take a bytes)) (placed mid.place (take n (drop a bytes)))
+          ∙ ap (λ (l : List (ℕ × ℕ)). old.past ++ l) (sym all);
+      flushed = more.flushed ∙ so_far.flushed;
+    }

@@ -1,0 +1,108 @@
+-- What contracts see of a medium, and what each call does to it.
+use Rattle.std.specs.Prelude.{◌≡◌, ℕ, ℤ, pos, negsuc, ◌+◌, ◌-◌, ◌^◌, ◌<◌, ◌≤◌, min, List, [], ◌++◌, length, take, drop, Ok, Err, Result, OnOk, OnErr, MatchResult, Bool, IsTrue}
+use Rattle.hound_medium.specs.Bytes.{placed, overlay}
+
+-- A medium as contracts see it: its bytes, the place of the next one to be read or put, and how many calls failed.
+-- Where it keeps its past also the bytes that it began with, each byte put since with its place, and how many of these
+-- had been put at the last `flush` that was Ok.
+pub record Seen : Type 0 where
+  pub contents : List ℕ
+  pub place : ℕ
+  pub faults : ℕ
+  pub start : List ℕ
+  pub past : List (ℕ × ℕ)
+  pub flushed : ℕ
+
+-- what stands for a medium whose bytes are not known
+abbrev pub unknown : Seen
+unknown = record {
+  contents = [];
+  place = 0;
+  faults = 0;
+  start = [];
+  past = [];
+  flushed = 0;
+}
+
+-- a count of faults that has grown by one; the greatest `u64` stays
+abbrev pub one_more : ℕ → ℕ
+one_more faults = min (faults + 1) (2 ^ 64 - 1)
+
+-- the faults after a call: an Err counts one
+abbrev pub faults_after : {T E : Type 0} → Result T E → ℕ → ℕ
+faults_after (Ok x) faults = faults
+faults_after (Err e) faults = one_more faults
+
+-- the place after a call that goes to one: an Err leaves the old place
+abbrev pub place_after : {T E : Type 0} → Result T E → ℕ → ℕ → ℕ
+place_after (Ok x) to place = to
+place_after (Err e) to place = place
+
+-- the new place is the old one moved by a signed number
+abbrev pub IsMoved : ℕ → ℤ → ℕ → Type 0
+IsMoved place (pos n) new = new ≡ place + n
+IsMoved place (negsuc n) new = new + (n + 1) ≡ place
+
+-- how many bytes a call gave or took: none at an Err
+abbrev pub count_of : {E : Type 0} → Result ℕ E → ℕ
+count_of (Ok n) = n
+count_of (Err e) = 0
+
+-- the bytes stay, and so does what is kept of the past
+pub record Stays (old new : Seen) : Type 0 where
+  pub contents : new.contents ≡ old.contents
+  pub start : new.start ≡ old.start
+  pub past : new.past ≡ old.past
+
+-- what `go` does
+pub record Goes {T E : Type 0} (to : ℕ) (result : Result T E) (old new : Seen) : Type 0 where
+  pub stays : Stays old new
+  pub place : new.place ≡ place_after result to old.place
+  pub flushed : new.flushed ≡ old.flushed
+  pub faults : new.faults ≡ faults_after result old.faults
+
+-- what `shift` does
+pub record Shifts {T E : Type 0} (by : ℤ) (result : Result T E) (old new : Seen) : Type 0 where
+  pub stays : Stays old new
+  pub place : MatchResult result (λ _. IsMoved old.place by new.place) (λ _. new.place ≡ old.place)
+  pub flushed : new.flushed ≡ old.flushed
+  pub faults : new.faults ≡ faults_after result old.faults
+
+-- what `get` does, which leaves its bytes at the front of the buffer: it gives none only at the end or to an empty buffer
+pub record Gets {E : Type 0} (buf : List ℕ) (result : Result ℕ E) (old new : Seen) : Type 0 where
+  pub stays : Stays old new
+  pub bytes : take (count_of result) buf ≡ take (count_of result) (drop old.place old.contents)
+  pub inside : count_of result ≤ length (drop old.place old.contents)
+  pub some : OnOk result (count_of result ≡ 0 → 0 < length buf → drop old.place old.contents ≡ [])
+  pub place : new.place ≡ old.place + count_of result
+  pub flushed : new.flushed ≡ old.flushed
+  pub faults : new.faults ≡ faults_after result old.faults
+
+-- the first n of the bytes were put at the place, in order, and the place moved behind them
+pub record Takes (keeps : Bool) (bytes : List ℕ) (n : ℕ) (old new : Seen) : Type 0 where
+  pub contents : new.contents ≡ overlay old.contents (placed old.place (take n bytes))
+  pub place : new.place ≡ old.place + n
+  pub start : new.start ≡ old.start
+  pub past : IsTrue keeps → new.past ≡ old.past ++ placed old.place (take n bytes)
+  pub flushed : new.flushed ≡ old.flushed
+
+-- what `put` does: it takes as many bytes as it says, none at an Err
+pub record Puts {E : Type 0} (keeps : Bool) (bytes : List ℕ) (result : Result ℕ E) (old new : Seen) : Type 0 where
+  pub takes : Takes keeps bytes (count_of result) old new
+  pub faults : new.faults ≡ faults_after result old.faults
+
+-- what `flush` does: it marks all that has been put so far
+pub record Flushes {T E : Type 0} (result : Result T E) (old new : Seen) : Type 0 where
+  pub stays : Stays old new
+  pub place : new.place ≡ old.place
+  pub flushed : MatchResult result (λ _. new.flushed ≡ length new.past) (λ _. new.flushed ≡ old.flushed)
+  pub faults : new.faults ≡ faults_after result old.faults
+
+-- what a loop over `put` does: it puts `count` bytes, all of them at an Ok and fewer at an Err
+pub record PutsAll {T E : Type 0} (keeps : Bool) (bytes : List ℕ) (result : Result T E) (old new : Seen) : Type 0 where
+  pub count : ℕ
+  pub within : count ≤ length bytes
+  pub whole : OnOk result (count ≡ length bytes)
+  pub part : OnErr result (count < length bytes)
+  pub takes : Takes keeps bytes count old new
+  pub faults : new.faults ≡ faults_after result old.faults

@@ -1,0 +1,105 @@
+// The traits that readers and writers are generic over, and the same at a `&mut`.
+ghost use Rattle.std.specs.Prelude.{◌≡◌, ◌+◌, ◌<◌, ◌≤◌, Bool, IsTrue, false, length, drop, Some, IfOk};
+ghost use Rattle.hound_number.specs.Number.{AreBytes};
+ghost use Rattle.hound_medium.specs.Bytes.{overlay};
+ghost use Rattle.hound_medium.specs.Seen.{Seen, Goes, Shifts, Gets, Puts, Flushes};
+
+use std::io;
+
+/// A place among bytes, counted in bytes from 0. It may lie behind the end.
+///
+/// Of a value that `tells`, contracts know the bytes; `seen` says nothing of any other.
+pub trait Placed: Drop {
+    /// Whether the bytes are known.
+    ghost tells: { Bool };
+
+    /// Whether each byte that has been put is kept with its place.
+    ghost keeps: { Bool } = { false };
+
+    /// The bytes, the place, the count of faults, and what is kept of the past.
+    ghost seen: { Self → Seen };
+
+    /// Goes to a place, counted from the beginning. One behind the end is allowed.
+    fn go(&mut self, to: u64) -> io::Result<()>
+        ensures { IsTrue tells → Goes to result (seen self.old) (seen self.new) };
+
+    /// Moves the place. It is an error where the new one would be below 0 or above `u64::MAX`.
+    fn shift(&mut self, by: i64) -> io::Result<()>
+        ensures { IsTrue tells → Shifts by result (seen self.old) (seen self.new) };
+
+    /// Each of the known bytes is below 256.
+    ghost bytes: { (m : Self) → IsTrue tells → AreBytes (seen m).contents };
+}
+
+/// A place that bytes are put at.
+pub trait Medium: Placed {
+    /// Puts bytes at the place, as many as it takes at once, and moves behind them. Zeros fill a
+    /// gap behind the old end.
+    fn put(&mut self, bytes: &[u8]) -> io::Result<usize>
+        requires { 0 < length bytes.now }
+        ensures bound { IfOk result (λ n. (1 ≤ n) × (n ≤ length bytes.now)) }
+        ensures puts { IsTrue Self.tells →
+            Puts Self.keeps bytes.now result (Self.seen self.old) (Self.seen self.new) };
+
+    /// Hands all that has been put to what lies behind the medium.
+    fn flush(&mut self) -> io::Result<()>
+        ensures { IsTrue Self.tells → Flushes result (Self.seen self.old) (Self.seen self.new) };
+
+    /// What has been put leads from the first contents to those of now.
+    ghost replays: { (m : Self) → IsTrue Self.tells → IsTrue Self.keeps →
+        (Self.seen m).contents ≡ overlay (Self.seen m).start (Self.seen m).past };
+}
+
+/// A place that bytes are read from.
+pub trait Source: io::Read + Placed {
+    /// Reads bytes at the place into the front of the buffer, and moves behind them. Unlike
+    /// `read`, its contract says what becomes of the place and of the count of faults.
+    fn get(&mut self, buf: &mut [u8]) -> io::Result<usize>
+        ensures bound { IfOk result (λ n. n ≤ length buf.new) }
+        ensures gets { IsTrue Self.tells →
+            Gets buf.new result (Self.seen self.old) (Self.seen self.new) };
+
+    /// What is left to be read is the contents from the place on.
+    ghost left: { (s : Self) → IsTrue Self.tells →
+        Self.remaining s ≡ Some (drop (Self.seen s).place (Self.seen s).contents) };
+}
+
+impl<P: Placed> Placed for &mut P {
+    ghost tells = { P.tells };
+
+    ghost keeps = { P.keeps };
+
+    ghost seen = { λ m. P.seen m.now };
+
+    ghost bytes = { λ m. P.bytes m.now };
+
+    fn go(&mut self, to: u64) -> io::Result<()> {
+        Placed::go(&mut **self, to)
+    }
+
+    fn shift(&mut self, by: i64) -> io::Result<()> {
+        Placed::shift(&mut **self, by)
+    }
+}
+
+impl<M: Medium> Medium for &mut M {
+    ghost replays = { λ m. M.replays m.now };
+
+    #[inline]
+    fn put(&mut self, bytes: &[u8]) -> io::Result<usize> {
+        Medium::put(&mut **self, bytes)
+    }
+
+    fn flush(&mut self) -> io::Result<()> {
+        Medium::flush(&mut **self)
+    }
+}
+
+impl<S: Source> Source for &mut S {
+    ghost left = { λ s. S.left s.now };
+
+    #[inline]
+    fn get(&mut self, buf: &mut [u8]) -> io::Result<usize> {
+        Source::get(&mut **self, buf)
+    }
+}

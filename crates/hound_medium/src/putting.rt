@@ -1,0 +1,21 @@
+// The loop over `put`.
+ghost use Rattle.std.specs.Prelude.{IsTrue};
+ghost use Rattle.hound_medium.specs.Seen.{PutsAll};
+
+use crate::Medium;
+use std::io;
+
+/// Puts all of the bytes, in order, or stops at the first `put` that fails.
+///
+/// At an `Err` a beginning of the bytes may have been put. No bytes: no call of `put`.
+#[inline]
+pub fn put_all<M: Medium>(medium: &mut M, bytes: &[u8]) -> io::Result<()>
+    ensures { IsTrue M.tells →
+        PutsAll M.keeps bytes.now result (M.seen medium.old) (M.seen medium.new) }
+{
+    let mut at = 0;
+    while at < bytes.len() {
+        at += medium.put(&bytes[at..])?;
+    }
+    Ok(())
+}
