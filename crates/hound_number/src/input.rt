@@ -3,8 +3,10 @@ ghost use Rattle.std.specs.Prelude.{◌≡◌, ℕ, ◌<◌, List, Option, None,
 ghost use Rattle.std.specs.Io.{ReadsAtMost};
 ghost use Rattle.std.specs.Io.KnownBytes.{Consumes, IsAtEnd, ReadConsumes};
 ghost use Rattle.hound_number.specs.Input.{Counts, CountsReads, IfEnded};
+ghost use Rattle.hound_number.specs.Ending.{Tells};
 
 use std::io;
+use std::io::ErrorKind;
 
 /// What bytes are read from: any reader, or one of which contracts see how many reads failed.
 pub trait Input {
@@ -41,6 +43,17 @@ pub enum ReadError {
     Failed(io::Error),
     /// The input ended before the buffer was full.
     Ended,
+}
+
+impl From<ReadError> for io::Error {
+    ghost from_gives = { Tells };
+
+    fn from(error: ReadError) -> io::Error {
+        match error {
+            ReadError::Failed(e) => e,
+            ReadError::Ended => io::Error::from(ErrorKind::Other),
+        }
+    }
 }
 
 /// Fills the whole buffer, however the reads are cut.

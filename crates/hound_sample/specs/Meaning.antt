@@ -15,10 +15,10 @@ abbrev pub is_int_pair : ℕ → ℕ → Bool
 is_int_pair width bits = (width == 1 && bits == 8) || (width == 2 && bits == 16) || (width == 3 && bits == 24) || (width == 4 && bits == 24) || (width == 4 && bits == 32)
 
 -- why an integer type of so many bytes doesn't read samples of a format, a width and used bits, if it doesn't
-unfoldable pub int_refusal : ℕ → SampleFormat → ℕ → ℕ → Option ReadRefusal
+abbrev pub int_refusal : ℕ → SampleFormat → ℕ → ℕ → Option ReadRefusal
 int_refusal most Float width bits = Some other_format
 int_refusal most Int width bits = if nat_lt most width then Some wider else if is_int_pair width bits then None else Some other_pair
 
 -- the integer of a container: one byte counts from -128; more are signed, and those behind the used bits say nothing
-unfoldable pub int_meaning : ℕ → ℕ → List ℕ → ℤ
+abbrev pub int_meaning : ℕ → ℕ → List ℕ → ℤ
 int_meaning width bits container = if width == 1 then (pos (number container) -ℤ pos 128) else signed_number (take (bits / 8) container)
