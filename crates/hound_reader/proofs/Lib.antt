@@ -1,0 +1,6 @@
+pub mod Exists
+pub mod FmtLemmas
+pub mod Gives
+pub mod SourceReads
+pub mod Unique
+pub mod WalkLemmas

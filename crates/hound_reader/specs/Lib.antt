@@ -1,0 +1,6 @@
+pub mod Fmt
+pub mod Chunks
+pub mod Outcome
+pub mod Walk
+pub mod Answer
+pub mod Refusals

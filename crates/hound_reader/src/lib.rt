@@ -1,0 +1,14 @@
+//! Reading WAV files.
+//!
+//! A file is RIFF, a size, WAVE and chunks. A [`WavReader`] walks over the chunks to the data, takes
+//! no byte of it, and then gives its samples, one container for each.
+#![tactic(auto)]
+
+mod chunks;
+mod fault;
+mod fmt;
+mod input;
+
+pub use chunks::{ChunkRead, read_until_data};
+pub use fault::{Cause, HeadError, Reason};
+pub use input::Counted;
