@@ -4,3 +4,4 @@ pub mod Outcome
 pub mod Walk
 pub mod Answer
 pub mod Refusals
+pub mod Reading

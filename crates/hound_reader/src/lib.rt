@@ -5,10 +5,13 @@
 #![tactic(auto)]
 
 mod chunks;
+mod counting;
 mod fault;
 mod fmt;
 mod input;
+mod reader;
 
 pub use chunks::{ChunkRead, read_until_data};
 pub use fault::{Cause, HeadError, Reason};
 pub use input::Counted;
+pub use reader::{WavReader, read_wave_header};
