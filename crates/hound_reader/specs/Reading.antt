@@ -1,5 +1,5 @@
 -- A reader at its samples.
-use Rattle.std.specs.Prelude.{◌≡◌, ℕ, ◌+◌, ◌*◌, ◌%◌, ◌<◌, ◌≤◌, List, Option, Some, None, IsSome, Result, Ok, Err}
+use Rattle.std.specs.Prelude.{◌≡◌, ℕ, ◌+◌, ◌-◌, ◌*◌, ◌%◌, ◌<◌, ◌≤◌, List, Option, Some, None, IsSome, Result, Ok, Err}
 use Rattle.hound_spec.specs.declared.error.Error.{Error}
 use Rattle.hound_spec.specs.declared.error.Error.TheVariants.{IoError}
 use Rattle.hound_spec.specs.declared.spec.SampleFormat.{SampleFormat}
@@ -16,6 +16,10 @@ pub record Reading (R : Type 0) : Type 0 where
   pub num_samples : ℕ
   pub samples_read : ℕ
   pub bytes_read : ℕ
+
+-- how many samples are left: those that were not asked for
+abbrev pub samples_left : {R : Type 0} → Reading R → ℕ
+samples_left reading = reading.num_samples - reading.samples_read
 
 -- the counts of a reader, whatever was read or sought: whole frames, and no more bytes than the samples asked for have
 pub record IsCounted (spec_ex : WavSpecEx) (num_samples samples_read bytes_read : ℕ) : Type 0 where

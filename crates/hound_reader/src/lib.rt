@@ -10,8 +10,10 @@ mod fault;
 mod fmt;
 mod input;
 mod reader;
+mod samples;
 
 pub use chunks::{ChunkRead, read_until_data};
 pub use fault::{Cause, HeadError, Reason};
 pub use input::Counted;
 pub use reader::{WavReader, read_wave_header};
+pub use samples::{WavIntoSamples, WavSamples};

@@ -9,11 +9,13 @@ ghost use Rattle.hound_reader.specs.Fmt.{IsSound};
 ghost use Rattle.hound_reader.specs.Chunks.{Readable, Unreadable, front_fault};
 ghost use Rattle.hound_reader.specs.declared.fault.Cause.{Cause};
 ghost use Rattle.hound_reader.specs.Refusals.{IsRefusal, OpensAs, FailsAs};
-ghost use Rattle.hound_reader.specs.Reading.{IsNext};
+ghost use Rattle.hound_reader.specs.Reading.{IsNext, samples_left};
+ghost use Rattle.hound_reader.specs.Samples.{lent_reader, lender, taken_reader};
 
 use crate::chunks::{read_riff_header, read_until_data};
 use crate::counting::CountingReader;
 use crate::fault::{Cause, HeadError, Reason, error_of};
+use crate::samples::{WavIntoSamples, WavSamples};
 use hound_number::Input;
 use hound_sample::Sample;
 use hound_spec::{Error, Result, WavSpec, WavSpecEx};
@@ -133,11 +135,36 @@ impl<R: io::Read + Drop> WavReader<R> {
         self.num_samples
     }
 
+    /// An iterator over the samples that are left, one item for each.
+    ///
+    /// The type need not fit the file: each item is then the refusal of the type, and takes no byte.
+    /// A new iterator goes on where the last stopped.
+    pub fn samples<'wr, S: Sample>(&'wr mut self) -> WavSamples<'wr, R, S>
+        ensures reader { lent_reader result ≡ self.old }
+        ensures lender { lender result ≡ self.entry.ghost_name }
+    {
+        WavSamples::new(self)
+    }
+
+    /// The same iterator, which keeps the reader.
+    pub fn into_samples<S: Sample>(self) -> WavIntoSamples<R, S>
+        ensures { taken_reader result ≡ self }
+    {
+        WavIntoSamples::new(self)
+    }
+
     /// What the samples were read from, as it was left.
     pub fn into_inner(self) -> R
         ensures { result ≡ self.reader }
     {
         self.reader.reader
+    }
+
+    /// How many samples are left; none behind the end.
+    pub(crate) fn samples_left(&self) -> u32
+        ensures { result ≡ samples_left self.now }
+    {
+        (self.num_samples as u64).saturating_sub(self.samples_read) as u32
     }
 
     /// The next sample, while one is left.
