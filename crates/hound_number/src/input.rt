@@ -2,7 +2,7 @@
 ghost use Rattle.std.specs.Prelude.{◌≡◌, ℕ, ◌<◌, List, Option, None, length, OnErr, OnOk, IfErr};
 ghost use Rattle.std.specs.Io.{ReadsAtMost};
 ghost use Rattle.std.specs.Io.KnownBytes.{Consumes, IsAtEnd, ReadConsumes};
-ghost use Rattle.hound_number.specs.Input.{Counts, CountsReads, IfEnded};
+ghost use Rattle.hound_number.specs.Input.{Account, Counts, CountsReads, IfEnded};
 ghost use Rattle.hound_number.specs.Ending.{Tells};
 
 use std::io;
@@ -13,22 +13,22 @@ pub trait Input {
     /// The bytes that are left, where they are known.
     ghost left: { Self → Option (List ℕ) };
 
-    /// How many reads failed, where that is counted.
-    ghost failures: { Self → Option ℕ };
+    /// How many reads failed, and what no read changes, where these are known.
+    ghost account: { Self → Option Account };
 
     /// Reads bytes into the front of the buffer, and gives their number. It is 0 only at the end
     /// of the input or where the buffer is empty.
     fn read_some(&mut self, buf: &mut [u8]) -> io::Result<usize>
         ensures bound { ReadsAtMost result buf.new }
         ensures bytes { ReadConsumes (left self.old) (left self.new) result buf.new }
-        ensures failures { Counts (failures self.old) (failures self.new) result };
+        ensures failures { Counts (account self.old) (account self.new) result };
 }
 
-// A plain reader counts nothing.
+// Of a plain reader contracts see no more than the bytes that are left.
 impl<R: io::Read> Input for R {
     ghost left = { λ r. R.remaining r };
 
-    ghost failures = { λ _. None };
+    ghost account = { λ _. None };
 
     #[inline(always)]
     fn read_some(&mut self, buf: &mut [u8]) -> io::Result<usize> {
@@ -66,7 +66,7 @@ pub fn read_into<R: Input>(reader: &mut R, buf: &mut [u8]) -> Result<(), ReadErr
     ensures part { OnErr result ((bytes : List ℕ)
         × (length bytes < length buf.new) × Consumes (R.left reader.old) (R.left reader.new) bytes) }
     ensures ended { IfErr result (λ e. IfEnded e (IsAtEnd (R.left reader.new))) }
-    ensures failures { CountsReads (R.failures reader.old) (R.failures reader.new) result }
+    ensures failures { CountsReads (R.account reader.old) (R.account reader.new) result }
 {
     let mut at = 0;
     while at < buf.len() {

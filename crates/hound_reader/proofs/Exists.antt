@@ -5,6 +5,7 @@ use Rattle.std.specs.Str.{bytes_eq}
 use Rattle.std.proofs.lemmas.Bool.{true≢false, cases_Bool, eqb-true, or_cases, not-false}
 use Rattle.std.proofs.lemmas.List.{take-append-drop, drop-drop}
 use Rattle.hound_spec.specs.declared.spec.WavSpecEx.{WavSpecEx}
+use Rattle.hound_reader.specs.declared.chunks.FileHead.{FileHead}
 use Rattle.hound_reader.specs.declared.fault.Cause.{Cause}
 use Rattle.hound_number.specs.Number.{number}
 use Rattle.hound_reader.specs.Fmt.{◌>>=◌, wave_format, wave_format_pcm, wave_format_ieee_float, wave_format_extensible, by_tag, tag_of, fmt_of}
@@ -262,9 +263,9 @@ pub one_answer : (bytes : List ℕ) → HasOneAnswer bytes
 one_answer bytes = let s = some_answer bytes in (s.0, s.1, λ b h. same_answer bytes s.0 b s.1 h)
 
 -- what a reader answered, for any answer of the bytes
-pub tells_ok : (bytes rest : List ℕ) (r : WavSpecEx × ℕ) (h : ℕ) (a : Answer) → Head bytes r.0 r.1 h → rest ≡ drop h bytes → Answers bytes a → Tells (Ok r) bytes rest a
-tells_ok bytes rest r h (readable s n k) head e b = let g = heads_agree bytes r.0 s r.1 n h k head b in (g.0, g.1, e ∙ ap (λ i. drop i bytes) g.2)
-tells_ok bytes rest r h (unreadable c) head e b = head_no_fault bytes r.0 r.1 h c head b
+pub tells_ok : (bytes rest : List ℕ) (r : FileHead) (a : Answer) → Head bytes r.spec_ex r.data_length r.data_start → rest ≡ drop r.data_start bytes → Answers bytes a → Tells (Ok r) bytes rest a
+tells_ok bytes rest r (readable s n k) head e b = let g = heads_agree bytes r.spec_ex s r.data_length n r.data_start k head b in (g.0, g.1, g.2, e ∙ ap (λ i. drop i bytes) g.2)
+tells_ok bytes rest r (unreadable c) head e b = head_no_fault bytes r.spec_ex r.data_length r.data_start c head b
 
 pub tells_err : (bytes rest : List ℕ) (c : Cause) (a : Answer) → Refused bytes c → Answers bytes a → Tells (Err (stops.Refused c)) bytes rest a
 tells_err bytes rest c (readable s n k) f b = head_no_fault bytes s n k c b f

@@ -100,15 +100,14 @@ walked_more xs ys zs c taken found next w (p, is, limit, f, k, e) = record {
 }
 
 -- the first twelve bytes, chunks, and the header of the data
-pub head_from : (xs ys zs size : List ℕ) (spec : WavSpecEx) (len : ℕ) → length size ≡ 4 → xs ≡ riff_tag ++ (size ++ (wave_tag ++ ys)) → ReachesData ys zs spec len → (h : ℕ) × Head xs spec len h × (zs ≡ drop h xs)
-head_from xs ys zs size spec len four e r =
+pub head_from : (xs ys zs size : List ℕ) (spec : WavSpecEx) (len : ℕ) → length size ≡ 4 → xs ≡ riff_tag ++ (size ++ (wave_tag ++ ys)) → (taken : ℕ) → ReachesData ys zs spec len taken → (h : ℕ) → h ≡ 12 + taken + 8 → Head xs spec len h × (zs ≡ drop h xs)
+head_from xs ys zs size spec len four e taken r h at =
     let w = r.walked in
     let body = joined w.chunks in
     let all : xs ≡ riff_tag ++ (size ++ (wave_tag ++ (body ++ (data_tag ++ (r.size ++ zs))))) = e ∙ ap (λ t. riff_tag ++ (size ++ (wave_tag ++ t))) w.whole in
     let front = riff_tag ++ (size ++ (wave_tag ++ (body ++ (data_tag ++ r.size)))) in
     let parted : riff_tag ++ (size ++ (wave_tag ++ (body ++ (data_tag ++ (r.size ++ zs))))) ≡ front ++ zs = simp append_assoc in
-    let n : length front ≡ 12 + length body + 8 = omega (arith, four, r.four, length-append size (wave_tag ++ (body ++ (data_tag ++ r.size))), length-append body (data_tag ++ r.size)) in (
-      12 + length body + 8,
+    let n : length front ≡ 12 + length body + 8 = omega (arith, four, r.four, length-append size (wave_tag ++ (body ++ (data_tag ++ r.size))), length-append body (data_tag ++ r.size)) in let place : h ≡ 12 + length body + 8 = omega (arith, at, w.taken_is) in (
       record {
         chunks = w.chunks;
         size = r.size;
@@ -118,7 +117,7 @@ head_from xs ys zs size spec len four e r =
         data_len = r.data_len;
         limit = omega (arith, r.limit, w.taken_is);
         spec_is = sym w.found_is;
-        place = refl;
+        place = place;
       },
-      sym (ap (drop (12 + length body + 8)) (all ∙ parted) ∙ drop_at front zs (12 + length body + 8) n),
+      sym (ap (drop h) (all ∙ parted) ∙ drop_at front zs h (n ∙ sym place)),
     )

@@ -6,3 +6,4 @@ pub mod Answer
 pub mod Refusals
 pub mod Reading
 pub mod Samples
+pub mod Sources

@@ -1,6 +1,6 @@
 -- What a call of the walk answers: a value, a cause that the bytes decide, or a failed read.
 use Rattle.std.specs.Prelude.{◌≡◌, ℕ, ◌≤◌, List, length, drop, ⊤, Option, Result, Ok, Err}
-use Rattle.hound_number.specs.Input.{Known, NoneFailed, OneFailed}
+use Rattle.hound_number.specs.Input.{Account, Known, NoneFailed, OneFailed}
 use Rattle.hound_reader.specs.declared.fault.HeadError.{HeadError}
 use Rattle.hound_reader.specs.declared.fault.HeadError.TheVariants.{Failed, Refused}
 use Rattle.hound_reader.specs.declared.fault.Cause.{Cause}
@@ -22,7 +22,7 @@ UnlessFailed (Err (Failed e)) P = ⊤
 UnlessFailed (Err (Refused c)) P = P
 
 -- a failed read is counted, and nothing else is
-abbrev pub CountsFailed : {A : Type 0} → Option ℕ → Option ℕ → Result A HeadError → Type 0
+abbrev pub CountsFailed : {A : Type 0} → Option Account → Option Account → Result A HeadError → Type 0
 CountsFailed old new (Ok x) = NoneFailed old new
 CountsFailed old new (Err (Failed e)) = OneFailed old new
 CountsFailed old new (Err (Refused c)) = NoneFailed old new

@@ -36,9 +36,8 @@ pub record Walked (xs ys : List ℕ) (found : Option WavSpecEx) (taken : ℕ) : 
   pub taken_is : taken ≡ length (joined chunks)
 
 -- Chunks, and then the header of a data chunk.
-pub record ReachesData (xs ys : List ℕ) (spec : WavSpecEx) (len : ℕ) : Type 0 where
+pub record ReachesData (xs ys : List ℕ) (spec : WavSpecEx) (len taken : ℕ) : Type 0 where
   pub size : List ℕ
-  pub taken : ℕ
   pub walked : Walked xs (data_tag ++ (size ++ ys)) (Some spec) taken
   pub four : length size ≡ 4
   pub data_len : number size ≡ len

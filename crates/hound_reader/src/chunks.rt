@@ -35,9 +35,22 @@ pub enum ChunkRead {
     Other(Option<WavSpecEx>, u32),
 }
 
+/// What stands before the data.
+#[derive(Clone, Copy)]
+pub struct FileHead {
+    /// The spec of the last fmt chunk.
+    pub spec_ex: WavSpecEx,
+
+    /// The length of the data in bytes, as their chunk says it.
+    pub data_length: u32,
+
+    /// How many bytes stand before the data.
+    pub data_start: u64,
+}
+
 // Takes bytes and lets them go.
 fn skip_bytes<R: Input>(reader: &mut R, count: u32) -> Result<(), HeadError>
-    ensures failures { CountsFailed (R.failures reader.old) (R.failures reader.new) result }
+    ensures failures { CountsFailed (R.account reader.old) (R.account reader.new) result }
     ensures ok { OnOk result ((bytes : List ℕ) × Consumes (R.left reader.old) (R.left reader.new) bytes × (length bytes ≡ count)) }
     ensures err { IfErr result (λ e. Refuses e (λ c. (c ≡ Cause.Ended)
         × Known (R.left reader.old) (R.left reader.new) (λ xs ys. length xs < count))) }
@@ -55,7 +68,7 @@ fn skip_bytes<R: Input>(reader: &mut R, count: u32) -> Result<(), HeadError>
 /// Takes RIFF, a size and WAVE, and gives the size, which is compared with nothing.
 #[tactic(auto, unfolding(crate::specs::Chunks::front_fault))]
 pub(crate) fn read_riff_header<R: Input>(reader: &mut R) -> Result<u32, HeadError>
-    ensures failures { CountsFailed (R.failures reader.old) (R.failures reader.new) result }
+    ensures failures { CountsFailed (R.account reader.old) (R.account reader.new) result }
     ensures ok { IfOk result (λ n. Known (R.left reader.old) (R.left reader.new) (λ xs ys.
         (size : List ℕ) × (length size ≡ 4) × (xs ≡ riff_tag ++ (size ++ (wave_tag ++ ys))) × (n ≡ number size))) }
     ensures err { IfErr result (λ e. Refuses e (λ c. Known (R.left reader.old) (R.left reader.new) (λ xs ys. front_fault xs ≡ Some c))) }
@@ -99,7 +112,7 @@ fn read_content<R: Input>(
     requires taken { taken + 8 ≤ 4294967295 }
     requires sound { IsSoundOption found }
     ensures sound { IfOk result IsSoundChunk }
-    ensures failures { CountsFailed (R.failures reader.old) (R.failures reader.new) result }
+    ensures failures { CountsFailed (R.account reader.old) (R.account reader.new) result }
     ensures goes { IfOk result (Advances taken) }
     ensures ok { IfOk result (λ chunk. Known (R.left reader.old) (R.left reader.new) (ReadsContent taken found tag.now chunk_len chunk)) }
     ensures err { IfErr result (λ e. Refuses e (λ c. Known (R.left reader.old) (R.left reader.new) (λ xs ys. content_fault taken found tag.now chunk_len xs ≡ Some c))) }
@@ -131,7 +144,7 @@ fn read_next_chunk<R: Input>(
 ) -> Result<ChunkRead, HeadError>
     requires { IsSoundOption found }
     ensures sound { IfOk result IsSoundChunk }
-    ensures failures { CountsFailed (R.failures reader.old) (R.failures reader.new) result }
+    ensures failures { CountsFailed (R.account reader.old) (R.account reader.new) result }
     ensures goes { IfOk result (Advances taken) }
     ensures ok { IfOk result (λ chunk. Known (R.left reader.old) (R.left reader.new) (ReadsChunk taken found chunk)) }
     ensures err { IfErr result (λ e. Refuses e (λ c. Known (R.left reader.old) (R.left reader.new) (λ xs ys. chunk_fault taken found xs ≡ Some c))) }
@@ -146,17 +159,24 @@ fn read_next_chunk<R: Input>(
 }
 
 // Takes chunks from the WAVE tag on, up to the data.
-fn read_chunks<R: Input>(reader: &mut R) -> Result<(WavSpecEx, u32), HeadError>
-    ensures sound { IfOk result (λ r. IsSound r.0) }
-    ensures failures { CountsFailed (R.failures reader.old) (R.failures reader.new) result }
-    ensures ok { IfOk result (λ r. Known (R.left reader.old) (R.left reader.new) (λ xs ys. ReachesData xs ys r.0 r.1)) }
+fn read_chunks<R: Input>(reader: &mut R) -> Result<FileHead, HeadError>
+    ensures sound { IfOk result (λ r. IsSound r.spec_ex) }
+    ensures failures { CountsFailed (R.account reader.old) (R.account reader.new) result }
+    ensures ok { IfOk result (λ r. Known (R.left reader.old) (R.left reader.new) (λ xs ys.
+        (taken : ℕ) × ReachesData xs ys r.spec_ex r.data_length taken × (r.data_start ≡ 12 + taken + 8))) }
     ensures err { IfErr result (λ e. Refuses e (λ c. Known (R.left reader.old) (R.left reader.new) (λ xs ys. MeetsFault xs c))) }
 {
     let mut found = None;
     let mut taken = 0;
     'chunks: loop {
         match read_next_chunk(reader, found, taken)? {
-            ChunkRead::Data(spec_ex, len) => return Ok((spec_ex, len)),
+            ChunkRead::Data(spec_ex, data_length) => {
+                return Ok(FileHead {
+                    spec_ex,
+                    data_length,
+                    data_start: 12 + taken as u64 + 8,
+                });
+            }
             ChunkRead::Other(next, now) => {
                 found = next;
                 taken = now;
@@ -166,27 +186,26 @@ fn read_chunks<R: Input>(reader: &mut R) -> Result<(WavSpecEx, u32), HeadError>
 }
 
 // Takes what stands before the data.
-fn read_head<R: Input>(reader: &mut R) -> Result<(WavSpecEx, u32), HeadError>
-    ensures sound { IfOk result (λ r. IsSound r.0) }
-    ensures failures { CountsFailed (R.failures reader.old) (R.failures reader.new) result }
+fn read_head<R: Input>(reader: &mut R) -> Result<FileHead, HeadError>
+    ensures sound { IfOk result (λ r. IsSound r.spec_ex) }
+    ensures failures { CountsFailed (R.account reader.old) (R.account reader.new) result }
     ensures ok { IfOk result (λ r. Known (R.left reader.old) (R.left reader.new) (λ xs ys.
-        (h : ℕ) × Head xs r.0 r.1 h × (ys ≡ drop h xs))) }
+        Head xs r.spec_ex r.data_length r.data_start × (ys ≡ drop r.data_start xs))) }
     ensures err { IfErr result (λ e. Refuses e (λ c. Known (R.left reader.old) (R.left reader.new) (λ xs ys. Refused xs c))) }
 {
     let _size = read_riff_header(reader)?;
     read_chunks(reader)
 }
 
-/// Takes exactly what stands before the data, however the reads are cut: the spec, and the length
-/// of the data in bytes.
+/// Takes exactly what stands before the data, however the reads are cut.
 ///
-/// Nothing of the data's length is looked at. An error that the bytes don't decide is that of a
-/// read, and the only one that counts as failed.
-pub fn read_until_data<R: Input>(reader: &mut R) -> Result<(WavSpecEx, u32), HeadError>
-    ensures sound { IfOk result (λ r. IsSound r.0) }
-    ensures failures { CountsFailed (R.failures reader.old) (R.failures reader.new) result }
+/// The length of the data is not looked at. An error that the bytes don't decide is that of a read,
+/// and the only one that counts as failed.
+pub fn read_until_data<R: Input>(reader: &mut R) -> Result<FileHead, HeadError>
+    ensures sound { IfOk result (λ r. IsSound r.spec_ex) }
+    ensures failures { CountsFailed (R.account reader.old) (R.account reader.new) result }
     ensures found { IfOk result (λ r. Known (R.left reader.old) (R.left reader.new) (λ xs ys.
-        (h : ℕ) × Head xs r.0 r.1 h × (ys ≡ drop h xs))) }
+        Head xs r.spec_ex r.data_length r.data_start × (ys ≡ drop r.data_start xs))) }
     ensures refused { IfErr result (λ e. Refuses e (λ c. Known (R.left reader.old) (R.left reader.new) (λ xs ys. Refused xs c))) }
     ensures only { UnlessFailed result (Known (R.left reader.old) (R.left reader.new) (λ xs ys.
         (a : Answer) → Answers xs a → Tells result xs ys a)) }

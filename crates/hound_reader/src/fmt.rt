@@ -70,7 +70,7 @@ fn read_wave_format_pcm<R: Input>(
     requires chunk_len { 16 ≤ chunk_len }
     requires sound { IsSound found }
     ensures sound { IfOk result IsSound }
-    ensures failures { CountsFailed (R.failures reader.old) (R.failures reader.new) result }
+    ensures failures { CountsFailed (R.account reader.old) (R.account reader.new) result }
     ensures gives { Gives (R.left reader.old) (R.left reader.new) (min chunk_len 40 - 16) result
         (λ xs. wave_format_pcm chunk_len found (take (min chunk_len 40 - 16) xs)) }
 {
@@ -101,7 +101,7 @@ fn read_wave_format_ieee_float<R: Input>(
     requires chunk_len { 16 ≤ chunk_len }
     requires sound { IsSound found }
     ensures sound { IfOk result IsSound }
-    ensures failures { CountsFailed (R.failures reader.old) (R.failures reader.new) result }
+    ensures failures { CountsFailed (R.account reader.old) (R.account reader.new) result }
     ensures gives { Gives (R.left reader.old) (R.left reader.new) (min chunk_len 40 - 16) result
         (λ xs. wave_format_ieee_float chunk_len found (take (min chunk_len 40 - 16) xs)) }
 {
@@ -164,7 +164,7 @@ fn read_wave_format_extensible<R: Input>(
     requires chunk_len { 16 ≤ chunk_len }
     requires sound { IsSound found }
     ensures sound { IfOk result IsSound }
-    ensures failures { CountsFailed (R.failures reader.old) (R.failures reader.new) result }
+    ensures failures { CountsFailed (R.account reader.old) (R.account reader.new) result }
     ensures gives { Gives (R.left reader.old) (R.left reader.new) (min chunk_len 40 - 16) result
         (λ xs. wave_format_extensible chunk_len found (take (min chunk_len 40 - 16) xs)) }
 {
@@ -192,7 +192,7 @@ fn read_by_tag<R: Input>(
     requires chunk_len { 16 ≤ chunk_len }
     requires sound { IsSound found }
     ensures sound { IfOk result IsSound }
-    ensures failures { CountsFailed (R.failures reader.old) (R.failures reader.new) result }
+    ensures failures { CountsFailed (R.account reader.old) (R.account reader.new) result }
     ensures gives { Gives (R.left reader.old) (R.left reader.new) (min chunk_len 40 - 16) result
         (λ xs. by_tag tag chunk_len found (take (min chunk_len 40 - 16) xs)) }
 {
@@ -212,7 +212,7 @@ pub(crate) fn read_fmt_chunk<R: Input>(
     chunk_len: u32,
 ) -> Result<WavSpecEx, HeadError>
     ensures sound { IfOk result IsSound }
-    ensures failures { CountsFailed (R.failures reader.old) (R.failures reader.new) result }
+    ensures failures { CountsFailed (R.account reader.old) (R.account reader.new) result }
     ensures gives { Gives (R.left reader.old) (R.left reader.new) (min chunk_len 40) result
         (λ xs. fmt_of chunk_len (take (min chunk_len 40) xs)) }
 {

@@ -12,7 +12,7 @@ mod input;
 mod reader;
 mod samples;
 
-pub use chunks::{ChunkRead, read_until_data};
+pub use chunks::{ChunkRead, FileHead, read_until_data};
 pub use fault::{Cause, HeadError, Reason};
 pub use input::Counted;
 pub use reader::{WavReader, read_wave_header};

@@ -27,18 +27,19 @@ use std::result;
 // follow.
 fn read_until_samples<R: Input>(reader: &mut R) -> result::Result<(WavSpecEx, u32), HeadError>
     ensures sound { IfOk result (λ r. IsSound r.0) }
-    ensures failures { CountsFailed (R.failures reader.old) (R.failures reader.new) result }
+    ensures failures { CountsFailed (R.account reader.old) (R.account reader.new) result }
     ensures found { IfOk result (λ r. Known (R.left reader.old) (R.left reader.new) (λ xs ys.
         (h : ℕ) × Readable xs r.0 r.1 h × (ys ≡ drop h xs))) }
     ensures refused { IfErr result (λ e. Refuses e (λ c. Known (R.left reader.old) (R.left reader.new) (λ xs ys. Unreadable xs c))) }
     ensures frames { IfOk result (λ r. r.1 % r.0.spec.channels ≡ 0) }
 {
-    let (spec_ex, len) = read_until_data(reader)?;
+    let head = read_until_data(reader)?;
+    let spec_ex = head.spec_ex;
     let width = spec_ex.bytes_per_sample as u32;
-    if len % width != 0 {
+    if head.data_length % width != 0 {
         return Err(HeadError::Refused(Cause::Format(Reason::DataLength)));
     }
-    let num_samples = len / width;
+    let num_samples = head.data_length / width;
     if num_samples % spec_ex.spec.channels as u32 != 0 {
         return Err(HeadError::Refused(Cause::Format(Reason::FrameLength)));
     }

@@ -6,7 +6,7 @@ use Rattle.hound_number.proofs.input.read_into.Given as goal
 abbrev pub invariant-loop-at : goal.invariant-loop-at
 invariant-loop-at g l = record {
   within : l.at ≤ length l.buf;
-  failures : NoneFailed (g.R.Input.failures l.initial.reader) (g.R.Input.failures l.reader);
+  failures : NoneFailed (g.R.Input.account l.initial.reader) (g.R.Input.account l.reader);
   taken : Consumes (g.R.Input.left l.initial.reader) (g.R.Input.left l.reader) (take l.at l.buf);
 }
 
