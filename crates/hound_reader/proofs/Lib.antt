@@ -5,3 +5,4 @@ pub mod ReaderLemmas
 pub mod SourceReads
 pub mod Unique
 pub mod WalkLemmas
+pub mod WrittenLemmas

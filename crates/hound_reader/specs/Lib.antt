@@ -7,3 +7,4 @@ pub mod Refusals
 pub mod Reading
 pub mod Samples
 pub mod Sources
+pub mod Containers

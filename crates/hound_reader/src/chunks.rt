@@ -1,5 +1,5 @@
 // The walk over chunks to the data.
-ghost use Rattle.std.specs.Prelude.{◌≡◌, ℕ, ◌+◌, ◌++◌, ◌<◌, ◌≤◌, List, length, drop, Some, OnOk, IfOk, IfErr};
+ghost use Rattle.std.specs.Prelude.{◌≡◌, ℕ, ◌+◌, ◌++◌, ◌<◌, ◌≤◌, List, length, drop, Some, IsTrue, OnOk, IfOk, IfErr};
 ghost use Rattle.std.specs.Io.KnownBytes.{Consumes};
 ghost use Rattle.hound_number.specs.Input.{Known};
 ghost use Rattle.hound_number.specs.Number.{number};
@@ -7,12 +7,14 @@ ghost use Rattle.hound_spec.specs.Header.{riff_tag, wave_tag};
 ghost use Rattle.hound_reader.specs.Outcome.{CountsFailed, Refuses, UnlessFailed};
 ghost use Rattle.hound_reader.specs.Fmt.{IsSound};
 ghost use Rattle.hound_reader.specs.Chunks.{Head, Refused, bound_of, front_fault, content_fault, chunk_fault};
+ghost use Rattle.hound_reader.specs.Sources.{FindsData};
 ghost use Rattle.hound_reader.specs.Answer.{Answer, Answers, Tells};
 ghost use Rattle.hound_reader.specs.Walk.{ReadsChunk, ReadsContent, Advances, ReachesData, MeetsFault, IsSoundOption, IsSoundChunk};
 
 use crate::fault::{Cause, HeadError, Reason};
 use crate::fmt::read_fmt_chunk;
-use crate::input::fill;
+use crate::input::{Counted, fill};
+use hound_medium::Source;
 use hound_number::{Input, u32_at};
 use hound_spec::WavSpecEx;
 
@@ -211,4 +213,16 @@ pub fn read_until_data<R: Input>(reader: &mut R) -> Result<FileHead, HeadError>
         (a : Answer) → Answers xs a → Tells result xs ys a)) }
 {
     read_head(reader)
+}
+
+/// The same over a source, which is handed back, so that its failed reads are counted.
+///
+/// Nothing of the source changes but its place and its count of faults.
+pub fn find_data<S: Source>(source: S) -> (S, Result<FileHead, HeadError>)
+    ensures sound { IfOk result.1 (λ r. IsSound r.spec_ex) }
+    ensures finds { IsTrue S.tells → FindsData result.1 (S.seen source) (S.seen result.0) }
+{
+    let mut input = Counted { source };
+    let answer = read_until_data(&mut input);
+    (input.source, answer)
 }
