@@ -1,2 +1,4 @@
+pub mod Ending
+pub mod Input
 pub mod Number
 pub mod Writing

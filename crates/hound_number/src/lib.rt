@@ -1,12 +1,16 @@
-//! Little-endian numbers, and the loop over `write`.
+//! Little-endian numbers, and the loops over `read` and `write`.
 //!
 //! The lowest layer: each call makes, reads or writes exactly the bytes of its number, or says the
 //! fault.
 #![tactic(auto)]
 
-ghost use Rattle.std.specs.Prelude.{◌≡◌, ◌+ℤ◌, ◌-ℤ◌, pos};
-ghost use Rattle.hound_number.specs.Number.{bytes_of, signed_bytes_of};
+mod input;
+
+ghost use Rattle.std.specs.Prelude.{◌≡◌, ◌+◌, ◌≤◌, ◌+ℤ◌, ◌-ℤ◌, pos, length, slice_range};
+ghost use Rattle.hound_number.specs.Number.{bytes_of, number, signed_bytes_of, signed_number};
 ghost use Rattle.hound_number.specs.Writing.{Writes};
+
+pub use input::{Input, ReadError, read_into};
 
 use std::io;
 use std::io::{Error, ErrorKind};
@@ -57,6 +61,35 @@ pub fn le_i32(n: i32) -> [u8; 4]
     ensures { result ≡ signed_bytes_of 4 n }
 {
     n.to_le_bytes()
+}
+
+/// The number in the two bytes from a place on.
+#[inline(always)]
+pub fn u16_at(bytes: &[u8], at: usize) -> u16
+    requires { at + 2 ≤ length bytes.now }
+    ensures { result ≡ number (slice_range bytes.now at (at + 2)) }
+{
+    bytes[at] as u16 + bytes[at + 1] as u16 * 0x100
+}
+
+/// The number in the four bytes from a place on.
+#[inline(always)]
+pub fn u32_at(bytes: &[u8], at: usize) -> u32
+    requires { at + 4 ≤ length bytes.now }
+    ensures { result ≡ number (slice_range bytes.now at (at + 4)) }
+{
+    bytes[at] as u32
+        + bytes[at + 1] as u32 * 0x100
+        + bytes[at + 2] as u32 * 0x1_0000
+        + bytes[at + 3] as u32 * 0x100_0000
+}
+
+/// The signed number in two bytes.
+#[inline(always)]
+pub fn i16_from_le(bytes: [u8; 2]) -> i16
+    ensures { result ≡ signed_number bytes }
+{
+    i16::from_le_bytes(bytes)
 }
 
 /// Writes all of the bytes, in order.

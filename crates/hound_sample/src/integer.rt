@@ -3,10 +3,13 @@ ghost use Rattle.std.specs.Prelude.{◌≡◌, ◌++◌, ◌∷◌, [], Ok, Err,
 ghost use Rattle.hound_number.specs.Number.{signed_bytes_of};
 ghost use Rattle.hound_sample.specs.Container.{fits, if_fits, offset_byte, int_container};
 ghost use Rattle.hound_sample.specs.Encoding.{IsEncoded};
+ghost use Rattle.hound_sample.specs.Meaning.{int_meaning};
+ghost use Rattle.hound_sample.specs.Reads.{ReadsContainer};
 ghost use Rattle.hound_spec.specs.declared.error.Error.TheVariants.{TooWide};
 
-use hound_number::{le_i16, le_i32, u8_from_signed};
+use hound_number::{i16_from_le, le_i16, le_i32, read_into, signed_from_u8, u8_from_signed};
 use hound_spec::{Error, Result};
+use std::io;
 
 // The number in eight bits.
 fn narrow_to_i8(x: i32) -> Result<i8>
@@ -86,4 +89,27 @@ pub(crate) fn encode_integer(x: i32, bits: u16, byte_width: u16) -> Result<[u8; 
         return Ok(le_i32(x));
     }
     Err(Error::Unsupported)
+}
+
+// One unsigned byte, which counts from -128.
+#[inline(always)]
+pub(crate) fn read_8_bits<R: io::Read>(reader: &mut R) -> Result<i16>
+    ensures { ReadsContainer (int_meaning 1 8) 1 (R.remaining reader.old) (R.remaining reader.new) result }
+{
+    let mut container = [0; 1];
+    match read_into(reader, &mut container) {
+        Ok(()) => Ok(signed_from_u8(container[0]) as i16),
+        Err(error) => Err(Error::IoError(error.into())),
+    }
+}
+
+#[inline(always)]
+pub(crate) fn read_16_bits<R: io::Read>(reader: &mut R) -> Result<i16>
+    ensures { ReadsContainer (int_meaning 2 16) 2 (R.remaining reader.old) (R.remaining reader.new) result }
+{
+    let mut container = [0; 2];
+    match read_into(reader, &mut container) {
+        Ok(()) => Ok(i16_from_le(container)),
+        Err(error) => Err(Error::IoError(error.into())),
+    }
 }

@@ -1,25 +1,37 @@
 // The types of samples.
-ghost use Rattle.std.specs.Prelude.{◌≡◌, ◌≤◌, ℕ, List, Result, Ok, length};
+ghost use Rattle.std.specs.Prelude.{◌≡◌, ◌≤◌, ℕ, List, Option, Result, Ok, IsSome, length};
 ghost use Rattle.hound_sample.specs.Container.{Refusal, int_container};
 ghost use Rattle.hound_sample.specs.Encoding.{IsEncoded, WritesContainer};
 ghost use Rattle.hound_sample.specs.ContainerLaws.{int_container-in_width};
+ghost use Rattle.hound_sample.specs.Meaning.{ReadRefusal, int_refusal, int_meaning};
+ghost use Rattle.hound_sample.specs.Reads.{Reads};
+ghost use Rattle.hound_spec.specs.declared.spec.SampleFormat.{SampleFormat};
 
-use crate::integer::encode_integer;
+use crate::integer::{encode_integer, read_8_bits, read_16_bits};
 use hound_number::write_bytes;
-use hound_spec::Result;
+use hound_spec::{Error, Result, SampleFormat};
 use std::io;
 
-/// A type of which samples are written.
+/// A type of which samples are read and written.
 ///
 /// A sample of `bits` used bits takes `byte_width` bytes in the file, its container. Which pairs of
-/// the two a type takes, and which values, its table says: `container`. A type of your own brings a
-/// table of its own; the writer treats it as any other.
+/// the two a type takes, and which values, its tables say: `container` for writing, `refusal` and
+/// `meaning` for reading. A type of your own brings tables of its own; the reader and the writer
+/// treat it as any other.
 ///
-/// The pair is looked at before the value: another pair is `Unsupported`, a value out of range
-/// `TooWide`.
+/// In writing, the pair is looked at before the value: another pair is `Unsupported`, a value out
+/// of range `TooWide`. In reading, the format is looked at first: another one is
+/// `InvalidSampleFormat`.
 pub trait Sample: Sized + Drop {
     /// The container of a value for so many used bits in so many bytes, or why there is none.
     ghost container: { Self → ℕ → ℕ → Result (List ℕ) Refusal };
+
+    /// Why samples of a format, of so many bytes and used bits, aren't read as this type, if they
+    /// aren't.
+    ghost refusal: { SampleFormat → ℕ → ℕ → Option ReadRefusal };
+
+    /// The value that a container of so many bytes and used bits stands for.
+    ghost meaning: { ℕ → ℕ → List ℕ → Self };
 
     /// The container in the first `byte_width` bytes, and zeros behind it.
     fn encode(self, bits: u16, byte_width: u16) -> Result<[u8; 4]>
@@ -37,6 +49,16 @@ pub trait Sample: Sized + Drop {
         Ok(())
     }
 
+    /// Reads a sample of so many bytes and used bits.
+    ///
+    /// A fault of the reader is passed on as `IoError`, `Interrupted` too; an early end is an
+    /// `IoError` of kind `Other`. A refusal of the format, the bytes or the bits leaves the reader
+    /// untouched.
+    fn read<R: io::Read>(reader: &mut R, fmt: SampleFormat, bytes: u16, bits: u16) -> Result<Self>
+        ensures reads { Reads (refusal fmt bytes bits) (meaning bytes bits) bytes
+            (R.remaining reader.old) (R.remaining reader.new) result }
+        ensures untouched { IsSome (refusal fmt bytes bits) → reader.new ≡ reader.old };
+
     /// A container has as many bytes as it was asked to have, from one to four.
     ghost in_width: { (v : Self) (bits width : ℕ) (c : List ℕ) → container v bits width ≡ Ok c → (length c ≡ width) × (1 ≤ width) × (width ≤ 4) };
 }
@@ -46,8 +68,31 @@ impl Sample for i16 {
 
     ghost in_width = { int_container-in_width };
 
+    ghost refusal = { int_refusal 2 };
+
+    ghost meaning = { int_meaning };
+
     #[inline(always)]
     fn encode(self, bits: u16, byte_width: u16) -> Result<[u8; 4]> {
         encode_integer(self as i32, bits, byte_width)
+    }
+
+    #[inline(always)]
+    fn read<R: io::Read>(reader: &mut R, fmt: SampleFormat, bytes: u16, bits: u16) -> Result<i16> {
+        match fmt {
+            SampleFormat::Float => Err(Error::InvalidSampleFormat),
+            SampleFormat::Int => {
+                if bytes == 1 && bits == 8 {
+                    return read_8_bits(reader);
+                }
+                if bytes == 2 && bits == 16 {
+                    return read_16_bits(reader);
+                }
+                if bytes > 2 {
+                    return Err(Error::TooWide);
+                }
+                Err(Error::Unsupported)
+            }
+        }
     }
 }

@@ -1,0 +1,80 @@
+// What bytes are read from, and the loop over `read`.
+ghost use Rattle.std.specs.Prelude.{◌≡◌, ℕ, ◌<◌, List, Option, None, length, OnErr, OnOk, IfErr};
+ghost use Rattle.std.specs.Io.{ReadsAtMost};
+ghost use Rattle.std.specs.Io.KnownBytes.{Consumes, IsAtEnd, ReadConsumes};
+ghost use Rattle.hound_number.specs.Input.{Account, Counts, CountsReads, IfEnded};
+ghost use Rattle.hound_number.specs.Ending.{Tells};
+
+use std::io;
+use std::io::ErrorKind;
+
+/// What bytes are read from: any reader, or one of which contracts see how many reads failed.
+pub trait Input {
+    /// The bytes that are left, where they are known.
+    ghost left: { Self → Option (List ℕ) };
+
+    /// How many reads failed, and what no read changes, where these are known.
+    ghost account: { Self → Option Account };
+
+    /// Reads bytes into the front of the buffer, and gives their number. It is 0 only at the end
+    /// of the input or where the buffer is empty.
+    fn read_some(&mut self, buf: &mut [u8]) -> io::Result<usize>
+        ensures bound { ReadsAtMost result buf.new }
+        ensures bytes { ReadConsumes (left self.old) (left self.new) result buf.new }
+        ensures failures { Counts (account self.old) (account self.new) result };
+}
+
+// Of a plain reader contracts see no more than the bytes that are left.
+impl<R: io::Read> Input for R {
+    ghost left = { λ r. R.remaining r };
+
+    ghost account = { λ _. None };
+
+    #[inline(always)]
+    fn read_some(&mut self, buf: &mut [u8]) -> io::Result<usize> {
+        self.read(buf)
+    }
+}
+
+/// Why a buffer could not be filled.
+#[derive(Debug, Drop)]
+pub enum ReadError {
+    /// A read failed.
+    Failed(io::Error),
+    /// The input ended before the buffer was full.
+    Ended,
+}
+
+impl From<ReadError> for io::Error {
+    ghost from_gives = { Tells };
+
+    fn from(error: ReadError) -> io::Error {
+        match error {
+            ReadError::Failed(e) => e,
+            ReadError::Ended => io::Error::from(ErrorKind::Other),
+        }
+    }
+}
+
+/// Fills the whole buffer, however the reads are cut.
+///
+/// `Interrupted` is passed on like any other fault. At an `Err` fewer bytes than the buffer holds
+/// were taken.
+#[inline]
+pub fn read_into<R: Input>(reader: &mut R, buf: &mut [u8]) -> Result<(), ReadError>
+    ensures filled { OnOk result (Consumes (R.left reader.old) (R.left reader.new) buf.new) }
+    ensures part { OnErr result ((bytes : List ℕ)
+        × (length bytes < length buf.new) × Consumes (R.left reader.old) (R.left reader.new) bytes) }
+    ensures ended { IfErr result (λ e. IfEnded e (IsAtEnd (R.left reader.new))) }
+    ensures failures { CountsReads (R.account reader.old) (R.account reader.new) result }
+{
+    let mut at = 0;
+    while at < buf.len() {
+        match reader.read_some(&mut buf[at..]) {
+            Ok(0) => return Err(ReadError::Ended),
+            Ok(n) => at += n,
+            Err(e) => return Err(ReadError::Failed(e)),
+        }
+    }
+    Ok(())
+}

@@ -1,0 +1,82 @@
+-- The answers of a reader.
+use Rattle.std.proofs.Common.{◌≡◌, ℕ, drop, ◌⊎◌, inl, inr, ◌/◌, ◌∙◌, List, sym, ap, subst, Option, Some, None, Err}
+use Rattle.std.specs.Prelude.{IfSome}
+use Rattle.std.proofs.lemmas.Option.{same_Some}
+use Rattle.hound_spec.specs.declared.spec.WavSpecEx.{WavSpecEx}
+use Rattle.hound_reader.specs.declared.fault.Cause.{Cause}
+use Rattle.hound_reader.specs.declared.fault.HeadError.{HeadError}
+use Rattle.hound_reader.specs.declared.fault.HeadError.TheVariants.{Failed, Refused as Refused'}
+use Rattle.hound_spec.specs.declared.error.Error.{Error}
+use Rattle.hound_spec.specs.declared.error.Error.TheVariants as errors
+use Rattle.hound_reader.specs.Outcome.{Refuses}
+use Rattle.hound_number.specs.Input.{Known}
+use Rattle.hound_reader.specs.Chunks.{Readable, Unreadable, data_fault}
+use Rattle.hound_reader.specs.Refusals.{Names, TellsError, IsRefusal, OpensAs, FailsAs}
+use Rattle.hound_number.proofs.KnownSteps.{known_some}
+use Rattle.hound_reader.proofs.Unique.{heads_agree, head_no_fault, faults_agree}
+
+pub readable_one : (xs : List ℕ) (s t : WavSpecEx) (n m h k : ℕ) → Readable xs s n h → Readable xs t m k → (s ≡ t) × (n ≡ m) × (h ≡ k)
+readable_one xs s t n m h k a b =
+    let g = heads_agree xs s t a.len b.len h k a.head b.head in
+    (g.0, a.count ∙ ap (λ l. l / s.bytes_per_sample) g.1 ∙ ap (λ (x : WavSpecEx). b.len / x.bytes_per_sample) g.0 ∙ sym b.count, g.2)
+
+pub readable_no_fault : (xs : List ℕ) (s : WavSpecEx) (n h : ℕ) (c : Cause) → Readable xs s n h → Unreadable xs c → ⊥
+readable_no_fault xs s n h c a (inl f) = head_no_fault xs s a.len h c a.head f
+readable_no_fault xs s n h c a (inr (t, len, k, head, fault)) =
+    let g = heads_agree xs s t a.len len h k a.head head in
+    let there : data_fault s a.len ≡ Some c = rw (g.0, g.1) fault in
+    let none = a.frames in
+    cc
+
+pub unreadable_one : (xs : List ℕ) (c d : Cause) → Unreadable xs c → Unreadable xs d → c ≡ d
+unreadable_one xs c d (inl e) (inl f) = faults_agree xs c d e f
+unreadable_one xs c d (inl e) (inr (t, len, k, head, fault)) = absurd (head_no_fault xs t len k c head e)
+unreadable_one xs c d (inr (t, len, k, head, fault)) (inl f) = absurd (head_no_fault xs t len k d head f)
+unreadable_one xs c d (inr (s, m, h, a, e)) (inr (t, n, k, b, f)) =
+    let g = heads_agree xs s t m n h k a b in
+    let there : data_fault s m ≡ Some d = rw (g.0, g.1) f in
+    same_Some c d (sym e ∙ there)
+
+-- the error of a cause is a refusal for it
+refusal_is : (e : Error) (cause : Cause) (P : Cause → Type 0) → Names e cause → P cause → IsRefusal e P
+refusal_is (errors.IoError e) cause P n p = tt
+refusal_is (errors.FormatError s) cause P (reason, e, t) p = (reason, subst P e p, t)
+refusal_is errors.Unsupported cause P n p = subst P n p
+refusal_is errors.TooWide cause P n p = n
+refusal_is errors.UnfinishedSample cause P n p = n
+refusal_is errors.InvalidSampleFormat cause P n p = n
+refusal_is errors.TooLong cause P n p = n
+refusal_is errors.OutOfMemory cause P n p = n
+
+if_some : (o : Option (List ℕ)) (Q : List ℕ → Type 0) → ((xs : List ℕ) → Q xs) → IfSome o Q
+if_some None Q f = tt
+if_some (Some xs) Q f = f xs
+
+pub refusal_told : (o n : Option (List ℕ)) (stop : HeadError) (e : Error) (P : List ℕ → Cause → Type 0) → TellsError stop e → Refuses stop (λ c. Known o n (λ xs ys. P xs c)) → IfSome o (λ xs. IsRefusal e (P xs))
+refusal_told o n (Failed x) e P r f = if_some o _ (λ xs. subst (λ y. IsRefusal y (P xs)) (sym r) tt)
+refusal_told o n (Refused' c) e P r f = known_some o n _ _ f (λ xs ys u. refusal_is e c (P xs) r u)
+
+-- what can be read is opened, unless a read failed
+pub opens_told : {A : Type 0} (o n : Option (List ℕ)) (stop : HeadError) (e : Error) (P : WavSpecEx → ℕ → A → Type 0) → TellsError stop e → Refuses stop (λ c. Known o n (λ xs ys. Unreadable xs c)) → IfSome o (λ xs. (spec : WavSpecEx) (samples h : ℕ) → Readable xs spec samples h → OpensAs (Err e) (P spec samples))
+opens_told o n (Failed x) e P r f = if_some o _ (λ xs spec samples h a. subst (λ y. OpensAs (Err y) (P spec samples)) (sym r) tt)
+opens_told o n (Refused' c) e P r f = known_some o n _ _ f (λ xs ys u spec samples h a. absurd (readable_no_fault xs spec samples h c a u))
+
+pub opens_ok : (o n : Option (List ℕ)) (spec : WavSpecEx) (samples : ℕ) → Known o n (λ xs ys. (h : ℕ) × Readable xs spec samples h × (ys ≡ drop h xs)) → IfSome o (λ xs. (s : WavSpecEx) (m h : ℕ) → Readable xs s m h → (spec ≡ s) × (samples ≡ m))
+opens_ok o n spec samples k = known_some o n _ (λ xs. (s : WavSpecEx) (m h : ℕ) → Readable xs s m h → (spec ≡ s) × (samples ≡ m)) k (λ xs ys p s m h a. let e = readable_one xs spec s samples m p.0 h p.1 a in (e.0, e.1))
+
+names_fails : (e : Error) (c : Cause) → Names e c → FailsAs e c
+names_fails (errors.IoError e) c n = tt
+names_fails (errors.FormatError s) c n = n
+names_fails errors.Unsupported c n = n
+names_fails errors.TooWide c n = n
+names_fails errors.UnfinishedSample c n = n
+names_fails errors.InvalidSampleFormat c n = n
+names_fails errors.TooLong c n = n
+names_fails errors.OutOfMemory c n = n
+
+pub no_fault_ok : (o n : Option (List ℕ)) (spec : WavSpecEx) (samples : ℕ) → Known o n (λ xs ys. (h : ℕ) × Readable xs spec samples h × (ys ≡ drop h xs)) → IfSome o (λ xs. (c : Cause) → Unreadable xs c → ⊥)
+no_fault_ok o n spec samples k = known_some o n _ (λ xs. (c : Cause) → Unreadable xs c → ⊥) k (λ xs ys p c u. readable_no_fault xs spec samples p.0 c p.1 u)
+
+pub fails_told : (o n : Option (List ℕ)) (stop : HeadError) (e : Error) → TellsError stop e → Refuses stop (λ c. Known o n (λ xs ys. Unreadable xs c)) → IfSome o (λ xs. (c : Cause) → Unreadable xs c → FailsAs e c)
+fails_told o n (Failed x) e r f = if_some o _ (λ xs c u. subst (λ y. FailsAs y c) (sym r) tt)
+fails_told o n (Refused' d) e r f = known_some o n _ _ f (λ xs ys v c u. names_fails e c (subst (Names e) (unreadable_one xs d c v u) r))

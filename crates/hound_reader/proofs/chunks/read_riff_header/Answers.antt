@@ -1,0 +1,29 @@
+use Rattle.std.proofs.Common.{◌≡◌, ◌++◌, take, slice_range, true, false, refl, ap, ◌∙◌, arith, append_assoc, length-take}
+use Rattle.std.specs.Str.{bytes_eq}
+use Rattle.std.proofs.KnownBytes.{Consumes-trans}
+use Rattle.hound_spec.specs.Header.{riff_tag, wave_tag}
+use Rattle.hound_number.proofs.KnownSteps.{known_from}
+use Rattle.hound_reader.proofs.WalkLemmas.{ne_test, no_riff, same_tag, halves}
+use Rattle.hound_reader.proofs.chunks.read_riff_header.Goals as goal
+
+pub returns-then-ne-clause-err : goal.returns-then-ne-clause-err
+returns-then-ne-clause-err g c =
+    let h = c.fill.new.buf in
+    let e : bytes_eq h riff_tag ≡ false = ne_test _ true _ h _ riff_tag c.ne.ensures c.as_slice.ensures c.as_slice-2.ensures c.if-ne.true in
+    known_from h _ _ _ c.in_ok-fill.ensures.ok (λ ys. no_riff h ys (omega arith) e)
+
+pub returns-clause-ok : goal.returns-clause-ok
+returns-clause-ok g c =
+    let h = c.fill.new.buf in
+    let k = c.fill-2.new.buf in
+    let size = take 4 k in
+    let e : bytes_eq h riff_tag ≡ true = ne_test _ false _ h _ riff_tag c.ne.ensures c.as_slice.ensures c.as_slice-2.ensures c.if-ne.false in
+    let d : bytes_eq (slice_range k 4 8) wave_tag ≡ true = ne_test _ false _ (slice_range k 4 8) _ wave_tag c.ne-2.ensures refl c.as_slice-3.ensures c.if-ne-2.false in
+    known_from (h ++ k) _ _ _ (Consumes-trans _ _ _ _ _ c.in_ok-fill.ensures.ok c.in_ok-fill-2.ensures.ok) (λ ys. (
+      size,
+      simp length-take (omega arith),
+      append_assoc h k ys ∙ ap (λ t. t ++ (k ++ ys)) (same_tag h riff_tag e)
+          ∙ ap (λ t. riff_tag ++ (t ++ ys)) (halves k (omega arith) ∙ ap (λ t. size ++ t) (same_tag (slice_range k 4 8) wave_tag d))
+          ∙ ap (λ t. riff_tag ++ t) (append_assoc size wave_tag ys),
+      c.u32_at.ensures,
+    ))

@@ -1,0 +1,30 @@
+-- What bytes are: a head with a spec and a data length, or a cause for which they have none.
+use Rattle.std.specs.Prelude.{◌≡◌, ℕ, List, drop, ⊤, Result, Ok, Err}
+use Rattle.hound_reader.specs.Chunks.{Head, Refused}
+use Rattle.hound_spec.specs.declared.spec.WavSpecEx.{WavSpecEx}
+use Rattle.hound_reader.specs.declared.chunks.FileHead.{FileHead}
+use Rattle.hound_reader.specs.declared.fault.Cause.{Cause}
+use Rattle.hound_reader.specs.declared.fault.HeadError.{HeadError}
+use Rattle.hound_reader.specs.declared.fault.HeadError.TheVariants.{Failed, Refused as Refuses}
+
+-- the spec, the data's length and its place, or the cause
+pub data Answer : Type 0 where
+  readable : WavSpecEx → ℕ → ℕ → Answer
+  unreadable : Cause → Answer
+
+-- the bytes have this answer
+abbrev pub Answers : List ℕ → Answer → Type 0
+Answers bytes (readable spec len h) = Head bytes spec len h
+Answers bytes (unreadable cause) = Refused bytes cause
+
+-- the bytes have exactly one answer
+abbrev pub HasOneAnswer : List ℕ → Type 0
+HasOneAnswer bytes = (a : Answer) × Answers bytes a × ((b : Answer) → Answers bytes b → b ≡ a)
+
+-- What was returned, and the bytes that are left, are this answer, unless a read failed.
+abbrev pub Tells : Result FileHead HeadError → List ℕ → List ℕ → Answer → Type 0
+Tells (Ok r) bytes rest (readable spec len h) = (r.spec_ex ≡ spec) × (r.data_length ≡ len) × (r.data_start ≡ h) × (rest ≡ drop h bytes)
+Tells (Ok r) bytes rest (unreadable cause) = ⊥
+Tells (Err (Failed e)) bytes rest a = ⊤
+Tells (Err (Refuses c)) bytes rest (readable spec len h) = ⊥
+Tells (Err (Refuses c)) bytes rest (unreadable cause) = c ≡ cause

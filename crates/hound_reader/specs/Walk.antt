@@ -1,0 +1,62 @@
+-- The walk over chunks, step by step.
+use Rattle.std.specs.Prelude.{◌≡◌, ℕ, ◌+◌, ◌≤◌, List, ◌++◌, length, ⊤, Option, Some, None, true, false, if◌then◌else◌}
+use Rattle.hound_number.specs.Number.{number}
+use Rattle.hound_spec.specs.Header.{fmt_tag, data_tag}
+use Rattle.hound_reader.specs.Chunks.{Chunks, joined, last_spec, chunk_fault, Chunk, IsChunk, chunk_bytes, bound_of, spec_after, taken_of, ok_of, fault_of}
+use Rattle.hound_reader.specs.Fmt.{fmt_of, IsSound}
+use Rattle.std.specs.Str.{bytes_eq}
+use Rattle.hound_spec.specs.declared.spec.WavSpecEx.{WavSpecEx}
+use Rattle.hound_reader.specs.declared.fault.Cause.{Cause}
+use Rattle.hound_reader.specs.declared.chunks.ChunkRead.{ChunkRead}
+use Rattle.hound_reader.specs.declared.chunks.ChunkRead.TheVariants.{Data, Other}
+
+-- What was taken of xs, of which ys are left, where a chunk was read that began c bytes behind the WAVE tag.
+abbrev pub ReadsChunk : ℕ → Option WavSpecEx → ChunkRead → List ℕ → List ℕ → Type 0
+ReadsChunk c found (Data spec len) xs ys = (found ≡ Some spec) × (c + 8 ≤ 4294967295) × (size : List ℕ) × (length size ≡ 4) × (number size ≡ len) × (xs ≡ data_tag ++ (size ++ ys))
+ReadsChunk c found (Other next taken) xs ys = (p : Chunk) × IsChunk p × (c + 8 + bound_of p.tag (number p.size) ≤ 4294967295) × (next ≡ spec_after found p) × (taken ≡ c + length (chunk_bytes p)) × (xs ≡ chunk_bytes p ++ ys)
+
+-- The same behind the tag and the length.
+abbrev pub ReadsContent : ℕ → Option WavSpecEx → List ℕ → ℕ → ChunkRead → List ℕ → List ℕ → Type 0
+ReadsContent c found tag len (Data spec n) xs ys = (bytes_eq tag data_tag ≡ true) × (found ≡ Some spec) × (n ≡ len) × (xs ≡ ys)
+ReadsContent c found tag len (Other next taken) xs ys = (content : List ℕ) × (length content ≡ taken_of tag len) × (bytes_eq tag data_tag ≡ false)
+    × (bytes_eq tag fmt_tag ≡ true → fault_of (fmt_of len content) ≡ None) × (c + 8 + bound_of tag len ≤ 4294967295)
+    × (next ≡ (if bytes_eq tag fmt_tag then ok_of (fmt_of len content) else found)) × (taken ≡ c + 8 + length content) × (xs ≡ content ++ ys)
+
+-- A chunk before the data takes at least its header's eight bytes, and stays within the limit.
+abbrev pub Advances : ℕ → ChunkRead → Type 0
+Advances c (Data spec len) = ⊤
+Advances c (Other next taken) = (c + 8 ≤ taken) × (taken ≤ 4294967295)
+
+-- Chunks from the WAVE tag on, and then ys: the spec so far, and how many bytes they take.
+pub record Walked (xs ys : List ℕ) (found : Option WavSpecEx) (taken : ℕ) : Type 0 where
+  pub chunks : List Chunk
+  pub each : Chunks 0 chunks
+  pub whole : xs ≡ joined chunks ++ ys
+  pub found_is : found ≡ last_spec None chunks
+  pub taken_is : taken ≡ length (joined chunks)
+
+-- Chunks, and then the header of a data chunk.
+pub record ReachesData (xs ys : List ℕ) (spec : WavSpecEx) (len taken : ℕ) : Type 0 where
+  pub size : List ℕ
+  pub walked : Walked xs (data_tag ++ (size ++ ys)) (Some spec) taken
+  pub four : length size ≡ 4
+  pub data_len : number size ≡ len
+  pub limit : taken + 8 ≤ 4294967295
+
+-- Chunks, and then a fault.
+pub record MeetsFault (xs : List ℕ) (cause : Cause) : Type 0 where
+  pub rest : List ℕ
+  pub found : Option WavSpecEx
+  pub taken : ℕ
+  pub walked : Walked xs rest found taken
+  pub fault : chunk_fault taken found rest ≡ Some cause
+
+-- the spec so far, where there is one, can be divided by
+abbrev pub IsSoundChunk : ChunkRead → Type 0
+IsSoundChunk (Data spec len) = IsSound spec
+IsSoundChunk (Other None taken) = ⊤
+IsSoundChunk (Other (Some spec) taken) = IsSound spec
+
+abbrev pub IsSoundOption : Option WavSpecEx → Type 0
+IsSoundOption None = ⊤
+IsSoundOption (Some spec) = IsSound spec

@@ -1,0 +1,228 @@
+// The walk over chunks to the data.
+ghost use Rattle.std.specs.Prelude.{◌≡◌, ℕ, ◌+◌, ◌++◌, ◌<◌, ◌≤◌, List, length, drop, Some, IsTrue, OnOk, IfOk, IfErr};
+ghost use Rattle.std.specs.Io.KnownBytes.{Consumes};
+ghost use Rattle.hound_number.specs.Input.{Known};
+ghost use Rattle.hound_number.specs.Number.{number};
+ghost use Rattle.hound_spec.specs.Header.{riff_tag, wave_tag};
+ghost use Rattle.hound_reader.specs.Outcome.{CountsFailed, Refuses, UnlessFailed};
+ghost use Rattle.hound_reader.specs.Fmt.{IsSound};
+ghost use Rattle.hound_reader.specs.Chunks.{Head, Refused, bound_of, front_fault, content_fault, chunk_fault};
+ghost use Rattle.hound_reader.specs.Sources.{FindsData};
+ghost use Rattle.hound_reader.specs.Answer.{Answer, Answers, Tells};
+ghost use Rattle.hound_reader.specs.Walk.{ReadsChunk, ReadsContent, Advances, ReachesData, MeetsFault, IsSoundOption, IsSoundChunk};
+
+use crate::fault::{Cause, HeadError, Reason};
+use crate::fmt::read_fmt_chunk;
+use crate::input::{Counted, fill};
+use hound_medium::Source;
+use hound_number::{Input, u32_at};
+use hound_spec::WavSpecEx;
+
+const RIFF: [u8; 4] = *b"RIFF";
+
+const WAVE: [u8; 4] = *b"WAVE";
+
+const FMT: [u8; 4] = *b"fmt ";
+
+const FACT: [u8; 4] = *b"fact";
+
+const DATA: [u8; 4] = *b"data";
+
+/// What one chunk was.
+#[derive(Drop)]
+pub enum ChunkRead {
+    /// The tag and length of the data chunk: the spec that came before it, and its length.
+    Data(WavSpecEx, u32),
+    /// A whole chunk before it: the spec so far, and the bytes taken since the WAVE tag.
+    Other(Option<WavSpecEx>, u32),
+}
+
+/// What stands before the data.
+#[derive(Clone, Copy)]
+pub struct FileHead {
+    /// The spec of the last fmt chunk.
+    pub spec_ex: WavSpecEx,
+
+    /// The length of the data in bytes, as their chunk says it.
+    pub data_length: u32,
+
+    /// How many bytes stand before the data.
+    pub data_start: u64,
+}
+
+// Takes bytes and lets them go.
+fn skip_bytes<R: Input>(reader: &mut R, count: u32) -> Result<(), HeadError>
+    ensures failures { CountsFailed (R.account reader.old) (R.account reader.new) result }
+    ensures ok { OnOk result ((bytes : List ℕ) × Consumes (R.left reader.old) (R.left reader.new) bytes × (length bytes ≡ count)) }
+    ensures err { IfErr result (λ e. Refuses e (λ c. (c ≡ Cause.Ended)
+        × Known (R.left reader.old) (R.left reader.new) (λ xs ys. length xs < count))) }
+{
+    let mut buf = [0; 512];
+    let mut left = count;
+    while left > 0 {
+        let now = left.min(512);
+        fill(reader, &mut buf[..now as usize])?;
+        left -= now;
+    }
+    Ok(())
+}
+
+/// Takes RIFF, a size and WAVE, and gives the size, which is compared with nothing.
+#[tactic(auto, unfolding(crate::specs::Chunks::front_fault))]
+pub(crate) fn read_riff_header<R: Input>(reader: &mut R) -> Result<u32, HeadError>
+    ensures failures { CountsFailed (R.account reader.old) (R.account reader.new) result }
+    ensures ok { IfOk result (λ n. Known (R.left reader.old) (R.left reader.new) (λ xs ys.
+        (size : List ℕ) × (length size ≡ 4) × (xs ≡ riff_tag ++ (size ++ (wave_tag ++ ys))) × (n ≡ number size))) }
+    ensures err { IfErr result (λ e. Refuses e (λ c. Known (R.left reader.old) (R.left reader.new) (λ xs ys. front_fault xs ≡ Some c))) }
+{
+    let mut tag = [0; 4];
+    fill(reader, &mut tag)?;
+    if tag.as_slice() != RIFF.as_slice() {
+        return Err(HeadError::Refused(Cause::Format(Reason::NoRiffTag)));
+    }
+    let mut rest = [0; 8];
+    fill(reader, &mut rest)?;
+    if &rest[4..8] != WAVE.as_slice() {
+        return Err(HeadError::Refused(Cause::Format(Reason::NoWaveTag)));
+    }
+    Ok(u32_at(&rest, 0))
+}
+
+// How many bytes the limit counts for the content.
+#[tactic(auto, unfolding(crate::specs::Chunks::bound_of))]
+fn bound(tag: &[u8], chunk_len: u32) -> u32
+    ensures { result ≡ bound_of tag.now chunk_len }
+{
+    if tag == FMT.as_slice() {
+        40
+    } else if tag == FACT.as_slice() {
+        4
+    } else {
+        chunk_len
+    }
+}
+
+// Takes the content of a chunk, of whose header eight bytes were taken behind those.
+#[tactic(auto, unfolding(crate::specs::Chunks::content_fault))]
+fn read_content<R: Input>(
+    reader: &mut R,
+    tag: &[u8],
+    chunk_len: u32,
+    found: Option<WavSpecEx>,
+    taken: u32,
+) -> Result<ChunkRead, HeadError>
+    requires taken { taken + 8 ≤ 4294967295 }
+    requires sound { IsSoundOption found }
+    ensures sound { IfOk result IsSoundChunk }
+    ensures failures { CountsFailed (R.account reader.old) (R.account reader.new) result }
+    ensures goes { IfOk result (Advances taken) }
+    ensures ok { IfOk result (λ chunk. Known (R.left reader.old) (R.left reader.new) (ReadsContent taken found tag.now chunk_len chunk)) }
+    ensures err { IfErr result (λ e. Refuses e (λ c. Known (R.left reader.old) (R.left reader.new) (λ xs ys. content_fault taken found tag.now chunk_len xs ≡ Some c))) }
+{
+    if tag == DATA.as_slice() {
+        return match found {
+            None => Err(HeadError::Refused(Cause::Format(Reason::NoFmtChunk))),
+            Some(spec_ex) => Ok(ChunkRead::Data(spec_ex, chunk_len)),
+        };
+    }
+    let most = bound(tag, chunk_len);
+    if most > 4_294_967_287 - taken {
+        return Err(HeadError::Refused(Cause::Format(Reason::NoDataChunk)));
+    }
+    if tag == FMT.as_slice() {
+        let spec_ex = read_fmt_chunk(reader, chunk_len)?;
+        return Ok(ChunkRead::Other(Some(spec_ex), taken + 8 + chunk_len.min(40)));
+    }
+    skip_bytes(reader, most)?;
+    Ok(ChunkRead::Other(found, taken + 8 + most))
+}
+
+// Takes one chunk, or the tag and length of the data chunk.
+#[tactic(auto, unfolding(crate::specs::Chunks::chunk_fault))]
+fn read_next_chunk<R: Input>(
+    reader: &mut R,
+    found: Option<WavSpecEx>,
+    taken: u32,
+) -> Result<ChunkRead, HeadError>
+    requires { IsSoundOption found }
+    ensures sound { IfOk result IsSoundChunk }
+    ensures failures { CountsFailed (R.account reader.old) (R.account reader.new) result }
+    ensures goes { IfOk result (Advances taken) }
+    ensures ok { IfOk result (λ chunk. Known (R.left reader.old) (R.left reader.new) (ReadsChunk taken found chunk)) }
+    ensures err { IfErr result (λ e. Refuses e (λ c. Known (R.left reader.old) (R.left reader.new) (λ xs ys. chunk_fault taken found xs ≡ Some c))) }
+{
+    if taken > 4_294_967_287 {
+        return Err(HeadError::Refused(Cause::Format(Reason::NoDataChunk)));
+    }
+    let mut head = [0; 8];
+    fill(reader, &mut head)?;
+    let chunk_len = u32_at(&head, 4);
+    read_content(reader, &head[..4], chunk_len, found, taken)
+}
+
+// Takes chunks from the WAVE tag on, up to the data.
+fn read_chunks<R: Input>(reader: &mut R) -> Result<FileHead, HeadError>
+    ensures sound { IfOk result (λ r. IsSound r.spec_ex) }
+    ensures failures { CountsFailed (R.account reader.old) (R.account reader.new) result }
+    ensures ok { IfOk result (λ r. Known (R.left reader.old) (R.left reader.new) (λ xs ys.
+        (taken : ℕ) × ReachesData xs ys r.spec_ex r.data_length taken × (r.data_start ≡ 12 + taken + 8))) }
+    ensures err { IfErr result (λ e. Refuses e (λ c. Known (R.left reader.old) (R.left reader.new) (λ xs ys. MeetsFault xs c))) }
+{
+    let mut found = None;
+    let mut taken = 0;
+    'chunks: loop {
+        match read_next_chunk(reader, found, taken)? {
+            ChunkRead::Data(spec_ex, data_length) => {
+                return Ok(FileHead {
+                    spec_ex,
+                    data_length,
+                    data_start: 12 + taken as u64 + 8,
+                });
+            }
+            ChunkRead::Other(next, now) => {
+                found = next;
+                taken = now;
+            }
+        }
+    }
+}
+
+// Takes what stands before the data.
+fn read_head<R: Input>(reader: &mut R) -> Result<FileHead, HeadError>
+    ensures sound { IfOk result (λ r. IsSound r.spec_ex) }
+    ensures failures { CountsFailed (R.account reader.old) (R.account reader.new) result }
+    ensures ok { IfOk result (λ r. Known (R.left reader.old) (R.left reader.new) (λ xs ys.
+        Head xs r.spec_ex r.data_length r.data_start × (ys ≡ drop r.data_start xs))) }
+    ensures err { IfErr result (λ e. Refuses e (λ c. Known (R.left reader.old) (R.left reader.new) (λ xs ys. Refused xs c))) }
+{
+    let _size = read_riff_header(reader)?;
+    read_chunks(reader)
+}
+
+/// Takes exactly what stands before the data, however the reads are cut.
+///
+/// The length of the data is not looked at. An error that the bytes don't decide is that of a read,
+/// and the only one that counts as failed.
+pub fn read_until_data<R: Input>(reader: &mut R) -> Result<FileHead, HeadError>
+    ensures sound { IfOk result (λ r. IsSound r.spec_ex) }
+    ensures failures { CountsFailed (R.account reader.old) (R.account reader.new) result }
+    ensures found { IfOk result (λ r. Known (R.left reader.old) (R.left reader.new) (λ xs ys.
+        Head xs r.spec_ex r.data_length r.data_start × (ys ≡ drop r.data_start xs))) }
+    ensures refused { IfErr result (λ e. Refuses e (λ c. Known (R.left reader.old) (R.left reader.new) (λ xs ys. Refused xs c))) }
+    ensures only { UnlessFailed result (Known (R.left reader.old) (R.left reader.new) (λ xs ys.
+        (a : Answer) → Answers xs a → Tells result xs ys a)) }
+{
+    read_head(reader)
+}
+
+/// The same over a source, which is handed back, so that its failed reads are counted.
+///
+/// Nothing of the source changes but its place and its count of faults.
+pub fn find_data<S: Source>(source: S) -> (S, Result<FileHead, HeadError>)
+    ensures sound { IfOk result.1 (λ r. IsSound r.spec_ex) }
+    ensures finds { IsTrue S.tells → FindsData result.1 (S.seen source) (S.seen result.0) }
+{
+    let mut input = Counted { source };
+    let answer = read_until_data(&mut input);
+    (input.source, answer)
+}

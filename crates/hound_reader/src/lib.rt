@@ -1,0 +1,21 @@
+//! Reading WAV files.
+//!
+//! A file is RIFF, a size, WAVE and chunks. A [`WavReader`] walks over the chunks to the data, takes
+//! no byte of it, and then gives its samples, one container for each.
+#![tactic(auto)]
+
+mod chunks;
+mod counting;
+mod fault;
+mod fmt;
+mod input;
+mod laws;
+mod reader;
+mod samples;
+
+pub use chunks::{ChunkRead, FileHead, find_data, read_until_data};
+pub use fault::{Cause, HeadError, Reason};
+pub use input::Counted;
+pub use laws::{one_answer, written_is_head, written_is_read};
+pub use reader::{WavReader, read_wave_header};
+pub use samples::{WavIntoSamples, WavSamples};

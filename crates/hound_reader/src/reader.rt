@@ -1,0 +1,196 @@
+// Readers of files.
+ghost use Rattle.std.specs.Prelude.{◌≡◌, ℕ, ◌+◌, ◌*◌, ◌/◌, ◌%◌, ◌++◌, List, length, drop, Some, IfOk, IfErr, IfSome, MatchResult};
+ghost use Rattle.hound_number.specs.Input.{Known};
+ghost use Rattle.hound_number.specs.Number.{number};
+ghost use Rattle.hound_spec.specs.Header.{riff_tag, wave_tag};
+ghost use Rattle.hound_spec.specs.declared.spec.WavSpecEx.{WavSpecEx};
+ghost use Rattle.hound_reader.specs.Outcome.{CountsFailed, Refuses};
+ghost use Rattle.hound_reader.specs.Fmt.{IsSound};
+ghost use Rattle.hound_reader.specs.Chunks.{Readable, Unreadable, front_fault};
+ghost use Rattle.hound_reader.specs.declared.fault.Cause.{Cause};
+ghost use Rattle.hound_reader.specs.Refusals.{IsRefusal, OpensAs, FailsAs};
+ghost use Rattle.hound_reader.specs.Reading.{IsNext, samples_left};
+ghost use Rattle.hound_reader.specs.Samples.{lent_reader, lender, taken_reader};
+
+use crate::chunks::{read_riff_header, read_until_data};
+use crate::counting::CountingReader;
+use crate::fault::{Cause, HeadError, Reason, error_of};
+use crate::samples::{WavIntoSamples, WavSamples};
+use hound_number::Input;
+use hound_sample::Sample;
+use hound_spec::{Error, Result, WavSpec, WavSpecEx};
+use std::io;
+use std::marker::Model;
+use std::result;
+
+// Takes what stands before the data, which must be whole frames: the spec, and how many samples
+// follow.
+fn read_until_samples<R: Input>(reader: &mut R) -> result::Result<(WavSpecEx, u32), HeadError>
+    ensures sound { IfOk result (λ r. IsSound r.0) }
+    ensures failures { CountsFailed (R.account reader.old) (R.account reader.new) result }
+    ensures found { IfOk result (λ r. Known (R.left reader.old) (R.left reader.new) (λ xs ys.
+        (h : ℕ) × Readable xs r.0 r.1 h × (ys ≡ drop h xs))) }
+    ensures refused { IfErr result (λ e. Refuses e (λ c. Known (R.left reader.old) (R.left reader.new) (λ xs ys. Unreadable xs c))) }
+    ensures frames { IfOk result (λ r. r.1 % r.0.spec.channels ≡ 0) }
+{
+    let head = read_until_data(reader)?;
+    let spec_ex = head.spec_ex;
+    let width = spec_ex.bytes_per_sample as u32;
+    if head.data_length % width != 0 {
+        return Err(HeadError::Refused(Cause::Format(Reason::DataLength)));
+    }
+    let num_samples = head.data_length / width;
+    if num_samples % spec_ex.spec.channels as u32 != 0 {
+        return Err(HeadError::Refused(Cause::Format(Reason::FrameLength)));
+    }
+    Ok((spec_ex, num_samples))
+}
+
+/// Takes the first twelve bytes of a file, and gives the size of the whole file as they say it: the
+/// RIFF size, which doesn't count itself and the tag before it, and eight bytes more.
+///
+/// The size is compared with nothing. An early end is an `IoError` of kind `Other`.
+pub fn read_wave_header<R: io::Read>(reader: &mut R) -> Result<u64>
+    ensures found { IfOk result (λ n. Known (R.remaining reader.old) (R.remaining reader.new) (λ xs ys.
+        (size : List ℕ) × (length size ≡ 4) × (xs ≡ riff_tag ++ (size ++ (wave_tag ++ ys))) × (n ≡ number size + 8))) }
+    ensures refused { IfErr result (λ e. IfSome (R.remaining reader.old) (λ xs. IsRefusal e (λ c. front_fault xs ≡ Some c))) }
+{
+    match read_riff_header(reader) {
+        Ok(size) => Ok(size as u64 + 8),
+        Err(e) => Err(error_of(e)),
+    }
+}
+
+/// A reader of a file's samples.
+///
+/// It takes no byte that it doesn't need: what it reads from stands at the data when the reader is
+/// made, and behind the sample that was read last.
+#[derive(Drop)]
+pub struct WavReader<R> {
+    reader: CountingReader<R>,
+    spec_ex: WavSpecEx,
+    num_samples: u32,
+    samples_read: u64,
+    bytes_read: u64,
+}
+
+impl<R> Model for WavReader<R> {
+    ghost use Rattle.hound_reader.specs.Reading.{Reading, IsCounted};
+
+    ghost Value = { Reading R };
+
+    ghost view = { λ r. record { reader = r.reader.reader; spec_ex = r.spec_ex; num_samples = r.num_samples; samples_read = r.samples_read; bytes_read = r.bytes_read } };
+
+    ghost invariant = { λ r. IsCounted r.spec_ex r.num_samples r.samples_read r.bytes_read };
+}
+
+impl<R: io::Read + Drop> WavReader<R> {
+    /// Takes exactly what stands before the data.
+    ///
+    /// Files are RIFF and WAVE with a fmt chunk before the data, of a PCMWAVEFORMAT, a WAVEFORMATEX
+    /// or a WAVEFORMATEXTENSIBLE. Other chunks before the data are passed over, and of several fmt
+    /// chunks the last counts. Faults are told in the order of the bytes: first those of the chunks,
+    /// then data that are no whole samples, then data that are no whole frames. An early end is an
+    /// `IoError` of kind `Other`.
+    pub fn new(reader: R) -> Result<WavReader<R>>
+        ensures found { IfOk result (λ r. Known (R.remaining reader) (R.remaining r.reader) (λ xs ys.
+            (h : ℕ) × Readable xs r.spec_ex r.num_samples h × (ys ≡ drop h xs))) }
+        ensures fresh { IfOk result (λ r. (r.samples_read ≡ 0) × (r.bytes_read ≡ 0)) }
+        ensures refused { IfErr result (λ e. IfSome (R.remaining reader) (λ xs. IsRefusal e (Unreadable xs))) }
+        ensures readable { IfSome (R.remaining reader) (λ xs. (spec_ex : WavSpecEx) (samples h : ℕ) →
+            Readable xs spec_ex samples h → OpensAs result (λ r. (r.spec_ex ≡ spec_ex) × (r.num_samples ≡ samples))) }
+        ensures unreadable { IfSome (R.remaining reader) (λ xs. (c : Cause) → Unreadable xs c → MatchResult result (λ _. ⊥) (λ e. FailsAs e c)) }
+    {
+        let mut reader = reader;
+        match read_until_samples(&mut reader) {
+            Ok((spec_ex, num_samples)) => Ok(WavReader {
+                reader: CountingReader { reader, given: 0 },
+                spec_ex,
+                num_samples,
+                samples_read: 0,
+                bytes_read: 0,
+            }),
+            Err(e) => Err(error_of(e)),
+        }
+    }
+
+    /// The properties of the audio data, of which the bits are those that are used.
+    pub fn spec(&self) -> WavSpec
+        ensures { result ≡ self.now.spec_ex.spec }
+    {
+        self.spec_ex.spec
+    }
+
+    /// The number of frames in the file, whatever was read; a frame has a sample of each channel.
+    pub fn duration(&self) -> u32
+        ensures quotient { result ≡ self.now.num_samples / self.now.spec_ex.spec.channels }
+        ensures whole { result * self.now.spec_ex.spec.channels ≡ self.now.num_samples }
+    {
+        self.num_samples / self.spec_ex.spec.channels as u32
+    }
+
+    /// The number of samples in the file, of all channels together, whatever was read.
+    pub fn len(&self) -> u32
+        ensures { result ≡ self.now.num_samples }
+    {
+        self.num_samples
+    }
+
+    /// An iterator over the samples that are left, one item for each.
+    ///
+    /// The type need not fit the file: each item is then the refusal of the type, and takes no byte.
+    /// A new iterator goes on where the last stopped.
+    pub fn samples<'wr, S: Sample>(&'wr mut self) -> WavSamples<'wr, R, S>
+        ensures reader { lent_reader result ≡ self.old }
+        ensures lender { lender result ≡ self.entry.ghost_name }
+    {
+        WavSamples::new(self)
+    }
+
+    /// The same iterator, which keeps the reader.
+    pub fn into_samples<S: Sample>(self) -> WavIntoSamples<R, S>
+        ensures { taken_reader result ≡ self }
+    {
+        WavIntoSamples::new(self)
+    }
+
+    /// What the samples were read from, as it was left.
+    pub fn into_inner(self) -> R
+        ensures { result ≡ self.reader }
+    {
+        self.reader.reader
+    }
+
+    /// How many samples are left; none behind the end.
+    pub(crate) fn samples_left(&self) -> u32
+        ensures { result ≡ samples_left self.now }
+    {
+        (self.num_samples as u64).saturating_sub(self.samples_read) as u32
+    }
+
+    /// The next sample, while one is left.
+    #[inline(always)]
+    pub(crate) fn next_sample<S: Sample>(&mut self) -> Option<Result<S>>
+        ensures { IsNext R.remaining S.refusal S.meaning result self.old self.new }
+    {
+        if self.samples_read >= self.num_samples as u64 {
+            return None;
+        }
+        let spec = self.spec_ex.spec;
+        let width = self.spec_ex.bytes_per_sample;
+        self.reader.given = 0;
+        let sample = S::read(
+            &mut self.reader,
+            spec.sample_format,
+            width,
+            spec.bits_per_sample,
+        );
+        self.samples_read += 1;
+        self.bytes_read += match &sample {
+            Ok(_) => width as u64,
+            Err(Error::IoError(_)) => self.reader.given.min(width as u64),
+            Err(_) => 0,
+        };
+        Some(sample)
+    }
+}

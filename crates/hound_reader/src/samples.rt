@@ -1,0 +1,109 @@
+// The iterators over samples.
+ghost use Rattle.std.specs.Prelude.{◌≡◌, IfSome};
+ghost use Rattle.std.specs.Iterator.{at_most, UpTo};
+ghost use Rattle.std.specs.Iterator.SizeHint.{IsWithinCount};
+ghost use Rattle.hound_reader.specs.Reading.{samples_left};
+ghost use Rattle.hound_reader.specs.Samples.{lent_reader, lender, taken_reader, LendsNext, TakesNext};
+
+use crate::reader::WavReader;
+use hound_sample::Sample;
+use hound_spec::Result;
+use std::io;
+use std::marker::PhantomData;
+
+/// An iterator over the samples that a reader has left.
+///
+/// An `Ok` takes exactly one container. A refusal of the type takes no byte, and counts as an item.
+/// So does a sample that a fault or the end of the input cut, which leaves the reader behind the
+/// bytes that were taken.
+#[derive(Drop)]
+pub struct WavSamples<'wr, R, S> {
+    reader: &'wr mut WavReader<R>,
+    phantom_sample: PhantomData<S>,
+}
+
+impl<'wr, R, S> WavSamples<'wr, R, S> {
+    pub(crate) fn new(reader: &'wr mut WavReader<R>) -> WavSamples<'wr, R, S>
+        ensures reader { lent_reader result ≡ reader.old }
+        ensures lender { lender result ≡ reader.entry.ghost_name }
+    {
+        WavSamples {
+            reader,
+            phantom_sample: PhantomData,
+        }
+    }
+}
+
+impl<R: io::Read + Drop, S: Sample> Iterator for WavSamples<'_, R, S> {
+    type Item = Result<S>;
+
+    ghost next_gives = { LendsNext R.remaining S.refusal S.meaning };
+
+    ghost remaining = { λ s. at_most (samples_left (lent_reader s)) };
+
+    #[inline(always)]
+    fn next(&mut self) -> Option<Result<S>> {
+        self.reader.next_sample()
+    }
+
+    fn size_hint(&self) -> (usize, Option<usize>)
+        ensures lower { IsWithinCount result.0 (at_most (samples_left (lent_reader self.now))) }
+        ensures upper { IfSome result.1 (UpTo (at_most (samples_left (lent_reader self.now)))) }
+        ensures exact { (result.0 ≡ samples_left (lent_reader self.now)) × (result.1 ≡ Some (samples_left (lent_reader self.now))) }
+    {
+        let left = self.reader.samples_left() as usize;
+        (left, Some(left))
+    }
+}
+
+impl<R: io::Read + Drop, S: Sample> ExactSizeIterator for WavSamples<'_, R, S> {
+    fn len(&self) -> usize {
+        self.reader.samples_left() as usize
+    }
+}
+
+/// The same iterator, which keeps its reader.
+#[derive(Drop)]
+pub struct WavIntoSamples<R, S> {
+    reader: WavReader<R>,
+    phantom_sample: PhantomData<S>,
+}
+
+impl<R, S> WavIntoSamples<R, S> {
+    pub(crate) fn new(reader: WavReader<R>) -> WavIntoSamples<R, S>
+        ensures { taken_reader result ≡ reader }
+    {
+        WavIntoSamples {
+            reader,
+            phantom_sample: PhantomData,
+        }
+    }
+}
+
+impl<R: io::Read + Drop, S: Sample> Iterator for WavIntoSamples<R, S> {
+    type Item = Result<S>;
+
+    ghost next_gives = { TakesNext R.remaining S.refusal S.meaning };
+
+    ghost remaining = { λ s. at_most (samples_left (taken_reader s)) };
+
+    #[inline(always)]
+    fn next(&mut self) -> Option<Result<S>> {
+        self.reader.next_sample()
+    }
+
+    fn size_hint(&self) -> (usize, Option<usize>)
+        ensures lower { IsWithinCount result.0 (at_most (samples_left (taken_reader self.now))) }
+        ensures upper { IfSome result.1 (UpTo (at_most (samples_left (taken_reader self.now)))) }
+        ensures exact { (result.0 ≡ samples_left (taken_reader self.now)) × (result.1 ≡ Some (samples_left (taken_reader self.now))) }
+    {
+        let left = self.reader.samples_left() as usize;
+        (left, Some(left))
+    }
+}
+
+impl<R: io::Read + Drop, S: Sample> ExactSizeIterator for WavIntoSamples<R, S> {
+    fn len(&self) -> usize {
+        self.reader.samples_left() as usize
+    }
+}
