@@ -2,6 +2,7 @@
 #![tactic(auto)]
 
 pub use hound_medium::{Medium, Placed, Source, Tape};
+pub use hound_reader::{WavIntoSamples, WavReader, WavSamples, read_wave_header};
 pub use hound_sample::Sample;
 pub use hound_spec::{Error, Result, SampleFormat, WavSpec, WavSpecEx};
 pub use hound_writer::WavWriter;

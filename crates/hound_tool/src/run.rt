@@ -1,6 +1,8 @@
 // What the program does, over any reader and writers.
+ghost use Rattle.std.specs.Prelude.{◌≡◌, ◌≤◌};
+
 use crate::numbers::{Failure, digits, read_numbers};
-use hound::{Error, SampleFormat, Tape, WavSpec, WavWriter};
+use hound::{Error, SampleFormat, Tape, WavReader, WavSpec, WavWriter};
 use std::alloc::Global;
 use std::io;
 
@@ -10,20 +12,24 @@ const USAGE: &str = "usage: hound_tool pack CHANNELS RATE BITS | show | append F
 /// that it doesn't know.
 ///
 /// `pack CHANNELS RATE BITS` reads numbers from the input and writes a WAV file of them to the
-/// output, which stays empty where it fails. A failure has one line on `errors`; a fault while that
-/// is written isn't told.
+/// output, which stays empty where it fails. `show` reads a WAV file from the input and writes its
+/// spec and its samples, a line each; what was written before it fails stands. A failure has one
+/// line on `errors`; a fault while that is written isn't told.
 pub fn run<R: io::Read, O: io::Write, E: io::Write>(
     alloc: Global,
     words: &[&str],
     input: &mut R,
     output: &mut O,
     errors: &mut E,
-) -> u8 {
+) -> u8
+    ensures { result ≤ 2 }
+{
     let result = match words {
         ["pack", channels, rate, bits] => match spec_of(channels, rate, bits) {
             Some(spec) => pack(alloc, spec, input, output),
             None => return usage(errors),
         },
+        ["show"] => show(input, output),
         _ => return usage(errors),
     };
     match result {
@@ -35,7 +41,9 @@ pub fn run<R: io::Read, O: io::Write, E: io::Write>(
     }
 }
 
-fn usage<E: io::Write>(errors: &mut E) -> u8 {
+fn usage<E: io::Write>(errors: &mut E) -> u8
+    ensures { result ≡ 2 }
+{
     let _ = writeln!(errors, "{USAGE}");
     2
 }
@@ -61,6 +69,39 @@ fn pack<R: io::Read, O: io::Write>(
     output.write_all(Tape::bytes(&file))?;
     output.flush()?;
     Ok(())
+}
+
+// The lines of a file, as far as it can be read.
+fn show<R: io::Read, O: io::Write>(input: &mut R, output: &mut O) -> Result<(), Failure> {
+    let result = show_lines(input, output);
+    let flushed = output.flush();
+    result?;
+    flushed?;
+    Ok(())
+}
+
+fn show_lines<R: io::Read, O: io::Write>(input: &mut R, output: &mut O) -> Result<(), Failure> {
+    let mut reader = WavReader::new(input)?;
+    show_spec(reader.spec(), reader.len(), output)?;
+    for sample in reader.samples::<i16>() {
+        let number = sample?;
+        writeln!(output, "{number}")?;
+    }
+    Ok(())
+}
+
+fn show_spec<O: io::Write>(spec: WavSpec, samples: u32, output: &mut O) -> io::Result<()> {
+    let channels = spec.channels;
+    let rate = spec.sample_rate;
+    let bits = spec.bits_per_sample;
+    let format = match spec.sample_format {
+        SampleFormat::Float => "float",
+        SampleFormat::Int => "int",
+    };
+    writeln!(
+        output,
+        "channels {channels} rate {rate} bits {bits} format {format} samples {samples}"
+    )
 }
 
 // The whole file of these samples.
