@@ -1,13 +1,12 @@
 // The writer of samples.
 ghost use Rattle.std.specs.Prelude.{◌≡◌, ◌+◌, ◌^◌, ◌≤◌, ◌↔◌, IsTrue};
 ghost use Rattle.hound_spec.specs.Header.{riff_size};
-ghost use Rattle.hound_writer.specs.Supported.{IsSupported};
 ghost use Rattle.hound_writer.specs.Parts.{IsTold};
 
 use crate::patch::{patch, put_at_end};
 use hound_medium::{Medium, put_all};
 use hound_sample::Sample;
-use hound_spec::{Error, Result, SampleFormat, WavSpec, WavSpecEx, header_of, with_default_width};
+use hound_spec::{Error, Result, WavSpec, WavSpecEx, header_of, with_default_width};
 use std::marker::Model;
 use std::{io, result};
 
@@ -73,26 +72,14 @@ fn told(patched: io::Result<()>, are_frames: bool) -> Result<()>
     Ok(())
 }
 
-// Whether files of this spec are written: integers of 16 bits, of one or two channels.
-fn is_supported(spec_ex: WavSpecEx) -> bool
-    ensures { IsTrue result ↔ IsSupported spec_ex }
-{
-    let spec = spec_ex.spec;
-    spec_ex.is_writable()
-        && spec.sample_format == SampleFormat::Int
-        && spec.bits_per_sample == 16
-        && spec.channels <= 2
-}
-
 impl<W: Medium> WavWriter<W> {
     ghost use Rattle.std.specs.Prelude.{◌≡◌, ◌+◌, ◌-◌, ◌/◌, ◌%◌, ◌≤◌, ◌<◌, ◌↔◌, max, IsTrue, IfErr, IfNone, IfOk, IfSome, Ok, Err, MatchResult, OnOk, length, take};
     ghost use Rattle.std.specs.Io.{StartsWith};
     ghost use Rattle.hound_medium.specs.Seen.{PutsAll};
     ghost use Rattle.hound_spec.specs.declared.error.Error.TheVariants.{Unsupported};
     ghost use Rattle.hound_spec.specs.Header.{header, data_start, riff_size, canonical};
-    ghost use Rattle.hound_spec.specs.Writable.{with_default_width};
+    ghost use Rattle.hound_spec.specs.Writable.{IsWritable, with_default_width};
     ghost use Rattle.hound_writer.specs.Parts.{PutsAt, field};
-    ghost use Rattle.hound_writer.specs.Supported.{IsSupported};
     ghost use Rattle.hound_writer.specs.Writer.{HasBegun, HasHeader, PutsHeader, medium_of, sample_refusal, AcceptsSample, accepted, IsWhole, IsIoError, IsOkOrIoError, IsPublishing, OnPublished, ChangesSizesOnly, faults_told, sample_count};
 
     /// Begins a file of this spec in a medium that stands at its beginning, and puts the header.
@@ -101,15 +88,31 @@ impl<W: Medium> WavWriter<W> {
     /// errors are those of [`WavWriter::try_new`], which hands the medium back.
     pub fn new(writer: W, spec: WavSpec) -> Result<WavWriter<W>>
         requires { IsTrue W.tells → (W.seen writer).place ≡ 0 }
-        ensures unsupported { (IsSupported (with_default_width spec) → ⊥) → result ≡ Err Unsupported }
-        ensures only_supported { OnOk result (IsSupported (with_default_width spec)) }
-        ensures supported { IsSupported (with_default_width spec) → IsOkOrIoError result }
+        ensures unsupported { (IsWritable (with_default_width spec) → ⊥) → result ≡ Err Unsupported }
+        ensures only_writable { OnOk result (IsWritable (with_default_width spec)) }
+        ensures writable { IsWritable (with_default_width spec) → IsOkOrIoError result }
         ensures begun { IfOk result (λ w. HasBegun (with_default_width spec) w) }
         ensures puts { IsTrue W.tells → IfOk result (λ w. PutsHeader W.keeps (with_default_width spec) (W.seen writer) (W.seen w.medium)) }
         ensures header { IsTrue W.tells → IfOk result (λ w. HasHeader w.spec_ex (W.seen w.medium).contents) }
         ensures whole { IsTrue W.tells → IfOk result (λ w. IsWhole W.seen w) }
     {
-        match WavWriter::try_new(writer, with_default_width(spec)) {
+        WavWriter::new_with_spec_ex(writer, with_default_width(spec))
+    }
+
+    /// Begins a file of this spec, with this many bytes to a sample.
+    ///
+    /// The errors are those of [`WavWriter::try_new`], which hands the medium back.
+    pub fn new_with_spec_ex(writer: W, spec_ex: WavSpecEx) -> Result<WavWriter<W>>
+        requires { IsTrue W.tells → (W.seen writer).place ≡ 0 }
+        ensures unsupported { (IsWritable spec_ex → ⊥) → result ≡ Err Unsupported }
+        ensures only_writable { OnOk result (IsWritable spec_ex) }
+        ensures writable { IsWritable spec_ex → IsOkOrIoError result }
+        ensures begun { IfOk result (λ w. HasBegun spec_ex w) }
+        ensures puts { IsTrue W.tells → IfOk result (λ w. PutsHeader W.keeps spec_ex (W.seen writer) (W.seen w.medium)) }
+        ensures header { IsTrue W.tells → IfOk result (λ w. HasHeader w.spec_ex (W.seen w.medium).contents) }
+        ensures whole { IsTrue W.tells → IfOk result (λ w. IsWhole W.seen w) }
+    {
+        match WavWriter::try_new(writer, spec_ex) {
             Ok(writer) => Ok(writer),
             Err((_, error)) => Err(error),
         }
@@ -123,15 +126,15 @@ impl<W: Medium> WavWriter<W> {
     /// No error leaves anything behind that would put more.
     pub fn try_new(writer: W, spec_ex: WavSpecEx) -> result::Result<WavWriter<W>, (W, Error)>
         requires { IsTrue W.tells → (W.seen writer).place ≡ 0 }
-        ensures unsupported { (IsSupported spec_ex → ⊥) → result ≡ Err (writer, Unsupported) }
-        ensures only_supported { OnOk result (IsSupported spec_ex) }
-        ensures supported { IsSupported spec_ex → IfErr result (λ refused. IsIoError refused.1) }
+        ensures unsupported { (IsWritable spec_ex → ⊥) → result ≡ Err (writer, Unsupported) }
+        ensures only_writable { OnOk result (IsWritable spec_ex) }
+        ensures writable { IsWritable spec_ex → IfErr result (λ refused. IsIoError refused.1) }
         ensures begun { IfOk result (λ w. HasBegun spec_ex w) }
-        ensures puts { IsSupported spec_ex → IsTrue W.tells → PutsAll W.keeps (header spec_ex 0 0) result (W.seen writer) (W.seen (medium_of result)) }
+        ensures puts { IsWritable spec_ex → IsTrue W.tells → PutsAll W.keeps (header spec_ex 0 0) result (W.seen writer) (W.seen (medium_of result)) }
         ensures header { IsTrue W.tells → IfOk result (λ w. HasHeader w.spec_ex (W.seen w.medium).contents) }
         ensures whole { IsTrue W.tells → IfOk result (λ w. IsWhole W.seen w) }
     {
-        if !is_supported(spec_ex) {
+        if !spec_ex.is_writable() {
             return Err((writer, Error::Unsupported));
         }
         let mut writer = writer;

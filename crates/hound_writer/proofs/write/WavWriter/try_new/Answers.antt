@@ -1,7 +1,7 @@
 use Rattle.std.proofs.Common.{◌≡◌, ◌+◌, ◌-◌, length, arith, ◌∙◌, ap, rules}
 use Rattle.hound_spec.proofs.HeaderLemmas.{length-header, data_start_least}
 use Rattle.hound_spec.specs.Header.{data_start}
-use Rattle.hound_writer.specs.Supported.{IsSupported}
+use Rattle.hound_spec.specs.Writable.{IsWritable}
 use Rattle.hound_writer.proofs.Beginning.{sound_begin, stands_begin, header_begins, whole_begins}
 use Rattle.hound_writer.proofs.write.WavWriter.try_new.Goals as goal
 
@@ -15,8 +15,8 @@ invariant_of-result g c =
     let is = c.as_slice-bytes.ensures ∙ c.header_of-header.ensures in
     let size = ap length is ∙ length-header s 0 0 in
     let at : length c.as_slice-bytes.result.now - 4 + 4 ≡ data_start s = omega (arith, size, data_start_least s) in
-    let supported : IsSupported s = search rules in (
-      sound_begin s _ supported.writable at,
+    let writable : IsWritable s = search rules in (
+      sound_begin s _ writable at,
       λ tells. let puts = c.in-Ok.ensures tells in stands_begin g.W.Placed.keeps s _ _ _ _ is (c.requires tells) puts puts.whole _ at,
     )
 
