@@ -13,10 +13,10 @@ struct Answer {
     errors: Vec<u8>,
 }
 
-fn run_on(alloc: Global, words: &[&str], input: &str) -> Answer {
+fn run_on(alloc: Global, words: &[&str], input: &[u8]) -> Answer {
     let mut output = Vec::new(alloc);
     let mut errors = Vec::new(alloc);
-    let mut bytes = input.as_bytes();
+    let mut bytes = input;
     let status = run(alloc, words, &mut bytes, &mut output, &mut errors);
     Answer {
         status,
@@ -42,7 +42,7 @@ fn pack_writes_a_file(rt: HostRuntime) -> Result<(), Fail> {
             status,
             output,
             errors,
-        } = run_on(rt.alloc(), &["pack", "1", "44100", "16"], input);
+        } = run_on(rt.alloc(), &["pack", "1", "44100", "16"], input.as_bytes());
         assert_eq!(rt; status, 0, "{input:?}");
         assert_eq!(rt; output.as_slice(), FOUR_SAMPLES.as_slice(), "{input:?}");
         assert!(rt; errors.is_empty(), "{input:?}");
@@ -75,7 +75,11 @@ fn pack_says_why_it_refuses(rt: HostRuntime) -> Result<(), Fail> {
             status,
             output,
             errors,
-        } = run_on(rt.alloc(), &["pack", channels, "44100", bits], input);
+        } = run_on(
+            rt.alloc(),
+            &["pack", channels, "44100", bits],
+            input.as_bytes(),
+        );
         assert_eq!(rt; status, 1, "{input:?}");
         assert!(rt; output.is_empty(), "{input:?}");
         assert_eq!(rt; errors.as_slice(), line, "{input:?}");
@@ -88,7 +92,7 @@ fn expect_usage(rt: &impl Abort, alloc: Global, words: &[&str]) {
         status,
         output,
         errors,
-    } = run_on(alloc, words, "1");
+    } = run_on(alloc, words, b"1");
     assert_eq!(rt; status, 2);
     assert!(rt; output.is_empty());
     assert_eq!(rt; errors.as_slice(), USAGE);
@@ -97,7 +101,7 @@ fn expect_usage(rt: &impl Abort, alloc: Global, words: &[&str]) {
 #[test]
 fn other_words_print_the_usage(rt: HostRuntime) -> Result<(), Fail> {
     expect_usage(&rt, rt.alloc(), &[]);
-    expect_usage(&rt, rt.alloc(), &["show"]);
+    expect_usage(&rt, rt.alloc(), &["show", "a.wav"]);
     expect_usage(&rt, rt.alloc(), &["append", "a.wav"]);
     expect_usage(&rt, rt.alloc(), &["pack", "1", "44100"]);
     expect_usage(&rt, rt.alloc(), &["pack", "1", "44100", "16", "more"]);
@@ -166,5 +170,42 @@ fn faults_of_input_and_output_are_told(rt: HostRuntime) -> Result<(), Fail> {
         run(alloc, &words, &mut letters, &mut Broken, &mut Broken),
         1
     );
+    Ok(())
+}
+
+#[test]
+fn show_prints_what_pack_wrote(rt: HostRuntime) -> Result<(), Fail> {
+    let Answer {
+        status,
+        output,
+        errors,
+    } = run_on(rt.alloc(), &["show"], &FOUR_SAMPLES);
+    let lines: &[u8] = b"channels 1 rate 44100 bits 16 format int samples 4\n2\n-3\n5\n-7\n";
+    assert_eq!(rt; status, 0);
+    assert_eq!(rt; output.as_slice(), lines);
+    assert!(rt; errors.is_empty());
+    Ok(())
+}
+
+#[test]
+fn show_stops_at_the_first_fault(rt: HostRuntime) -> Result<(), Fail> {
+    let failed: &[u8] = b"input or output failed\n";
+    let no_riff: &[u8] = b"Ill-formed WAVE file: no RIFF tag found\n";
+    let two: &[u8] = b"channels 1 rate 44100 bits 16 format int samples 4\n2\n";
+    let runs = [
+        (&FOUR_SAMPLES[..30], b"".as_slice(), failed),
+        (&FOUR_SAMPLES[..47], two, failed),
+        (b"RIFX".as_slice(), b"".as_slice(), no_riff),
+    ];
+    for (input, lines, line) in runs {
+        let Answer {
+            status,
+            output,
+            errors,
+        } = run_on(rt.alloc(), &["show"], input);
+        assert_eq!(rt; status, 1);
+        assert_eq!(rt; output.as_slice(), lines);
+        assert_eq!(rt; errors.as_slice(), line);
+    }
     Ok(())
 }
