@@ -1,0 +1,13 @@
+pub use Rattle.hound_number.specs.Number
+pub use Rattle.hound_spec.specs.Header
+pub use Rattle.hound_spec.specs.Writable
+pub use Rattle.hound_sample.specs.Container
+pub use Rattle.hound_sample.specs.Encoding
+pub use Rattle.hound_sample.specs.Meaning
+pub use Rattle.hound_sample.specs.Reads
+pub use Rattle.hound_medium.specs.Bytes
+pub use Rattle.hound_medium.specs.Seen
+pub use Rattle.hound_reader.specs.Chunks
+pub use Rattle.hound_reader.specs.Refusals
+pub use Rattle.hound_reader.specs.Reading
+pub use Rattle.hound_writer.specs.Writer

@@ -2,7 +2,7 @@
 ghost use Rattle.std.specs.Prelude.{◌≡◌, ◌≤◌};
 
 use crate::numbers::{Failure, digits, read_numbers};
-use hound::{Error, SampleFormat, Tape, WavReader, WavSpec, WavWriter};
+use hound::{FloatBits, SampleFormat, Tape, WavReader, WavSpec, WavWriter};
 use std::alloc::Global;
 use std::io;
 
@@ -83,9 +83,30 @@ fn show<R: io::Read, O: io::Write>(input: &mut R, output: &mut O) -> Result<(), 
 fn show_lines<R: io::Read, O: io::Write>(input: &mut R, output: &mut O) -> Result<(), Failure> {
     let mut reader = WavReader::new(input)?;
     show_spec(reader.spec(), reader.len(), output)?;
-    for sample in reader.samples::<i16>() {
+    match reader.spec().sample_format {
+        SampleFormat::Int => show_integers(&mut reader, output),
+        SampleFormat::Float => show_patterns(&mut reader, output),
+    }
+}
+
+fn show_integers<R: io::Read, O: io::Write>(
+    reader: &mut WavReader<&mut R>,
+    output: &mut O,
+) -> Result<(), Failure> {
+    for sample in reader.samples::<i32>() {
         let number = sample?;
         writeln!(output, "{number}")?;
+    }
+    Ok(())
+}
+
+fn show_patterns<R: io::Read, O: io::Write>(
+    reader: &mut WavReader<&mut R>,
+    output: &mut O,
+) -> Result<(), Failure> {
+    for sample in reader.samples::<FloatBits>() {
+        let FloatBits(pattern) = sample?;
+        writeln!(output, "{pattern:08x}")?;
     }
     Ok(())
 }
@@ -108,8 +129,7 @@ fn show_spec<O: io::Write>(spec: WavSpec, samples: u32, output: &mut O) -> io::R
 fn file_of(alloc: Global, spec: WavSpec, numbers: &[i32]) -> hound::Result<Tape> {
     let mut writer = WavWriter::new(Tape::new(Vec::new(alloc)), spec)?;
     for number in numbers {
-        let sample = i16::try_from(*number).map_err(|_| Error::TooWide)?;
-        writer.write_sample(sample)?;
+        writer.write_sample(*number)?;
     }
     let (file, result) = writer.finalize_into();
     result?;

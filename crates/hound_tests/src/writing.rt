@@ -1,7 +1,7 @@
 // Files through the public items, byte by byte.
 ghost use Rattle.std.specs.Prelude.{◌≡◌};
 
-use crate::{Error, Placed, SampleFormat, Tape, WavSpec, WavSpecEx, WavWriter};
+use hound::{Error, Placed, SampleFormat, Tape, WavSpec, WavSpecEx, WavWriter};
 use std::alloc::Global;
 use std::test::Fail;
 
@@ -58,7 +58,7 @@ fn no_samples_are_44_bytes(rt: HostRuntime) -> Result<(), Fail> {
     Ok(())
 }
 
-fn write_four(tape: &mut Tape) -> crate::Result<()>
+fn write_four(tape: &mut Tape) -> hound::Result<()>
     requires { (⟦<Tape as Placed>⟧.seen tape.old).place ≡ 0 }
 {
     let mut writer = WavWriter::new(tape, spec(1))?;
@@ -76,7 +76,7 @@ fn finalize_publishes_over_a_lent_medium(rt: HostRuntime) -> Result<(), Fail> {
     Ok(())
 }
 
-fn begin(tape: &mut Tape, spec: WavSpec) -> crate::Result<()>
+fn begin(tape: &mut Tape, spec: WavSpec) -> hound::Result<()>
     requires { (⟦<Tape as Placed>⟧.seen tape.old).place ≡ 0 }
 {
     let _writer = WavWriter::new(tape, spec)?;

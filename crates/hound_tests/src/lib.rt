@@ -1,0 +1,11 @@
+//! Tests over the public items of `hound` alone, as a user of the library has them.
+#![tactic(auto)]
+
+mod twelve;
+
+pub use twelve::Twelve;
+
+#[cfg(test)]
+mod widths;
+#[cfg(test)]
+mod writing;

@@ -1,0 +1,181 @@
+// Every width and every sample type, written and read back.
+ghost use Rattle.std.specs.Prelude.{◌≡◌};
+
+use crate::Twelve;
+use hound::{
+    Error, FloatBits, Placed, Sample, SampleFormat, Tape, WavReader, WavSpec, WavSpecEx, WavWriter,
+};
+use std::alloc::{AllocError, Global};
+use std::test::Fail;
+
+fn integers(channels: u16, sample_rate: u32, bits: u16, bytes_per_sample: u16) -> WavSpecEx {
+    WavSpecEx {
+        spec: WavSpec {
+            channels,
+            sample_rate,
+            bits_per_sample: bits,
+            sample_format: SampleFormat::Int,
+        },
+        bytes_per_sample,
+    }
+}
+
+fn floats(sample_rate: u32) -> WavSpecEx {
+    WavSpecEx {
+        spec: WavSpec {
+            channels: 1,
+            sample_rate,
+            bits_per_sample: 32,
+            sample_format: SampleFormat::Float,
+        },
+        bytes_per_sample: 4,
+    }
+}
+
+fn empty_tape(alloc: Global) -> Tape
+    ensures { (⟦<Tape as Placed>⟧.seen result).place ≡ 0 }
+{
+    Tape::new(Vec::new(alloc))
+}
+
+// The bytes of a file of these samples.
+fn file_of<S: Sample + Copy>(alloc: Global, spec_ex: WavSpecEx, samples: &[S]) -> hound::Result<Vec<u8>> {
+    let mut writer = WavWriter::new_with_spec_ex(empty_tape(alloc), spec_ex)?;
+    for sample in samples {
+        writer.write_sample(*sample)?;
+    }
+    let (tape, result) = writer.finalize_into();
+    result?;
+    Ok(tape.into_bytes())
+}
+
+// The samples of a file, up to the first that is refused.
+fn samples_of<S: Sample>(alloc: Global, file: &[u8]) -> hound::Result<Vec<S>> {
+    let mut reader = WavReader::new(file)?;
+    let mut samples = Vec::new(alloc);
+    for sample in reader.samples::<S>() {
+        let sample = sample?;
+        samples.push(sample).map_err(|_| Error::OutOfMemory)?;
+    }
+    Ok(samples)
+}
+
+// Stereo, 48000 Hz, 24 bits in four bytes.
+const FOUR_BYTES: [u8; 84] = [
+    0x52, 0x49, 0x46, 0x46, 0x4c, 0x00, 0x00, 0x00, 0x57, 0x41, 0x56, 0x45, 0x66, 0x6d, 0x74, 0x20,
+    0x28, 0x00, 0x00, 0x00, 0xfe, 0xff, 0x02, 0x00, 0x80, 0xbb, 0x00, 0x00, 0x00, 0xdc, 0x05, 0x00,
+    0x08, 0x00, 0x20, 0x00, 0x16, 0x00, 0x18, 0x00, 0x03, 0x00, 0x00, 0x00, 0x01, 0x00, 0x00, 0x00,
+    0x00, 0x00, 0x10, 0x00, 0x80, 0x00, 0x00, 0xaa, 0x00, 0x38, 0x9b, 0x71, 0x64, 0x61, 0x74, 0x61,
+    0x10, 0x00, 0x00, 0x00, 0xa0, 0xff, 0xff, 0x00, 0x0c, 0x5a, 0x00, 0x00, 0xff, 0xff, 0x7f, 0x00,
+    0x20, 0x6d, 0x80, 0x00,
+];
+
+#[test]
+fn twenty_four_bits_in_four_bytes(rt: HostRuntime) -> Result<(), Fail> {
+    let samples = [-96i32, 23052, 8388607, -8360672];
+    let file = file_of(rt.alloc(), integers(2, 48000, 24, 4), &samples)?;
+    assert_eq!(rt; file.as_slice(), FOUR_BYTES.as_slice());
+    let read: Vec<i32> = samples_of(rt.alloc(), &file)?;
+    assert_eq!(rt; read.as_slice(), samples.as_slice());
+    Ok(())
+}
+
+// 65535 channels, 65537 Hz, 8 bits, no samples.
+const WIDEST: [u8; 68] = [
+    0x52, 0x49, 0x46, 0x46, 0x3c, 0x00, 0x00, 0x00, 0x57, 0x41, 0x56, 0x45, 0x66, 0x6d, 0x74, 0x20,
+    0x28, 0x00, 0x00, 0x00, 0xfe, 0xff, 0xff, 0xff, 0x01, 0x00, 0x01, 0x00, 0xff, 0xff, 0xff, 0xff,
+    0xff, 0xff, 0x08, 0x00, 0x16, 0x00, 0x08, 0x00, 0xff, 0xff, 0x03, 0x00, 0x01, 0x00, 0x00, 0x00,
+    0x00, 0x00, 0x10, 0x00, 0x80, 0x00, 0x00, 0xaa, 0x00, 0x38, 0x9b, 0x71, 0x64, 0x61, 0x74, 0x61,
+    0x00, 0x00, 0x00, 0x00,
+];
+
+#[test]
+fn the_widest_header(rt: HostRuntime) -> Result<(), Fail> {
+    let none: [i8; 0] = [];
+    let file = file_of(rt.alloc(), integers(65535, 65537, 8, 1), &none)?;
+    assert_eq!(rt; file.as_slice(), WIDEST.as_slice());
+    let wider = file_of(rt.alloc(), integers(65535, 65538, 8, 1), &none);
+    assert!(rt; matches!(wider, Err(Error::Unsupported)));
+    Ok(())
+}
+
+// Mono, 44100 Hz, floats of 32 bits.
+const ONE_FLOAT: [u8; 72] = [
+    0x52, 0x49, 0x46, 0x46, 0x40, 0x00, 0x00, 0x00, 0x57, 0x41, 0x56, 0x45, 0x66, 0x6d, 0x74, 0x20,
+    0x28, 0x00, 0x00, 0x00, 0xfe, 0xff, 0x01, 0x00, 0x44, 0xac, 0x00, 0x00, 0x10, 0xb1, 0x02, 0x00,
+    0x04, 0x00, 0x20, 0x00, 0x16, 0x00, 0x20, 0x00, 0x01, 0x00, 0x00, 0x00, 0x03, 0x00, 0x00, 0x00,
+    0x00, 0x00, 0x10, 0x00, 0x80, 0x00, 0x00, 0xaa, 0x00, 0x38, 0x9b, 0x71, 0x64, 0x61, 0x74, 0x61,
+    0x04, 0x00, 0x00, 0x00, 0x00, 0x00, 0x80, 0x3f,
+];
+
+#[test]
+fn floats_by_their_bits(rt: HostRuntime) -> Result<(), Fail> {
+    let file = file_of(rt.alloc(), floats(44100), &[FloatBits(0x3f80_0000)])?;
+    assert_eq!(rt; file.as_slice(), ONE_FLOAT.as_slice());
+    let read: Vec<FloatBits> = samples_of(rt.alloc(), &file)?;
+    assert_eq!(rt; read.as_slice(), [FloatBits(0x3f80_0000)].as_slice());
+    let wrong: hound::Result<Vec<i32>> = samples_of(rt.alloc(), &file);
+    assert!(rt; matches!(wrong, Err(Error::InvalidSampleFormat)));
+    Ok(())
+}
+
+// The last bytes of a file of one sample.
+fn data_of<S: Sample + Copy>(
+    alloc: Global,
+    spec_ex: WavSpecEx,
+    sample: S,
+    start: usize,
+) -> hound::Result<Vec<u8>> {
+    let file = file_of(alloc, spec_ex, &[sample])?;
+    let data = file.get(start..).unwrap_or(&[]);
+    data.to_vec(alloc).map_err(|_: AllocError| Error::OutOfMemory)
+}
+
+#[test]
+fn writing_does_not_compare_formats(rt: HostRuntime) -> Result<(), Fail> {
+    let alloc = rt.alloc();
+    let bytes = [0x00u8, 0x00, 0x80, 0x3f];
+    let into_int = data_of(alloc, integers(1, 44100, 32, 4), FloatBits(0x3f80_0000), 68)?;
+    assert_eq!(rt; into_int.as_slice(), bytes.as_slice());
+    let into_float = data_of(alloc, floats(44100), 0x3f80_0000i32, 68)?;
+    assert_eq!(rt; into_float.as_slice(), bytes.as_slice());
+    Ok(())
+}
+
+#[test]
+fn a_sample_that_does_not_fit_is_not_accepted(rt: HostRuntime) -> Result<(), Fail> {
+    let mut writer = WavWriter::new_with_spec_ex(empty_tape(rt.alloc()), integers(1, 44100, 8, 1))?;
+    writer.write_sample(127i8)?;
+    writer.write_sample(127i16)?;
+    writer.write_sample(127i32)?;
+    assert!(rt; matches!(writer.write_sample(128i16), Err(Error::TooWide)));
+    assert!(rt; matches!(writer.write_sample(128i32), Err(Error::TooWide)));
+    assert_eq!(rt; writer.len(), 3);
+    let (tape, result) = writer.finalize_into();
+    result?;
+    assert_eq!(rt; tape.into_bytes().get(44..), Some([0xffu8, 0xff, 0xff].as_slice()));
+    let wide = file_of(rt.alloc(), integers(1, 44100, 16, 2), &[32768i32]);
+    assert!(rt; matches!(wide, Err(Error::TooWide)));
+    let most = file_of(rt.alloc(), integers(1, 44100, 24, 3), &[8388607i32, -8388608])?;
+    let read: Vec<i32> = samples_of(rt.alloc(), &most)?;
+    assert_eq!(rt; read.as_slice(), [8388607i32, -8388608].as_slice());
+    for wide in [8388608i32, -8388609] {
+        let refused = file_of(rt.alloc(), integers(1, 44100, 24, 3), &[wide]);
+        assert!(rt; matches!(refused, Err(Error::TooWide)));
+    }
+    Ok(())
+}
+
+#[test]
+fn a_type_of_ones_own(rt: HostRuntime) -> Result<(), Fail> {
+    let samples = [Twelve(-2048), Twelve(2047)];
+    let file = file_of(rt.alloc(), integers(1, 44100, 16, 2), &samples)?;
+    assert_eq!(rt; file.get(44..), Some([0x00u8, 0xf8, 0xff, 0x07].as_slice()));
+    let read: Vec<Twelve> = samples_of(rt.alloc(), &file)?;
+    assert_eq!(rt; read.as_slice(), samples.as_slice());
+    let wide = file_of(rt.alloc(), integers(1, 44100, 16, 2), &[Twelve(2048)]);
+    assert!(rt; matches!(wide, Err(Error::TooWide)));
+    let other = file_of(rt.alloc(), integers(1, 44100, 24, 3), &[Twelve(1)]);
+    assert!(rt; matches!(other, Err(Error::Unsupported)));
+    Ok(())
+}
