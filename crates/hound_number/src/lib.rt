@@ -92,6 +92,28 @@ pub fn i16_from_le(bytes: [u8; 2]) -> i16
     i16::from_le_bytes(bytes)
 }
 
+/// The signed number in three bytes.
+#[inline(always)]
+pub fn i24_from_le(bytes: [u8; 3]) -> i32
+    ensures { result ≡ signed_number bytes }
+{
+    let [low, middle, high] = bytes;
+    let number = low as u32 + middle as u32 * 0x100 + high as u32 * 0x1_0000;
+    if number < 0x80_0000 {
+        number as i32
+    } else {
+        number as i32 - 0x100_0000
+    }
+}
+
+/// The signed number in four bytes.
+#[inline(always)]
+pub fn i32_from_le(bytes: [u8; 4]) -> i32
+    ensures { result ≡ signed_number bytes }
+{
+    i32::from_le_bytes(bytes)
+}
+
 /// Writes all of the bytes, in order.
 ///
 /// `Interrupted` is passed on like any other fault, and a write that takes no byte is one of kind
@@ -109,3 +131,6 @@ pub fn write_bytes<W: io::Write>(writer: &mut W, bytes: &[u8]) -> io::Result<()>
     }
     Ok(())
 }
+
+#[cfg(test)]
+mod writing_tests;

@@ -30,6 +30,10 @@ int_container v bits width =
     else if bits == 32 && width == 4 then Ok (signed_bytes_of 4 v)
     else Err unsupported
 
+-- the container of a pattern of 32 bits, by the used bits and the bytes
+unfoldable pub pattern_container : ℕ → ℕ → ℕ → Result (List ℕ) Refusal
+pattern_container pattern bits width = if bits == 32 && width == 4 then Ok (bytes_of 4 pattern) else Err unsupported
+
 -- the first containers of data, so many of this width
 abbrev pub containers : ℕ → ℕ → List ℕ → List (List ℕ)
 containers width zero bytes = []

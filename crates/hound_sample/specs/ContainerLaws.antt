@@ -1,8 +1,8 @@
 -- What holds of every container of an integer.
 use Rattle.std.proofs.Common.{◌≡◌, ℕ, ℤ, pos, negsuc, ◌≤◌, Bool, true, false, cond, ◌&&◌, eqb, List, [], ◌∷◌, ◌++◌, length, Result, Ok, Err, refl, ◌∙◌, ap, inl, inr, arith}
 use Rattle.std.proofs.lemmas.Bool.{cases_Bool, and_parts, eqb-true}
-use Rattle.hound_number.specs.Number.{signed_bytes_of}
-use Rattle.hound_sample.specs.Container.{Refusal, too_wide, unsupported, fits, if_fits, int_container, offset_byte}
+use Rattle.hound_number.specs.Number.{bytes_of, signed_bytes_of}
+use Rattle.hound_sample.specs.Container.{Refusal, too_wide, unsupported, fits, if_fits, int_container, pattern_container, offset_byte}
 
 -- one to four bytes, as many as the width says
 abbrev InWidth : List ℕ → ℕ → Type 0
@@ -40,3 +40,9 @@ int_container-in_width v bits width c =
     (row 24 3 bits width _ _ c (omega arith) (omega arith) (λ is. ap length (fitted 24 v (signed_bytes_of 3 v) c is))
     (row 24 4 bits width _ _ c (omega arith) (omega arith) (λ is. ap length (fitted 24 v (signed_bytes_of 3 v ++ 0 ∷ []) c is))
     (row 32 4 bits width (Ok (signed_bytes_of 4 v)) (Err unsupported) c (omega arith) (omega arith) (λ is. let e : c ≡ signed_bytes_of 4 v = cc in ap length e) (λ is. cc)))))
+
+-- so has the container of a pattern
+pub pattern_container-in_width : (pattern bits width : ℕ) (c : List ℕ) → pattern_container pattern bits width ≡ Ok c → (length c ≡ width) × (1 ≤ width) × (width ≤ 4)
+unfolding pattern_container
+pattern_container-in_width pattern bits width c =
+    row 32 4 bits width (Ok (bytes_of 4 pattern)) (Err unsupported) c (omega arith) (omega arith) (λ is. let e : c ≡ bytes_of 4 pattern = cc in ap length e) (λ is. cc)

@@ -1,5 +1,5 @@
 -- What the calls on a sample answer, by its container.
-use Rattle.std.specs.Prelude.{◌≡◌, ℕ, ◌-◌, ◌≤◌, List, ◌++◌, length, take, replicate, Option, Result, Ok, Err}
+use Rattle.std.specs.Prelude.{◌≡◌, ℕ, ◌-◌, ◌<◌, List, ◌++◌, length, take, replicate, Option, Result, Ok, Err}
 use Rattle.std.specs.Io.KnownBytes.{Appends}
 use Rattle.hound_spec.specs.declared.error.Error.{Error}
 use Rattle.hound_spec.specs.declared.error.Error.TheVariants.{IoError, TooWide, Unsupported}
@@ -15,9 +15,9 @@ abbrev pub IsEncoded : Result (List ℕ) Refusal → Result (List ℕ) Error →
 IsEncoded (Ok container) result = result ≡ Ok (container ++ replicate (4 - length container) 0)
 IsEncoded (Err refusal) result = result ≡ Err (error_of refusal)
 
--- `write_padded`: exactly the container went out, or a beginning of it where the writer failed; at a refusal nothing
+-- `write_padded`: exactly the container went out, or a shorter beginning of it where the writer failed; at a refusal nothing
 abbrev pub WritesContainer : {T : Type 0} → Result (List ℕ) Refusal → Option (List ℕ) → Option (List ℕ) → Result T Error → Type 0
 WritesContainer (Ok container) old new (Ok x) = Appends old new container
-WritesContainer (Ok container) old new (Err (IoError e)) = (n : ℕ) × (n ≤ length container) × Appends old new (take n container)
+WritesContainer (Ok container) old new (Err (IoError e)) = (n : ℕ) × (n < length container) × Appends old new (take n container)
 WritesContainer (Ok container) old new (Err _) = ⊥
 WritesContainer (Err refusal) old new result = (result ≡ Err (error_of refusal)) × (new ≡ old)

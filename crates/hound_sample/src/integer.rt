@@ -3,11 +3,14 @@ ghost use Rattle.std.specs.Prelude.{◌≡◌, ◌++◌, ◌∷◌, [], Ok, Err,
 ghost use Rattle.hound_number.specs.Number.{signed_bytes_of};
 ghost use Rattle.hound_sample.specs.Container.{fits, if_fits, offset_byte, int_container};
 ghost use Rattle.hound_sample.specs.Encoding.{IsEncoded};
-ghost use Rattle.hound_sample.specs.Meaning.{int_meaning};
+ghost use Rattle.hound_sample.specs.Meaning.{int_meaning, low_short};
 ghost use Rattle.hound_sample.specs.Reads.{ReadsContainer};
 ghost use Rattle.hound_spec.specs.declared.error.Error.TheVariants.{TooWide};
 
-use hound_number::{i16_from_le, le_i16, le_i32, read_into, signed_from_u8, u8_from_signed};
+use hound_number::{
+    i16_from_le, i24_from_le, i32_from_le, le_i16, le_i32, read_into, signed_from_u8,
+    u8_from_signed,
+};
 use hound_spec::{Error, Result};
 use std::io;
 
@@ -91,14 +94,23 @@ pub(crate) fn encode_integer(x: i32, bits: u16, byte_width: u16) -> Result<[u8; 
     Err(Error::Unsupported)
 }
 
+/// The lowest sixteen bits, as a signed number.
+#[inline(always)]
+pub(crate) fn lowest_16_bits(x: i32) -> i16
+    ensures { result ≡ low_short x }
+{
+    let [low, high, _, _] = le_i32(x);
+    i16_from_le([low, high])
+}
+
 // One unsigned byte, which counts from -128.
 #[inline(always)]
-pub(crate) fn read_8_bits<R: io::Read>(reader: &mut R) -> Result<i16>
+pub(crate) fn read_8_bits<R: io::Read>(reader: &mut R) -> Result<i8>
     ensures { ReadsContainer (int_meaning 1 8) 1 (R.remaining reader.old) (R.remaining reader.new) result }
 {
     let mut container = [0; 1];
     match read_into(reader, &mut container) {
-        Ok(()) => Ok(signed_from_u8(container[0]) as i16),
+        Ok(()) => Ok(signed_from_u8(container[0])),
         Err(error) => Err(Error::IoError(error.into())),
     }
 }
@@ -110,6 +122,43 @@ pub(crate) fn read_16_bits<R: io::Read>(reader: &mut R) -> Result<i16>
     let mut container = [0; 2];
     match read_into(reader, &mut container) {
         Ok(()) => Ok(i16_from_le(container)),
+        Err(error) => Err(Error::IoError(error.into())),
+    }
+}
+
+#[inline(always)]
+pub(crate) fn read_24_bits<R: io::Read>(reader: &mut R) -> Result<i32>
+    ensures { ReadsContainer (int_meaning 3 24) 3 (R.remaining reader.old) (R.remaining reader.new) result }
+{
+    let mut container = [0; 3];
+    match read_into(reader, &mut container) {
+        Ok(()) => Ok(i24_from_le(container)),
+        Err(error) => Err(Error::IoError(error.into())),
+    }
+}
+
+// The fourth byte says nothing.
+#[inline(always)]
+pub(crate) fn read_24_bits_of_4<R: io::Read>(reader: &mut R) -> Result<i32>
+    ensures { ReadsContainer (int_meaning 4 24) 4 (R.remaining reader.old) (R.remaining reader.new) result }
+{
+    let mut container = [0; 4];
+    match read_into(reader, &mut container) {
+        Ok(()) => {
+            let [low, middle, high, _] = container;
+            Ok(i24_from_le([low, middle, high]))
+        }
+        Err(error) => Err(Error::IoError(error.into())),
+    }
+}
+
+#[inline(always)]
+pub(crate) fn read_32_bits<R: io::Read>(reader: &mut R) -> Result<i32>
+    ensures { ReadsContainer (int_meaning 4 32) 4 (R.remaining reader.old) (R.remaining reader.new) result }
+{
+    let mut container = [0; 4];
+    match read_into(reader, &mut container) {
+        Ok(()) => Ok(i32_from_le(container)),
         Err(error) => Err(Error::IoError(error.into())),
     }
 }

@@ -1,13 +1,16 @@
 // The types of samples.
-ghost use Rattle.std.specs.Prelude.{◌≡◌, ◌≤◌, ℕ, List, Option, Result, Ok, IsSome, length};
+ghost use Rattle.std.specs.Prelude.{◌≡◌, ◌≤◌, ◌/◌, ℕ, ℤ, ⊤, List, Option, Result, Ok, IsSome, length};
 ghost use Rattle.hound_sample.specs.Container.{Refusal, int_container};
 ghost use Rattle.hound_sample.specs.Encoding.{IsEncoded, WritesContainer};
 ghost use Rattle.hound_sample.specs.ContainerLaws.{int_container-in_width};
-ghost use Rattle.hound_sample.specs.Meaning.{ReadRefusal, int_refusal, int_meaning};
+ghost use Rattle.hound_sample.specs.Meaning.{ReadRefusal, int_refusal, int_meaning, low_short};
 ghost use Rattle.hound_sample.specs.Reads.{Reads};
 ghost use Rattle.hound_spec.specs.declared.spec.SampleFormat.{SampleFormat};
 
-use crate::integer::{encode_integer, read_8_bits, read_16_bits};
+use crate::integer::{
+    encode_integer, lowest_16_bits, read_8_bits, read_16_bits, read_24_bits, read_24_bits_of_4,
+    read_32_bits,
+};
 use hound_number::write_bytes;
 use hound_spec::{Error, Result, SampleFormat};
 use std::io;
@@ -33,9 +36,18 @@ pub trait Sample: Sized + Drop {
     /// The value that a container of so many bytes and used bits stands for.
     ghost meaning: { ℕ → ℕ → List ℕ → Self };
 
-    /// The container in the first `byte_width` bytes, and zeros behind it.
-    fn encode(self, bits: u16, byte_width: u16) -> Result<[u8; 4]>
-        ensures { IsEncoded (container self bits byte_width) result };
+    /// Whether a value may be cast to sixteen bits.
+    ghost can_cast: { Self → Type 0 };
+
+    /// The value cast to sixteen bits.
+    ghost as_short: { Self → ℤ };
+
+    /// Writes the container of `bits / 8` bytes, rounded down, as `write_padded` does.
+    fn write<W: io::Write>(self, writer: &mut W, bits: u16) -> Result<()>
+        ensures { WritesContainer (container self bits (bits / 8)) (W.contents writer.old) (W.contents writer.new) result }
+    {
+        self.write_padded(writer, bits, bits / 8)
+    }
 
     /// Writes the container.
     ///
@@ -59,8 +71,57 @@ pub trait Sample: Sized + Drop {
             (R.remaining reader.old) (R.remaining reader.new) result }
         ensures untouched { IsSome (refusal fmt bytes bits) → reader.new ≡ reader.old };
 
+    /// The value cast to sixteen bits: of an integer the lowest sixteen, as a signed number.
+    fn as_i16(self) -> i16
+        requires { can_cast self }
+        ensures { result ≡ as_short self };
+
+    /// The container in the first `byte_width` bytes, and zeros behind it.
+    fn encode(self, bits: u16, byte_width: u16) -> Result<[u8; 4]>
+        ensures { IsEncoded (container self bits byte_width) result };
+
     /// A container has as many bytes as it was asked to have, from one to four.
     ghost in_width: { (v : Self) (bits width : ℕ) (c : List ℕ) → container v bits width ≡ Ok c → (length c ≡ width) × (1 ≤ width) × (width ≤ 4) };
+}
+
+impl Sample for i8 {
+    ghost container = { int_container };
+
+    ghost in_width = { int_container-in_width };
+
+    ghost refusal = { int_refusal 1 };
+
+    ghost meaning = { int_meaning };
+
+    ghost can_cast = { λ _. ⊤ };
+
+    ghost as_short = { low_short };
+
+    #[inline(always)]
+    fn read<R: io::Read>(reader: &mut R, fmt: SampleFormat, bytes: u16, bits: u16) -> Result<i8> {
+        match fmt {
+            SampleFormat::Float => Err(Error::InvalidSampleFormat),
+            SampleFormat::Int => {
+                if bytes == 1 && bits == 8 {
+                    return read_8_bits(reader);
+                }
+                if bytes > 1 {
+                    return Err(Error::TooWide);
+                }
+                Err(Error::Unsupported)
+            }
+        }
+    }
+
+    #[inline(always)]
+    fn as_i16(self) -> i16 {
+        self as i16
+    }
+
+    #[inline(always)]
+    fn encode(self, bits: u16, byte_width: u16) -> Result<[u8; 4]> {
+        encode_integer(self as i32, bits, byte_width)
+    }
 }
 
 impl Sample for i16 {
@@ -72,10 +133,9 @@ impl Sample for i16 {
 
     ghost meaning = { int_meaning };
 
-    #[inline(always)]
-    fn encode(self, bits: u16, byte_width: u16) -> Result<[u8; 4]> {
-        encode_integer(self as i32, bits, byte_width)
-    }
+    ghost can_cast = { λ _. ⊤ };
+
+    ghost as_short = { low_short };
 
     #[inline(always)]
     fn read<R: io::Read>(reader: &mut R, fmt: SampleFormat, bytes: u16, bits: u16) -> Result<i16> {
@@ -83,7 +143,7 @@ impl Sample for i16 {
             SampleFormat::Float => Err(Error::InvalidSampleFormat),
             SampleFormat::Int => {
                 if bytes == 1 && bits == 8 {
-                    return read_8_bits(reader);
+                    return Ok(read_8_bits(reader)? as i16);
                 }
                 if bytes == 2 && bits == 16 {
                     return read_16_bits(reader);
@@ -94,5 +154,67 @@ impl Sample for i16 {
                 Err(Error::Unsupported)
             }
         }
+    }
+
+    #[inline(always)]
+    fn as_i16(self) -> i16 {
+        self
+    }
+
+    #[inline(always)]
+    fn encode(self, bits: u16, byte_width: u16) -> Result<[u8; 4]> {
+        encode_integer(self as i32, bits, byte_width)
+    }
+}
+
+impl Sample for i32 {
+    ghost container = { int_container };
+
+    ghost in_width = { int_container-in_width };
+
+    ghost refusal = { int_refusal 4 };
+
+    ghost meaning = { int_meaning };
+
+    ghost can_cast = { λ _. ⊤ };
+
+    ghost as_short = { low_short };
+
+    #[inline(always)]
+    fn read<R: io::Read>(reader: &mut R, fmt: SampleFormat, bytes: u16, bits: u16) -> Result<i32> {
+        match fmt {
+            SampleFormat::Float => Err(Error::InvalidSampleFormat),
+            SampleFormat::Int => {
+                if bytes == 1 && bits == 8 {
+                    return Ok(read_8_bits(reader)? as i32);
+                }
+                if bytes == 2 && bits == 16 {
+                    return Ok(read_16_bits(reader)? as i32);
+                }
+                if bytes == 3 && bits == 24 {
+                    return read_24_bits(reader);
+                }
+                if bytes == 4 && bits == 24 {
+                    return read_24_bits_of_4(reader);
+                }
+                if bytes == 4 && bits == 32 {
+                    return read_32_bits(reader);
+                }
+                if bytes > 4 {
+                    return Err(Error::TooWide);
+                }
+                Err(Error::Unsupported)
+            }
+        }
+    }
+
+    #[inline(always)]
+    fn as_i16(self) -> i16 {
+        lowest_16_bits(self)
+    }
+
+    #[inline(always)]
+    fn encode(self, bits: u16, byte_width: u16) -> Result<[u8; 4]> {
+        encode_integer(self, bits, byte_width)
     }
 }

@@ -176,3 +176,6 @@ pub fn header_of(spec_ex: WavSpecEx, riff_size: u32, data_length: u32) -> Header
     header.write_le_u32(data_length);
     header
 }
+
+#[cfg(test)]
+mod tests;

@@ -8,3 +8,6 @@ mod spec;
 pub use error::{Error, Result};
 pub use header::{Header, header_of};
 pub use spec::{SampleFormat, WavSpec, WavSpecEx, with_default_width};
+
+#[cfg(test)]
+mod tests;

@@ -1,0 +1,96 @@
+// The values of numbers, from their definitions, and that a write can succeed and fail.
+ghost use Rattle.std.specs.Prelude.{Some};
+
+use super::*;
+use std::alloc::Global;
+use std::test::Fail;
+
+#[test]
+fn bytes_and_signed_numbers_differ_by_128(rt: HostRuntime) {
+    for n in 0..=255u8 {
+        assert_eq!(rt; signed_from_u8(n) as i16, n as i16 - 128, "of {n}");
+        assert_eq!(rt; u8_from_signed(signed_from_u8(n)), n);
+    }
+    for x in -128..=127i8 {
+        assert_eq!(rt; u8_from_signed(x) as i16, x as i16 + 128, "of {x}");
+        assert_eq!(rt; signed_from_u8(u8_from_signed(x)), x);
+    }
+}
+
+#[test]
+fn the_low_byte_comes_first(rt: HostRuntime) {
+    assert_eq!(rt; le_u16(0), [0x00, 0x00]);
+    assert_eq!(rt; le_u16(0xfffe), [0xfe, 0xff]);
+    assert_eq!(rt; le_u32(44100), [0x44, 0xac, 0x00, 0x00]);
+    assert_eq!(rt; le_u32(0x0102_0304), [0x04, 0x03, 0x02, 0x01]);
+    assert_eq!(rt; le_i16(-3), [0xfd, 0xff]);
+    assert_eq!(rt; le_i16(i16::MIN), [0x00, 0x80]);
+    assert_eq!(rt; le_i16(i16::MAX), [0xff, 0x7f]);
+    assert_eq!(rt; le_i32(-229_373), [0x03, 0x80, 0xfc, 0xff]);
+    assert_eq!(rt; le_i32(-2_147_483_497), [0x97, 0x00, 0x00, 0x80]);
+}
+
+// Takes at most `most` bytes a call, and answers what `fault` says once it has `full` bytes.
+#[derive(Drop)]
+struct Slow {
+    taken: Vec<u8>,
+    most: usize,
+    full: usize,
+    fault: Option<ErrorKind>,
+}
+
+impl Slow {
+    fn new(alloc: Global, most: usize, full: usize, fault: Option<ErrorKind>) -> Slow {
+        Slow {
+            taken: Vec::new(alloc),
+            most,
+            full,
+            fault,
+        }
+    }
+}
+
+impl io::Write for Slow {
+    ghost contents = { λ slow. Some slow.taken.items };
+
+    fn write(&mut self, buf: &[u8]) -> io::Result<usize> {
+        if self.taken.len() >= self.full {
+            return match self.fault {
+                Some(kind) => Err(Error::from(kind)),
+                None => Ok(0),
+            };
+        }
+        let count = buf.len().min(self.most);
+        self.taken.extend_from_slice(&buf[..count])?;
+        Ok(count)
+    }
+
+    fn flush(&mut self) -> io::Result<()> {
+        Ok(())
+    }
+}
+
+#[test]
+fn all_bytes_go_out_in_order(rt: HostRuntime) -> Result<(), Fail> {
+    let mut bytes = b"RI".to_vec(rt.alloc())?;
+    write_bytes(&mut bytes, b"FF")?;
+    write_bytes(&mut bytes, b"")?;
+    assert_eq!(rt; bytes.as_slice(), b"RIFF".as_slice());
+    let mut slow = Slow::new(rt.alloc(), 1, 4, None);
+    write_bytes(&mut slow, b"WAVE")?;
+    assert_eq!(rt; slow.taken.as_slice(), b"WAVE".as_slice());
+    Ok(())
+}
+
+#[test]
+fn a_fault_is_passed_on_behind_a_beginning(rt: HostRuntime) -> Result<(), Fail> {
+    let mut full = Slow::new(rt.alloc(), 1, 2, None);
+    let zero = write_bytes(&mut full, b"WAVE").map_err(|e| e.kind());
+    assert_eq!(rt; zero, Err(ErrorKind::WriteZero));
+    assert_eq!(rt; full.taken.as_slice(), b"WA".as_slice());
+    let mut interrupted = Slow::new(rt.alloc(), 1, 3, Some(ErrorKind::Interrupted));
+    let fault = write_bytes(&mut interrupted, b"WAVE").map_err(|e| e.kind());
+    assert_eq!(rt; fault, Err(ErrorKind::Interrupted));
+    assert_eq!(rt; interrupted.taken.as_slice(), b"WAV".as_slice());
+    Ok(())
+}

@@ -1,0 +1,82 @@
+// Floating-point samples by their bits.
+ghost use Rattle.std.specs.Prelude.{pos, ⊤};
+ghost use Rattle.hound_number.specs.Number.{number};
+ghost use Rattle.hound_sample.specs.Container.{pattern_container};
+ghost use Rattle.hound_sample.specs.ContainerLaws.{pattern_container-in_width};
+ghost use Rattle.hound_sample.specs.Meaning.{float_refusal, pattern};
+ghost use Rattle.hound_sample.specs.Reads.{ReadsContainer};
+
+use crate::Sample;
+use hound_number::{le_u32, read_into, u32_at};
+use hound_spec::{Error, Result, SampleFormat};
+use std::io;
+
+/// A floating-point sample of 32 bits, by its bit pattern.
+///
+/// It is written with 32 bits in four bytes, and read so from samples of format `Float`. Every
+/// pattern is kept as it is. It can't be cast to sixteen bits: generic code can't ask it to, and
+/// `as_i16` of the type itself answers 0.
+#[derive(Clone, Copy, Debug, PartialEq, Eq)]
+pub struct FloatBits(pub u32);
+
+#[inline(always)]
+fn read_pattern<R: io::Read>(reader: &mut R) -> Result<FloatBits>
+    ensures { ReadsContainer (λ container. record { 0 = pattern container }) 4 (R.remaining reader.old) (R.remaining reader.new) result }
+{
+    let mut container = [0; 4];
+    match read_into(reader, &mut container) {
+        Ok(()) => Ok(FloatBits(u32_at(&container, 0))),
+        Err(error) => Err(Error::IoError(error.into())),
+    }
+}
+
+impl Sample for FloatBits {
+    ghost container = { λ sample. pattern_container sample.0 };
+
+    ghost in_width = { λ sample. pattern_container-in_width sample.0 };
+
+    ghost refusal = { float_refusal };
+
+    ghost meaning = { λ width bits container. record { 0 = pattern container } };
+
+    ghost can_cast = { λ _. ⊥ };
+
+    ghost as_short = { λ _. pos 0 };
+
+    #[inline(always)]
+    fn read<R: io::Read>(
+        reader: &mut R,
+        fmt: SampleFormat,
+        bytes: u16,
+        bits: u16,
+    ) -> Result<FloatBits> {
+        match fmt {
+            SampleFormat::Int => Err(Error::InvalidSampleFormat),
+            SampleFormat::Float => {
+                if bytes == 4 && bits == 32 {
+                    return read_pattern(reader);
+                }
+                if bytes > 4 {
+                    return Err(Error::TooWide);
+                }
+                Err(Error::Unsupported)
+            }
+        }
+    }
+
+    #[inline(always)]
+    fn as_i16(self) -> i16
+        requires { ⊤ }
+    {
+        0
+    }
+
+    #[inline(always)]
+    #[tactic(auto, unfolding(crate::specs::Container::pattern_container))]
+    fn encode(self, bits: u16, byte_width: u16) -> Result<[u8; 4]> {
+        if bits == 32 && byte_width == 4 {
+            return Ok(le_u32(self.0));
+        }
+        Err(Error::Unsupported)
+    }
+}
