@@ -5,8 +5,8 @@ use Rattle.std.proofs.lemmas.Bool.{cases_Bool, and_parts, eqb-true}
 use Rattle.hound.specs.Number.{twos_complement, signed_bytes_of}
 use Rattle.hound.specs.Container.{Refusal, too_wide, unsupported, fits}
 use Rattle.hound.specs.Meaning.{ReadRefusal, other_format, wider, other_pair, int_meaning}
-use Rattle.hound_spec.specs.declared.spec.SampleFormat.{SampleFormat}
-use Rattle.hound_spec.specs.declared.spec.SampleFormat.TheVariants.{Int, Float}
+use Rattle.hound.specs.declared.SampleFormat.{SampleFormat}
+use Rattle.hound.specs.declared.SampleFormat.TheVariants.{Int, Float}
 
 -- the lowest twelve bits, as a signed number
 abbrev pub low_twelve : ℤ → ℤ

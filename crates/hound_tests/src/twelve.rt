@@ -66,6 +66,7 @@ impl Sample for Twelve {
         if self.0 < -2048 || self.0 > 2047 {
             return Err(Error::TooWide);
         }
-        self.0.encode(bits, byte_width)
+        let [low, high] = self.0.to_le_bytes();
+        Ok([low, high, 0, 0])
     }
 }

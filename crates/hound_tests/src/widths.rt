@@ -5,7 +5,7 @@ use crate::Twelve;
 use hound::{
     Error, FloatBits, Placed, Sample, SampleFormat, Tape, WavReader, WavSpec, WavSpecEx, WavWriter,
 };
-use std::alloc::{AllocError, Global};
+use std::alloc::Global;
 use std::test::Fail;
 
 fn integers(channels: u16, sample_rate: u32, bits: u16, bytes_per_sample: u16) -> WavSpecEx {
@@ -39,7 +39,11 @@ fn empty_tape(alloc: Global) -> Tape
 }
 
 // The bytes of a file of these samples.
-fn file_of<S: Sample + Copy>(alloc: Global, spec_ex: WavSpecEx, samples: &[S]) -> hound::Result<Vec<u8>> {
+fn file_of<S: Sample + Copy>(
+    alloc: Global,
+    spec_ex: WavSpecEx,
+    samples: &[S],
+) -> hound::Result<Vec<u8>> {
     let mut writer = WavWriter::new_with_spec_ex(empty_tape(alloc), spec_ex)?;
     for sample in samples {
         writer.write_sample(*sample)?;
@@ -119,26 +123,14 @@ fn floats_by_their_bits(rt: HostRuntime) -> Result<(), Fail> {
     Ok(())
 }
 
-// The last bytes of a file of one sample.
-fn data_of<S: Sample + Copy>(
-    alloc: Global,
-    spec_ex: WavSpecEx,
-    sample: S,
-    start: usize,
-) -> hound::Result<Vec<u8>> {
-    let file = file_of(alloc, spec_ex, &[sample])?;
-    let data = file.get(start..).unwrap_or(&[]);
-    data.to_vec(alloc).map_err(|_: AllocError| Error::OutOfMemory)
-}
-
 #[test]
 fn writing_does_not_compare_formats(rt: HostRuntime) -> Result<(), Fail> {
     let alloc = rt.alloc();
     let bytes = [0x00u8, 0x00, 0x80, 0x3f];
-    let into_int = data_of(alloc, integers(1, 44100, 32, 4), FloatBits(0x3f80_0000), 68)?;
-    assert_eq!(rt; into_int.as_slice(), bytes.as_slice());
-    let into_float = data_of(alloc, floats(44100), 0x3f80_0000i32, 68)?;
-    assert_eq!(rt; into_float.as_slice(), bytes.as_slice());
+    let into_int = file_of(alloc, integers(1, 44100, 32, 4), &[FloatBits(0x3f80_0000)])?;
+    assert_eq!(rt; into_int.get(68..), Some(bytes.as_slice()));
+    let into_float = file_of(alloc, floats(44100), &[0x3f80_0000i32])?;
+    assert_eq!(rt; into_float.get(68..), Some(bytes.as_slice()));
     Ok(())
 }
 
@@ -153,10 +145,17 @@ fn a_sample_that_does_not_fit_is_not_accepted(rt: HostRuntime) -> Result<(), Fai
     assert_eq!(rt; writer.len(), 3);
     let (tape, result) = writer.finalize_into();
     result?;
-    assert_eq!(rt; tape.into_bytes().get(44..), Some([0xffu8, 0xff, 0xff].as_slice()));
+    assert_eq!(rt;
+        tape.into_bytes().get(44..),
+        Some([0xffu8, 0xff, 0xff].as_slice())
+    );
     let wide = file_of(rt.alloc(), integers(1, 44100, 16, 2), &[32768i32]);
     assert!(rt; matches!(wide, Err(Error::TooWide)));
-    let most = file_of(rt.alloc(), integers(1, 44100, 24, 3), &[8388607i32, -8388608])?;
+    let most = file_of(
+        rt.alloc(),
+        integers(1, 44100, 24, 3),
+        &[8388607i32, -8388608],
+    )?;
     let read: Vec<i32> = samples_of(rt.alloc(), &most)?;
     assert_eq!(rt; read.as_slice(), [8388607i32, -8388608].as_slice());
     for wide in [8388608i32, -8388609] {

@@ -1,8 +1,12 @@
 // Files through the public items, byte by byte.
-ghost use Rattle.std.specs.Prelude.{◌≡◌};
+ghost use Rattle.std.specs.Prelude.{◌≡◌, false};
+ghost use Rattle.std.proofs.lemmas.Bool.{false≢true};
+ghost use Rattle.hound.specs.Seen.{Seen, unknown};
 
-use hound::{Error, Placed, SampleFormat, Tape, WavSpec, WavSpecEx, WavWriter};
+use hound::{Error, Medium, Placed, SampleFormat, Tape, WavSpec, WavSpecEx, WavWriter};
 use std::alloc::Global;
+use std::io;
+use std::io::ErrorKind;
 use std::test::Fail;
 
 fn spec(channels: u16) -> WavSpec {
@@ -141,5 +145,80 @@ fn an_unfinished_frame_is_told_and_published(rt: HostRuntime) -> Result<(), Fail
     assert_eq!(rt; bytes.len(), 46);
     assert_eq!(rt; bytes.get(40).copied(), Some(2));
     assert_eq!(rt; bytes.get(44).copied(), Some(1));
+    Ok(())
+}
+
+// A tape that takes one byte a call, and fails at one of its calls.
+#[derive(Drop)]
+struct Faulty {
+    tape: Tape,
+    calls: u64,
+    fails_at: u64,
+}
+
+impl Faulty {
+    fn call(&mut self) -> io::Result<()> {
+        self.calls = self.calls.saturating_add(1);
+        if self.calls == self.fails_at {
+            return Err(io::Error::from(ErrorKind::Other));
+        }
+        Ok(())
+    }
+}
+
+impl Placed for Faulty {
+    ghost tells = { false };
+
+    ghost seen = { λ _. unknown };
+
+    ghost bytes = { λ _ tells. Prim.absurd (false≢true tells) };
+
+    fn go(&mut self, to: u64) -> io::Result<()> {
+        self.call()?;
+        self.tape.go(to)
+    }
+
+    fn shift(&mut self, by: i64) -> io::Result<()> {
+        self.call()?;
+        self.tape.shift(by)
+    }
+}
+
+impl Medium for Faulty {
+    ghost replays = { λ _ tells. Prim.absurd (false≢true tells) };
+
+    fn put(&mut self, bytes: &[u8]) -> io::Result<usize> {
+        self.call()?;
+        Medium::put(&mut self.tape, &bytes[..1])
+    }
+
+    fn flush(&mut self) -> io::Result<()> {
+        self.call()?;
+        Medium::flush(&mut self.tape)
+    }
+}
+
+#[test]
+fn the_next_sample_goes_where_the_failed_one_began(rt: HostRuntime) -> Result<(), Fail> {
+    // 44 calls put the header and two the first sample; the second byte of the second one fails.
+    let medium = Faulty {
+        tape: empty_tape(rt.alloc()),
+        calls: 0,
+        fails_at: 48,
+    };
+    let mut writer = WavWriter::new(medium, spec(1))?;
+    writer.write_sample(1i16)?;
+    assert!(rt; matches!(writer.write_sample(0x0202i16), Err(Error::IoError(_))));
+    assert_eq!(rt; writer.len(), 1);
+    writer.write_sample(3i16)?;
+    assert_eq!(rt; writer.len(), 2);
+    let (medium, result) = writer.finalize_into();
+    result?;
+    let bytes = medium.tape.into_bytes();
+    assert_eq!(rt; bytes.get(4..8), Some([0x28u8, 0, 0, 0].as_slice()));
+    assert_eq!(rt;
+        bytes.get(40..),
+        Some([4u8, 0, 0, 0, 1, 0, 3, 0].as_slice())
+    );
     Ok(())
 }

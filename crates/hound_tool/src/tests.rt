@@ -7,6 +7,7 @@ use std::process::Abort;
 use std::test::Fail;
 
 // What a run answers, writes, and says.
+#[derive(Drop)]
 struct Answer {
     status: u8,
     output: Vec<u8>,
@@ -62,6 +63,7 @@ fn pack_says_why_it_refuses(rt: HostRuntime) -> Result<(), Fail> {
         ("0", "16", "1", unsupported),
         ("1", "12", "1", unsupported),
         ("1", "16", "32767 32768", too_wide),
+        ("1", "8", "-129", too_wide),
         ("1", "16", "2 x", bad),
         ("1", "16", "+2", bad),
         ("1", "16", "2 -", bad),
@@ -206,6 +208,53 @@ fn show_stops_at_the_first_fault(rt: HostRuntime) -> Result<(), Fail> {
         assert_eq!(rt; status, 1);
         assert_eq!(rt; output.as_slice(), lines);
         assert_eq!(rt; errors.as_slice(), line);
+    }
+    Ok(())
+}
+
+#[test]
+fn show_prints_floats_as_their_bits(rt: HostRuntime) -> Result<(), Fail> {
+    // Mono, 44100 Hz, one float: 1.0.
+    let file: [u8; 72] = [
+        0x52, 0x49, 0x46, 0x46, 0x40, 0x00, 0x00, 0x00, 0x57, 0x41, 0x56, 0x45, 0x66, 0x6d, 0x74,
+        0x20, 0x28, 0x00, 0x00, 0x00, 0xfe, 0xff, 0x01, 0x00, 0x44, 0xac, 0x00, 0x00, 0x10, 0xb1,
+        0x02, 0x00, 0x04, 0x00, 0x20, 0x00, 0x16, 0x00, 0x20, 0x00, 0x01, 0x00, 0x00, 0x00, 0x03,
+        0x00, 0x00, 0x00, 0x00, 0x00, 0x10, 0x00, 0x80, 0x00, 0x00, 0xaa, 0x00, 0x38, 0x9b, 0x71,
+        0x64, 0x61, 0x74, 0x61, 0x04, 0x00, 0x00, 0x00, 0x00, 0x00, 0x80, 0x3f,
+    ];
+    let lines: &[u8] = b"channels 1 rate 44100 bits 32 format float samples 1\n3f800000\n";
+    let Answer {
+        status,
+        output,
+        errors,
+    } = run_on(rt.alloc(), &["show"], &file);
+    assert_eq!(rt; status, 0);
+    assert_eq!(rt; output.as_slice(), lines);
+    assert!(rt; errors.is_empty());
+    Ok(())
+}
+
+#[test]
+fn every_width_goes_through(rt: HostRuntime) -> Result<(), Fail> {
+    let runs: [(&str, &[u8]); 3] = [
+        (
+            "8",
+            b"channels 1 rate 8000 bits 8 format int samples 2\n-128\n127\n",
+        ),
+        (
+            "24",
+            b"channels 1 rate 8000 bits 24 format int samples 2\n-128\n127\n",
+        ),
+        (
+            "32",
+            b"channels 1 rate 8000 bits 32 format int samples 2\n-128\n127\n",
+        ),
+    ];
+    for (bits, lines) in runs {
+        let file = run_on(rt.alloc(), &["pack", "1", "8000", bits], b"-128 127");
+        assert_eq!(rt; file.status, 0);
+        let shown = run_on(rt.alloc(), &["show"], &file.output);
+        assert_eq!(rt; shown.output.as_slice(), lines);
     }
     Ok(())
 }
