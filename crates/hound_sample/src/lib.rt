@@ -3,9 +3,11 @@
 
 mod float;
 mod integer;
+mod laws;
 mod sample;
 
 pub use float::FloatBits;
+pub use laws::{integers_come_back, short_integers_are_kept};
 pub use sample::Sample;
 
 #[cfg(test)]
