@@ -1,5 +1,5 @@
 -- Integers that are read from their containers.
-use Rattle.std.proofs.Common.{◌≡◌, ℕ, zero, suc, ℤ, pos, negsuc, ◌+◌, ◌-◌, ◌*◌, ◌^◌, ◌<◌, ◌≤◌, ◌-ℤ◌, Bool, true, false, cond, ◌&&◌, eqb, ltb, List, [], ◌∷◌, ◌++◌, length, take, Option, None, Result, Ok, Err, IsTrue, refl, ◌∙◌, ap, inl, inr, arith, rules}
+use Rattle.std.proofs.Common.{◌≡◌, ℕ, zero, suc, ℤ, pos, negsuc, ◌+◌, ◌-◌, ◌*◌, ◌^◌, ◌<◌, ◌≤◌, ◌-ℤ◌, Bool, true, false, cond, ◌&&◌, eqb, ltb, List, [], ◌∷◌, ◌++◌, take, None, Result, Ok, Err, IsTrue, refl, ◌∙◌, ap, inl, inr, arith, rules}
 use Rattle.std.proofs.lemmas.Bool.{cases_Bool, and_parts, eqb-true, ltb-true, lt-ltb, le-ltb}
 use Rattle.hound_number.specs.Number.{number, bytes_of, signed_of, signed_number, signed_bytes_of}
 use Rattle.hound_spec.specs.declared.spec.SampleFormat.TheVariants.{Int}
