@@ -5,13 +5,14 @@
 #![tactic(auto)]
 
 mod input;
+mod laws;
 
 ghost use Rattle.std.specs.Prelude.{◌≡◌, ◌+◌, ◌≤◌, ◌+ℤ◌, ◌-ℤ◌, pos, length, slice_range};
 ghost use Rattle.hound_number.specs.Number.{bytes_of, number, signed_bytes_of, signed_number};
 ghost use Rattle.hound_number.specs.Writing.{Writes};
 
 pub use input::{Input, ReadError, read_into};
-
+pub use laws::signed_bytes_come_back;
 use std::io;
 use std::io::{Error, ErrorKind};
 

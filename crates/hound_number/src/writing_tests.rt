@@ -30,6 +30,17 @@ fn the_low_byte_comes_first(rt: HostRuntime) {
     assert_eq!(rt; le_i32(-2_147_483_497), [0x97, 0x00, 0x00, 0x80]);
 }
 
+#[test]
+fn the_high_bit_has_the_sign(rt: HostRuntime) {
+    assert_eq!(rt; i16_from_le([0xf9, 0xff]), -7);
+    assert_eq!(rt; i24_from_le([0x0f, 0x00, 0x40]), 4_194_319);
+    assert_eq!(rt; i24_from_le([0xff, 0xff, 0x7f]), 8_388_607);
+    assert_eq!(rt; i24_from_le([0x00, 0x00, 0x80]), -8_388_608);
+    assert_eq!(rt; i24_from_le([0xef, 0xff, 0xff]), -17);
+    assert_eq!(rt; i32_from_le([0xd9, 0x7f, 0x00, 0x02]), 33_587_161);
+    assert_eq!(rt; i32_from_le([0x97, 0x00, 0x00, 0x80]), -2_147_483_497);
+}
+
 // Takes at most `most` bytes a call, and answers what `fault` says once it has `full` bytes.
 #[derive(Drop)]
 struct Slow {

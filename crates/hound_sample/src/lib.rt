@@ -3,10 +3,14 @@
 
 mod float;
 mod integer;
+mod laws;
 mod sample;
 
 pub use float::FloatBits;
+pub use laws::{integers_come_back, short_integers_are_kept};
 pub use sample::Sample;
 
+#[cfg(test)]
+mod reading_tests;
 #[cfg(test)]
 mod writing_tests;

@@ -3,41 +3,45 @@ ghost use Rattle.std.specs.Prelude.{◌≡◌, Ok, map};
 ghost use Rattle.hound_sample.specs.Container.{int_container};
 
 use super::*;
-use crate::integer::encode_integer;
 use hound_spec::{Error, Result};
 use std::io::ErrorKind;
 use std::test::Fail;
 use std::{io, result};
 
-const NUMBERS_OF_8: [i16; 5] = [19, -53, 89, -127, -128];
+pub(crate) const NUMBERS_OF_8: [i16; 5] = [19, -53, 89, -127, -128];
 
-const BYTES_OF_8: [[u8; 1]; 5] = [[0x93], [0x4b], [0xd9], [0x01], [0x00]];
+pub(crate) const BYTES_OF_8: [[u8; 1]; 5] = [[0x93], [0x4b], [0xd9], [0x01], [0x00]];
 
-const NUMBERS_OF_16: [i16; 4] = [2, -3, 5, -7];
+pub(crate) const NUMBERS_OF_16: [i16; 4] = [2, -3, 5, -7];
 
-const BYTES_OF_16: [[u8; 2]; 4] = [[0x02, 0x00], [0xfd, 0xff], [0x05, 0x00], [0xf9, 0xff]];
+pub(crate) const BYTES_OF_16: [[u8; 2]; 4] = [
+    [0x02, 0x00],
+    [0xfd, 0xff],
+    [0x05, 0x00],
+    [0xf9, 0xff],
+];
 
-const NUMBERS_OF_24: [i32; 4] = [-17, 4_194_319, -6_291_437, 8_355_817];
+pub(crate) const NUMBERS_OF_24: [i32; 4] = [-17, 4_194_319, -6_291_437, 8_355_817];
 
-const BYTES_OF_24: [[u8; 3]; 4] = [
+pub(crate) const BYTES_OF_24: [[u8; 3]; 4] = [
     [0xef, 0xff, 0xff],
     [0x0f, 0x00, 0x40],
     [0x13, 0x00, 0xa0],
     [0xe9, 0x7f, 0x7f],
 ];
 
-const NUMBERS_OF_24_IN_4: [i32; 4] = [-96, 23052, 8_388_607, -8_360_672];
+pub(crate) const NUMBERS_OF_24_IN_4: [i32; 4] = [-96, 23052, 8_388_607, -8_360_672];
 
-const BYTES_OF_24_IN_4: [[u8; 4]; 4] = [
+pub(crate) const BYTES_OF_24_IN_4: [[u8; 4]; 4] = [
     [0xa0, 0xff, 0xff, 0x00],
     [0x0c, 0x5a, 0x00, 0x00],
     [0xff, 0xff, 0x7f, 0x00],
     [0x20, 0x6d, 0x80, 0x00],
 ];
 
-const NUMBERS_OF_32: [i32; 4] = [19, -229_373, 33_587_161, -2_147_483_497];
+pub(crate) const NUMBERS_OF_32: [i32; 4] = [19, -229_373, 33_587_161, -2_147_483_497];
 
-const BYTES_OF_32: [[u8; 4]; 4] = [
+pub(crate) const BYTES_OF_32: [[u8; 4]; 4] = [
     [0x13, 0x00, 0x00, 0x00],
     [0x03, 0x80, 0xfc, 0xff],
     [0xd9, 0x7f, 0x00, 0x02],
@@ -72,17 +76,32 @@ fn numbers_have_these_containers(rt: HostRuntime) {
         assert!(rt; is_container(x.encode(16, 2), container), "{x}");
     }
     for (x, container) in NUMBERS_OF_24.iter().zip(&BYTES_OF_24) {
-        assert!(rt; is_container(encode_integer(*x, 24, 3), container), "{x}");
+        assert!(rt; is_container(x.encode(24, 3), container), "{x}");
     }
     for (x, container) in NUMBERS_OF_24_IN_4.iter().zip(&BYTES_OF_24_IN_4) {
-        assert!(rt; is_container(encode_integer(*x, 24, 4), container), "{x}");
+        assert!(rt; is_container(x.encode(24, 4), container), "{x}");
     }
     for (x, container) in NUMBERS_OF_32.iter().zip(&BYTES_OF_32) {
-        assert!(rt; is_container(encode_integer(*x, 32, 4), container), "{x}");
+        assert!(rt; is_container(x.encode(32, 4), container), "{x}");
     }
+    assert!(rt; is_container((-53i8).encode(8, 1), &[0x4b]));
+    assert!(rt; is_container((-3i8).encode(16, 2), &[0xfd, 0xff]));
     assert!(rt; is_container((-17i16).encode(24, 3), &[0xef, 0xff, 0xff]));
     assert!(rt; is_container((-96i16).encode(24, 4), &[0xa0, 0xff, 0xff, 0x00]));
     assert!(rt; is_container((-2i16).encode(32, 4), &[0xfe, 0xff, 0xff, 0xff]));
+}
+
+#[test]
+fn a_pattern_has_its_four_bytes(rt: HostRuntime) {
+    let one = FloatBits(0x3f80_0000);
+    assert!(rt; is_container(one.encode(32, 4), &[0x00, 0x00, 0x80, 0x3f]));
+    for (bits, width) in [(8, 1), (16, 2), (24, 3), (24, 4), (32, 8), (64, 8)] {
+        let encoded = one.encode(bits, width);
+        assert!(rt;
+            matches!(encoded, Err(Error::Unsupported)),
+            "{bits} in {width}"
+        );
+    }
 }
 
 #[test]
@@ -92,13 +111,13 @@ fn each_width_takes_numbers_up_to_its_ends(rt: HostRuntime) {
     assert!(rt; is_container(i16::MIN.encode(16, 2), &[0x00, 0x80]));
     assert!(rt; is_container(i16::MAX.encode(16, 2), &[0xff, 0x7f]));
     for width in [3, 4] {
-        assert!(rt; is_container(encode_integer(-8_388_608, 24, width), &[0x00, 0x00, 0x80]));
-        assert!(rt; is_container(encode_integer(8_388_607, 24, width), &[0xff, 0xff, 0x7f]));
+        assert!(rt; is_container((-8_388_608i32).encode(24, width), &[0x00, 0x00, 0x80]));
+        assert!(rt; is_container(8_388_607i32.encode(24, width), &[0xff, 0xff, 0x7f]));
     }
-    assert!(rt; is_container(encode_integer(i32::MIN, 32, 4), &[0x00, 0x00, 0x00, 0x80]));
-    assert!(rt; is_container(encode_integer(i32::MAX, 32, 4), &[0xff, 0xff, 0xff, 0x7f]));
+    assert!(rt; is_container(i32::MIN.encode(32, 4), &[0x00, 0x00, 0x00, 0x80]));
+    assert!(rt; is_container(i32::MAX.encode(32, 4), &[0xff, 0xff, 0xff, 0x7f]));
     for (x, bits, width) in [
-        (-129, 8, 1),
+        (-129i32, 8, 1),
         (128, 8, 1),
         (-32_769, 16, 2),
         (32_768, 16, 2),
@@ -107,7 +126,7 @@ fn each_width_takes_numbers_up_to_its_ends(rt: HostRuntime) {
         (-8_388_609, 24, 4),
         (8_388_608, 24, 4),
     ] {
-        let encoded = encode_integer(x, bits, width);
+        let encoded = x.encode(bits, width);
         assert!(rt;
             matches!(encoded, Err(Error::TooWide)),
             "{x} in {bits} bits"
@@ -150,20 +169,38 @@ fn write_each<S: Sample + Copy, W: io::Write>(
 #[test]
 fn containers_go_out_whole(rt: HostRuntime) -> result::Result<(), Fail> {
     let mut bytes = Vec::new(rt.alloc());
+    write_each(&NUMBERS_OF_8, &mut bytes, 8, 1)?;
+    assert_eq!(rt; bytes.as_slice(), BYTES_OF_8.concat(rt.alloc())?.as_slice());
+    bytes.clear();
     write_each(&NUMBERS_OF_16, &mut bytes, 16, 2)?;
     assert_eq!(rt;
         bytes.as_slice(),
         BYTES_OF_16.concat(rt.alloc())?.as_slice()
     );
     bytes.clear();
-    write_each(&NUMBERS_OF_8, &mut bytes, 8, 1)?;
-    assert_eq!(rt; bytes.as_slice(), BYTES_OF_8.concat(rt.alloc())?.as_slice());
-    bytes.clear();
-    write_each(&[-96i16, 23052], &mut bytes, 24, 4)?;
+    write_each(&NUMBERS_OF_24, &mut bytes, 24, 3)?;
     assert_eq!(rt;
         bytes.as_slice(),
-        [0xa0, 0xff, 0xff, 0x00, 0x0c, 0x5a, 0x00, 0x00].as_slice()
+        BYTES_OF_24.concat(rt.alloc())?.as_slice()
     );
+    bytes.clear();
+    write_each(&NUMBERS_OF_24_IN_4, &mut bytes, 24, 4)?;
+    assert_eq!(rt;
+        bytes.as_slice(),
+        BYTES_OF_24_IN_4.concat(rt.alloc())?.as_slice()
+    );
+    bytes.clear();
+    write_each(&NUMBERS_OF_32, &mut bytes, 32, 4)?;
+    assert_eq!(rt;
+        bytes.as_slice(),
+        BYTES_OF_32.concat(rt.alloc())?.as_slice()
+    );
+    Ok(())
+}
+
+#[test]
+fn a_refused_sample_writes_nothing(rt: HostRuntime) -> result::Result<(), Fail> {
+    let mut bytes = b"data".to_vec(rt.alloc())?;
     assert!(rt; matches!(128i16.write_padded(&mut bytes, 8, 1), Err(Error::TooWide)));
     assert!(rt;
         matches!(
@@ -171,7 +208,26 @@ fn containers_go_out_whole(rt: HostRuntime) -> result::Result<(), Fail> {
             Err(Error::Unsupported)
         )
     );
-    assert_eq!(rt; bytes.len(), 8);
+    assert!(rt; matches!(128i16.write(&mut bytes, 12), Err(Error::Unsupported)));
+    assert_eq!(rt; bytes.as_slice(), b"data".as_slice());
+    Ok(())
+}
+
+#[test]
+fn write_takes_the_whole_bytes_of_the_bits(rt: HostRuntime) -> result::Result<(), Fail> {
+    let mut bytes = Vec::new(rt.alloc());
+    19i8.write(&mut bytes, 8)?;
+    (-3i16).write(&mut bytes, 16)?;
+    (-6_291_437i32).write(&mut bytes, 24)?;
+    (-229_373i32).write(&mut bytes, 32)?;
+    FloatBits(0x3f80_0000).write(&mut bytes, 32)?;
+    assert_eq!(rt;
+        bytes.as_slice(),
+        [
+            0x93, 0xfd, 0xff, 0x13, 0x00, 0xa0, 0x03, 0x80, 0xfc, 0xff, 0x00, 0x00, 0x80, 0x3f
+        ]
+        .as_slice()
+    );
     Ok(())
 }
 

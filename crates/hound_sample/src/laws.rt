@@ -1,0 +1,18 @@
+// What holds of all integers and their containers.
+ghost use Rattle.std.specs.Prelude.{◌≡◌, ℕ, ℤ, List, Ok, None, IsTrue};
+ghost use Rattle.hound_sample.specs.Container.{fits, int_container};
+ghost use Rattle.hound_sample.specs.Meaning.{int_meaning, int_refusal, low_short};
+ghost use Rattle.hound_spec.specs.declared.spec.SampleFormat.TheVariants.{Int};
+
+/// Each integer of 32 bits that has a container is read from it as `i32`, as the same number.
+pub fn integers_come_back()
+    ensures taken { (v : ℤ) (bits width : ℕ) (c : List ℕ) → int_container v bits width ≡ Ok c →
+        int_refusal 4 Int width bits ≡ None }
+    ensures same { (v : ℤ) (bits width : ℕ) (c : List ℕ) → int_container v bits width ≡ Ok c →
+        IsTrue (fits 32 v) → int_meaning width bits c ≡ v }
+{}
+
+/// An integer of sixteen bits is its own lowest sixteen bits.
+pub fn short_integers_are_kept()
+    ensures { (v : ℤ) → IsTrue (fits 16 v) → low_short v ≡ v }
+{}
