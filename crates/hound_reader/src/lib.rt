@@ -19,3 +19,6 @@ pub use input::Counted;
 pub use laws::{one_answer, written_is_head, written_is_read};
 pub use reader::{WavReader, read_wave_header};
 pub use samples::{WavIntoSamples, WavSamples};
+
+#[cfg(test)]
+mod tests;

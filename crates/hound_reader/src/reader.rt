@@ -126,7 +126,7 @@ impl<R: io::Read + Drop> WavReader<R> {
         ensures quotient { result ≡ self.now.num_samples / self.now.spec_ex.spec.channels }
         ensures whole { result * self.now.spec_ex.spec.channels ≡ self.now.num_samples }
     {
-        self.num_samples / self.spec_ex.spec.channels as u32
+        self.len() / self.spec_ex.spec.channels as u32
     }
 
     /// The number of samples in the file, of all channels together, whatever was read.
