@@ -8,3 +8,4 @@ pub mod Reading
 pub mod Samples
 pub mod Sources
 pub mod Containers
+pub mod Rows

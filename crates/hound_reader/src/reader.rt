@@ -19,9 +19,8 @@ use crate::samples::{WavIntoSamples, WavSamples};
 use hound_number::Input;
 use hound_sample::Sample;
 use hound_spec::{Error, Result, WavSpec, WavSpecEx};
-use std::io;
 use std::marker::Model;
-use std::result;
+use std::{io, result};
 
 // Takes what stands before the data, which must be whole frames: the spec, and how many samples
 // follow.

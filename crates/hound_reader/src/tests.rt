@@ -1,5 +1,11 @@
 // What no clause says: whole files, the errors of plain readers, and how many bytes a refusal took.
 // The expected values are those of the public format and of files that were written elsewhere.
+ghost use Rattle.std.specs.Prelude.{pos, negsuc, [], ◌∷◌, take};
+ghost use Rattle.hound_reader.specs.Chunks.{Head, Refused};
+ghost use Rattle.hound_reader.specs.Rows.{four_samples, four_containers, long_fact, past_the_limit, mono_16, AreRead};
+ghost use Rattle.hound_reader.specs.declared.fault.Cause.TheVariants.{Ended, Format};
+ghost use Rattle.hound_reader.specs.declared.fault.Reason.TheVariants.{NoDataChunk};
+
 use super::*;
 use hound_medium::Tape;
 use hound_sample::Sample;
@@ -131,7 +137,13 @@ fn with_chunks(alloc: Global, front: &[u8], chunks: &[u8], behind: &[u8]) -> Res
 }
 
 // A file of one fmt chunk and the data.
-fn file(alloc: Global, fmt_len: u8, fmt: &[u8], data_len: u8, data: &[u8]) -> Result<Vec<u8>, Fail> {
+fn file(
+    alloc: Global,
+    fmt_len: u8,
+    fmt: &[u8],
+    data_len: u8,
+    data: &[u8],
+) -> Result<Vec<u8>, Fail> {
     let mut bytes = b"RIFF\0\0\0\0WAVEfmt ".to_vec(alloc)?;
     bytes.extend_from_slice(&[fmt_len, 0, 0, 0])?;
     bytes.extend_from_slice(fmt)?;
@@ -175,18 +187,26 @@ fn header_alone(rt: HostRuntime) -> Result<(), Fail> {
     let size = read_wave_header(&mut pieces).ok().ok_or("a header")?;
     assert_eq!(rt; size, 52);
     assert_eq!(rt; pieces.taken, 12);
-    let error = read_wave_header(&mut b"RIFX".as_slice()).err().ok_or("no header")?;
+    let error = read_wave_header(&mut b"RIFX".as_slice())
+        .err()
+        .ok_or("no header")?;
     assert!(rt; is_told(&error, "no RIFF tag found"));
-    let error = read_wave_header(&mut b"RIFF\0\0\0\0WAVY".as_slice()).err().ok_or("no header")?;
+    let error = read_wave_header(&mut b"RIFF\0\0\0\0WAVY".as_slice())
+        .err()
+        .ok_or("no header")?;
     assert!(rt; is_told(&error, "no WAVE tag found"));
-    let error = read_wave_header(&mut b"RIFF\0\0\0\0WAV".as_slice()).err().ok_or("no header")?;
+    let error = read_wave_header(&mut b"RIFF\0\0\0\0WAV".as_slice())
+        .err()
+        .ok_or("no header")?;
     assert!(rt; is_told(&error, "Other"));
     Ok(())
 }
 
 #[test]
 fn iterators_go_on(rt: HostRuntime) -> Result<(), Fail> {
-    let mut reader = WavReader::new(FOUR_SAMPLES.as_slice()).ok().ok_or("a file")?;
+    let mut reader = WavReader::new(FOUR_SAMPLES.as_slice())
+        .ok()
+        .ok_or("a file")?;
     {
         let mut samples = reader.samples::<i16>();
         assert_eq!(rt; samples.size_hint(), (4, Some(4)));
@@ -212,12 +232,27 @@ fn iterators_go_on(rt: HostRuntime) -> Result<(), Fail> {
 fn other_chunks(rt: HostRuntime) -> Result<(), Fail> {
     let alloc = rt.alloc();
     let four = [2, -3, 5, -7];
-    let junk = with_chunks(alloc, &FOUR_SAMPLES[..12], b"junk\x02\0\0\0\0\0", &FOUR_SAMPLES[12..])?;
+    let junk = with_chunks(
+        alloc,
+        &FOUR_SAMPLES[..12],
+        b"junk\x02\0\0\0\0\0",
+        &FOUR_SAMPLES[12..],
+    )?;
     assert!(rt; both_read(&junk, &four));
-    let fact = with_chunks(alloc, &FOUR_SAMPLES[..36], b"fact\x04\0\0\0\x04\0\0\0", &FOUR_SAMPLES[36..])?;
+    let fact = with_chunks(
+        alloc,
+        &FOUR_SAMPLES[..36],
+        b"fact\x04\0\0\0\x04\0\0\0",
+        &FOUR_SAMPLES[36..],
+    )?;
     assert!(rt; both_read(&fact, &four));
     // A fact chunk counts four bytes, whatever its length says.
-    let long_fact = with_chunks(alloc, &FOUR_SAMPLES[..36], b"fact\x08\0\0\0\x04\0\0\0\0\0\0\0", &FOUR_SAMPLES[36..])?;
+    let long_fact = with_chunks(
+        alloc,
+        &FOUR_SAMPLES[..36],
+        b"fact\x08\0\0\0\x04\0\0\0\0\0\0\0",
+        &FOUR_SAMPLES[36..],
+    )?;
     assert!(rt; is_refused(&long_fact, "Other", 68));
     // The last of two fmt chunks counts.
     let mut first = [0; 24];
@@ -238,7 +273,13 @@ fn other_chunks(rt: HostRuntime) -> Result<(), Fail> {
 fn early_ends_and_faults(rt: HostRuntime) -> Result<(), Fail> {
     assert!(rt; is_refused(&FOUR_SAMPLES[..30], "Other", 30));
     assert!(rt; is_refused(b"RIFF\0\0\0\0WAVEdata\0\0\0\0", "missing fmt chunk", 20));
-    assert!(rt; is_refused(b"RIFF\0\0\0\0WAVEjunk\xff\xff\xff\xff\0\0\0", "missing data chunk", 20));
+    assert!(rt;
+        is_refused(
+            b"RIFF\0\0\0\0WAVEjunk\xff\xff\xff\xff\0\0\0",
+            "missing data chunk",
+            20
+        )
+    );
     let mut failing = Pieces::of(&FOUR_SAMPLES[..30], 4096);
     failing.fault = Some(ErrorKind::Interrupted);
     match WavReader::new(failing) {
@@ -285,9 +326,27 @@ fn refused_heads(rt: HostRuntime) {
     // The data of unknown length: 4294967295 bytes are no whole samples of two.
     let unknown = [(40, 0xff), (41, 0xff), (42, 0xff), (43, 0xff)];
     assert!(rt; is_refused_with(&unknown, length, 44));
-    let past = [(36, 0x6a), (37, 0x75), (38, 0x6e), (39, 0x6b), (40, 0xe0), (41, 0xff), (42, 0xff), (43, 0xff)];
+    let past = [
+        (36, 0x6a),
+        (37, 0x75),
+        (38, 0x6e),
+        (39, 0x6b),
+        (40, 0xe0),
+        (41, 0xff),
+        (42, 0xff),
+        (43, 0xff),
+    ];
     assert!(rt; is_refused_with(&past, "missing data chunk", 44));
-    let last = [(36, 0x6a), (37, 0x75), (38, 0x6e), (39, 0x6b), (40, 0xdf), (41, 0xff), (42, 0xff), (43, 0xff)];
+    let last = [
+        (36, 0x6a),
+        (37, 0x75),
+        (38, 0x6e),
+        (39, 0x6b),
+        (40, 0xdf),
+        (41, 0xff),
+        (42, 0xff),
+        (43, 0xff),
+    ];
     assert!(rt; is_refused_with(&last, "Other", 52));
 }
 
@@ -366,7 +425,12 @@ fn waveformatextensible(rt: HostRuntime) -> Result<(), Fail> {
     )?;
     let mut reader = WavReader::new(Pieces::of(&float, 1)).ok().ok_or("a file")?;
     assert_eq!(rt; reader.spec().sample_format, SampleFormat::Float);
-    assert!(rt; matches!(reader.samples::<i16>().next(), Some(Err(Error::InvalidSampleFormat))));
+    assert!(rt;
+        matches!(
+            reader.samples::<i16>().next(),
+            Some(Err(Error::InvalidSampleFormat))
+        )
+    );
     assert_eq!(rt; reader.into_inner().taken, 68);
     // Another subformat.
     let other = file(
@@ -387,6 +451,29 @@ fn a_source_is_handed_back(rt: HostRuntime) -> Result<(), Fail> {
     let head = answer.ok().ok_or("a head")?;
     assert_eq!(rt; head.data_length, 8);
     assert_eq!(rt; head.data_start, 44);
-    assert!(rt; matches!(WavReader::new(tape), Err(Error::IoError(_)) | Err(Error::FormatError(_))));
+    assert!(rt;
+        matches!(
+            WavReader::new(tape),
+            Err(Error::IoError(_)) | Err(Error::FormatError(_))
+        )
+    );
     Ok(())
+}
+
+// What the definitions say of files and containers that were written elsewhere.
+fn definitions_at_files()
+    ensures four_samples { Head four_samples mono_16 8 44 }
+    ensures cut { Refused (take 30 four_samples) Ended }
+    ensures limit { Refused past_the_limit (Format NoDataChunk) }
+    ensures fact { Refused long_fact Ended }
+    ensures one_byte { AreRead 1 8 (0x93 ∷ 0x4b ∷ 0xd9 ∷ 0x01 ∷ 0x00 ∷ []) (pos 19 ∷ negsuc 52 ∷ pos 89 ∷ negsuc 126 ∷ negsuc 127 ∷ []) }
+    ensures two_bytes { AreRead 2 16 four_containers (pos 2 ∷ negsuc 2 ∷ pos 5 ∷ negsuc 6 ∷ []) }
+    ensures three_bytes { AreRead 3 24 (0xef ∷ 0xff ∷ 0xff ∷ 0x0f ∷ 0x00 ∷ 0x40 ∷ 0x13 ∷ 0x00 ∷ 0xa0 ∷ 0xe9 ∷ 0x7f ∷ 0x7f ∷ []) (negsuc 16 ∷ pos 4194319 ∷ negsuc 6291436 ∷ pos 8355817 ∷ []) }
+    ensures three_of_four { AreRead 4 24 (0xa0 ∷ 0xff ∷ 0xff ∷ 0x00 ∷ 0x0c ∷ 0x5a ∷ 0x00 ∷ 0x00 ∷ 0xff ∷ 0xff ∷ 0x7f ∷ 0x00 ∷ 0x20 ∷ 0x6d ∷ 0x80 ∷ 0x00 ∷ []) (negsuc 95 ∷ pos 23052 ∷ pos 8388607 ∷ negsuc 8360671 ∷ []) }
+    ensures four_bytes { AreRead 4 32 (0x13 ∷ 0x00 ∷ 0x00 ∷ 0x00 ∷ 0x03 ∷ 0x80 ∷ 0xfc ∷ 0xff ∷ 0xd9 ∷ 0x7f ∷ 0x00 ∷ 0x02 ∷ 0x97 ∷ 0x00 ∷ 0x00 ∷ 0x80 ∷ []) (pos 19 ∷ negsuc 229372 ∷ pos 33587161 ∷ negsuc 2147483496 ∷ []) }
+{}
+
+#[test]
+fn definitions_say_what_files_are(_rt: HostRuntime) {
+    definitions_at_files();
 }

@@ -5,3 +5,6 @@ mod integer;
 mod sample;
 
 pub use sample::Sample;
+
+#[cfg(test)]
+mod reading_tests;
