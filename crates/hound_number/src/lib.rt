@@ -11,7 +11,6 @@ ghost use Rattle.hound_number.specs.Number.{bytes_of, number, signed_bytes_of, s
 ghost use Rattle.hound_number.specs.Writing.{Writes};
 
 pub use input::{Input, ReadError, read_into};
-
 use std::io;
 use std::io::{Error, ErrorKind};
 

@@ -1,5 +1,5 @@
 -- The items of a run.
-use Rattle.std.proofs.Common.{◌≡◌, ℕ, ◌+◌, ◌-◌, ◌≤◌, List, [], ◌∷◌, length, refl, sym, ap, ◌∙◌, subst, arith, Option, Some, None, Result, Ok, Err}
+use Rattle.std.proofs.Common.{◌≡◌, ℕ, ◌+◌, ◌≤◌, List, [], ◌∷◌, length, ap, ◌∙◌, subst, arith, Option, Some, None, Result, Ok, Err}
 use Rattle.std.specs.Prelude.{IfSome}
 use Rattle.hound_spec.specs.declared.error.Error.{Error}
 use Rattle.hound_spec.specs.declared.error.Error.TheVariants.{IoError, FormatError, TooWide, UnfinishedSample, Unsupported, InvalidSampleFormat, TooLong, OutOfMemory}
@@ -7,7 +7,7 @@ use Rattle.hound_spec.specs.declared.spec.SampleFormat.{SampleFormat}
 use Rattle.hound_spec.specs.declared.spec.WavSpecEx.{WavSpecEx}
 use Rattle.hound_sample.specs.Meaning.{ReadRefusal}
 use Rattle.hound_sample.specs.Reads.{Reads}
-use Rattle.hound_reader.specs.Reading.{Reading, IsNext, GivesItem, refusal_at, meaning_at, samples_left}
+use Rattle.hound_reader.specs.Reading.{Reading, refusal_at, meaning_at, samples_left}
 use Rattle.hound_reader.specs.Items.{AreItems, GivesItems}
 
 no_bytes : {A : Type 0} (left : Option (List ℕ)) (refusal : Option ReadRefusal) (meaning : List ℕ → A) (width : ℕ) → IfSome left (λ bytes. AreItems refusal meaning width bytes [])

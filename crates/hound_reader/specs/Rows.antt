@@ -1,5 +1,5 @@
 -- Files that were written elsewhere, as bytes.
-use Rattle.std.specs.Prelude.{◌≡◌, ℕ, ℤ, pos, negsuc, List, [], ◌∷◌, ◌++◌, length, map}
+use Rattle.std.specs.Prelude.{◌≡◌, ℕ, ℤ, List, [], ◌∷◌, ◌++◌, length, map}
 use Rattle.hound_spec.specs.declared.spec.SampleFormat.TheVariants.{Int}
 use Rattle.hound_spec.specs.declared.spec.WavSpecEx.{WavSpecEx}
 use Rattle.hound_spec.specs.Header.{riff_tag, wave_tag, fmt_tag, data_tag}

@@ -37,7 +37,7 @@ pub fn written_is_read()
 pub fn items_are_of_the_file<R: io::Read, S: Sample>()
     ensures items { (items : List (Result S Error)) (old new : Reading R) → GivesItems R.remaining S.refusal S.meaning items old new →
         IfSome (R.remaining old.reader) (λ bytes.
-            AreItems (refusal_at S.refusal old.spec_ex) (meaning_at S.meaning old.spec_ex) old.spec_ex.bytes_per_sample bytes items) }
+        AreItems (refusal_at S.refusal old.spec_ex) (meaning_at S.meaning old.spec_ex) old.spec_ex.bytes_per_sample bytes items) }
     ensures counted { (items : List (Result S Error)) (old new : Reading R) → GivesItems R.remaining S.refusal S.meaning items old new →
         (new.samples_read ≡ old.samples_read + length items) × (length items ≤ samples_left old) }
 {}

@@ -1,5 +1,5 @@
 -- Containers that were read, by the bytes that were taken.
-use Rattle.std.proofs.Common.{◌≡◌, ℕ, ◌<◌, List, ◌++◌, length, take, drop, refl, sym, ap, ◌∙◌, arith, take_at, drop_at, length-append, Option}
+use Rattle.std.proofs.Common.{◌≡◌, ℕ, ◌<◌, List, length, refl, sym, ap, ◌∙◌, arith, take_at, drop_at, length-append, Option}
 use Rattle.std.specs.Io.KnownBytes.{Consumes}
 use Rattle.hound_number.specs.Input.{Known}
 use Rattle.hound_number.proofs.KnownSteps.{known_from}

@@ -35,13 +35,18 @@ returns-clause-limit c = inr ([], _, record { size = 0x00 ∷ 0x00 ∷ 0x00 ∷ 
 
 pub returns-clause-fact : goal.returns-clause-fact
 unfolding taken_of bound_of spec_after chunk_fault content_fault fmt_of wave_format by_tag wave_format_pcm
-returns-clause-fact c = inr (fmt_chunk ∷ fact_chunk ∷ [], _, record {
-  size = 0x2c ∷ 0x00 ∷ 0x00 ∷ 0x00 ∷ [];
-  four = refl;
-  whole = refl;
-  each = (
-    record { tag = refl; size = refl; content = refl; other = refl; sound = λ _. refl },
-    omega arith,
-    (record { tag = refl; size = refl; content = refl; other = refl; sound = λ e. absurd (let h : ⊥ = cc in h) }, omega arith, tt),
-  );
-}, refl)
+returns-clause-fact c = inr (
+  fmt_chunk ∷ fact_chunk ∷ [],
+  _,
+  record {
+    size = 0x2c ∷ 0x00 ∷ 0x00 ∷ 0x00 ∷ [];
+    four = refl;
+    whole = refl;
+    each = (
+      record { tag = refl; size = refl; content = refl; other = refl; sound = λ _. refl },
+      omega arith,
+      (record { tag = refl; size = refl; content = refl; other = refl; sound = λ e. absurd (let h : ⊥ = cc in h) }, omega arith, tt),
+    );
+  },
+  refl,
+)
