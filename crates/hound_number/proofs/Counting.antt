@@ -1,5 +1,5 @@
 -- Counts of failed reads, step after step.
-use Rattle.std.proofs.Common.{◌≡◌, ℕ, ◌+◌, ◌-◌, ◌^◌, min, ◌∙◌, subst, refl, Option, Some, None, Result, Ok, Err}
+use Rattle.std.proofs.Common.{◌∙◌, subst, refl, Option, Some, None}
 use Rattle.hound_number.specs.Input.{Account, NoneFailed, OneFailed}
 
 pub NoneFailed-refl : (o : Option Account) → NoneFailed o o

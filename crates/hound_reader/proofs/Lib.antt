@@ -1,6 +1,7 @@
 pub mod Exists
 pub mod FmtLemmas
 pub mod Gives
+pub mod ItemLemmas
 pub mod ReaderLemmas
 pub mod SourceReads
 pub mod Unique

@@ -1,5 +1,5 @@
 -- The answers of a reader.
-use Rattle.std.proofs.Common.{◌≡◌, ℕ, drop, ◌⊎◌, inl, inr, ◌/◌, ◌∙◌, List, sym, ap, subst, Option, Some, None, Err}
+use Rattle.std.proofs.Common.{◌≡◌, ℕ, drop, inl, inr, ◌/◌, ◌∙◌, List, sym, ap, subst, Option, Some, None, Err}
 use Rattle.std.specs.Prelude.{IfSome}
 use Rattle.std.proofs.lemmas.Option.{same_Some}
 use Rattle.hound_spec.specs.declared.spec.WavSpecEx.{WavSpecEx}

@@ -1,5 +1,5 @@
 -- A source that tells its bytes, as an input.
-use Rattle.std.proofs.Common.{◌≡◌, Bool, true, false, IsTrue, cond, ℕ, List, drop, Option, None, Some, Result, Ok, Err, refl, ap}
+use Rattle.std.proofs.Common.{◌≡◌, Bool, true, false, IsTrue, cond, ℕ, List, drop, None, Some, Result, Ok, Err, refl, ap}
 use Rattle.std.specs.Prelude.{IfOk, IfErr}
 use Rattle.std.specs.Io.KnownBytes.{ReadConsumes}
 use Rattle.hound_number.specs.Input.{Account, Counts, Known}

@@ -1,5 +1,5 @@
 -- A header that was written is a head, and the containers behind it are read back.
-use Rattle.std.proofs.Common.{◌≡◌, ℕ, zero, suc, ◌+◌, ◌-◌, ◌*◌, ◌/◌, ◌%◌, ◌<◌, ◌≤◌, inl, inr, true, false, ◌&&◌, nat_le, List, [], ◌∷◌, ◌++◌, length, drop, append-nil, append_assoc, take_at, drop_at, length-append, refl, sym, ap, ◌∙◌, arith, le-ltb, eq-eqb, Some, Ok}
+use Rattle.std.proofs.Common.{◌≡◌, ℕ, zero, suc, ◌+◌, ◌-◌, ◌*◌, ◌/◌, ◌%◌, ◌<◌, ◌≤◌, inl, inr, true, false, nat_le, List, [], ◌∷◌, ◌++◌, length, drop, append-nil, append_assoc, take_at, drop_at, length-append, refl, sym, ap, ◌∙◌, arith, le-ltb, eq-eqb, Ok}
 use Rattle.std.proofs.Math.Nat.{mul-mod_left}
 use Rattle.std.proofs.lemmas.Nat.{div-mul-add}
 use Rattle.std.proofs.lemmas.Bool.{ne_eqb, cases_Bool, and_parts}
@@ -10,7 +10,7 @@ use Rattle.hound_spec.specs.declared.spec.SampleFormat.{SampleFormat}
 use Rattle.hound_spec.specs.declared.spec.SampleFormat.TheVariants.{Int, Float}
 use Rattle.hound_spec.specs.declared.spec.WavSpecEx.{WavSpecEx}
 use Rattle.hound_spec.specs.Writable.{IsPair, IsWritable}
-use Rattle.hound_spec.specs.Header.{riff_tag, wave_tag, fmt_tag, data_tag, is_short, fields, subformat, short_fmt, long_fmt, sized_fmt, header, data_start, canonical}
+use Rattle.hound_spec.specs.Header.{riff_tag, wave_tag, fmt_tag, data_tag, is_short, fields, short_fmt, long_fmt, sized_fmt, header, data_start, canonical}
 use Rattle.hound_spec.proofs.HeaderLemmas.{sized_fmt-short, sized_fmt-long, length-long_fmt, length-header}
 use Rattle.hound_reader.specs.Fmt.{wave_format, by_tag, wave_format_pcm, wave_format_extensible, fmt_of, channels_of, rate_of, byte_rate_of, align_of, bits_of}
 use Rattle.hound_reader.specs.Chunks.{Chunk, taken_of, bound_of, spec_after, Head, Readable, joined, fault_of, ok_of}

@@ -8,3 +8,5 @@ pub mod Reading
 pub mod Samples
 pub mod Sources
 pub mod Containers
+pub mod Items
+pub mod Rows

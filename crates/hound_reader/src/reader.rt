@@ -19,9 +19,8 @@ use crate::samples::{WavIntoSamples, WavSamples};
 use hound_number::Input;
 use hound_sample::Sample;
 use hound_spec::{Error, Result, WavSpec, WavSpecEx};
-use std::io;
 use std::marker::Model;
-use std::result;
+use std::{io, result};
 
 // Takes what stands before the data, which must be whole frames: the spec, and how many samples
 // follow.
@@ -126,7 +125,7 @@ impl<R: io::Read + Drop> WavReader<R> {
         ensures quotient { result ≡ self.now.num_samples / self.now.spec_ex.spec.channels }
         ensures whole { result * self.now.spec_ex.spec.channels ≡ self.now.num_samples }
     {
-        self.num_samples / self.spec_ex.spec.channels as u32
+        self.len() / self.spec_ex.spec.channels as u32
     }
 
     /// The number of samples in the file, of all channels together, whatever was read.

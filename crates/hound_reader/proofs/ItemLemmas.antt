@@ -1,0 +1,46 @@
+-- The items of a run.
+use Rattle.std.proofs.Common.{◌≡◌, ℕ, ◌+◌, ◌≤◌, List, [], ◌∷◌, length, ap, ◌∙◌, subst, arith, Option, Some, None, Result, Ok, Err}
+use Rattle.std.specs.Prelude.{IfSome}
+use Rattle.hound_spec.specs.declared.error.Error.{Error}
+use Rattle.hound_spec.specs.declared.error.Error.TheVariants.{IoError, FormatError, TooWide, UnfinishedSample, Unsupported, InvalidSampleFormat, TooLong, OutOfMemory}
+use Rattle.hound_spec.specs.declared.spec.SampleFormat.{SampleFormat}
+use Rattle.hound_spec.specs.declared.spec.WavSpecEx.{WavSpecEx}
+use Rattle.hound_sample.specs.Meaning.{ReadRefusal}
+use Rattle.hound_sample.specs.Reads.{Reads}
+use Rattle.hound_reader.specs.Reading.{Reading, refusal_at, meaning_at, samples_left}
+use Rattle.hound_reader.specs.Items.{AreItems, GivesItems}
+
+no_bytes : {A : Type 0} (left : Option (List ℕ)) (refusal : Option ReadRefusal) (meaning : List ℕ → A) (width : ℕ) → IfSome left (λ bytes. AreItems refusal meaning width bytes [])
+no_bytes None refusal meaning width = tt
+no_bytes (Some bytes) refusal meaning width = tt
+
+-- an item before items
+item_more : {A : Type 0} (refusal : Option ReadRefusal) (meaning : List ℕ → A) (width : ℕ) (old new : Option (List ℕ)) (item : Result A Error) (items : List (Result A Error)) → Reads refusal meaning width old new item
+    → IfSome new (λ bytes. AreItems refusal meaning width bytes items) → IfSome old (λ bytes. AreItems refusal meaning width bytes (item ∷ items))
+item_more refusal meaning width None new item items read rest = tt
+item_more (Some refusal) meaning width (Some bytes) new item items read rest = (read.0, subst (λ left. IfSome left (λ bytes. AreItems (Some refusal) meaning width bytes items)) read.1 rest)
+item_more None meaning width (Some bytes) None (Ok value) items read rest = absurd read
+item_more None meaning width (Some bytes) (Some behind) (Ok value) items read rest = (read.0, read.1, subst (λ bytes. AreItems None meaning width bytes items) read.2 rest)
+item_more None meaning width (Some bytes) new (Err (IoError e)) items read rest = tt
+item_more None meaning width (Some bytes) new (Err (FormatError s)) items read rest = read
+item_more None meaning width (Some bytes) new (Err TooWide) items read rest = read
+item_more None meaning width (Some bytes) new (Err UnfinishedSample) items read rest = read
+item_more None meaning width (Some bytes) new (Err Unsupported) items read rest = read
+item_more None meaning width (Some bytes) new (Err InvalidSampleFormat) items read rest = read
+item_more None meaning width (Some bytes) new (Err TooLong) items read rest = read
+item_more None meaning width (Some bytes) new (Err OutOfMemory) items read rest = read
+
+module _ {R A : Type 0} (left : R → Option (List ℕ)) (refusal : SampleFormat → ℕ → ℕ → Option ReadRefusal) (meaning : ℕ → ℕ → List ℕ → A) where
+  -- a run gives the items of the bytes that were left
+  pub items_given : (items : List (Result A Error)) (old new : Reading R) → GivesItems left refusal meaning items old new → IfSome (left old.reader) (λ bytes. AreItems (refusal_at refusal old.spec_ex) (meaning_at meaning old.spec_ex) old.spec_ex.bytes_per_sample bytes items)
+  items_given [] old new run = no_bytes (left old.reader) (refusal_at refusal old.spec_ex) (meaning_at meaning old.spec_ex) old.spec_ex.bytes_per_sample
+  items_given (item ∷ items) old new (mid, step, run) =
+      let P : WavSpecEx → Type 0 = λ s. IfSome (left mid.reader) (λ bytes. AreItems (refusal_at refusal s) (meaning_at meaning s) s.bytes_per_sample bytes items) in
+      item_more (refusal_at refusal old.spec_ex) (meaning_at meaning old.spec_ex) old.spec_ex.bytes_per_sample (left old.reader) (left mid.reader) item items step.read (subst P step.spec_ex (items_given items mid new run))
+
+  -- and counts each of them
+  pub items_counted : (items : List (Result A Error)) (old new : Reading R) → GivesItems left refusal meaning items old new → (new.samples_read ≡ old.samples_read + length items) × (length items ≤ samples_left old)
+  items_counted [] old new run = (ap (λ (r : Reading R). r.samples_read) run ∙ omega arith, omega arith)
+  items_counted (item ∷ items) old new (mid, step, run) =
+      let rest = items_counted items mid new run in
+      (omega (arith, rest.0, step.counted), omega (arith, rest.1, step.counted, step.inside, step.num_samples))

@@ -1,0 +1,39 @@
+-- Files that were written elsewhere, as bytes.
+use Rattle.std.specs.Prelude.{◌≡◌, ℕ, ℤ, List, [], ◌∷◌, ◌++◌, length, map}
+use Rattle.hound_spec.specs.declared.spec.SampleFormat.TheVariants.{Int}
+use Rattle.hound_spec.specs.declared.spec.WavSpecEx.{WavSpecEx}
+use Rattle.hound_spec.specs.Header.{riff_tag, wave_tag, fmt_tag, data_tag}
+use Rattle.hound_sample.specs.Meaning.{int_meaning}
+use Rattle.hound_reader.specs.Containers.{containers}
+
+-- the content of a fmt chunk: mono, 44100 Hz, 16 bits
+abbrev pub mono_fmt : List ℕ
+mono_fmt = 0x01 ∷ 0x00 ∷ 0x01 ∷ 0x00 ∷ 0x44 ∷ 0xac ∷ 0x00 ∷ 0x00 ∷ 0x88 ∷ 0x58 ∷ 0x01 ∷ 0x00 ∷ 0x02 ∷ 0x00 ∷ 0x10 ∷ 0x00 ∷ []
+
+abbrev pub mono_16 : WavSpecEx
+mono_16 = record { spec = record { channels = 1; sample_rate = 44100; bits_per_sample = 16; sample_format = Int }; bytes_per_sample = 2 }
+
+-- the header of four such samples, up to the data
+abbrev pub mono_front : List ℕ
+mono_front = riff_tag ++ (0x2c ∷ 0x00 ∷ 0x00 ∷ 0x00 ∷ []) ++ wave_tag ++ fmt_tag ++ (0x10 ∷ 0x00 ∷ 0x00 ∷ 0x00 ∷ []) ++ mono_fmt
+
+-- the samples 2, -3, 5, -7
+abbrev pub four_containers : List ℕ
+four_containers = 0x02 ∷ 0x00 ∷ 0xfd ∷ 0xff ∷ 0x05 ∷ 0x00 ∷ 0xf9 ∷ 0xff ∷ []
+
+-- the file of these samples
+abbrev pub four_samples : List ℕ
+four_samples = mono_front ++ data_tag ++ (0x08 ∷ 0x00 ∷ 0x00 ∷ 0x00 ∷ []) ++ four_containers
+
+-- the same with a fact chunk of eight bytes before the data
+abbrev pub long_fact : List ℕ
+long_fact = mono_front ++ (0x66 ∷ 0x61 ∷ 0x63 ∷ 0x74 ∷ 0x08 ∷ 0x00 ∷ 0x00 ∷ 0x00 ∷ 0x04 ∷ 0x00 ∷ 0x00 ∷ 0x00 ∷ 0x00 ∷ 0x00 ∷ 0x00 ∷ 0x00 ∷ [])
+    ++ data_tag ++ (0x08 ∷ 0x00 ∷ 0x00 ∷ 0x00 ∷ []) ++ four_containers
+
+-- RIFF, a size, WAVE, "junk", and a length that passes the limit
+abbrev pub past_the_limit : List ℕ
+past_the_limit = riff_tag ++ (0x00 ∷ 0x00 ∷ 0x00 ∷ 0x00 ∷ []) ++ wave_tag ++ (0x6a ∷ 0x75 ∷ 0x6e ∷ 0x6b ∷ 0xff ∷ 0xff ∷ 0xff ∷ 0xff ∷ 0x00 ∷ 0x00 ∷ [])
+
+-- the containers of so many bytes and bits are these numbers
+abbrev pub AreRead : ℕ → ℕ → List ℕ → List ℤ → Type 0
+AreRead width bits bytes numbers = map (int_meaning width bits) (containers width (length numbers) bytes) ≡ numbers

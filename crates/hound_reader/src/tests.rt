@@ -1,0 +1,479 @@
+// What no clause says: whole files, the errors of plain readers, and how many bytes a refusal took.
+// The expected values are those of the public format and of files that were written elsewhere.
+ghost use Rattle.std.specs.Prelude.{pos, negsuc, [], ◌∷◌, take};
+ghost use Rattle.hound_reader.specs.Chunks.{Head, Refused};
+ghost use Rattle.hound_reader.specs.Rows.{four_samples, four_containers, long_fact, past_the_limit, mono_16, AreRead};
+ghost use Rattle.hound_reader.specs.declared.fault.Cause.TheVariants.{Ended, Format};
+ghost use Rattle.hound_reader.specs.declared.fault.Reason.TheVariants.{NoDataChunk};
+
+use super::*;
+use hound_medium::Tape;
+use hound_sample::Sample;
+use hound_spec::{Error, SampleFormat};
+use std::alloc::Global;
+use std::io;
+use std::io::{ErrorKind, Read};
+use std::test::Fail;
+
+// Mono, 44100 Hz, 16 bits: 2, -3, 5, -7.
+const FOUR_SAMPLES: [u8; 52] = [
+    0x52, 0x49, 0x46, 0x46, 0x2c, 0x00, 0x00, 0x00, 0x57, 0x41, 0x56, 0x45, 0x66, 0x6d, 0x74, 0x20,
+    0x10, 0x00, 0x00, 0x00, 0x01, 0x00, 0x01, 0x00, 0x44, 0xac, 0x00, 0x00, 0x88, 0x58, 0x01, 0x00,
+    0x02, 0x00, 0x10, 0x00, 0x64, 0x61, 0x74, 0x61, 0x08, 0x00, 0x00, 0x00, 0x02, 0x00, 0xfd, 0xff,
+    0x05, 0x00, 0xf9, 0xff,
+];
+
+/// Up to 128 bytes, of which it gives at most so many a read.
+#[derive(Drop)]
+struct Pieces {
+    bytes: [u8; 128],
+    len: usize,
+    taken: usize,
+    most: usize,
+    // What a read answers behind the bytes: an end, or this fault.
+    fault: Option<ErrorKind>,
+}
+
+impl Pieces {
+    fn of(bytes: &[u8], most: usize) -> Pieces {
+        let len = bytes.len().min(128);
+        let mut copy = [0; 128];
+        copy[..len].copy_from_slice(&bytes[..len]);
+        Pieces {
+            bytes: copy,
+            len,
+            taken: 0,
+            most,
+            fault: None,
+        }
+    }
+}
+
+impl Read for Pieces {
+    fn read(&mut self, buf: &mut [u8]) -> io::Result<usize> {
+        let rest = self.bytes.get(self.taken..self.len).unwrap_or(&[]);
+        if rest.is_empty() {
+            return match self.fault {
+                Some(kind) => Err(io::Error::from(kind)),
+                None => Ok(0),
+            };
+        }
+        let count = buf.len().min(self.most).min(rest.len());
+        buf[..count].copy_from_slice(&rest[..count]);
+        self.taken = self.taken.saturating_add(count);
+        Ok(count)
+    }
+}
+
+// Whether these are all samples.
+fn reads<R: Read + Drop>(input: R, expected: &[i16]) -> bool {
+    let Ok(mut reader) = WavReader::new(input) else {
+        return false;
+    };
+    if reader.len() as usize != expected.len() {
+        return false;
+    }
+    let mut samples = reader.samples::<i16>();
+    for value in expected {
+        match samples.next() {
+            Some(Ok(sample)) if sample == *value => {}
+            _ => return false,
+        }
+    }
+    samples.next().is_none()
+}
+
+// Whole, and one byte a read.
+fn both_read(bytes: &[u8], expected: &[i16]) -> bool {
+    reads(Pieces::of(bytes, 4096), expected) && reads(Pieces::of(bytes, 1), expected)
+}
+
+// Whether this is the error: a `FormatError` with these words, "Unsupported", or "Other" for an
+// `IoError` of that kind.
+fn is_told(error: &Error, words: &str) -> bool {
+    match error {
+        Error::FormatError(reason) => *reason == words,
+        Error::Unsupported => words == "Unsupported",
+        Error::IoError(e) => e.kind() == ErrorKind::Other && words == "Other",
+        _ => false,
+    }
+}
+
+fn is_refused_in(bytes: &[u8], most: usize, words: &str, taken: usize) -> bool {
+    let mut pieces = Pieces::of(bytes, most);
+    match WavReader::new(&mut pieces) {
+        Ok(_) => return false,
+        Err(error) => {
+            if !is_told(&error, words) {
+                return false;
+            }
+        }
+    }
+    pieces.taken == taken
+}
+
+// Refused for this reason after so many bytes, whole and one byte a read.
+fn is_refused(bytes: &[u8], words: &str, taken: usize) -> bool {
+    is_refused_in(bytes, 4096, words, taken) && is_refused_in(bytes, 1, words, taken)
+}
+
+// The four samples with some bytes changed.
+fn is_refused_with(changes: &[(usize, u8)], words: &str, taken: usize) -> bool {
+    let mut bytes = FOUR_SAMPLES;
+    for (at, byte) in changes {
+        if *at < bytes.len() {
+            bytes[*at] = *byte;
+        }
+    }
+    is_refused(&bytes, words, taken)
+}
+
+// The front of the four samples, other chunks, and what stands behind a place of the four samples.
+fn with_chunks(alloc: Global, front: &[u8], chunks: &[u8], behind: &[u8]) -> Result<Vec<u8>, Fail> {
+    let mut bytes = front.to_vec(alloc)?;
+    bytes.extend_from_slice(chunks)?;
+    bytes.extend_from_slice(behind)?;
+    Ok(bytes)
+}
+
+// A file of one fmt chunk and the data.
+fn file(
+    alloc: Global,
+    fmt_len: u8,
+    fmt: &[u8],
+    data_len: u8,
+    data: &[u8],
+) -> Result<Vec<u8>, Fail> {
+    let mut bytes = b"RIFF\0\0\0\0WAVEfmt ".to_vec(alloc)?;
+    bytes.extend_from_slice(&[fmt_len, 0, 0, 0])?;
+    bytes.extend_from_slice(fmt)?;
+    bytes.extend_from_slice(b"data")?;
+    bytes.extend_from_slice(&[data_len, 0, 0, 0])?;
+    bytes.extend_from_slice(data)?;
+    Ok(bytes)
+}
+
+#[test]
+fn four_samples(rt: HostRuntime) -> Result<(), Fail> {
+    assert!(rt; both_read(&FOUR_SAMPLES, &[2, -3, 5, -7]));
+    let reader = WavReader::new(Pieces::of(&FOUR_SAMPLES, 4096))
+        .ok()
+        .ok_or("a file")?;
+    let spec = reader.spec();
+    assert_eq!(rt; spec.channels, 1);
+    assert_eq!(rt; spec.sample_rate, 44100);
+    assert_eq!(rt; spec.bits_per_sample, 16);
+    assert_eq!(rt; spec.sample_format, SampleFormat::Int);
+    assert_eq!(rt; reader.duration(), 4);
+    let pieces = reader.into_inner();
+    assert_eq!(rt; pieces.taken, 44);
+    Ok(())
+}
+
+#[test]
+fn no_samples(rt: HostRuntime) -> Result<(), Fail> {
+    let mut bytes = FOUR_SAMPLES;
+    bytes[4] = 0x24;
+    bytes[40] = 0;
+    assert!(rt; both_read(&bytes[..44], &[]));
+    let mut reader = WavReader::new(&bytes[..44]).ok().ok_or("a file")?;
+    assert_eq!(rt; reader.samples::<i16>().size_hint(), (0, Some(0)));
+    Ok(())
+}
+
+#[test]
+fn header_alone(rt: HostRuntime) -> Result<(), Fail> {
+    let mut pieces = Pieces::of(&FOUR_SAMPLES, 1);
+    let size = read_wave_header(&mut pieces).ok().ok_or("a header")?;
+    assert_eq!(rt; size, 52);
+    assert_eq!(rt; pieces.taken, 12);
+    let error = read_wave_header(&mut b"RIFX".as_slice())
+        .err()
+        .ok_or("no header")?;
+    assert!(rt; is_told(&error, "no RIFF tag found"));
+    let error = read_wave_header(&mut b"RIFF\0\0\0\0WAVY".as_slice())
+        .err()
+        .ok_or("no header")?;
+    assert!(rt; is_told(&error, "no WAVE tag found"));
+    let error = read_wave_header(&mut b"RIFF\0\0\0\0WAV".as_slice())
+        .err()
+        .ok_or("no header")?;
+    assert!(rt; is_told(&error, "Other"));
+    Ok(())
+}
+
+#[test]
+fn iterators_go_on(rt: HostRuntime) -> Result<(), Fail> {
+    let mut reader = WavReader::new(FOUR_SAMPLES.as_slice())
+        .ok()
+        .ok_or("a file")?;
+    {
+        let mut samples = reader.samples::<i16>();
+        assert_eq!(rt; samples.size_hint(), (4, Some(4)));
+        assert!(rt; matches!(samples.next(), Some(Ok(2))));
+        assert_eq!(rt; samples.len(), 3);
+    }
+    {
+        let mut samples = reader.samples::<i16>();
+        assert_eq!(rt; samples.size_hint(), (3, Some(3)));
+        assert!(rt; matches!(samples.next(), Some(Ok(-3))));
+    }
+    assert_eq!(rt; reader.len(), 4);
+    let mut samples = reader.into_samples::<i16>();
+    assert_eq!(rt; samples.size_hint(), (2, Some(2)));
+    assert_eq!(rt; samples.len(), 2);
+    assert!(rt; matches!(samples.next(), Some(Ok(5))));
+    assert!(rt; matches!(samples.next(), Some(Ok(-7))));
+    assert!(rt; samples.next().is_none());
+    Ok(())
+}
+
+#[test]
+fn other_chunks(rt: HostRuntime) -> Result<(), Fail> {
+    let alloc = rt.alloc();
+    let four = [2, -3, 5, -7];
+    let junk = with_chunks(
+        alloc,
+        &FOUR_SAMPLES[..12],
+        b"junk\x02\0\0\0\0\0",
+        &FOUR_SAMPLES[12..],
+    )?;
+    assert!(rt; both_read(&junk, &four));
+    let fact = with_chunks(
+        alloc,
+        &FOUR_SAMPLES[..36],
+        b"fact\x04\0\0\0\x04\0\0\0",
+        &FOUR_SAMPLES[36..],
+    )?;
+    assert!(rt; both_read(&fact, &four));
+    // A fact chunk counts four bytes, whatever its length says.
+    let long_fact = with_chunks(
+        alloc,
+        &FOUR_SAMPLES[..36],
+        b"fact\x08\0\0\0\x04\0\0\0\0\0\0\0",
+        &FOUR_SAMPLES[36..],
+    )?;
+    assert!(rt; is_refused(&long_fact, "Other", 68));
+    // The last of two fmt chunks counts.
+    let mut first = [0; 24];
+    first.copy_from_slice(&FOUR_SAMPLES[12..36]);
+    first[12] = 0x40;
+    first[13] = 0x1f;
+    first[16] = 0x80;
+    first[17] = 0x3e;
+    first[18] = 0;
+    let two = with_chunks(alloc, &FOUR_SAMPLES[..12], &first, &FOUR_SAMPLES[12..])?;
+    assert!(rt; both_read(&two, &four));
+    let reader = WavReader::new(two.as_slice()).ok().ok_or("a file")?;
+    assert_eq!(rt; reader.spec().sample_rate, 44100);
+    Ok(())
+}
+
+#[test]
+fn early_ends_and_faults(rt: HostRuntime) -> Result<(), Fail> {
+    assert!(rt; is_refused(&FOUR_SAMPLES[..30], "Other", 30));
+    assert!(rt; is_refused(b"RIFF\0\0\0\0WAVEdata\0\0\0\0", "missing fmt chunk", 20));
+    assert!(rt;
+        is_refused(
+            b"RIFF\0\0\0\0WAVEjunk\xff\xff\xff\xff\0\0\0",
+            "missing data chunk",
+            20
+        )
+    );
+    let mut failing = Pieces::of(&FOUR_SAMPLES[..30], 4096);
+    failing.fault = Some(ErrorKind::Interrupted);
+    match WavReader::new(failing) {
+        Err(Error::IoError(e)) => assert_eq!(rt; e.kind(), ErrorKind::Interrupted),
+        _ => return Err("a read failed".into()),
+    }
+    Ok(())
+}
+
+#[test]
+fn torn_samples(rt: HostRuntime) -> Result<(), Fail> {
+    let mut pieces = Pieces::of(&FOUR_SAMPLES[..47], 4096);
+    {
+        let mut reader = WavReader::new(&mut pieces).ok().ok_or("a file")?;
+        let mut samples = reader.samples::<i16>();
+        assert!(rt; matches!(samples.next(), Some(Ok(2))));
+        match samples.next() {
+            Some(Err(Error::IoError(e))) => assert_eq!(rt; e.kind(), ErrorKind::Other),
+            _ => return Err("an early end".into()),
+        }
+        assert_eq!(rt; samples.len(), 2);
+    }
+    assert_eq!(rt; pieces.taken, 47);
+    Ok(())
+}
+
+#[test]
+fn refused_heads(rt: HostRuntime) {
+    assert!(rt; is_refused_with(&[(16, 0x0e)], "invalid fmt chunk size", 20));
+    assert!(rt; is_refused_with(&[(16, 0x11)], "unexpected fmt chunk size", 36));
+    assert!(rt; is_refused_with(&[(20, 0x02)], "Unsupported", 36));
+    assert!(rt; is_refused_with(&[(22, 0), (34, 0x0c)], "file contains zero channels", 36));
+    assert!(rt; is_refused_with(&[(34, 0x18)], "sample bits exceeds size of sample", 36));
+    assert!(rt; is_refused_with(&[(28, 0), (29, 0), (30, 0)], "inconsistent fmt chunk", 36));
+    assert!(rt; is_refused_with(&[(34, 0x0c)], "bits per sample is not a multiple of 8", 36));
+    assert!(rt; is_refused_with(&[(34, 0)], "bits per sample is 0", 36));
+    assert!(rt; is_refused_with(&[(20, 0x03)], "bits per sample is not 32", 36));
+    let ex = [(16, 0x12), (20, 0x03)];
+    assert!(rt; is_refused_with(&ex, "unexpected WAVEFORMATEX size", 38));
+    let extensible = [(16, 0x28), (20, 0xfe), (21, 0xff)];
+    assert!(rt; is_refused_with(&extensible, "unexpected WAVEFORMATEXTENSIBLE size", 38));
+    let length = "data chunk length is not a multiple of sample size";
+    assert!(rt; is_refused_with(&[(40, 0x07)], length, 44));
+    // The data of unknown length: 4294967295 bytes are no whole samples of two.
+    let unknown = [(40, 0xff), (41, 0xff), (42, 0xff), (43, 0xff)];
+    assert!(rt; is_refused_with(&unknown, length, 44));
+    let past = [
+        (36, 0x6a),
+        (37, 0x75),
+        (38, 0x6e),
+        (39, 0x6b),
+        (40, 0xe0),
+        (41, 0xff),
+        (42, 0xff),
+        (43, 0xff),
+    ];
+    assert!(rt; is_refused_with(&past, "missing data chunk", 44));
+    let last = [
+        (36, 0x6a),
+        (37, 0x75),
+        (38, 0x6e),
+        (39, 0x6b),
+        (40, 0xdf),
+        (41, 0xff),
+        (42, 0xff),
+        (43, 0xff),
+    ];
+    assert!(rt; is_refused_with(&last, "Other", 52));
+}
+
+#[test]
+fn waveformatex(rt: HostRuntime) -> Result<(), Fail> {
+    let alloc = rt.alloc();
+    let mono = file(
+        alloc,
+        18,
+        b"\x01\0\x01\0\x44\xac\0\0\x88\x58\x01\0\x02\0\x10\0\0\0",
+        8,
+        b"\x02\0\xfd\xff\x05\0\xf9\xff",
+    )?;
+    assert!(rt; both_read(&mono, &[2, -3, 5, -7]));
+    let stereo = file(
+        alloc,
+        18,
+        b"\x01\0\x02\0\x44\xac\0\0\x10\xb1\x02\0\x04\0\x10\0\0\0",
+        16,
+        b"\x02\0\xfd\xff\x05\0\xf9\xff\x0b\0\xf3\xff\x11\0\xed\xff",
+    )?;
+    assert!(rt; both_read(&stereo, &[2, -3, 5, -7, 11, -13, 17, -19]));
+    let bytes = file(
+        alloc,
+        18,
+        b"\x01\0\x01\0\x11\x2b\0\0\x11\x2b\0\0\x01\0\x08\0\0\0",
+        4,
+        b"\0\0\0\0",
+    )?;
+    assert!(rt; both_read(&bytes, &[-128, -128, -128, -128]));
+    // Forty bytes of integers: the last 24 say nothing.
+    let forty = file(
+        alloc,
+        40,
+        b"\x01\0\x01\0\x44\xac\0\0\xcc\x04\x02\0\x03\0\x18\0abcdefghijklmnopqrstuvwx",
+        6,
+        b"\0\0\0\0\0\0",
+    )?;
+    let mut reader = WavReader::new(Pieces::of(&forty, 1)).ok().ok_or("a file")?;
+    assert_eq!(rt; reader.spec().bits_per_sample, 24);
+    assert_eq!(rt; reader.len(), 2);
+    {
+        let mut samples = reader.samples::<i16>();
+        assert!(rt; matches!(samples.next(), Some(Err(Error::TooWide))));
+        assert!(rt; matches!(samples.next(), Some(Err(Error::TooWide))));
+        assert!(rt; samples.next().is_none());
+    }
+    assert_eq!(rt; reader.into_inner().taken, 68);
+    Ok(())
+}
+
+#[test]
+fn waveformatextensible(rt: HostRuntime) -> Result<(), Fail> {
+    let alloc = rt.alloc();
+    // No valid bits: the bits before them stay.
+    let stereo = file(
+        alloc,
+        40,
+        b"\xfe\xff\x02\0\x80\xbb\0\0\0\xdc\x05\0\x08\0\x20\0\x16\0\0\0\x03\0\0\0\x01\0\0\0\0\0\x10\0\x80\0\0\xaa\0\x38\x9b\x71",
+        16,
+        b"\x13\0\0\0\x03\x80\xfc\xff\xd9\x7f\0\x02\x97\0\0\x80",
+    )?;
+    let reader = WavReader::new(Pieces::of(&stereo, 1)).ok().ok_or("a file")?;
+    assert_eq!(rt; reader.spec().channels, 2);
+    assert_eq!(rt; reader.spec().sample_rate, 48000);
+    assert_eq!(rt; reader.spec().bits_per_sample, 32);
+    assert_eq!(rt; reader.spec().sample_format, SampleFormat::Int);
+    assert_eq!(rt; reader.len(), 4);
+    assert_eq!(rt; reader.duration(), 2);
+    let float = file(
+        alloc,
+        40,
+        b"\xfe\xff\x01\0\x44\xac\0\0\x10\xb1\x02\0\x04\0\x20\0\x16\0\x20\0\x01\0\0\0\x03\0\0\0\0\0\x10\0\x80\0\0\xaa\0\x38\x9b\x71",
+        4,
+        b"\0\0\x80\x3f",
+    )?;
+    let mut reader = WavReader::new(Pieces::of(&float, 1)).ok().ok_or("a file")?;
+    assert_eq!(rt; reader.spec().sample_format, SampleFormat::Float);
+    assert!(rt;
+        matches!(
+            reader.samples::<i16>().next(),
+            Some(Err(Error::InvalidSampleFormat))
+        )
+    );
+    assert_eq!(rt; reader.into_inner().taken, 68);
+    // Another subformat.
+    let other = file(
+        alloc,
+        40,
+        b"\xfe\xff\x01\0\x44\xac\0\0\x10\xb1\x02\0\x04\0\x20\0\x16\0\x20\0\x01\0\0\0\x06\0\0\0\0\0\x10\0\x80\0\0\xaa\0\x38\x9b\x71",
+        4,
+        b"\0\0\x80\x3f",
+    )?;
+    assert!(rt; is_refused(&other, "Unsupported", 60));
+    Ok(())
+}
+
+#[test]
+fn a_source_is_handed_back(rt: HostRuntime) -> Result<(), Fail> {
+    let tape = Tape::new(FOUR_SAMPLES.to_vec(rt.alloc())?);
+    let (tape, answer) = find_data(tape);
+    let head = answer.ok().ok_or("a head")?;
+    assert_eq!(rt; head.data_length, 8);
+    assert_eq!(rt; head.data_start, 44);
+    assert!(rt;
+        matches!(
+            WavReader::new(tape),
+            Err(Error::IoError(_)) | Err(Error::FormatError(_))
+        )
+    );
+    Ok(())
+}
+
+// What the definitions say of files and containers that were written elsewhere.
+fn definitions_at_files()
+    ensures four_samples { Head four_samples mono_16 8 44 }
+    ensures cut { Refused (take 30 four_samples) Ended }
+    ensures limit { Refused past_the_limit (Format NoDataChunk) }
+    ensures fact { Refused long_fact Ended }
+    ensures one_byte { AreRead 1 8 (0x93 ∷ 0x4b ∷ 0xd9 ∷ 0x01 ∷ 0x00 ∷ []) (pos 19 ∷ negsuc 52 ∷ pos 89 ∷ negsuc 126 ∷ negsuc 127 ∷ []) }
+    ensures two_bytes { AreRead 2 16 four_containers (pos 2 ∷ negsuc 2 ∷ pos 5 ∷ negsuc 6 ∷ []) }
+    ensures three_bytes { AreRead 3 24 (0xef ∷ 0xff ∷ 0xff ∷ 0x0f ∷ 0x00 ∷ 0x40 ∷ 0x13 ∷ 0x00 ∷ 0xa0 ∷ 0xe9 ∷ 0x7f ∷ 0x7f ∷ []) (negsuc 16 ∷ pos 4194319 ∷ negsuc 6291436 ∷ pos 8355817 ∷ []) }
+    ensures three_of_four { AreRead 4 24 (0xa0 ∷ 0xff ∷ 0xff ∷ 0x00 ∷ 0x0c ∷ 0x5a ∷ 0x00 ∷ 0x00 ∷ 0xff ∷ 0xff ∷ 0x7f ∷ 0x00 ∷ 0x20 ∷ 0x6d ∷ 0x80 ∷ 0x00 ∷ []) (negsuc 95 ∷ pos 23052 ∷ pos 8388607 ∷ negsuc 8360671 ∷ []) }
+    ensures four_bytes { AreRead 4 32 (0x13 ∷ 0x00 ∷ 0x00 ∷ 0x00 ∷ 0x03 ∷ 0x80 ∷ 0xfc ∷ 0xff ∷ 0xd9 ∷ 0x7f ∷ 0x00 ∷ 0x02 ∷ 0x97 ∷ 0x00 ∷ 0x00 ∷ 0x80 ∷ []) (pos 19 ∷ negsuc 229372 ∷ pos 33587161 ∷ negsuc 2147483496 ∷ []) }
+{}
+
+#[test]
+fn definitions_say_what_files_are(_rt: HostRuntime) {
+    definitions_at_files();
+}
