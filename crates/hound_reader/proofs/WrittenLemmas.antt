@@ -11,10 +11,12 @@ use Rattle.hound_spec.specs.declared.spec.SampleFormat.TheVariants.{Int, Float}
 use Rattle.hound_spec.specs.declared.spec.WavSpecEx.{WavSpecEx}
 use Rattle.hound_spec.specs.Writable.{IsPair, IsWritable}
 use Rattle.hound_spec.specs.Header.{riff_tag, wave_tag, fmt_tag, data_tag, is_short, fields, short_fmt, long_fmt, sized_fmt, header, data_start, canonical}
+use Rattle.hound_spec.proofs.WritableLemmas.{pair_facts}
 use Rattle.hound_spec.proofs.HeaderLemmas.{sized_fmt-short, sized_fmt-long, length-long_fmt, length-header}
 use Rattle.hound_reader.specs.Fmt.{wave_format, by_tag, wave_format_pcm, wave_format_extensible, fmt_of, channels_of, rate_of, byte_rate_of, align_of, bits_of}
 use Rattle.hound_reader.specs.Chunks.{Chunk, taken_of, bound_of, spec_after, Head, Readable, joined, fault_of, ok_of}
-use Rattle.hound_reader.specs.Containers.{containers, AreContainers}
+use Rattle.hound_sample.specs.Container.{containers}
+use Rattle.hound_reader.specs.Containers.{AreContainers}
 
 -- the number that the bytes were made of
 number-bytes_of_2 : (n : ℕ) → n < 65536 → number (bytes_of 2 n) ≡ n
@@ -93,30 +95,11 @@ le_times : (a b : ℕ) → 0 < b → a ≤ b * a
 le_times a zero h = absurd (omega arith)
 le_times a (suc b) h = omega arith
 
--- what holds of every pair of bits and width that is written
-record PairFacts (b w : ℕ) : Type 0 where
-  pub some_bits : 0 < b
-  pub whole : b % 8 ≡ 0
-  pub in_width : b ≤ 8 * w
-  pub some_width : 0 < w
-  pub four : w ≤ 4
-
-facts_from : (b w : ℕ) → 0 < b → b % 8 ≡ 0 → b ≤ 8 * w → 0 < w → w ≤ 4 → PairFacts b w
-facts_from b w b0 b8 bw w0 w4 = record { some_bits = b0; whole = b8; in_width = bw; some_width = w0; four = w4 }
-
-pair_facts : (f : SampleFormat) (b w : ℕ) → IsPair f b w → PairFacts b w
-pair_facts Int b w (inl p) = facts_from b w (rw p.0 (omega arith)) (rw p.0 refl) (omega arith) (omega arith) (omega arith)
-pair_facts Int b w (inr (inl p)) = facts_from b w (rw p.0 (omega arith)) (rw p.0 refl) (omega arith) (omega arith) (omega arith)
-pair_facts Int b w (inr (inr (inl p))) = facts_from b w (rw p.0 (omega arith)) (rw p.0 refl) (omega arith) (omega arith) (omega arith)
-pair_facts Int b w (inr (inr (inr (inl p)))) = facts_from b w (rw p.0 (omega arith)) (rw p.0 refl) (omega arith) (omega arith) (omega arith)
-pair_facts Int b w (inr (inr (inr (inr p)))) = facts_from b w (rw p.0 (omega arith)) (rw p.0 refl) (omega arith) (omega arith) (omega arith)
-pair_facts Float b w p = facts_from b w (rw p.0 (omega arith)) (rw p.0 refl) (omega arith) (omega arith) (omega arith)
-
 has_fields : (s : WavSpecEx) (bits : ℕ) → IsWritable s → bits < 65536 → 0 < bits → bits % 8 ≡ 0 → bits ≤ 8 * s.bytes_per_sample → HasFields s bits
 has_fields s bits w bm b0 b8 bw =
     let p = pair_facts s.spec.sample_format s.spec.bits_per_sample s.bytes_per_sample w.pair in
-    let width0 = p.some_width in
-    let width4 = p.four in
+    let width0 = p.some in
+    let width4 = p.few in
     let c0 = w.channels in
     let al = w.align in
     let br = w.byte_rate in
@@ -181,7 +164,7 @@ head_of s size len n content rest e back few l read fits = record {
 short_head : (s : WavSpecEx) (size len : ℕ) (rest : List ℕ) → IsWritable s → is_short s ≡ true → s.spec.bits_per_sample ≤ 16 → len ≤ 4294967295 → Head (header s size len ++ rest) s len 44
 short_head s size len rest w short few fits =
     let p = pair_facts s.spec.sample_format s.spec.bits_per_sample s.bytes_per_sample w.pair in
-    let read = fmt_of-short s (has_fields s s.spec.bits_per_sample w (omega arith) p.some_bits p.whole p.in_width) in
+    let read = fmt_of-short s (has_fields s s.spec.bits_per_sample w (omega arith) p.some_bits p.whole_bytes p.in_width) in
     let is_int = short_is_int s.spec.sample_format s.spec.bits_per_sample s.bytes_per_sample w.pair few in
     head_of s size len 16 (short_fmt s) rest (sized_fmt-short s short) refl (omega arith) refl (read ∙ ap (λ f. Ok (with_fields s s.spec.bits_per_sample f)) (sym is_int)) fits
 
@@ -189,8 +172,8 @@ long_head : (s : WavSpecEx) (size len : ℕ) (rest : List ℕ) → IsWritable s 
 long_head s size len rest w long fits =
     let p = pair_facts s.spec.sample_format s.spec.bits_per_sample s.bytes_per_sample w.pair in
     let b8 = p.in_width in
-    let w4 = p.four in
-    let w0 = p.some_width in
+    let w4 = p.few in
+    let w0 = p.some in
     let h = has_fields s (8 * s.bytes_per_sample) w (omega arith) (omega arith) (omega arith) (omega arith) in
     head_of s size len 40 (long_fmt s) rest (sized_fmt-long s long) refl (omega arith) (length-long_fmt s) (fmt_of-long s s.spec.sample_format refl h p.some_bits (omega arith)) fits
 
@@ -224,7 +207,7 @@ canonical_back s list w a =
     let n = length-concat s.bytes_per_sample list a.each in
     let p = pair_facts s.spec.sample_format s.spec.bits_per_sample s.bytes_per_sample w.pair in
     let size = data_start s - 8 + length bytes in
-    let div : length bytes / s.bytes_per_sample ≡ length list = ap (λ t. t / s.bytes_per_sample) (n ∙ add_none (length list * s.bytes_per_sample)) ∙ div-mul-add (length list) s.bytes_per_sample 0 p.some_width in
+    let div : length bytes / s.bytes_per_sample ≡ length list = ap (λ t. t / s.bytes_per_sample) (n ∙ add_none (length list * s.bytes_per_sample)) ∙ div-mul-add (length list) s.bytes_per_sample 0 p.some in
     let whole : length bytes % s.bytes_per_sample ≡ 0 = ap (λ t. t % s.bytes_per_sample) n ∙ mul-mod_left (length list) s.bytes_per_sample in
     let t1 = eq-eqb (length bytes % s.bytes_per_sample) 0 whole in
     let t2 = eq-eqb ((length bytes / s.bytes_per_sample) % s.spec.channels) 0 (ap (λ t. t % s.spec.channels) div ∙ a.frames) in (

@@ -1,12 +1,7 @@
 -- The containers of a file.
-use Rattle.std.specs.Prelude.{◌≡◌, ℕ, zero, suc, ◌*◌, ◌%◌, ◌≤◌, List, [], ◌∷◌, length, take, drop}
+use Rattle.std.specs.Prelude.{◌≡◌, ℕ, ◌*◌, ◌%◌, ◌≤◌, List, length}
 use Rattle.std.specs.List.{AllByRecursion}
 use Rattle.hound_spec.specs.declared.spec.WavSpecEx.{WavSpecEx}
-
--- the first n containers of a width
-abbrev pub containers : ℕ → ℕ → List ℕ → List (List ℕ)
-containers width zero bytes = []
-containers width (suc n) bytes = take width bytes ∷ containers width n (drop width bytes)
 
 -- containers of the width of a spec, in whole frames, whose bytes 32 bits can count
 pub record AreContainers (s : WavSpecEx) (list : List (List ℕ)) : Type 0 where

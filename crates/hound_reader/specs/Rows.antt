@@ -4,7 +4,7 @@ use Rattle.hound_spec.specs.declared.spec.SampleFormat.TheVariants.{Int}
 use Rattle.hound_spec.specs.declared.spec.WavSpecEx.{WavSpecEx}
 use Rattle.hound_spec.specs.Header.{riff_tag, wave_tag, fmt_tag, data_tag}
 use Rattle.hound_sample.specs.Meaning.{int_meaning}
-use Rattle.hound_reader.specs.Containers.{containers}
+use Rattle.hound_sample.specs.Container.{containers}
 
 -- the content of a fmt chunk: mono, 44100 Hz, 16 bits
 abbrev pub mono_fmt : List ℕ
