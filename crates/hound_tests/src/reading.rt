@@ -1,0 +1,135 @@
+// Files of every fmt chunk that is read, at the types that hold their samples.
+use hound::{Error, FloatBits, Sample, WavReader};
+use std::alloc::Global;
+use std::io;
+use std::test::Fail;
+
+// Gives one byte a read.
+#[derive(Drop)]
+struct ByteByByte<'a> {
+    bytes: &'a [u8],
+}
+
+impl io::Read for ByteByByte<'_> {
+    fn read(&mut self, buf: &mut [u8]) -> io::Result<usize> {
+        let (Some(slot), Some((first, rest))) = (buf.first_mut(), self.bytes.split_first()) else {
+            return Ok(0);
+        };
+        *slot = *first;
+        self.bytes = rest;
+        Ok(1)
+    }
+}
+
+// The samples that a reader gives, up to the first that is refused.
+fn samples_of<S: Sample, R: io::Read + Drop>(alloc: Global, input: R) -> hound::Result<Vec<S>> {
+    let mut reader = WavReader::new(input)?;
+    let mut samples = Vec::new(alloc);
+    for sample in reader.samples::<S>() {
+        let sample = sample?;
+        samples.push(sample).map_err(|_| Error::OutOfMemory)?;
+    }
+    Ok(samples)
+}
+
+// A file of one fmt chunk and the data.
+fn file(alloc: Global, fmt: &[u8], data: &[u8]) -> Result<Vec<u8>, Fail> {
+    let mut bytes = b"RIFF\0\0\0\0WAVEfmt ".to_vec(alloc)?;
+    bytes.extend_from_slice(&[(fmt.len() % 256) as u8, 0, 0, 0])?;
+    bytes.extend_from_slice(fmt)?;
+    bytes.extend_from_slice(b"data")?;
+    bytes.extend_from_slice(&[(data.len() % 256) as u8, 0, 0, 0])?;
+    bytes.extend_from_slice(data)?;
+    Ok(bytes)
+}
+
+// Whether a file gives these numbers, whole and one byte a read.
+fn gives_numbers(alloc: Global, fmt: &[u8], data: &[u8], numbers: &[i32]) -> Result<bool, Fail> {
+    let bytes = file(alloc, fmt, data)?;
+    let whole: Vec<i32> = samples_of(alloc, bytes.as_slice())?;
+    let pieces = ByteByByte {
+        bytes: bytes.as_slice(),
+    };
+    let by_bytes: Vec<i32> = samples_of(alloc, pieces)?;
+    Ok(whole.as_slice() == numbers && by_bytes.as_slice() == numbers)
+}
+
+#[test]
+fn integers_of_every_fmt_chunk(rt: HostRuntime) -> Result<(), Fail> {
+    let alloc = rt.alloc();
+    // A PCMWAVEFORMAT of 24 bits in four bytes.
+    let padded = b"\x01\0\x02\0\x80\xbb\0\0\0\xdc\x05\0\x08\0\x18\0";
+    let data = b"\xa0\xff\xff\0\x0c\x5a\0\0\xff\xff\x7f\0\x20\x6d\x80\0";
+    assert!(rt; gives_numbers(alloc, padded, data, &[-96, 23052, 8388607, -8360672])?);
+    // A WAVEFORMATEX of 16 bits, and one of 8.
+    let mono = b"\x01\0\x01\0\x44\xac\0\0\x88\x58\x01\0\x02\0\x10\0\0\0";
+    assert!(rt;
+        gives_numbers(
+            alloc,
+            mono,
+            b"\x02\0\xfd\xff\x05\0\xf9\xff",
+            &[2, -3, 5, -7]
+        )?
+    );
+    let bytes = b"\x01\0\x01\0\x11\x2b\0\0\x11\x2b\0\0\x01\0\x08\0\0\0";
+    assert!(rt; gives_numbers(alloc, bytes, b"\0\0\0\0", &[-128, -128, -128, -128])?);
+    // A WAVEFORMATEXTENSIBLE of 32 bits that says 0 valid bits.
+    let extensible =
+        b"\xfe\xff\x02\0\x80\xbb\0\0\0\xdc\x05\0\x08\0\x20\0\x16\0\0\0\x03\0\0\0\x01\0\0\0\0\0\x10\0\x80\0\0\xaa\0\x38\x9b\x71";
+    let data = b"\x13\0\0\0\x03\x80\xfc\xff\xd9\x7f\0\x02\x97\0\0\x80";
+    assert!(rt;
+        gives_numbers(
+            alloc,
+            extensible,
+            data,
+            &[19, -229373, 33587161, -2147483497]
+        )?
+    );
+    // Integers in a chunk of forty bytes, of which the last 24 say nothing.
+    let forty = b"\x01\0\x01\0\x44\xac\0\0\xcc\x04\x02\0\x03\0\x18\0abcdefghijklmnopqrstuvwx";
+    assert!(rt; gives_numbers(alloc, forty, b"\0\0\0\0\0\0", &[0, 0])?);
+    Ok(())
+}
+
+#[test]
+fn floats_of_a_waveformatex(rt: HostRuntime) -> Result<(), Fail> {
+    let alloc = rt.alloc();
+    let bytes = file(
+        alloc,
+        b"\x03\0\x01\0\x44\xac\0\0\x10\xb1\x02\0\x04\0\x20\0\0\0",
+        b"\0\0\0\x40\0\0\x40\x40\0\x36\x80\xc6\0\xc0\x7e\x44",
+    )?;
+    let patterns = [
+        FloatBits(0x4000_0000),
+        FloatBits(0x4040_0000),
+        FloatBits(0xc680_3600),
+        FloatBits(0x447e_c000),
+    ];
+    let whole: Vec<FloatBits> = samples_of(alloc, bytes.as_slice())?;
+    assert_eq!(rt; whole.as_slice(), patterns.as_slice());
+    let pieces = ByteByByte {
+        bytes: bytes.as_slice(),
+    };
+    let by_bytes: Vec<FloatBits> = samples_of(alloc, pieces)?;
+    assert_eq!(rt; by_bytes.as_slice(), patterns.as_slice());
+    Ok(())
+}
+
+// Data of unknown length in a mono file of 8 bits: a count that the data don't have.
+#[test]
+fn unknown_length_of_single_bytes(rt: HostRuntime) -> Result<(), Fail> {
+    let mut bytes = file(
+        rt.alloc(),
+        b"\x01\0\x01\0\x40\x1f\0\0\x40\x1f\0\0\x01\0\x08\0",
+        b"\x80",
+    )?;
+    for byte in bytes.iter_mut().skip(40).take(4) {
+        *byte = 0xff;
+    }
+    let mut reader = WavReader::new(bytes.as_slice())?;
+    assert_eq!(rt; reader.len(), 4_294_967_295);
+    let mut samples = reader.samples::<i8>();
+    assert!(rt; matches!(samples.next(), Some(Ok(0))));
+    assert!(rt; matches!(samples.next(), Some(Err(Error::IoError(_)))));
+    Ok(())
+}
