@@ -1,4 +1,4 @@
-use Rattle.std.proofs.Common.{◌≡◌, ℕ, ℤ, pos, ◌+ℤ◌, ◌-ℤ◌, sym, ap, ◌∙◌}
+use Rattle.std.proofs.Common.{pos, ◌+ℤ◌, ◌-ℤ◌, sym, ap, ◌∙◌}
 use Rattle.std.proofs.Math.IntN.{+ℤ-neg_ℤ_cancel, -ℤ-+ℤ_cancel}
 use Rattle.hound_number.proofs.laws.signed_bytes_come_back.Goals as goal
 
