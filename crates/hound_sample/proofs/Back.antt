@@ -72,9 +72,9 @@ fitted bits v container c is = go (fits bits v) is
     go false is = cc
 
 -- a row of the table, and the rows behind it
-row : {P : Type 0} (b w bits width : ℕ) (here rest : Result (List ℕ) Refusal) (c : List ℕ) → (bits ≡ b → width ≡ w → here ≡ Ok c → P) → (rest ≡ Ok c → P)
+table_row : {P : Type 0} (b w bits width : ℕ) (here rest : Result (List ℕ) Refusal) (c : List ℕ) → (bits ≡ b → width ≡ w → here ≡ Ok c → P) → (rest ≡ Ok c → P)
     → cond (eqb bits b && eqb width w) here rest ≡ Ok c → P
-row b w bits width here rest c this behind is = elim (cases_Bool (eqb bits b && eqb width w)) [
+table_row b w bits width here rest c this behind is = elim (cases_Bool (eqb bits b && eqb width w)) [
   | inl chosen ↦ this (eqb-true bits b (and_parts _ _ chosen).0) (eqb-true width w (and_parts _ _ chosen).1) (rw chosen at is)
   | inr other ↦ behind (rw other at is)
 ]
@@ -83,11 +83,11 @@ row b w bits width here rest c this behind is = elim (cases_Bool (eqb bits b && 
 pub integers_taken : (v : ℤ) (bits width : ℕ) (c : List ℕ) → int_container v bits width ≡ Ok c → int_refusal 4 Int width bits ≡ None
 unfolding int_container
 integers_taken v bits width c =
-    row 8 1 bits width _ _ c (λ b w _. at 8 1 b w refl)
-    (row 16 2 bits width _ _ c (λ b w _. at 16 2 b w refl)
-    (row 24 3 bits width _ _ c (λ b w _. at 24 3 b w refl)
-    (row 24 4 bits width _ _ c (λ b w _. at 24 4 b w refl)
-    (row 32 4 bits width _ (Err unsupported) c (λ b w _. at 32 4 b w refl) (λ is. cc)))))
+    table_row 8 1 bits width _ _ c (λ b w _. at 8 1 b w refl)
+    (table_row 16 2 bits width _ _ c (λ b w _. at 16 2 b w refl)
+    (table_row 24 3 bits width _ _ c (λ b w _. at 24 3 b w refl)
+    (table_row 24 4 bits width _ _ c (λ b w _. at 24 4 b w refl)
+    (table_row 32 4 bits width _ (Err unsupported) c (λ b w _. at 32 4 b w refl) (λ is. cc)))))
   where
     at : (b w : ℕ) → bits ≡ b → width ≡ w → int_refusal 4 Int w b ≡ None → int_refusal 4 Int width bits ≡ None
     at b w is_b is_w here = ap (λ x. int_refusal 4 Int x bits) is_w ∙ ap (int_refusal 4 Int w) is_b ∙ here
@@ -96,11 +96,11 @@ integers_taken v bits width c =
 pub integers_same : (v : ℤ) (bits width : ℕ) (c : List ℕ) → int_container v bits width ≡ Ok c → IsTrue (fits 32 v) → int_meaning width bits c ≡ v
 unfolding int_container
 integers_same v bits width c is is_i32 =
-    row 8 1 bits width _ _ c (λ b w is. let (fit, e) = fitted 8 v (offset_byte v) c is in at 8 1 b w _ e (offset_back v fit))
-    (row 16 2 bits width _ _ c (λ b w is. let (fit, e) = fitted 16 v (signed_bytes_of 2 v) c is in at 16 2 b w _ e (signed_2 v fit))
-    (row 24 3 bits width _ _ c (λ b w is. let (fit, e) = fitted 24 v (signed_bytes_of 3 v) c is in at 24 3 b w _ e (signed_3 v fit))
-    (row 24 4 bits width _ _ c (λ b w is. let (fit, e) = fitted 24 v (signed_bytes_of 3 v ++ 0 ∷ []) c is in at 24 4 b w _ e (signed_3 v fit))
-    (row 32 4 bits width (Ok (signed_bytes_of 4 v)) (Err unsupported) c (λ b w is. let e : c ≡ signed_bytes_of 4 v = cc in at 32 4 b w (signed_bytes_of 4 v) e (signed_4 v is_i32)) (λ is. cc))))) is
+    table_row 8 1 bits width _ _ c (λ b w is. let (fit, e) = fitted 8 v (offset_byte v) c is in at 8 1 b w _ e (offset_back v fit))
+    (table_row 16 2 bits width _ _ c (λ b w is. let (fit, e) = fitted 16 v (signed_bytes_of 2 v) c is in at 16 2 b w _ e (signed_2 v fit))
+    (table_row 24 3 bits width _ _ c (λ b w is. let (fit, e) = fitted 24 v (signed_bytes_of 3 v) c is in at 24 3 b w _ e (signed_3 v fit))
+    (table_row 24 4 bits width _ _ c (λ b w is. let (fit, e) = fitted 24 v (signed_bytes_of 3 v ++ 0 ∷ []) c is in at 24 4 b w _ e (signed_3 v fit))
+    (table_row 32 4 bits width (Ok (signed_bytes_of 4 v)) (Err unsupported) c (λ b w is. let e : c ≡ signed_bytes_of 4 v = cc in at 32 4 b w (signed_bytes_of 4 v) e (signed_4 v is_i32)) (λ is. cc))))) is
   where
     at : (b w : ℕ) → bits ≡ b → width ≡ w → (container : List ℕ) → c ≡ container → int_meaning w b container ≡ v → int_meaning width bits c ≡ v
     at b w is_b is_w container is_c here = ap (λ x. int_meaning x bits c) is_w ∙ ap (λ x. int_meaning w x c) is_b ∙ ap (int_meaning w b) is_c ∙ here

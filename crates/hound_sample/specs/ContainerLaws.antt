@@ -21,9 +21,9 @@ length-offset_byte (pos n) = refl
 length-offset_byte (negsuc n) = refl
 
 -- a row of the table, and the rows behind it
-row : (b w bits width : ℕ) (here rest : Result (List ℕ) Refusal) (c : List ℕ) → 1 ≤ w → w ≤ 4 → (here ≡ Ok c → length c ≡ w) → (rest ≡ Ok c → InWidth c width)
+table_row : (b w bits width : ℕ) (here rest : Result (List ℕ) Refusal) (c : List ℕ) → 1 ≤ w → w ≤ 4 → (here ≡ Ok c → length c ≡ w) → (rest ≡ Ok c → InWidth c width)
     → cond (eqb bits b && eqb width w) here rest ≡ Ok c → InWidth c width
-row b w bits width here rest c some few size behind is = elim (cases_Bool (eqb bits b && eqb width w)) [
+table_row b w bits width here rest c some few size behind is = elim (cases_Bool (eqb bits b && eqb width w)) [
   | inl chosen ↦
       let e : width ≡ w = eqb-true width w (and_parts _ _ chosen).1 in
       let n : length c ≡ w = size (rw chosen at is) in
@@ -35,14 +35,14 @@ row b w bits width here rest c some few size behind is = elim (cases_Bool (eqb b
 pub int_container-in_width : (v : ℤ) (bits width : ℕ) (c : List ℕ) → int_container v bits width ≡ Ok c → (length c ≡ width) × (1 ≤ width) × (width ≤ 4)
 unfolding int_container
 int_container-in_width v bits width c =
-    row 8 1 bits width _ _ c (omega arith) (omega arith) (λ is. ap length (fitted 8 v (offset_byte v) c is) ∙ length-offset_byte v)
-    (row 16 2 bits width _ _ c (omega arith) (omega arith) (λ is. ap length (fitted 16 v (signed_bytes_of 2 v) c is))
-    (row 24 3 bits width _ _ c (omega arith) (omega arith) (λ is. ap length (fitted 24 v (signed_bytes_of 3 v) c is))
-    (row 24 4 bits width _ _ c (omega arith) (omega arith) (λ is. ap length (fitted 24 v (signed_bytes_of 3 v ++ 0 ∷ []) c is))
-    (row 32 4 bits width (Ok (signed_bytes_of 4 v)) (Err unsupported) c (omega arith) (omega arith) (λ is. let e : c ≡ signed_bytes_of 4 v = cc in ap length e) (λ is. cc)))))
+    table_row 8 1 bits width _ _ c (omega arith) (omega arith) (λ is. ap length (fitted 8 v (offset_byte v) c is) ∙ length-offset_byte v)
+    (table_row 16 2 bits width _ _ c (omega arith) (omega arith) (λ is. ap length (fitted 16 v (signed_bytes_of 2 v) c is))
+    (table_row 24 3 bits width _ _ c (omega arith) (omega arith) (λ is. ap length (fitted 24 v (signed_bytes_of 3 v) c is))
+    (table_row 24 4 bits width _ _ c (omega arith) (omega arith) (λ is. ap length (fitted 24 v (signed_bytes_of 3 v ++ 0 ∷ []) c is))
+    (table_row 32 4 bits width (Ok (signed_bytes_of 4 v)) (Err unsupported) c (omega arith) (omega arith) (λ is. let e : c ≡ signed_bytes_of 4 v = cc in ap length e) (λ is. cc)))))
 
 -- so has the container of a pattern
 pub pattern_container-in_width : (pattern bits width : ℕ) (c : List ℕ) → pattern_container pattern bits width ≡ Ok c → (length c ≡ width) × (1 ≤ width) × (width ≤ 4)
 unfolding pattern_container
 pattern_container-in_width pattern bits width c =
-    row 32 4 bits width (Ok (bytes_of 4 pattern)) (Err unsupported) c (omega arith) (omega arith) (λ is. let e : c ≡ bytes_of 4 pattern = cc in ap length e) (λ is. cc)
+    table_row 32 4 bits width (Ok (bytes_of 4 pattern)) (Err unsupported) c (omega arith) (omega arith) (λ is. let e : c ≡ bytes_of 4 pattern = cc in ap length e) (λ is. cc)
