@@ -1,5 +1,5 @@
 -- What bytes behind the accepted ones change.
-use Rattle.std.proofs.Common.{◌≡◌, ℕ, suc, ◌+◌, ◌*◌, ◌-◌, ◌/◌, ◌%◌, ◌≤◌, max, Bool, true, false, List, [], ◌∷◌, ◌++◌, length, take, drop, replicate, Result, Ok, Err, IsErr, IsTrue, refl, sym, subst, ◌∙◌, ap, arith, length-append}
+use Rattle.std.proofs.Common.{◌≡◌, ℕ, suc, ◌+◌, ◌*◌, ◌-◌, ◌/◌, ◌%◌, ◌≤◌, max, Bool, true, false, List, [], ◌∷◌, ◌++◌, length, take, drop, replicate, Result, Ok, Err, IsErr, is_err, OnOk, IsTrue, refl, sym, subst, ◌∙◌, ap, arith, length-append}
 use Rattle.std.proofs.lemmas.Bool.{true≢false, false≢true}
 use Rattle.std.proofs.lemmas.List.{take_at, take_all, drop_at, drop-drop, length-take-le}
 use Rattle.hound_number.specs.Number.{number}
@@ -9,8 +9,11 @@ use Rattle.hound_medium.proofs.Overlays.{overlay_is, length-put_at, take_overlay
 use Rattle.hound_spec.specs.declared.error.Error.{Error}
 use Rattle.hound_sample.specs.Container.{Refusal, containers}
 use Rattle.hound_sample.specs.Encoding.{IsEncoded}
-use Rattle.hound_writer.specs.Parts.{PutsAt, Stands, field}
+use Rattle.hound_writer.specs.Parts.{PutsAt, Patches, SameButSizes, Stands, IsStanding, field, mix}
 use Rattle.hound_writer.specs.Writer.{Written, IsSound, IsWhole, sample_count, accepted, AcceptsSample}
+use Rattle.hound_reader.specs.Chunks.{Head}
+use Rattle.hound_spec.specs.declared.spec.WavSpecEx.{WavSpecEx}
+use Rattle.hound_writer.proofs.Standing.{inside, stands_front, stands_patched, stands_more}
 use Rattle.hound_writer.proofs.Containers.{containers_front, containers_more, count_bytes, count_more}
 
 -- bytes at a place reach no further than the old end or their own
@@ -49,25 +52,49 @@ module _ {T E : Type 0} (keeps : Bool) (start n : ℕ) (bytes : List ℕ) (resul
     bytes_inside whole =
         omega (arith, ap length (parts whole), length-append (take (start + n) old.contents) (bytes ++ drop (start + n + length bytes) old.contents), length-append bytes (drop (start + n + length bytes) old.contents), length-take-le (start + n) old.contents whole)
 
+-- a writer's fields, and its file
+pub standing : (s : WavSpecEx) (p n : ℕ) (moved : Bool) (seen : Seen) → Stands s p n moved seen → IsStanding s (p + 4) n seen.contents
+standing s p n moved seen stands =
+    let e : p ≡ p + 4 - 4 = omega arith in
+    record { head = subst (λ q. Head seen.contents s (field q seen.contents) (p + 4)) e stands.head; counted = omega (arith, stands.counted, ap (λ q. field q seen.contents) e) }
+
+pub stands_at : (s : WavSpecEx) (p n : ℕ) (moved : Bool) (seen : Seen) → IsStanding s (p + 4) n seen.contents → (moved ≡ false → seen.place ≡ p + 4 + n) → Stands s p n moved seen
+stands_at s p n moved seen stands place =
+    let e : p + 4 - 4 ≡ p = omega arith in
+    record {
+      inside = inside s (p + 4) n seen.contents seen.contents stands;
+      counted = omega (arith, stands.counted, ap (λ q. field q seen.contents) e);
+      head = subst (λ q. Head seen.contents s (field q seen.contents) (p + 4)) e stands.head;
+      place = place;
+    }
+
 -- a medium whose next sample goes to the end of the data, after bytes were put there
-module _ {T E : Type 0} (keeps : Bool) (p n : ℕ) (bytes : List ℕ) (result : Result T E) (old new : Seen) (puts : PutsAt keeps (p + 4 + n) bytes result old new) where
-  field_stays : (moved : Bool) → Stands p n moved old → field p new.contents ≡ field p old.contents
-  field_stays moved stands =
-      ap number (front_part (p + 4) p 4 new.contents old.contents (omega arith) (front_stays keeps (p + 4) n bytes result old new puts (p + 4) (omega arith) stands.inside))
+module _ {T E : Type 0} (keeps : Bool) (s : WavSpecEx) (p n : ℕ) (bytes : List ℕ) (result : Result T E) (old new : Seen) (puts : PutsAt keeps (p + 4 + n) bytes result old new) (moved : Bool) (stands : Stands s p n moved old) where
+  still : IsStanding s (p + 4) n new.contents
+  still = stands_front s (p + 4) n old.contents new.contents (standing s p n moved old stands)
+      (front_stays keeps (p + 4) n bytes result old new puts (p + 4) (omega arith) stands.inside)
+      (omega (arith, stands.inside, grows keeps (p + 4) n bytes result old new puts))
 
-  pub stands_moved : (moved : Bool) → Stands p n moved old → Stands p n true new
-  stands_moved moved stands = record {
-    inside = omega (arith, stands.inside, grows keeps (p + 4) n bytes result old new puts);
-    counted = omega (arith, stands.counted, field_stays moved stands);
-    place = λ e. absurd (true≢false e);
-  }
+  pub stands_moved : Stands s p n true new
+  stands_moved = stands_at s p n true new still (λ e. absurd (true≢false e))
 
-  pub stands_behind : (moved : Bool) → new.place ≡ p + 4 + n + length bytes → Stands p n moved old → Stands p (n + length bytes) false new
-  stands_behind moved place stands = record {
-    inside = omega (arith, stands.inside, grows keeps (p + 4) n bytes result old new puts);
-    counted = omega (arith, stands.counted, field_stays moved stands);
-    place = λ e. omega (arith, place);
-  }
+  pub stands_behind : new.place ≡ p + 4 + n + length bytes → Stands s p (n + length bytes) false new
+  stands_behind place = stands_at s p (n + length bytes) false new (stands_more s (p + 4) n (n + length bytes) new.contents (omega arith) still) (λ e. omega (arith, place))
+
+-- what an Ok says holds where no fault was met
+pub placed_unless_failed : {T E : Type 0} (result : Result T E) (failed : Bool) (P : Type 0) → failed ≡ is_err result → OnOk result P → failed ≡ false → P
+placed_unless_failed (Ok x) failed P is here none = here
+placed_unless_failed (Err e) failed P is here none = absurd (true≢false (sym is ∙ none))
+
+-- and after a patch, which a fault may have cut
+pub stands_published : {T E : Type 0} (s : WavSpecEx) (p n : ℕ) (moved moves : Bool) (size : ℕ) (result : Result T E) (old new : Seen) → Stands s p n moved old → Patches p size n result old new → (moves ≡ false → new.place ≡ p + 4 + n)
+    → Stands s p n moves new
+stands_published s p n moved moves size result old new stands patches place =
+    let e : p ≡ p + 4 - 4 = omega arith in
+    stands_at s p n moves new
+    (stands_patched s (p + 4) n old.contents new.contents (standing s p n moved old stands) patches.torn.0
+    (subst (λ q. SameButSizes q old.contents new.contents) e patches.same)
+    (subst (λ q. field q new.contents ≡ mix patches.torn.0 (field q old.contents) n) e patches.torn.2)) place
 
 -- the containers of more data
 module _ (width start n : ℕ) (some : 1 ≤ width) (whole : n % width ≡ 0) (old new : List ℕ) (same : take n (drop start new) ≡ take n (drop start old)) where
@@ -136,6 +163,15 @@ module _ {W T E : Type 0} (keeps : Bool) (seen : W → Seen) (old new : Written 
   pub front_same : old.data_start ≤ length (seen old.medium).contents → take old.data_start (seen new.medium).contents ≡ take old.data_start (seen old.medium).contents
   front_same inside = front_stays keeps old.data_start old.data_length bytes result (seen old.medium) (seen new.medium) puts old.data_start (omega arith) inside
 
+  -- the head stands, and so much as before is counted
+  pub standing_put : IsStanding old.spec_ex old.data_start old.data_length (seen old.medium).contents → old.data_length ≤ new.data_length → IsStanding new.spec_ex new.data_start new.data_length (seen new.medium).contents
+  standing_put stands le =
+      let there = inside old.spec_ex old.data_start old.data_length (seen old.medium).contents (seen old.medium).contents stands in
+      let still = stands_front old.spec_ex old.data_start old.data_length (seen old.medium).contents (seen new.medium).contents stands (front_same there)
+      (omega (arith, there, grows keeps old.data_start old.data_length bytes result (seen old.medium) (seen new.medium) puts)) in
+      subst (λ (x : WavSpecEx × ℕ). IsStanding x.0 x.1 new.data_length (seen new.medium).contents) (λ i. (sym spec i, sym start i))
+      (stands_more old.spec_ex old.data_start old.data_length new.data_length (seen new.medium).contents le still)
+
   -- no byte is behind both the old end and that of the new data
   pub reach : puts.count ≡ length bytes → new.data_length ≡ old.data_length + length bytes → length (seen new.medium).contents ≤ max (length (seen old.medium).contents) (new.data_start + new.data_length)
   reach all more =
@@ -150,10 +186,10 @@ count_grows old new more sound spec count one =
 -- what the fields of a writer say of it
 pub record Opened {W : Type 0} (tells : Bool) (seen : W → Seen) (w : Written W) : Type 0 where
   pub sound : IsSound w.spec_ex w.data_start w.data_length
-  pub inside : IsTrue tells → w.data_start ≤ length (seen w.medium).contents
+  pub stands : IsTrue tells → IsStanding w.spec_ex w.data_start w.data_length (seen w.medium).contents
 
-pub opened : {W : Type 0} (tells : Bool) (seen : W → Seen) (a b : Written W) → a ≡ b → IsSound a.spec_ex a.data_start a.data_length → (IsTrue tells → a.data_start ≤ length (seen a.medium).contents) → Opened tells seen b
-opened tells seen a b same sound inside = subst (Opened tells seen) same (record { sound = sound; inside = inside })
+pub opened : {W : Type 0} (tells : Bool) (seen : W → Seen) (a b : Written W) → a ≡ b → IsSound a.spec_ex a.data_start a.data_length → (IsTrue tells → IsStanding a.spec_ex a.data_start a.data_length (seen a.medium).contents) → Opened tells seen b
+opened tells seen a b same sound stands = subst (Opened tells seen) same (record { sound = sound; stands = stands })
 
 pub same_width : {W : Type 0} (a b : Written W) → a ≡ b → a.spec_ex.bytes_per_sample ≡ b.spec_ex.bytes_per_sample
 same_width a b same = λ i. (same i).spec_ex.bytes_per_sample

@@ -1,5 +1,5 @@
 -- A file that begins: its header is put, and nothing else.
-use Rattle.std.proofs.Common.{◌≡◌, ℕ, zero, suc, ◌+◌, ◌%◌, ◌≤◌, Bool, false, List, ◌++◌, length, take, drop, Result, refl, subst, ◌∙◌, ap, arith, append_assoc, length-append}
+use Rattle.std.proofs.Common.{◌≡◌, ℕ, zero, suc, ◌+◌, ◌%◌, ◌≤◌, Bool, false, List, ◌++◌, length, take, drop, Result, refl, sym, subst, ◌∙◌, ap, arith, append_assoc, length-append}
 use Rattle.std.proofs.lemmas.List.{take_at, take_all, drop_at}
 use Rattle.hound_number.specs.Number.{bytes_of, number}
 use Rattle.hound_medium.specs.Bytes.{placed, overlay}
@@ -10,6 +10,8 @@ use Rattle.hound_spec.specs.Header.{riff_tag, data_start, header}
 use Rattle.hound_spec.specs.Writable.{IsWritable}
 use Rattle.hound_spec.proofs.HeaderLemmas.{described, header-parts, length-header, length-described, data_start_least, data_start_most}
 use Rattle.hound_spec.proofs.WritableLemmas.{pair_facts}
+use Rattle.hound_reader.specs.Chunks.{Head}
+use Rattle.hound_reader.proofs.WrittenLemmas.{header_head}
 use Rattle.hound_writer.specs.Parts.{Stands, field}
 use Rattle.hound_writer.specs.Writer.{IsSound, HasHeader, PutsHeader}
 
@@ -26,6 +28,7 @@ field-header s p rest at =
 -- a writer of a writable spec that has accepted nothing
 pub sound_begin : (s : WavSpecEx) (start : ℕ) → IsWritable s → start ≡ data_start s → IsSound s start 0
 sound_begin s start writable is = record {
+  pair = writable.pair;
   channels = writable.channels;
   width = (pair_facts s.spec.sample_format s.spec.bits_per_sample s.bytes_per_sample writable.pair).some;
   whole = zero_mod s.bytes_per_sample;
@@ -52,12 +55,14 @@ module _ {T E : Type 0} (keeps : Bool) (s : WavSpecEx) (bytes : List ℕ) (resul
   size = ap length is ∙ length-header s 0 0
 
   -- the medium of a writer that begins
-  pub stands_begin : (p : ℕ) → p + 4 ≡ data_start s → Stands p 0 false new
-  stands_begin p at =
+  pub stands_begin : IsWritable s → (p : ℕ) → p + 4 ≡ data_start s → Stands s p 0 false new
+  stands_begin writable p at =
       let rest = drop (length bytes) old.contents in
+      let none : field p new.contents ≡ 0 = ap (field p) contents_begin ∙ field-header s p rest at in
       record {
         inside = omega (arith, at, ap length contents_begin, length-append (header s 0 0) rest, length-header s 0 0);
-        counted = omega (arith, ap (field p) contents_begin, field-header s p rest at);
+        counted = omega (arith, none);
+        head = subst (λ (x : List ℕ × (ℕ × ℕ)). Head x.0 s x.1.0 x.1.1) (λ i. (sym contents_begin i, (sym none i, sym at i))) (header_head s 0 0 rest writable (omega arith));
         place = λ _. omega (arith, puts.takes.place, begins, all, size, at);
       }
 

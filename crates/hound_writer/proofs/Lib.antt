@@ -1,4 +1,8 @@
 pub mod Containers
+pub mod Heads
+pub mod Counted
+pub mod Sizes
+pub mod Standing
 pub mod Accepting
 pub mod Patching
 pub mod Publishing

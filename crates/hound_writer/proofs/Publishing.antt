@@ -4,17 +4,21 @@ use Rattle.std.proofs.lemmas.List.{take_at, take-take, length-take-le}
 use Rattle.std.specs.declared.io.Error.{Error as IoFault}
 use Rattle.std.specs.Io.{StartsWith}
 use Rattle.std.specs.List.{concat}
-use Rattle.hound_number.specs.Number.{bytes_of}
-use Rattle.hound_medium.specs.Seen.{Seen}
+use Rattle.hound_number.specs.Number.{bytes_of, AreBytes}
+use Rattle.hound_medium.specs.Seen.{Seen, faults_after}
 use Rattle.hound_spec.specs.declared.error.Error.{Error}
 use Rattle.hound_spec.specs.declared.spec.WavSpecEx.{WavSpecEx}
 use Rattle.hound_spec.specs.Header.{riff_tag, data_start, header, riff_size, canonical}
 use Rattle.hound_spec.proofs.HeaderLemmas.{described, header-parts, length-header, length-described}
 use Rattle.hound_sample.specs.Container.{containers}
-use Rattle.hound_writer.specs.Parts.{IsTold, with_sizes, field}
-use Rattle.hound_writer.specs.Writer.{Written, IsSound, IsWhole, HasHeader, OnPublished, ChangesSizesOnly, accepted}
+use Rattle.hound_writer.specs.Parts.{IsTold, Patches, SameButSizes, IsStanding, with_sizes, field}
+use Rattle.hound_writer.specs.Counts.{Counts}
+use Rattle.hound_writer.specs.Writer.{Written, IsSound, IsWhole, IsBegun, HasHeader, OnPublished, Publishes, accepted, faults_told}
 use Rattle.hound_writer.proofs.Containers.{concat-containers, count_bytes}
-use Rattle.hound_writer.proofs.Patching.{front_of_sizes, middle_of_sizes, riff_size_of_sizes, data_length_of_sizes, data_of_sizes}
+use Rattle.hound_writer.proofs.Patching.{riff_size_of_sizes, data_length_of_sizes}
+use Rattle.hound_writer.proofs.Heads.{in_parts}
+use Rattle.hound_writer.proofs.Sizes.{field_bytes_of}
+use Rattle.hound_writer.proofs.Standing.{inside, stands_patched, counts}
 
 -- what holds after an Ok patch holds where its caller says that all was published
 pub published : {T : Type 0} (P : Type 0) (patched : Result T IoFault) (are_frames : Bool) (told : Result T Error) → IsTold patched are_frames told → OnOk patched P → OnPublished told P
@@ -25,14 +29,6 @@ published {T} P (Ok x) false told is here = subst (λ (t : Result T Error). OnPu
 pub on_ok_then : {T E : Type 0} {P Q : Type 0} (result : Result T E) → (P → Q) → OnOk result P → OnOk result Q
 on_ok_then (Ok x) then here = then here
 on_ok_then (Err e) then here = tt
-
--- the sizes that a writer's fields say, as its contracts see them
-pub sizes_seen : {W : Type 0} (seen : W → Seen) (a b : Written W) (p size : ℕ) (contents : List ℕ) → a ≡ b → p ≡ a.data_start - 4 → size ≡ riff_size a.data_start a.data_length → contents ≡ with_sizes p size a.data_length (seen a.medium).contents
-    → contents ≡ with_sizes (b.data_start - 4) (riff_size b.data_start b.data_length) b.data_length (seen b.medium).contents
-sizes_seen seen a b p size contents same at counted put =
-    put
-    ∙ (λ i. with_sizes (at i) (counted i) a.data_length (seen a.medium).contents)
-    ∙ (λ i. with_sizes ((same i).data_start - 4) (riff_size (same i).data_start (same i).data_length) (same i).data_length (seen (same i).medium).contents)
 
 -- a file that begins with the header of a spec, once other sizes are in it
 module _ (s : WavSpecEx) (size length_before : ℕ) (start p : ℕ) (before : p + 4 ≡ start) (is_start : data_start s ≡ start) (c : List ℕ) (begins : take start c ≡ header s size length_before) where
@@ -68,11 +64,38 @@ canonical_begins s containers n start samples contents is_start enough joined is
     ∙ sym (append_assoc (header s (riff_size (data_start s) (length (concat containers))) (length (concat containers))) (concat containers) (drop n samples)) in
     ap (take (length (canonical s containers))) file ∙ take_at (canonical s containers) (drop n samples) (length (canonical s containers)) refl
 
+-- the contents once only the two sizes changed, as these sizes
+sizes_of : (p : ℕ) (old new : List ℕ) → 8 ≤ p → p + 4 ≤ length new → AreBytes new → SameButSizes p old new → new ≡ with_sizes p (field 4 new) (field p new) old
+unfolding with_sizes
+sizes_of p old new behind inside small same =
+    in_parts p new behind
+    ∙ (λ i. same.front i ++ (sym (field_bytes_of 4 new (omega (arith, behind, inside)) small) i ++ (same.middle i ++ (sym (field_bytes_of p new inside small) i ++ same.behind i))))
+
+-- a file that was begun with the header of a spec still has it, whatever its sizes
+pub begun_still : (s : WavSpecEx) (start : ℕ) (old new : List ℕ) → data_start s ≡ start → 12 ≤ start → start ≤ length new → AreBytes new → SameButSizes (start - 4) old new → HasHeader s old → HasHeader s new
+begun_still s start old new is_start behind inside small same (size, length_before, begins) =
+    let p = start - 4 in
+    let r = field 4 new in
+    let n = field p new in
+    let front : take start old ≡ header s size length_before = ap (λ k. take k old) (sym (length-header s size length_before ∙ is_start)) ∙ begins in
+    let whole : new ≡ header s r n ++ drop start old =
+    sizes_of p old new (omega (arith, behind)) (omega (arith, behind, inside)) small same
+    ∙ header_with s size length_before start p (omega (arith, behind)) is_start old front r n in
+    (r, n, ap (take (length (header s r n))) whole ∙ take_at (header s r n) (drop start old) (length (header s r n)) refl)
+
+-- the faults that an answer tells are those of the patch
+told_faults : {T : Type 0} (patched : Result T IoFault) (are_frames : Bool) (told : Result T Error) (old new : ℕ) → IsTold patched are_frames told → new ≡ faults_after patched old → new ≡ faults_told told old
+told_faults {T} (Err e) are_frames told old new is here = subst (λ (t : Result T Error). new ≡ faults_told t old) (sym is) here
+told_faults {T} (Ok x) true told old new is here = subst (λ (t : Result T Error). new ≡ faults_told t old) (sym is) here
+told_faults {T} (Ok x) false told old new is here = subst (λ (t : Result T Error). new ≡ faults_told t old) (sym is) here
+
 -- a writer's file with its sizes
-module _ {W : Type 0} (seen : W → Seen) (w : Written W) (sound : IsSound w.spec_ex w.data_start w.data_length) (inside : w.data_start ≤ length (seen w.medium).contents) (end : W)
-    (put : (seen end).contents ≡ with_sizes (w.data_start - 4) (riff_size w.data_start w.data_length) w.data_length (seen w.medium).contents) where
+module _ {W : Type 0} (seen : W → Seen) (w : Written W) (sound : IsSound w.spec_ex w.data_start w.data_length) (stands : IsStanding w.spec_ex w.data_start w.data_length (seen w.medium).contents) (end : W) where
   abbrev p : ℕ
   p = w.data_start - 4
+
+  abbrev size : ℕ
+  size = riff_size w.data_start w.data_length
 
   before : p + 4 ≡ w.data_start
   before = omega (arith, sound.behind)
@@ -81,37 +104,49 @@ module _ {W : Type 0} (seen : W → Seen) (w : Written W) (sound : IsSound w.spe
   old = (seen w.medium).contents
 
   there : p + 4 ≤ length old
-  there = omega (arith, before, inside)
+  there = omega (arith, before, inside w.spec_ex w.data_start w.data_length (seen w.medium).contents (seen w.medium).contents stands)
 
-  pub riff_size_stands : field 4 (seen end).contents ≡ riff_size w.data_start w.data_length
-  riff_size_stands =
-      ap (field 4) put ∙ riff_size_of_sizes p (riff_size w.data_start w.data_length) w.data_length old (omega (arith, sound.behind)) there (omega (arith, sound.fits))
+  module _ (put : (seen end).contents ≡ with_sizes (w.data_start - 4) (riff_size w.data_start w.data_length) w.data_length (seen w.medium).contents) where
+    riff_size_stands : field 4 (seen end).contents ≡ riff_size w.data_start w.data_length
+    riff_size_stands = ap (field 4) put ∙ riff_size_of_sizes p size w.data_length old (omega (arith, sound.behind)) there (omega (arith, sound.fits))
 
-  pub data_length_stands : field p (seen end).contents ≡ w.data_length
-  data_length_stands =
-      ap (field p) put ∙ data_length_of_sizes p (riff_size w.data_start w.data_length) w.data_length old (omega (arith, sound.behind)) there (omega (arith, sound.fits, sound.behind))
+    data_length_stands : field p (seen end).contents ≡ w.data_length
+    data_length_stands = ap (field p) put ∙ data_length_of_sizes p size w.data_length old (omega (arith, sound.behind)) there (omega (arith, sound.fits, sound.behind))
 
-  pub sizes_only : ChangesSizesOnly w.data_start old (seen end).contents
-  sizes_only = record {
-    front = ap (take 4) put ∙ front_of_sizes p (riff_size w.data_start w.data_length) w.data_length old (omega (arith, sound.behind)) there;
-    middle = ap (λ l. drop 8 (take p l)) put ∙ middle_of_sizes p (riff_size w.data_start w.data_length) w.data_length old (omega (arith, sound.behind)) there;
-  }
+    is_canonical : IsWhole seen w → IsBegun seen w → StartsWith (seen end).contents (canonical w.spec_ex (accepted seen w))
+    is_canonical whole ((size_before, length_before, begins), at) =
+        let long : length (header w.spec_ex size_before length_before) ≡ w.data_start = length-header w.spec_ex size_before length_before ∙ sym at in
+        let front : take w.data_start old ≡ header w.spec_ex size_before length_before = ap (λ n. take n old) (sym long) ∙ begins in
+        canonical_begins w.spec_ex (accepted seen w) w.data_length w.data_start (drop w.data_start old) (seen end).contents (sym at)
+        (omega (arith, whole, length-drop w.data_start old))
+        (concat-containers w.spec_ex.bytes_per_sample (w.data_length / w.spec_ex.bytes_per_sample) (drop w.data_start old) ∙ ap (λ n. take n (drop w.data_start old)) (count_bytes w.data_length w.spec_ex.bytes_per_sample sound.whole))
+        (put ∙ header_with w.spec_ex size_before length_before w.data_start p before (sym at) old front size w.data_length)
 
-  data_same : drop w.data_start (seen end).contents ≡ drop w.data_start old
-  data_same =
-      ap (drop w.data_start) put
-      ∙ (λ i. drop (sym before i) (with_sizes p (riff_size w.data_start w.data_length) w.data_length old))
-      ∙ data_of_sizes p (riff_size w.data_start w.data_length) w.data_length old (omega (arith, sound.behind)) there
-      ∙ (λ i. drop (before i) old)
+  -- What a patch leaves, and the answer of a call that has done one.
+  pub publishes : {T : Type 0} (patched : Result T IoFault) (are_frames : Bool) (told : Result T Error) → IsTold patched are_frames told → AreBytes (seen end).contents
+      → Patches (w.data_start - 4) (riff_size w.data_start w.data_length) w.data_length patched (seen w.medium) (seen end) → Publishes seen w told end
+  publishes patched are_frames told is small patches =
+      let same = patches.same in
+      let long : w.data_start ≤ length (seen end).contents = omega (arith, before, there, same.long) in
+      let samples_same : drop w.data_start (seen end).contents ≡ drop w.data_start old = (λ i. drop (sym before i) (seen end).contents) ∙ same.behind ∙ (λ i. drop (before i) old) in
+      let still = stands_patched w.spec_ex w.data_start w.data_length old (seen end).contents stands patches.torn.0 same patches.torn.2 in
+      let accepted_same : accepted seen (record w { medium = end }) ≡ accepted seen w = ap (containers w.spec_ex.bytes_per_sample (w.data_length / w.spec_ex.bytes_per_sample)) samples_same in
+      record {
+        faults = told_faults patched are_frames told (seen w.medium).faults (seen end).faults is patches.faults;
+        flushed = published ((seen end).flushed ≡ length (seen end).past) patched are_frames told is patches.flushed;
+        riff_size = published (field 4 (seen end).contents ≡ riff_size w.data_start w.data_length) patched are_frames told is (on_ok_then patched riff_size_stands patches.contents);
+        data_length = published (field (w.data_start - 4) (seen end).contents ≡ w.data_length) patched are_frames told is (on_ok_then patched data_length_stands patches.contents);
+        front = record { front = same.front; middle = same.middle };
+        samples = samples_same;
+        long = same.long;
+        counts = λ _. subst (λ l. Counts w.spec_ex w.data_start l (seen end).contents) accepted_same (counts seen (record w { medium = end }) sound still);
+        begun = λ (header, at). begun_still w.spec_ex w.data_start old (seen end).contents (sym at) sound.behind long small same header;
+        canonical = λ whole begun. published (StartsWith (seen end).contents (canonical w.spec_ex (accepted seen w))) patched are_frames told is (on_ok_then patched (λ put. is_canonical put whole begun) patches.contents);
+      }
 
-  pub accepted_same : accepted seen (record w { medium = end }) ≡ accepted seen w
-  accepted_same = ap (containers w.spec_ex.bytes_per_sample (w.data_length / w.spec_ex.bytes_per_sample)) data_same
-
-  pub is_canonical : IsWhole seen w → HasHeader w.spec_ex old → w.data_start ≡ data_start w.spec_ex → StartsWith (seen end).contents (canonical w.spec_ex (accepted seen w))
-  is_canonical whole (size, length_before, begins) at =
-      let long : length (header w.spec_ex size length_before) ≡ w.data_start = length-header w.spec_ex size length_before ∙ sym at in
-      let front : take w.data_start old ≡ header w.spec_ex size length_before = ap (λ n. take n old) (sym long) ∙ begins in
-      canonical_begins w.spec_ex (accepted seen w) w.data_length w.data_start (drop w.data_start old) (seen end).contents (sym at)
-      (omega (arith, whole, length-drop w.data_start old))
-      (concat-containers w.spec_ex.bytes_per_sample (w.data_length / w.spec_ex.bytes_per_sample) (drop w.data_start old) ∙ ap (λ n. take n (drop w.data_start old)) (count_bytes w.data_length w.spec_ex.bytes_per_sample sound.whole))
-      (put ∙ header_with w.spec_ex size length_before w.data_start p before (sym at) old front (riff_size w.data_start w.data_length) w.data_length)
+-- a patch of a writer's fields, as contracts see it
+pub patches_seen : {W T E : Type 0} (seen : W → Seen) (a b : Written W) (p riff : ℕ) (result : Result T E) (end : Seen) → a ≡ b → p ≡ a.data_start - 4 → riff ≡ riff_size a.data_start a.data_length
+    → Patches p riff a.data_length result (seen a.medium) end → Patches (b.data_start - 4) (riff_size b.data_start b.data_length) b.data_length result (seen b.medium) end
+patches_seen seen a b p riff result end same at counted patches =
+    subst (λ w. Patches (w.data_start - 4) (riff_size w.data_start w.data_length) w.data_length result (seen w.medium) end) same
+    (subst (λ (x : ℕ × ℕ). Patches x.0 x.1 a.data_length result (seen a.medium) end) (λ i. (at i, counted i)) patches)

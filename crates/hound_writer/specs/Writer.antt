@@ -4,20 +4,25 @@ use Rattle.std.specs.Io.{StartsWith}
 use Rattle.hound_spec.specs.declared.error.Error.{Error}
 use Rattle.hound_spec.specs.declared.error.Error.TheVariants.{IoError, UnfinishedSample, TooLong}
 use Rattle.hound_spec.specs.declared.spec.WavSpecEx.{WavSpecEx}
-use Rattle.hound_spec.specs.Header.{header, data_start, riff_size}
+use Rattle.hound_spec.specs.Header.{header, data_start, riff_size, canonical}
+use Rattle.hound_spec.specs.Writable.{IsPair}
 use Rattle.hound_sample.specs.Container.{Refusal, containers}
 use Rattle.hound_sample.specs.Encoding.{error_of}
 use Rattle.hound_medium.specs.Seen.{Seen, Takes, one_more}
+use Rattle.hound_writer.specs.Parts.{field}
+use Rattle.hound_writer.specs.Counts.{Counts}
 
--- A writer: its medium, the spec, the place of the first data byte, and how many bytes of samples were accepted.
+-- A writer: its medium, the spec, the place of the first data byte, how many bytes of samples were accepted, and how many bytes of memory it keeps for batches.
 pub record Written (W : Type 0) : Type 0 where
   pub medium : W
   pub spec_ex : WavSpecEx
   pub data_start : ℕ
   pub data_length : ℕ
+  pub kept : ℕ
 
--- What holds of every writer, whatever its medium tells: it can divide by the channels and the width, its samples are whole, and the RIFF size fits its field.
+-- What holds of every writer, whatever its medium tells: its bits and width are a known pair, it can divide by the channels and the width, its samples are whole, and the RIFF size fits its field.
 pub record IsSound (spec_ex : WavSpecEx) (data_start data_length : ℕ) : Type 0 where
+  pub pair : IsPair spec_ex.spec.sample_format spec_ex.spec.bits_per_sample spec_ex.bytes_per_sample
   pub channels : 1 ≤ spec_ex.spec.channels
   pub width : 1 ≤ spec_ex.bytes_per_sample
   pub whole : data_length % spec_ex.bytes_per_sample ≡ 0
@@ -34,6 +39,7 @@ pub record HasBegun {W : Type 0} (spec_ex : WavSpecEx) (w : Written W) : Type 0 
   pub spec : w.spec_ex ≡ spec_ex
   pub start : w.data_start ≡ data_start spec_ex
   pub empty : w.data_length ≡ 0
+  pub kept : w.kept ≡ 0
 
 -- the whole header was put where the medium stood, with both sizes 0, and nothing else
 pub record PutsHeader (keeps : Bool) (spec_ex : WavSpecEx) (old new : Seen) : Type 0 where
@@ -51,6 +57,10 @@ accepted seen w = containers w.spec_ex.bytes_per_sample (sample_count w) (drop w
 -- the medium has all bytes of the accepted samples
 abbrev pub IsWhole : {W : Type 0} → (W → Seen) → Written W → Type 0
 IsWhole seen w = w.data_start + w.data_length ≤ length (seen w.medium).contents
+
+-- the data length counts no more than the accepted samples, and reading gives the first of them
+abbrev pub IsCounted : {W : Type 0} → (W → Seen) → Written W → Type 0
+IsCounted seen w = Counts w.spec_ex w.data_start (accepted seen w) (seen w.medium).contents
 
 -- the accepted samples are a whole number of frames
 abbrev pub AreFrames : {W : Type 0} → Written W → Type 0
@@ -101,3 +111,21 @@ IsPublishing (Err _) w = ⊥
 pub record ChangesSizesOnly (data_start : ℕ) (old new : List ℕ) : Type 0 where
   pub front : take 4 new ≡ take 4 old
   pub middle : drop 8 (take (data_start - 4) new) ≡ drop 8 (take (data_start - 4) old)
+
+-- a file that was begun with the header of its spec, by this writer or by one before it
+abbrev pub IsBegun : {W : Type 0} → (W → Seen) → Written W → Type 0
+IsBegun seen w = HasHeader w.spec_ex (seen w.medium).contents × (w.data_start ≡ data_start w.spec_ex)
+
+-- What a call that publishes leaves in the medium, by its answer. Where all was published both sizes are right, and the medium was flushed;
+-- whatever the answer, only the two sizes changed, all samples stand, and the data length counts no more than these.
+pub record Publishes {T W : Type 0} (seen : W → Seen) (w : Written W) (answer : Result T Error) (end : W) : Type 0 where
+  pub faults : (seen end).faults ≡ faults_told answer (seen w.medium).faults
+  pub flushed : OnPublished answer ((seen end).flushed ≡ length (seen end).past)
+  pub riff_size : OnPublished answer (field 4 (seen end).contents ≡ riff_size w.data_start w.data_length)
+  pub data_length : OnPublished answer (field (w.data_start - 4) (seen end).contents ≡ w.data_length)
+  pub front : ChangesSizesOnly w.data_start (seen w.medium).contents (seen end).contents
+  pub samples : drop w.data_start (seen end).contents ≡ drop w.data_start (seen w.medium).contents
+  pub long : length (seen end).contents ≡ length (seen w.medium).contents
+  pub counts : IsWhole seen w → Counts w.spec_ex w.data_start (accepted seen w) (seen end).contents
+  pub begun : IsBegun seen w → HasHeader w.spec_ex (seen end).contents
+  pub canonical : IsWhole seen w → IsBegun seen w → OnPublished answer (StartsWith (seen end).contents (canonical w.spec_ex (accepted seen w)))

@@ -1,5 +1,5 @@
 // The parts that a writer's calls are put together from.
-ghost use Rattle.std.specs.Prelude.{◌≡◌, ◌+◌, ◌≤◌, ◌^◌, ◌<◌, length, false, IsTrue};
+ghost use Rattle.std.specs.Prelude.{◌≡◌, ◌+◌, ◌≤◌, ◌^◌, ◌<◌, length, false, IsTrue, OnOk};
 ghost use Rattle.hound_number.specs.Number.{bytes_of};
 ghost use Rattle.hound_writer.specs.Parts.{PutsAt, Patches};
 
@@ -47,4 +47,21 @@ pub(crate) fn patch<M: Medium>(
     put_size(medium, 4, riff_size)?;
     put_size(medium, data_len_offset, data_length)?;
     medium.flush()
+}
+
+/// Puts both sizes, flushes the medium, and goes to a place. It ends at the first fault.
+pub(crate) fn publish<M: Medium>(
+    medium: &mut M,
+    data_len_offset: u64,
+    riff_size: u32,
+    data_length: u32,
+    end: u64,
+) -> io::Result<()>
+    requires behind { 8 ≤ data_len_offset }
+    requires inside { IsTrue M.tells → data_len_offset + 4 ≤ length (M.seen medium.old).contents }
+    ensures patches { IsTrue M.tells → Patches data_len_offset riff_size data_length result (M.seen medium.old) (M.seen medium.new) }
+    ensures place { IsTrue M.tells → OnOk result ((M.seen medium.new).place ≡ end) }
+{
+    patch(medium, data_len_offset, riff_size, data_length)?;
+    medium.go(end)
 }

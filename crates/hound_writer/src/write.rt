@@ -3,7 +3,7 @@ ghost use Rattle.std.specs.Prelude.{◌≡◌, ◌+◌, ◌^◌, ◌≤◌, ◌�
 ghost use Rattle.hound_spec.specs.Header.{riff_size};
 ghost use Rattle.hound_writer.specs.Parts.{IsTold};
 
-use crate::patch::{patch, put_at_end};
+use crate::patch::{patch, publish, put_at_end};
 use hound_medium::{Medium, put_all};
 use hound_sample::Sample;
 use hound_spec::{Error, Result, WavSpec, WavSpecEx, header_of, with_default_width};
@@ -11,31 +11,36 @@ use std::marker::Model;
 use std::{io, result};
 
 /// A writer that puts samples into a medium, as a WAVE file.
-#[derive(Drop)]
+///
+/// A writer that is dropped publishes what was accepted, as [`WavWriter::finalize`] does, and its
+/// fault goes unseen.
 pub struct WavWriter<W: Medium> {
     // The properties of the audio data.
-    spec: WavSpec,
+    pub(crate) spec: WavSpec,
 
     // The bytes of a container.
-    bytes_per_sample: u16,
+    pub(crate) bytes_per_sample: u16,
 
     // The medium that the file goes to.
-    writer: W,
+    pub(crate) writer: W,
 
     // The bytes of the accepted samples.
-    data_bytes_written: u32,
+    pub(crate) data_bytes_written: u32,
 
     // The place of the field of the data length, in bytes.
-    data_len_offset: u64,
+    pub(crate) data_len_offset: u64,
 
     // Whether a fault may have left the medium elsewhere than behind the accepted samples.
-    moved: bool,
+    pub(crate) moved: bool,
+
+    // The memory that batches use, which is kept for later ones.
+    pub(crate) buffer: Option<Vec<u8>>,
 }
 
 impl<W: Medium> Model for WavWriter<W> {
-    ghost use Rattle.std.specs.Prelude.{◌+◌, IsTrue};
+    ghost use Rattle.std.specs.Prelude.{◌+◌, length, IsTrue};
     ghost use Rattle.hound_writer.specs.Writer.{Written, IsSound};
-    ghost use Rattle.hound_writer.specs.Parts.{Stands};
+    ghost use Rattle.hound_writer.specs.Parts.{Stands, kept_bytes};
 
     ghost Value = { Written W };
 
@@ -44,10 +49,11 @@ impl<W: Medium> Model for WavWriter<W> {
       spec_ex = record { spec = w.spec; bytes_per_sample = w.bytes_per_sample };
       data_start = w.data_len_offset + 4;
       data_length = w.data_bytes_written;
+      kept = kept_bytes (λ buffer. length buffer.items) w.buffer;
     } };
 
     ghost invariant = { λ w. IsSound (record { spec = w.spec; bytes_per_sample = w.bytes_per_sample }) (w.data_len_offset + 4) w.data_bytes_written
-        × (IsTrue W.tells → Stands w.data_len_offset w.data_bytes_written w.moved (W.seen w.writer)) };
+        × (IsTrue W.tells → Stands (record { spec = w.spec; bytes_per_sample = w.bytes_per_sample }) w.data_len_offset w.data_bytes_written w.moved (W.seen w.writer)) };
 }
 
 // Whether the RIFF size of so many data bytes behind a field at this place fits 32 bits.
@@ -73,14 +79,14 @@ fn told(patched: io::Result<()>, are_frames: bool) -> Result<()>
 }
 
 impl<W: Medium> WavWriter<W> {
-    ghost use Rattle.std.specs.Prelude.{◌≡◌, ◌+◌, ◌-◌, ◌/◌, ◌%◌, ◌≤◌, ◌<◌, ◌↔◌, max, IsTrue, IfErr, IfNone, IfOk, IfSome, Ok, Err, MatchResult, OnOk, length, take};
-    ghost use Rattle.std.specs.Io.{StartsWith};
+    ghost use Rattle.std.specs.Prelude.{◌≡◌, ◌+◌, ◌-◌, ◌/◌, ◌%◌, ◌≤◌, ◌<◌, ◌↔◌, max, IsTrue, IfErr, IfNone, IfOk, IfSome, Ok, Err, Result, MatchResult, OnOk, length, take};
+    ghost use Rattle.hound_spec.specs.declared.error.Error.{Error};
     ghost use Rattle.hound_medium.specs.Seen.{PutsAll};
     ghost use Rattle.hound_spec.specs.declared.error.Error.TheVariants.{Unsupported};
-    ghost use Rattle.hound_spec.specs.Header.{header, data_start, riff_size, canonical};
+    ghost use Rattle.hound_spec.specs.Header.{header, riff_size};
     ghost use Rattle.hound_spec.specs.Writable.{IsWritable, with_default_width};
-    ghost use Rattle.hound_writer.specs.Parts.{PutsAt, field};
-    ghost use Rattle.hound_writer.specs.Writer.{HasBegun, HasHeader, PutsHeader, medium_of, sample_refusal, AcceptsSample, accepted, IsWhole, IsIoError, IsOkOrIoError, IsPublishing, OnPublished, ChangesSizesOnly, faults_told, sample_count};
+    ghost use Rattle.hound_writer.specs.Parts.{PutsAt, Patches, IsStanding};
+    ghost use Rattle.hound_writer.specs.Writer.{IsSound, HasBegun, HasHeader, PutsHeader, medium_of, sample_refusal, AcceptsSample, accepted, IsWhole, IsCounted, AreFrames, IsIoError, IsOkOrIoError, IsPublishing, Publishes, faults_told, sample_count};
 
     /// Begins a file of this spec in a medium that stands at its beginning, and puts the header.
     ///
@@ -95,6 +101,7 @@ impl<W: Medium> WavWriter<W> {
         ensures puts { IsTrue W.tells → IfOk result (λ w. PutsHeader W.keeps (with_default_width spec) (W.seen writer) (W.seen w.medium)) }
         ensures header { IsTrue W.tells → IfOk result (λ w. HasHeader w.spec_ex (W.seen w.medium).contents) }
         ensures whole { IsTrue W.tells → IfOk result (λ w. IsWhole W.seen w) }
+        ensures counts { IsTrue W.tells → IfOk result (λ w. IsCounted W.seen w) }
     {
         WavWriter::new_with_spec_ex(writer, with_default_width(spec))
     }
@@ -111,6 +118,7 @@ impl<W: Medium> WavWriter<W> {
         ensures puts { IsTrue W.tells → IfOk result (λ w. PutsHeader W.keeps spec_ex (W.seen writer) (W.seen w.medium)) }
         ensures header { IsTrue W.tells → IfOk result (λ w. HasHeader w.spec_ex (W.seen w.medium).contents) }
         ensures whole { IsTrue W.tells → IfOk result (λ w. IsWhole W.seen w) }
+        ensures counts { IsTrue W.tells → IfOk result (λ w. IsCounted W.seen w) }
     {
         match WavWriter::try_new(writer, spec_ex) {
             Ok(writer) => Ok(writer),
@@ -133,6 +141,7 @@ impl<W: Medium> WavWriter<W> {
         ensures puts { IsWritable spec_ex → IsTrue W.tells → PutsAll W.keeps (header spec_ex 0 0) result (W.seen writer) (W.seen (medium_of result)) }
         ensures header { IsTrue W.tells → IfOk result (λ w. HasHeader w.spec_ex (W.seen w.medium).contents) }
         ensures whole { IsTrue W.tells → IfOk result (λ w. IsWhole W.seen w) }
+        ensures counts { IsTrue W.tells → IfOk result (λ w. IsCounted W.seen w) }
     {
         if !spec_ex.is_writable() {
             return Err((writer, Error::Unsupported));
@@ -149,6 +158,7 @@ impl<W: Medium> WavWriter<W> {
                 data_bytes_written: 0,
                 data_len_offset,
                 moved: false,
+                buffer: None,
             }),
             Err(error) => Err((writer, Error::IoError(error))),
         }
@@ -172,8 +182,10 @@ impl<W: Medium> WavWriter<W> {
         requires whole { length bytes.now % self.old.spec_ex.bytes_per_sample ≡ 0 }
         ensures spec_stays { self.new.spec_ex ≡ self.old.spec_ex }
         ensures start_stays { self.new.data_start ≡ self.old.data_start }
+        ensures kept_stays { self.new.kept ≡ self.old.kept }
         ensures count { MatchResult result (λ _. self.new.data_length ≡ self.old.data_length + length bytes.now)
             (λ _. self.new.data_length ≡ self.old.data_length) }
+        ensures sound { IsSound self.new.spec_ex self.new.data_start self.new.data_length }
         ensures puts { IsTrue W.tells → PutsAt W.keeps (self.old.data_start + self.old.data_length) bytes.now result
             (W.seen self.old.medium) (W.seen self.new.medium) }
     {
@@ -204,12 +216,14 @@ impl<W: Medium> WavWriter<W> {
 
         ensures spec_stays { self.new.spec_ex ≡ self.old.spec_ex }
         ensures start_stays { self.new.data_start ≡ self.old.data_start }
+        ensures kept_stays { self.new.kept ≡ self.old.kept }
         ensures count { MatchResult result (λ _. sample_count self.new ≡ sample_count self.old + 1) (λ _. self.new.data_length ≡ self.old.data_length) }
 
         // Over a medium that tells.
         ensures accepted { IsTrue W.tells → IsWhole W.seen self.old →
             AcceptsSample result (S.container sample self.old.spec_ex.spec.bits_per_sample self.old.spec_ex.bytes_per_sample) (accepted W.seen self.old) (accepted W.seen self.new) }
         ensures whole { IsTrue W.tells → IsWhole W.seen self.old → IsWhole W.seen self.new }
+        ensures counts { IsTrue W.tells → IsWhole W.seen self.old → IsCounted W.seen self.new }
         ensures front { IsTrue W.tells → take self.old.data_start (W.seen self.new.medium).contents ≡ take self.old.data_start (W.seen self.old.medium).contents }
         ensures reach { IsTrue W.tells → OnOk result (length (W.seen self.new.medium).contents ≤ max (length (W.seen self.old.medium).contents) (self.new.data_start + self.new.data_length)) }
     {
@@ -220,6 +234,50 @@ impl<W: Medium> WavWriter<W> {
         }
         self.accept(&container[..width as usize])?;
         Ok(())
+    }
+
+    // Whether the accepted samples are whole frames.
+    fn are_frames(&self) -> bool
+        ensures { IsTrue result ↔ AreFrames self.now }
+    {
+        self.len() % self.spec.channels as u32 == 0
+    }
+
+    // Puts both sizes, flushes the medium and goes back to the end of the accepted samples.
+    fn publish(&mut self) -> io::Result<()>
+        ensures stays { self.new ≡ record self.old { medium = self.new.medium } }
+        ensures sound { IsSound self.old.spec_ex self.old.data_start self.old.data_length }
+        ensures stands { IsTrue W.tells → IsStanding self.old.spec_ex self.old.data_start self.old.data_length (W.seen self.old.medium).contents }
+        ensures patches { IsTrue W.tells → Patches (self.old.data_start - 4) (riff_size self.old.data_start self.old.data_length) self.old.data_length result
+            (W.seen self.old.medium) (W.seen self.new.medium) }
+    {
+        let end = self.data_len_offset + 4 + self.data_bytes_written as u64;
+        let riff_size = (self.data_len_offset - 4 + self.data_bytes_written as u64) as u32;
+        let published = publish(
+            &mut self.writer,
+            self.data_len_offset,
+            riff_size,
+            self.data_bytes_written,
+            end,
+        );
+        self.moved = published.is_err();
+        published
+    }
+
+    /// Publishes the accepted samples: puts both sizes into the header and flushes the medium, so
+    /// that a reader finds them all, whatever becomes of the writer until it patches the header
+    /// again. The next sample follows.
+    ///
+    /// The errors, in their order: `IoError`, at the first fault of the medium, after which writing
+    /// may go on; `UnfinishedSample`, where the samples are no whole number of frames, although all
+    /// of them are published and the medium is flushed. A recorder relies on it for checkpoints.
+    pub fn flush(&mut self) -> Result<()>
+        ensures answer { IsPublishing result self.old }
+        ensures stays { self.new ≡ record self.old { medium = self.new.medium } }
+        ensures publishes { IsTrue W.tells → Publishes W.seen self.old result self.new.medium }
+    {
+        let published = self.publish();
+        told(published, self.are_frames())
     }
 
     /// Publishes the accepted samples and closes the file.
@@ -240,18 +298,7 @@ impl<W: Medium> WavWriter<W> {
     /// all of them are published and the medium is flushed.
     pub fn finalize_into(self) -> (W, Result<()>)
         ensures answer { IsPublishing result.1 self }
-        ensures faults { IsTrue W.tells → (W.seen result.0).faults ≡ faults_told result.1 (W.seen self.medium).faults }
-        ensures flushed { IsTrue W.tells → OnPublished result.1 ((W.seen result.0).flushed ≡ length (W.seen result.0).past) }
-
-        // The two sizes, and what stands before and behind them.
-        ensures riff_size { IsTrue W.tells → OnPublished result.1 (field 4 (W.seen result.0).contents ≡ riff_size self.data_start self.data_length) }
-        ensures data_length { IsTrue W.tells → OnPublished result.1 (field (self.data_start - 4) (W.seen result.0).contents ≡ self.data_length) }
-        ensures front { IsTrue W.tells → OnPublished result.1 (ChangesSizesOnly self.data_start (W.seen self.medium).contents (W.seen result.0).contents) }
-        ensures accepted { IsTrue W.tells → OnPublished result.1 (accepted W.seen (record self { medium = result.0 }) ≡ accepted W.seen self) }
-
-        // A file that was begun with this header is then the canonical one.
-        ensures canonical { IsTrue W.tells → IsWhole W.seen self → HasHeader self.spec_ex (W.seen self.medium).contents → self.data_start ≡ data_start self.spec_ex →
-            OnPublished result.1 (StartsWith (W.seen result.0).contents (canonical self.spec_ex (accepted W.seen self))) }
+        ensures publishes { IsTrue W.tells → Publishes W.seen self result.1 result.0 }
     {
         let WavWriter {
             spec,
@@ -260,12 +307,22 @@ impl<W: Medium> WavWriter<W> {
             data_bytes_written,
             data_len_offset,
             moved: _,
+            buffer: _,
         } = self;
         let mut writer = writer;
         let riff_size = (data_len_offset - 4 + data_bytes_written as u64) as u32;
         let samples = data_bytes_written / bytes_per_sample as u32;
         let patched = patch(&mut writer, data_len_offset, riff_size, data_bytes_written);
         (writer, told(patched, samples % spec.channels as u32 == 0))
+    }
+
+    /// Does what a drop does, and hands the medium back: it publishes the accepted samples as
+    /// [`WavWriter::finalize_into`] does, and a fault goes unseen.
+    pub fn drop_into(self) -> W
+        ensures publishes { IsTrue W.tells → (answer : Result Unit Error) × IsPublishing answer self × Publishes W.seen self answer result }
+    {
+        let (writer, _) = self.finalize_into();
+        writer
     }
 
     /// The spec that the file was begun with.
@@ -287,5 +344,11 @@ impl<W: Medium> WavWriter<W> {
         ensures { result ≡ sample_count self.now }
     {
         self.data_bytes_written / self.bytes_per_sample as u32
+    }
+}
+
+impl<W: Medium> Drop for WavWriter<W> {
+    fn drop(self) {
+        let _ = self.finalize_into();
     }
 }

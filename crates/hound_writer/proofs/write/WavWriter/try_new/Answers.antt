@@ -3,6 +3,8 @@ use Rattle.hound_spec.proofs.HeaderLemmas.{length-header, data_start_least}
 use Rattle.hound_spec.specs.Header.{data_start}
 use Rattle.hound_spec.specs.Writable.{IsWritable}
 use Rattle.hound_writer.proofs.Beginning.{sound_begin, stands_begin, header_begins, whole_begins}
+use Rattle.hound_writer.proofs.Standing.{counts}
+use Rattle.hound_writer.proofs.Accepting.{standing}
 use Rattle.hound_writer.proofs.write.WavWriter.try_new.Goals as goal
 
 pub overflow_sub-data_len_offset : goal.overflow_sub-data_len_offset
@@ -17,14 +19,14 @@ invariant_of-result g c =
     let at : length c.as_slice-bytes.result.now - 4 + 4 ≡ data_start s = omega (arith, size, data_start_least s) in
     let writable : IsWritable s = search rules in (
       sound_begin s _ writable at,
-      λ tells. let puts = c.in-Ok.ensures tells in stands_begin g.W.Placed.keeps s _ _ _ _ is (c.requires tells) puts puts.whole _ at,
+      λ tells. let puts = c.in-Ok.ensures tells in stands_begin g.W.Placed.keeps s _ _ _ _ is (c.requires tells) puts puts.whole writable _ at,
     )
 
 pub returns-in-Ok-clause-begun : goal.returns-in-Ok-clause-begun
 returns-in-Ok-clause-begun g c =
     let s = c.args.spec_ex in
     let size = ap length (c.as_slice-bytes.ensures ∙ c.header_of-header.ensures) ∙ length-header s 0 0 in
-    record { spec = search rules; start = omega (arith, size, data_start_least s); empty = search rules }
+    record { spec = search rules; start = omega (arith, size, data_start_least s); empty = search rules; kept = search rules }
 
 pub returns-in-Ok-clause-header : goal.returns-in-Ok-clause-header
 returns-in-Ok-clause-header g c tells =
@@ -38,3 +40,13 @@ returns-in-Ok-clause-whole g c tells =
     let is = c.as_slice-bytes.ensures ∙ c.header_of-header.ensures in
     let size = ap length is ∙ length-header s 0 0 in
     omega (arith, size, data_start_least s, whole_begins g.W.Placed.keeps s _ _ _ _ is (c.requires tells) puts puts.whole)
+
+pub returns-in-Ok-clause-counts : goal.returns-in-Ok-clause-counts
+returns-in-Ok-clause-counts g c tells =
+    let s = c.args.spec_ex in
+    let is = c.as_slice-bytes.ensures ∙ c.header_of-header.ensures in
+    let size = ap length is ∙ length-header s 0 0 in
+    let at : length c.as_slice-bytes.result.now - 4 + 4 ≡ data_start s = omega (arith, size, data_start_least s) in
+    let writable : IsWritable s = search rules in
+    let puts = c.in-Ok.ensures tells in
+    counts g.W.Placed.seen (record { medium = _; spec_ex = s; data_start = _; data_length = 0; kept = 0 }) (sound_begin s _ writable at) (standing _ _ _ _ _ (stands_begin g.W.Placed.keeps s _ _ _ _ is (c.requires tells) puts puts.whole writable _ at))

@@ -1,29 +1,30 @@
-use Rattle.std.proofs.Common.{length, sym, ap, ◌∙◌}
-use Rattle.hound_writer.proofs.Accepting.{encoded, opened, same_container, cut, accepts_none, accepts_one, accepted_stay, accepted_grow, whole_stays, whole_grows, front_same, reach, count_grows}
+use Rattle.std.proofs.Common.{arith, length, sym, ap, ◌∙◌}
+use Rattle.hound_writer.proofs.Accepting.{encoded, opened, standing, same_container, cut, accepts_none, accepts_one, accepted_stay, accepted_grow, whole_stays, whole_grows, front_same, standing_put, reach, count_grows}
+use Rattle.hound_writer.proofs.Standing.{inside, counts}
 use Rattle.hound_writer.proofs.write.WavWriter.write_sample.Goals as goal
 
 pub returns-in_err-accept-clause-accepted : goal.returns-in_err-accept-clause-accepted
 returns-in_err-accept-clause-accepted g c tells whole =
-    let w = opened g.W.Placed.tells g.W.Placed.seen _ _ c.self.view_is c.self.invariant.0 (λ t. (c.self.invariant.1 t).inside) in
+    let w = opened g.W.Placed.tells g.W.Placed.seen _ _ c.self.view_is c.self.invariant.0 (λ t. standing _ _ _ _ _ (c.self.invariant.1 t)) in
     let accept = c.in_err-accept.ensures in
     accepts_none c.from_residual-in_err-accept.result _ _ _ c.from_residual-in_err-accept.ensures.0
     (accepted_stay g.W.Placed.keeps g.W.Placed.seen c.args.self.now c.accept.new.self _ _ w.sound (accept.puts tells) accept.spec_stays accept.start_stays accept.count whole)
 
 pub returns-in_err-accept-clause-whole : goal.returns-in_err-accept-clause-whole
 returns-in_err-accept-clause-whole g c tells whole =
-    let w = opened g.W.Placed.tells g.W.Placed.seen _ _ c.self.view_is c.self.invariant.0 (λ t. (c.self.invariant.1 t).inside) in
+    let w = opened g.W.Placed.tells g.W.Placed.seen _ _ c.self.view_is c.self.invariant.0 (λ t. standing _ _ _ _ _ (c.self.invariant.1 t)) in
     let accept = c.in_err-accept.ensures in
     whole_stays g.W.Placed.keeps g.W.Placed.seen c.args.self.now c.accept.new.self _ _ w.sound (accept.puts tells) accept.spec_stays accept.start_stays accept.count whole
 
 pub returns-in_err-accept-clause-front : goal.returns-in_err-accept-clause-front
 returns-in_err-accept-clause-front g c tells =
-    let w = opened g.W.Placed.tells g.W.Placed.seen _ _ c.self.view_is c.self.invariant.0 (λ t. (c.self.invariant.1 t).inside) in
+    let w = opened g.W.Placed.tells g.W.Placed.seen _ _ c.self.view_is c.self.invariant.0 (λ t. standing _ _ _ _ _ (c.self.invariant.1 t)) in
     let accept = c.in_err-accept.ensures in
-    front_same g.W.Placed.keeps g.W.Placed.seen c.args.self.now c.accept.new.self _ _ w.sound (accept.puts tells) accept.spec_stays accept.start_stays (w.inside tells)
+    front_same g.W.Placed.keeps g.W.Placed.seen c.args.self.now c.accept.new.self _ _ w.sound (accept.puts tells) accept.spec_stays accept.start_stays (inside _ _ _ _ (g.W.Placed.seen c.args.self.now.medium).contents (w.stands tells))
 
 pub returns-clause-accepted : goal.returns-clause-accepted
 returns-clause-accepted g c tells whole =
-    let w = opened g.W.Placed.tells g.W.Placed.seen _ _ c.self.view_is c.self.invariant.0 (λ t. (c.self.invariant.1 t).inside) in
+    let w = opened g.W.Placed.tells g.W.Placed.seen _ _ c.self.view_is c.self.invariant.0 (λ t. standing _ _ _ _ _ (c.self.invariant.1 t)) in
     let accept = c.in_ok-accept.ensures in
     let sample = encoded _ c.in_ok-container.container c.in_ok-container.ensures in
     let fits = g.met.S.Sample.in_width c.args.sample _ _ sample.container sample.is in
@@ -35,7 +36,7 @@ returns-clause-accepted g c tells whole =
 
 pub returns-clause-count : goal.returns-clause-count
 returns-clause-count g c =
-    let w = opened g.W.Placed.tells g.W.Placed.seen _ _ c.self.view_is c.self.invariant.0 (λ t. (c.self.invariant.1 t).inside) in
+    let w = opened g.W.Placed.tells g.W.Placed.seen _ _ c.self.view_is c.self.invariant.0 (λ t. standing _ _ _ _ _ (c.self.invariant.1 t)) in
     let accept = c.in_ok-accept.ensures in
     let sample = encoded _ c.in_ok-container.container c.in_ok-container.ensures in
     let fits = g.met.S.Sample.in_width c.args.sample _ _ sample.container sample.is in
@@ -46,18 +47,42 @@ returns-clause-count g c =
 
 pub returns-clause-whole : goal.returns-clause-whole
 returns-clause-whole g c tells whole =
-    let w = opened g.W.Placed.tells g.W.Placed.seen _ _ c.self.view_is c.self.invariant.0 (λ t. (c.self.invariant.1 t).inside) in
+    let w = opened g.W.Placed.tells g.W.Placed.seen _ _ c.self.view_is c.self.invariant.0 (λ t. standing _ _ _ _ _ (c.self.invariant.1 t)) in
     let accept = c.in_ok-accept.ensures in
     whole_grows g.W.Placed.keeps g.W.Placed.seen c.args.self.now c.accept.new.self _ _ w.sound (accept.puts tells) accept.spec_stays accept.start_stays (accept.puts tells).whole accept.count whole
 
 pub returns-clause-front : goal.returns-clause-front
 returns-clause-front g c tells =
-    let w = opened g.W.Placed.tells g.W.Placed.seen _ _ c.self.view_is c.self.invariant.0 (λ t. (c.self.invariant.1 t).inside) in
+    let w = opened g.W.Placed.tells g.W.Placed.seen _ _ c.self.view_is c.self.invariant.0 (λ t. standing _ _ _ _ _ (c.self.invariant.1 t)) in
     let accept = c.in_ok-accept.ensures in
-    front_same g.W.Placed.keeps g.W.Placed.seen c.args.self.now c.accept.new.self _ _ w.sound (accept.puts tells) accept.spec_stays accept.start_stays (w.inside tells)
+    front_same g.W.Placed.keeps g.W.Placed.seen c.args.self.now c.accept.new.self _ _ w.sound (accept.puts tells) accept.spec_stays accept.start_stays (inside _ _ _ _ (g.W.Placed.seen c.args.self.now.medium).contents (w.stands tells))
 
 pub returns-clause-reach : goal.returns-clause-reach
 returns-clause-reach g c tells =
-    let w = opened g.W.Placed.tells g.W.Placed.seen _ _ c.self.view_is c.self.invariant.0 (λ t. (c.self.invariant.1 t).inside) in
+    let w = opened g.W.Placed.tells g.W.Placed.seen _ _ c.self.view_is c.self.invariant.0 (λ t. standing _ _ _ _ _ (c.self.invariant.1 t)) in
     let accept = c.in_ok-accept.ensures in
     reach g.W.Placed.keeps g.W.Placed.seen c.args.self.now c.accept.new.self _ _ w.sound (accept.puts tells) accept.spec_stays accept.start_stays (accept.puts tells).whole accept.count
+
+pub returns-in_err-container-clause-counts : goal.returns-in_err-container-clause-counts
+returns-in_err-container-clause-counts g c tells whole =
+    let w = opened g.W.Placed.tells g.W.Placed.seen _ _ c.self.view_is c.self.invariant.0 (λ t. standing _ _ _ _ _ (c.self.invariant.1 t)) in
+    counts g.W.Placed.seen c.args.self.now w.sound (w.stands tells)
+
+pub returns-then-not-has_room-clause-counts : goal.returns-then-not-has_room-clause-counts
+returns-then-not-has_room-clause-counts g c tells whole =
+    let w = opened g.W.Placed.tells g.W.Placed.seen _ _ c.self.view_is c.self.invariant.0 (λ t. standing _ _ _ _ _ (c.self.invariant.1 t)) in
+    counts g.W.Placed.seen c.args.self.now w.sound (w.stands tells)
+
+pub returns-in_err-accept-clause-counts : goal.returns-in_err-accept-clause-counts
+returns-in_err-accept-clause-counts g c tells whole =
+    let w = opened g.W.Placed.tells g.W.Placed.seen _ _ c.self.view_is c.self.invariant.0 (λ t. standing _ _ _ _ _ (c.self.invariant.1 t)) in
+    let accept = c.in_err-accept.ensures in
+    counts g.W.Placed.seen c.accept.new.self accept.sound
+    (standing_put g.W.Placed.keeps g.W.Placed.seen c.args.self.now c.accept.new.self _ _ w.sound (accept.puts tells) accept.spec_stays accept.start_stays (w.stands tells) (omega (arith, accept.count)))
+
+pub returns-clause-counts : goal.returns-clause-counts
+returns-clause-counts g c tells whole =
+    let w = opened g.W.Placed.tells g.W.Placed.seen _ _ c.self.view_is c.self.invariant.0 (λ t. standing _ _ _ _ _ (c.self.invariant.1 t)) in
+    let accept = c.in_ok-accept.ensures in
+    counts g.W.Placed.seen c.accept.new.self accept.sound
+    (standing_put g.W.Placed.keeps g.W.Placed.seen c.args.self.now c.accept.new.self _ _ w.sound (accept.puts tells) accept.spec_stays accept.start_stays (w.stands tells) (omega (arith, accept.count)))

@@ -1,0 +1,49 @@
+-- What the data length counts, where the head and the accepted samples stand.
+use Rattle.std.proofs.Common.{◌≡◌, ℕ, zero, suc, ◌+◌, ◌*◌, ◌-◌, ◌/◌, ◌%◌, ◌<◌, ◌≤◌, List, ◌∷◌, length, take, drop, Option, Some, None, inr, refl, sym, ◌∙◌, ap, arith}
+use Rattle.std.proofs.lemmas.List.{take_all}
+use Rattle.std.proofs.lemmas.Nat.{le-div}
+use Rattle.std.proofs.Math.Nat.{div-mul-le_self}
+use Rattle.std.specs.List.{concat}
+use Rattle.hound_spec.specs.declared.spec.WavSpecEx.{WavSpecEx}
+use Rattle.hound_sample.specs.Container.{containers}
+use Rattle.hound_reader.specs.declared.fault.Cause.{Cause}
+use Rattle.hound_reader.specs.Chunks.{Head, data_fault}
+use Rattle.hound_writer.specs.Parts.{field}
+use Rattle.hound_writer.specs.Counts.{Counts, ReadsFirst}
+use Rattle.hound_writer.proofs.Containers.{concat-containers, count_bytes}
+
+pub length-containers : (width count : ℕ) (bytes : List ℕ) → length (containers width count bytes) ≡ count
+length-containers width zero bytes = refl
+length-containers width (suc count) bytes = ap suc (length-containers width count (drop width bytes))
+
+-- fewer containers are the first ones
+pub containers_first : (width few count : ℕ) (bytes : List ℕ) → few ≤ count → containers width few bytes ≡ take few (containers width count bytes)
+containers_first width zero count bytes le = refl
+containers_first width (suc few) zero bytes le = absurd (omega (arith, le))
+containers_first width (suc few) (suc count) bytes le = ap (λ (l : List (List ℕ)). take width bytes ∷ l) (containers_first width few count (drop width bytes) (omega (arith, le)))
+
+-- no more whole samples than there are in more bytes
+pub samples_le : (m n width : ℕ) → 0 < width → m ≤ n → m / width ≤ n / width
+samples_le m n width some le = le-div (m / width) n width some (omega (arith, le, div-mul-le_self m width))
+
+reads_first : (s : WavSpecEx) (start n count : ℕ) (contents : List ℕ) → n / s.bytes_per_sample ≤ count → Head contents s n start → (fault : Option Cause) → data_fault s n ≡ fault
+    → ReadsFirst fault s start n (containers s.bytes_per_sample count (drop start contents)) contents
+reads_first s start n count contents le head None is =
+    (record { len = n; head = head; frames = is; count = refl }, containers_first s.bytes_per_sample (n / s.bytes_per_sample) count (drop start contents) le)
+reads_first s start n count contents le head (Some cause) is = inr (s, n, start, head, is)
+
+-- where the head stands and the field says at most n, the first n bytes of the data are counted
+pub counts_standing : (s : WavSpecEx) (start n : ℕ) (contents : List ℕ) → 1 ≤ s.bytes_per_sample → n % s.bytes_per_sample ≡ 0 → Head contents s (field (start - 4) contents) start → field (start - 4) contents ≤ n
+    → Counts s start (containers s.bytes_per_sample (n / s.bytes_per_sample) (drop start contents)) contents
+counts_standing s start n contents some whole head counted =
+    let width = s.bytes_per_sample in
+    let bytes = drop start contents in
+    let count = n / width in
+    let all : take count (containers width count bytes) ≡ containers width count bytes = take_all count (containers width count bytes) (omega (arith, length-containers width count bytes)) in
+    record {
+      samples = count;
+      among = omega (arith, length-containers width count bytes);
+      covers = omega (arith, counted, count_bytes n width whole);
+      stand = sym (concat-containers width count bytes) ∙ ap concat (sym all);
+      reads = reads_first s start (field (start - 4) contents) count contents (samples_le (field (start - 4) contents) n width some counted) head (data_fault s (field (start - 4) contents)) refl;
+    }

@@ -1,0 +1,38 @@
+-- A writer's file between its calls: the head stands, and the data length counts no more than was accepted.
+use Rattle.std.proofs.Common.{◌≡◌, ℕ, ◌+◌, ◌-◌, ◌*◌, ◌%◌, ◌≤◌, List, length, take, drop, sym, subst, ◌∙◌, ap, arith}
+use Rattle.hound_number.specs.Number.{number}
+use Rattle.hound_medium.proofs.Overlays.{front_part}
+use Rattle.hound_spec.specs.declared.spec.WavSpecEx.{WavSpecEx}
+use Rattle.hound_medium.specs.Seen.{Seen}
+use Rattle.hound_writer.specs.Parts.{SameButSizes, IsStanding, field, mix}
+use Rattle.hound_writer.specs.Counts.{Counts}
+use Rattle.hound_writer.specs.Writer.{Written, IsSound, IsCounted, accepted}
+use Rattle.hound_writer.proofs.Heads.{head_with, head_front, head_behind, head_inside}
+use Rattle.hound_writer.proofs.Sizes.{mix_le}
+use Rattle.hound_writer.proofs.Counted.{counts_standing}
+
+module _ (s : WavSpecEx) (start n : ℕ) (old new : List ℕ) (stands : IsStanding s start n old) where
+  pub inside : start ≤ length old
+  inside = head_inside old s (field (start - 4) old) start stands.head
+
+  -- bytes at the data or behind leave it
+  pub stands_front : take start new ≡ take start old → start ≤ length new → IsStanding s start n new
+  stands_front same long = record {
+    head = head_front old s (field (start - 4) old) start stands.head new same long;
+    counted = omega (arith, stands.counted, ap number (front_part start (start - 4) 4 new old (omega (arith, head_behind old s (field (start - 4) old) start stands.head)) same));
+  }
+
+  -- so does a patch, also one that a fault has cut
+  pub stands_patched : (k : ℕ) → SameButSizes (start - 4) old new → field (start - 4) new ≡ mix k (field (start - 4) old) n → IsStanding s start n new
+  stands_patched k same torn = record {
+    head = head_with old s (field (start - 4) old) start stands.head new (omega (arith, inside, same.long)) same.front same.middle;
+    counted = omega (arith, torn, mix_le k (field (start - 4) old) n stands.counted);
+  }
+
+-- more bytes count at least as much
+pub stands_more : (s : WavSpecEx) (start n m : ℕ) (contents : List ℕ) → n ≤ m → IsStanding s start n contents → IsStanding s start m contents
+stands_more s start n m contents le stands = record { head = stands.head; counted = omega (arith, le, stands.counted) }
+
+-- what stands is counted
+pub counts : {W : Type 0} (seen : W → Seen) (w : Written W) → IsSound w.spec_ex w.data_start w.data_length → IsStanding w.spec_ex w.data_start w.data_length (seen w.medium).contents → IsCounted seen w
+counts seen w sound stands = counts_standing w.spec_ex w.data_start w.data_length (seen w.medium).contents sound.width sound.whole stands.head stands.counted

@@ -1,0 +1,8 @@
+use Rattle.hound_writer.proofs.Publishing.{publishes}
+use Rattle.hound_writer.proofs.write.WavWriter.flush.Goals as goal
+
+pub returns-clause-publishes : goal.returns-clause-publishes
+returns-clause-publishes g c tells =
+    let publish = c.publish-published in
+    publishes g.W.Placed.seen c.args.self.now publish.ensures.sound (publish.ensures.stands tells) publish.new.self.medium publish.result _ c.told.result c.told.ensures (g.met.W.Placed.bytes publish.new.self.medium tells)
+    (publish.ensures.patches tells)
