@@ -163,6 +163,7 @@ fn read_next_chunk<R: Input>(
 // Takes chunks from the WAVE tag on, up to the data.
 fn read_chunks<R: Input>(reader: &mut R) -> Result<FileHead, HeadError>
     ensures sound { IfOk result (λ r. IsSound r.spec_ex) }
+    ensures start { IfOk result (λ r. (20 ≤ r.data_start) × (r.data_start ≤ 4294967315)) }
     ensures failures { CountsFailed (R.account reader.old) (R.account reader.new) result }
     ensures ok { IfOk result (λ r. Known (R.left reader.old) (R.left reader.new) (λ xs ys.
         (taken : ℕ) × ReachesData xs ys r.spec_ex r.data_length taken × (r.data_start ≡ 12 + taken + 8))) }
@@ -190,6 +191,7 @@ fn read_chunks<R: Input>(reader: &mut R) -> Result<FileHead, HeadError>
 // Takes what stands before the data.
 fn read_head<R: Input>(reader: &mut R) -> Result<FileHead, HeadError>
     ensures sound { IfOk result (λ r. IsSound r.spec_ex) }
+    ensures start { IfOk result (λ r. (20 ≤ r.data_start) × (r.data_start ≤ 4294967315)) }
     ensures failures { CountsFailed (R.account reader.old) (R.account reader.new) result }
     ensures ok { IfOk result (λ r. Known (R.left reader.old) (R.left reader.new) (λ xs ys.
         Head xs r.spec_ex r.data_length r.data_start × (ys ≡ drop r.data_start xs))) }
@@ -205,6 +207,7 @@ fn read_head<R: Input>(reader: &mut R) -> Result<FileHead, HeadError>
 /// and the only one that counts as failed.
 pub fn read_until_data<R: Input>(reader: &mut R) -> Result<FileHead, HeadError>
     ensures sound { IfOk result (λ r. IsSound r.spec_ex) }
+    ensures start { IfOk result (λ r. (20 ≤ r.data_start) × (r.data_start ≤ 4294967315)) }
     ensures failures { CountsFailed (R.account reader.old) (R.account reader.new) result }
     ensures found { IfOk result (λ r. Known (R.left reader.old) (R.left reader.new) (λ xs ys.
         Head xs r.spec_ex r.data_length r.data_start × (ys ≡ drop r.data_start xs))) }
@@ -220,6 +223,7 @@ pub fn read_until_data<R: Input>(reader: &mut R) -> Result<FileHead, HeadError>
 /// Nothing of the source changes but its place and its count of faults.
 pub fn find_data<S: Source>(source: S) -> (S, Result<FileHead, HeadError>)
     ensures sound { IfOk result.1 (λ r. IsSound r.spec_ex) }
+    ensures start { IfOk result.1 (λ r. (20 ≤ r.data_start) × (r.data_start ≤ 4294967315)) }
     ensures finds { IsTrue S.tells → FindsData result.1 (S.seen source) (S.seen result.0) }
 {
     let mut input = Counted { source };

@@ -14,7 +14,7 @@ mod reader;
 mod samples;
 
 pub use chunks::{ChunkRead, FileHead, find_data, read_until_data};
-pub use fault::{Cause, HeadError, Reason};
+pub use fault::{Cause, HeadError, Reason, error_of};
 pub use input::Counted;
 pub use laws::{items_are_of_the_file, one_answer, written_is_head, written_is_read};
 pub use reader::{WavReader, read_wave_header};

@@ -7,7 +7,7 @@ mod spec;
 
 pub use error::{Error, Result};
 pub use header::{Header, header_of};
-pub use spec::{SampleFormat, WavSpec, WavSpecEx, with_default_width};
+pub use spec::{SampleFormat, WavSpec, WavSpecEx, is_pair, with_default_width};
 
 #[cfg(test)]
 mod tests;

@@ -72,8 +72,9 @@ pub fn with_default_width(spec: WavSpec) -> WavSpecEx
     }
 }
 
-// Whether samples of this format are written with so many bits in so many bytes.
-fn is_pair(format: SampleFormat, bits: u16, width: u16) -> bool
+/// Whether samples of this format are written with so many used bits in so many bytes: (8, 1),
+/// (16, 2), (24, 3), (24, 4) and (32, 4) for integers, and (32, 4) for floats.
+pub fn is_pair(format: SampleFormat, bits: u16, width: u16) -> bool
     ensures { IsTrue result ↔ IsPair format bits width }
 {
     match format {

@@ -7,3 +7,4 @@ pub mod Accepting
 pub mod Patching
 pub mod Publishing
 pub mod Beginning
+pub mod Continuing

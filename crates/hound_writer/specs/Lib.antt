@@ -1,3 +1,4 @@
+pub mod Appending
 pub mod Counts
 pub mod Parts
 pub mod Writer

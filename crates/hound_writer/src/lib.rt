@@ -1,6 +1,7 @@
 //! The writer.
 #![tactic(auto)]
 
+mod append;
 mod patch;
 mod write;
 

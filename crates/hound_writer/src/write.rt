@@ -58,7 +58,7 @@ impl<W: Medium> Model for WavWriter<W> {
 
 // Whether the RIFF size of so many data bytes behind a field at this place fits 32 bits.
 #[inline(always)]
-fn riff_fits(data_len_offset: u64, data_length: u64) -> bool
+pub(crate) fn riff_fits(data_len_offset: u64, data_length: u64) -> bool
     requires behind { 8 ≤ data_len_offset }
     requires small { data_len_offset ≤ 2 ^ 33 }
     requires few { data_length ≤ 2 ^ 33 }

@@ -1,0 +1,76 @@
+-- Going on with a file that is there.
+use Rattle.std.specs.Prelude.{◌≡◌, ℕ, ◌+◌, ◌*◌, ◌/◌, ◌%◌, ◌==◌, ◌&&◌, ◌⊎◌, not, nat_lt, if◌then◌else◌, ⊤, Bool, List, Option, None, Some, Result, Ok, Err}
+use Rattle.hound_spec.specs.declared.error.Error.{Error}
+use Rattle.hound_spec.specs.declared.error.Error.TheVariants.{TooLong}
+use Rattle.hound_spec.specs.declared.spec.SampleFormat.{SampleFormat}
+use Rattle.hound_spec.specs.declared.spec.SampleFormat.TheVariants.{Int, Float}
+use Rattle.hound_spec.specs.declared.spec.WavSpecEx.{WavSpecEx}
+use Rattle.hound_spec.specs.Header.{riff_size}
+use Rattle.hound_sample.specs.Meaning.{is_int_pair}
+use Rattle.hound_medium.specs.Seen.{Seen, Stays, one_more}
+use Rattle.hound_reader.specs.declared.fault.Cause.{Cause}
+use Rattle.hound_reader.specs.declared.fault.Cause.TheVariants.{Format, Unsupported}
+use Rattle.hound_reader.specs.declared.fault.Reason.TheVariants.{DataLength, FrameLength}
+use Rattle.hound_reader.specs.Chunks.{Head, Refused}
+use Rattle.hound_reader.specs.Refusals.{Names}
+use Rattle.hound_writer.specs.Writer.{Written, IsIoError}
+
+-- why a file isn't gone on with: for a cause that its bytes decide, or since its RIFF size would not fit 32 bits
+pub data AppendFault : Type 0 where
+  by_bytes : Cause → AppendFault
+  too_long : AppendFault
+
+-- the used bits and the bytes that samples of a format are written with
+abbrev pub is_written_pair : SampleFormat → ℕ → ℕ → Bool
+is_written_pair Int bits width = is_int_pair width bits
+is_written_pair Float bits width = width == 4 && bits == 32
+
+-- The first check that a head fails: whole samples, samples that are written, whole frames, a RIFF size that fits.
+unfoldable pub head_fault : WavSpecEx → ℕ → ℕ → Option AppendFault
+head_fault s len h =
+    if not (len % s.bytes_per_sample == 0) then Some (by_bytes (Format DataLength))
+    else if not (is_written_pair s.spec.sample_format s.spec.bits_per_sample s.bytes_per_sample) then Some (by_bytes Unsupported)
+    else if not (len / s.bytes_per_sample % s.spec.channels == 0) then Some (by_bytes (Format FrameLength))
+    else if nat_lt 4294967295 (riff_size h len) then Some too_long
+    else None
+
+-- the bytes have this fault: they have no head for this cause, or their head fails a check
+abbrev pub IsAppendFault : List ℕ → AppendFault → Type 0
+IsAppendFault bytes fault =
+    ((cause : Cause) × (fault ≡ by_bytes cause) × Refused bytes cause)
+    ⊎ ((s : WavSpecEx) × (len : ℕ) × (h : ℕ) × Head bytes s len h × (head_fault s len h ≡ Some fault))
+
+-- the error that callers are told
+abbrev pub NamesFault : Error → AppendFault → Type 0
+NamesFault e (by_bytes cause) = Names e cause
+NamesFault e too_long = e ≡ TooLong
+
+-- nothing was put, and nothing but the place and the faults has changed
+pub record PutsNothing (old new : Seen) : Type 0 where
+  pub stays : Stays old new
+  pub flushed : new.flushed ≡ old.flushed
+
+-- A writer that goes on with a file: its head stands and fails no check, and the data chunk is what was accepted. The next sample goes to its end.
+pub record GoesOn {W : Type 0} (old : Seen) (seen : W → Seen) (w : Written W) : Type 0 where
+  pub head : Head old.contents w.spec_ex w.data_length w.data_start
+  pub sound : head_fault w.spec_ex w.data_length w.data_start ≡ None
+  pub kept : w.kept ≡ 0
+  pub puts : PutsNothing old (seen w.medium)
+  pub place : (seen w.medium).place ≡ w.data_start + w.data_length
+  pub faults : (seen w.medium).faults ≡ old.faults
+
+-- A file that isn't gone on with, for a fault that its bytes have, or since the medium failed.
+pub record IsNotAppended (old new : Seen) (e : Error) : Type 0 where
+  pub puts : PutsNothing old new
+  pub why : ((fault : AppendFault) × IsAppendFault old.contents fault × NamesFault e fault × (new.faults ≡ old.faults))
+      ⊎ (IsIoError e × (new.faults ≡ one_more old.faults))
+
+-- an `IoError`, or the error of a fault that the bytes have
+abbrev pub IsAppendRefusal : List ℕ → Error → Type 0
+IsAppendRefusal bytes e = ((fault : AppendFault) × IsAppendFault bytes fault × NamesFault e fault) ⊎ IsIoError e
+
+-- what a check answers: Ok where a head has no fault, else the error of its fault
+abbrev pub FailsCheck : {T : Type 0} → Result T Error → Option AppendFault → Type 0
+FailsCheck (Ok x) fault = fault ≡ None
+FailsCheck (Err e) None = ⊥
+FailsCheck (Err e) (Some fault) = NamesFault e fault

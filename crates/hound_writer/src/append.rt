@@ -1,0 +1,111 @@
+// Going on with files that are there.
+ghost use Rattle.std.specs.Prelude.{◌≡◌, ◌↔◌, ◌≤◌, ◌+◌, IsTrue, IfOk, IfErr, MatchResult};
+ghost use Rattle.hound_reader.specs.Fmt.{IsSound};
+ghost use Rattle.hound_reader.specs.Chunks.{Head};
+ghost use Rattle.hound_writer.specs.Appending.{GoesOn, IsNotAppended, IsAppendRefusal, FailsCheck, head_fault};
+ghost use Rattle.hound_reader.specs.Refusals.{Names};
+ghost use Rattle.hound_writer.specs.Writer.{IsWhole, IsCounted};
+
+use crate::WavWriter;
+use crate::write::riff_fits;
+use hound_medium::{Medium, Source};
+use hound_reader::{Cause, FileHead, HeadError, Reason, error_of, find_data};
+use hound_spec::{Error, Result, is_pair};
+use std::result;
+
+// The error of a cause that the bytes decide.
+fn refused(cause: Cause) -> Error
+    ensures { Names result cause }
+{
+    error_of(HeadError::Refused(cause))
+}
+
+// Looks whether a file with this head can be gone on with.
+#[tactic(auto, unfolding(crate::specs::Appending::head_fault))]
+fn check_head(head: FileHead) -> Result<()>
+    requires sound { IsSound head.spec_ex }
+    requires start { (20 ≤ head.data_start) × (head.data_start ≤ 4294967315) }
+    ensures { FailsCheck result (head_fault head.spec_ex head.data_length head.data_start) }
+{
+    let spec = head.spec_ex.spec;
+    let width = head.spec_ex.bytes_per_sample;
+    if head.data_length % width as u32 != 0 {
+        return Err(refused(Cause::Format(Reason::DataLength)));
+    }
+    if !is_pair(spec.sample_format, spec.bits_per_sample, width) {
+        return Err(Error::Unsupported);
+    }
+    if head.data_length / width as u32 % spec.channels as u32 != 0 {
+        return Err(refused(Cause::Format(Reason::FrameLength)));
+    }
+    if !riff_fits(head.data_start - 4, head.data_length as u64) {
+        return Err(Error::TooLong);
+    }
+    Ok(())
+}
+
+// A writer behind the data of a file with this head.
+fn behind_data<W: Medium>(
+    writer: W,
+    head: FileHead,
+) -> result::Result<WavWriter<W>, (W, Error)>
+    requires sound { IsSound head.spec_ex }
+    requires start { (20 ≤ head.data_start) × (head.data_start ≤ 4294967315) }
+    requires head { IsTrue W.tells → Head (W.seen writer).contents head.spec_ex head.data_length head.data_start }
+    ensures appends { IsTrue W.tells → MatchResult result (GoesOn (W.seen writer) W.seen) (λ refused. IsNotAppended (W.seen writer) (W.seen refused.0) refused.1) }
+    ensures counts { IsTrue W.tells → IfOk result (λ w. IsWhole W.seen w → IsCounted W.seen w) }
+{
+    if let Err(error) = check_head(head) {
+        return Err((writer, error));
+    }
+    let mut writer = writer;
+    if let Err(error) = writer.go(head.data_start + head.data_length as u64) {
+        return Err((writer, Error::IoError(error)));
+    }
+    Ok(WavWriter {
+        spec: head.spec_ex.spec,
+        bytes_per_sample: head.spec_ex.bytes_per_sample,
+        writer,
+        data_bytes_written: head.data_length,
+        data_len_offset: head.data_start - 4,
+        moved: false,
+        buffer: None,
+    })
+}
+
+impl<W: Source + Medium> WavWriter<W> {
+    /// Goes on with the file in a medium that stands at its beginning: the next sample goes behind
+    /// its data chunk, over what may stand there.
+    ///
+    /// The errors are those of [`WavWriter::try_append`], which hands the medium back.
+    pub fn new_append(writer: W) -> Result<WavWriter<W>>
+        requires { IsTrue W.tells → (W.seen writer).place ≡ 0 }
+        ensures appends { IsTrue W.tells → MatchResult result (GoesOn (W.seen writer) W.seen) (IsAppendRefusal (W.seen writer).contents) }
+        ensures counts { IsTrue W.tells → IfOk result (λ w. IsWhole W.seen w → IsCounted W.seen w) }
+    {
+        match WavWriter::try_append(writer) {
+            Ok(writer) => Ok(writer),
+            Err((_, error)) => Err(error),
+        }
+    }
+
+    /// Goes on with the file in a medium that stands at its beginning, and hands the medium back
+    /// where it can't. Nothing is put.
+    ///
+    /// The errors, in their order: those of a reader's walk to the data, by the bytes; a
+    /// `FormatError`, for data that are no whole samples; `Unsupported`, for samples that are not
+    /// written with these bits, bytes and format; a `FormatError`, for data that are no whole
+    /// frames; `TooLong`, where the RIFF size would pass 4294967295; `IoError`, where the medium
+    /// failed. An early end is an `IoError` of kind `Other`.
+    pub fn try_append(writer: W) -> result::Result<WavWriter<W>, (W, Error)>
+        requires { IsTrue W.tells → (W.seen writer).place ≡ 0 }
+        ensures appends { IsTrue W.tells → MatchResult result (GoesOn (W.seen writer) W.seen) (λ refused. IsNotAppended (W.seen writer) (W.seen refused.0) refused.1) }
+        ensures counts { IsTrue W.tells → IfOk result (λ w. IsWhole W.seen w → IsCounted W.seen w) }
+    {
+        let (writer, head) = find_data(writer);
+        match head {
+            Ok(head) => behind_data(writer, head),
+            Err(error) => Err((writer, error_of(error))),
+        }
+    }
+}
