@@ -89,7 +89,7 @@ pub after_walk : {W : Type 0} (seen : W → Seen) (head : FileHead) (old mid : S
 after_walk seen head old mid (Ok w) finds on = record {
   head = subst (λ l. Head l w.spec_ex w.data_length w.data_start) finds.contents on.head;
   sound = on.sound;
-  kept = on.kept;
+  buffer = on.buffer;
   puts = puts_nothing_then old mid (seen w.medium) (walk_puts_nothing (Ok head) old mid finds) on.puts;
   place = on.place;
   faults = on.faults ∙ finds.faults;

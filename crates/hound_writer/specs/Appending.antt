@@ -1,5 +1,5 @@
 -- Going on with a file that is there.
-use Rattle.std.specs.Prelude.{◌≡◌, ℕ, ◌+◌, ◌*◌, ◌/◌, ◌%◌, ◌==◌, ◌&&◌, ◌⊎◌, not, nat_lt, if◌then◌else◌, ⊤, Bool, List, Option, None, Some, Result, Ok, Err}
+use Rattle.std.specs.Prelude.{◌≡◌, ℕ, ◌+◌, ◌*◌, ◌/◌, ◌%◌, ◌==◌, ◌&&◌, ◌⊎◌, not, nat_lt, if◌then◌else◌, ⊤, Bool, List, [], Option, None, Some, Result, Ok, Err}
 use Rattle.hound_spec.specs.declared.error.Error.{Error}
 use Rattle.hound_spec.specs.declared.error.Error.TheVariants.{TooLong}
 use Rattle.hound_spec.specs.declared.spec.SampleFormat.{SampleFormat}
@@ -54,7 +54,7 @@ pub record PutsNothing (old new : Seen) : Type 0 where
 pub record GoesOn {W : Type 0} (old : Seen) (seen : W → Seen) (w : Written W) : Type 0 where
   pub head : Head old.contents w.spec_ex w.data_length w.data_start
   pub sound : head_fault w.spec_ex w.data_length w.data_start ≡ None
-  pub kept : w.kept ≡ 0
+  pub buffer : w.buffer ≡ []
   pub puts : PutsNothing old (seen w.medium)
   pub place : (seen w.medium).place ≡ w.data_start + w.data_length
   pub faults : (seen w.medium).faults ≡ old.faults

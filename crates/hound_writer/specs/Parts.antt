@@ -1,5 +1,5 @@
 -- What the parts of a writer's calls do to its medium.
-use Rattle.std.specs.Prelude.{◌≡◌, ℕ, ◌+◌, ◌-◌, ◌≤◌, List, ◌++◌, length, take, drop, Bool, true, false, IsTrue, Option, None, Some, Result, Ok, Err, OnOk}
+use Rattle.std.specs.Prelude.{◌≡◌, ℕ, ◌+◌, ◌-◌, ◌≤◌, List, [], ◌++◌, length, take, drop, Bool, true, false, IsTrue, Option, None, Some, Result, Ok, Err, OnOk}
 use Rattle.hound_number.specs.Number.{bytes_of, number}
 use Rattle.std.specs.declared.io.Error.{Error as IoFault}
 use Rattle.hound_spec.specs.declared.error.Error.{Error}
@@ -67,7 +67,7 @@ IsTold (Err e) are_frames told = told ≡ Err (IoError e)
 IsTold (Ok x) true told = told ≡ Ok x
 IsTold (Ok x) false told = told ≡ Err UnfinishedSample
 
--- how many bytes of memory a writer keeps for its batches, where it has a buffer
-abbrev pub kept_bytes : {V : Type 0} → (V → ℕ) → Option V → ℕ
-kept_bytes size None = 0
-kept_bytes size (Some buffer) = size buffer
+-- the bytes of the memory that a writer keeps for its batches, if it has some
+abbrev pub bytes_kept : {V : Type 0} → (V → List ℕ) → Option V → List ℕ
+bytes_kept items None = []
+bytes_kept items (Some buffer) = items buffer

@@ -12,13 +12,13 @@ use Rattle.hound_medium.specs.Seen.{Seen, Takes, one_more}
 use Rattle.hound_writer.specs.Parts.{field}
 use Rattle.hound_writer.specs.Counts.{Counts}
 
--- A writer: its medium, the spec, the place of the first data byte, how many bytes of samples were accepted, and how many bytes of memory it keeps for batches.
+-- A writer: its medium, the spec, the place of the first data byte, how many bytes of samples were accepted, and the bytes of the memory that it keeps for batches.
 pub record Written (W : Type 0) : Type 0 where
   pub medium : W
   pub spec_ex : WavSpecEx
   pub data_start : ℕ
   pub data_length : ℕ
-  pub kept : ℕ
+  pub buffer : List ℕ
 
 -- What holds of every writer, whatever its medium tells: its bits and width are a known pair, it can divide by the channels and the width, its samples are whole, and the RIFF size fits its field.
 pub record IsSound (spec_ex : WavSpecEx) (data_start data_length : ℕ) : Type 0 where
@@ -39,7 +39,7 @@ pub record HasBegun {W : Type 0} (spec_ex : WavSpecEx) (w : Written W) : Type 0 
   pub spec : w.spec_ex ≡ spec_ex
   pub start : w.data_start ≡ data_start spec_ex
   pub empty : w.data_length ≡ 0
-  pub kept : w.kept ≡ 0
+  pub buffer : w.buffer ≡ []
 
 -- the whole header was put where the medium stood, with both sizes 0, and nothing else
 pub record PutsHeader (keeps : Bool) (spec_ex : WavSpecEx) (old new : Seen) : Type 0 where

@@ -38,9 +38,9 @@ pub struct WavWriter<W: Medium> {
 }
 
 impl<W: Medium> Model for WavWriter<W> {
-    ghost use Rattle.std.specs.Prelude.{◌+◌, length, IsTrue};
+    ghost use Rattle.std.specs.Prelude.{◌+◌, IsTrue};
     ghost use Rattle.hound_writer.specs.Writer.{Written, IsSound};
-    ghost use Rattle.hound_writer.specs.Parts.{Stands, kept_bytes};
+    ghost use Rattle.hound_writer.specs.Parts.{Stands, bytes_kept};
 
     ghost Value = { Written W };
 
@@ -49,7 +49,7 @@ impl<W: Medium> Model for WavWriter<W> {
       spec_ex = record { spec = w.spec; bytes_per_sample = w.bytes_per_sample };
       data_start = w.data_len_offset + 4;
       data_length = w.data_bytes_written;
-      kept = kept_bytes (λ buffer. length buffer.items) w.buffer;
+      buffer = bytes_kept (λ buffer. buffer.items) w.buffer;
     } };
 
     ghost invariant = { λ w. IsSound (record { spec = w.spec; bytes_per_sample = w.bytes_per_sample }) (w.data_len_offset + 4) w.data_bytes_written
@@ -182,7 +182,7 @@ impl<W: Medium> WavWriter<W> {
         requires whole { length bytes.now % self.old.spec_ex.bytes_per_sample ≡ 0 }
         ensures spec_stays { self.new.spec_ex ≡ self.old.spec_ex }
         ensures start_stays { self.new.data_start ≡ self.old.data_start }
-        ensures kept_stays { self.new.kept ≡ self.old.kept }
+        ensures buffer_stays { self.new.buffer ≡ self.old.buffer }
         ensures count { MatchResult result (λ _. self.new.data_length ≡ self.old.data_length + length bytes.now)
             (λ _. self.new.data_length ≡ self.old.data_length) }
         ensures sound { IsSound self.new.spec_ex self.new.data_start self.new.data_length }
@@ -216,7 +216,7 @@ impl<W: Medium> WavWriter<W> {
 
         ensures spec_stays { self.new.spec_ex ≡ self.old.spec_ex }
         ensures start_stays { self.new.data_start ≡ self.old.data_start }
-        ensures kept_stays { self.new.kept ≡ self.old.kept }
+        ensures buffer_stays { self.new.buffer ≡ self.old.buffer }
         ensures count { MatchResult result (λ _. sample_count self.new ≡ sample_count self.old + 1) (λ _. self.new.data_length ≡ self.old.data_length) }
 
         // Over a medium that tells.

@@ -1,4 +1,4 @@
-use Rattle.std.proofs.Common.{◌≡◌, ◌+◌, ◌-◌, ◌∙◌, ap, arith, subst}
+use Rattle.std.proofs.Common.{◌≡◌, [], ◌+◌, ◌-◌, ◌∙◌, ap, arith, subst}
 use Rattle.hound_writer.specs.Writer.{IsSound}
 use Rattle.hound_writer.proofs.Accepting.{standing}
 use Rattle.hound_writer.proofs.Continuing.{sound_head, stands_on}
@@ -21,4 +21,4 @@ returns-clause-counts g c tells whole =
     let sound = subst (λ h. IsSound head.spec_ex h head.data_length) start (sound_head head.spec_ex head.data_length head.data_start c.requires.sound c.requires.start.0 c.in_default.ensures) in
     let goes = c.in_default-go.ensures tells in
     let stands = stands_on head.spec_ex head.data_length head.data_start (g.W.Placed.seen c.args.writer).contents (g.W.Placed.seen c.go.new.self) c.requires.start.0 (c.requires.head tells) goes.stays.contents goes.place in
-    counts g.W.Placed.seen (record { medium = c.go.new.self; spec_ex = head.spec_ex; data_start = head.data_start - 4 + 4; data_length = head.data_length; kept = 0 }) sound (standing _ _ _ _ (g.W.Placed.seen c.go.new.self) stands)
+    counts g.W.Placed.seen (record { medium = c.go.new.self; spec_ex = head.spec_ex; data_start = head.data_start - 4 + 4; data_length = head.data_length; buffer = [] }) sound (standing _ _ _ _ (g.W.Placed.seen c.go.new.self) stands)

@@ -1,4 +1,4 @@
-use Rattle.std.proofs.Common.{◌≡◌, ◌+◌, ◌-◌, length, arith, ◌∙◌, ap, rules}
+use Rattle.std.proofs.Common.{◌≡◌, [], ◌+◌, ◌-◌, length, arith, ◌∙◌, ap, rules}
 use Rattle.hound_spec.proofs.HeaderLemmas.{length-header, data_start_least}
 use Rattle.hound_spec.specs.Header.{data_start}
 use Rattle.hound_spec.specs.Writable.{IsWritable}
@@ -26,7 +26,7 @@ pub returns-in-Ok-clause-begun : goal.returns-in-Ok-clause-begun
 returns-in-Ok-clause-begun g c =
     let s = c.args.spec_ex in
     let size = ap length (c.as_slice-bytes.ensures ∙ c.header_of-header.ensures) ∙ length-header s 0 0 in
-    record { spec = search rules; start = omega (arith, size, data_start_least s); empty = search rules; kept = search rules }
+    record { spec = search rules; start = omega (arith, size, data_start_least s); empty = search rules; buffer = search rules }
 
 pub returns-in-Ok-clause-header : goal.returns-in-Ok-clause-header
 returns-in-Ok-clause-header g c tells =
@@ -49,4 +49,4 @@ returns-in-Ok-clause-counts g c tells =
     let at : length c.as_slice-bytes.result.now - 4 + 4 ≡ data_start s = omega (arith, size, data_start_least s) in
     let writable : IsWritable s = search rules in
     let puts = c.in-Ok.ensures tells in
-    counts g.W.Placed.seen (record { medium = _; spec_ex = s; data_start = _; data_length = 0; kept = 0 }) (sound_begin s _ writable at) (standing _ _ _ _ _ (stands_begin g.W.Placed.keeps s _ _ _ _ is (c.requires tells) puts puts.whole writable _ at))
+    counts g.W.Placed.seen (record { medium = _; spec_ex = s; data_start = _; data_length = 0; buffer = [] }) (sound_begin s _ writable at) (standing _ _ _ _ _ (stands_begin g.W.Placed.keeps s _ _ _ _ is (c.requires tells) puts puts.whole writable _ at))
