@@ -5,4 +5,4 @@ pub use hound_medium::{Medium, Placed, Source, Tape};
 pub use hound_reader::{WavIntoSamples, WavReader, WavSamples, read_wave_header};
 pub use hound_sample::{FloatBits, Sample};
 pub use hound_spec::{Error, Result, SampleFormat, WavSpec, WavSpecEx};
-pub use hound_writer::WavWriter;
+pub use hound_writer::{SampleWriter16, WavWriter};

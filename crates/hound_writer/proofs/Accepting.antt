@@ -1,8 +1,8 @@
 -- What bytes behind the accepted ones change.
-use Rattle.std.proofs.Common.{◌≡◌, ℕ, suc, ◌+◌, ◌*◌, ◌-◌, ◌/◌, ◌%◌, ◌≤◌, max, Bool, true, false, List, [], ◌∷◌, ◌++◌, length, take, drop, replicate, Result, Ok, Err, IsErr, is_err, OnOk, IsTrue, refl, sym, subst, ◌∙◌, ap, arith, length-append}
+use Rattle.std.proofs.Common.{◌≡◌, ℕ, zero, suc, ◌+◌, ◌*◌, ◌-◌, ◌/◌, ◌%◌, ◌≤◌, max, Bool, true, false, List, [], ◌∷◌, ◌++◌, length, take, drop, replicate, Result, Ok, Err, IsErr, is_err, OnOk, IsTrue, refl, sym, subst, ◌∙◌, ap, arith, length-append}
 use Rattle.std.proofs.lemmas.Bool.{true≢false, false≢true}
-use Rattle.std.proofs.lemmas.List.{take_at, take_all, drop_at, drop-drop, length-take-le}
-use Rattle.hound_number.specs.Number.{number}
+use Rattle.std.proofs.lemmas.List.{take_at, take_all, drop_at, drop-drop, append-nil, length-take-le}
+use Rattle.std.proofs.Math.Nat.{mul-add-div_right}
 use Rattle.hound_medium.specs.Bytes.{put_at, placed, overlay}
 use Rattle.hound_medium.specs.Seen.{Seen}
 use Rattle.hound_medium.proofs.Overlays.{overlay_is, length-put_at, take_overlay_before, length_overlay_le, front_part}
@@ -10,10 +10,10 @@ use Rattle.hound_spec.specs.declared.error.Error.{Error}
 use Rattle.hound_sample.specs.Container.{Refusal, containers}
 use Rattle.hound_sample.specs.Encoding.{IsEncoded}
 use Rattle.hound_writer.specs.Parts.{PutsAt, Patches, SameButSizes, Stands, IsStanding, field, mix}
-use Rattle.hound_writer.specs.Writer.{Written, IsSound, IsWhole, sample_count, accepted, AcceptsSample}
+use Rattle.hound_writer.specs.Writer.{Written, IsSound, IsWhole, sample_count, accepted, taken, AcceptsSample, AcceptsBytes, faults_told}
 use Rattle.hound_reader.specs.Chunks.{Head}
 use Rattle.hound_spec.specs.declared.spec.WavSpecEx.{WavSpecEx}
-use Rattle.hound_writer.proofs.Standing.{inside, stands_front, stands_patched, stands_more}
+use Rattle.hound_writer.proofs.Standing.{inside, stands_front, stands_patched, stands_more, counts}
 use Rattle.hound_writer.proofs.Containers.{containers_front, containers_more, count_bytes, count_more}
 
 -- bytes at a place reach no further than the old end or their own
@@ -208,3 +208,99 @@ accepts_none (Err e) sample old new err same = same
 
 pub accepts_one : {T : Type 0} (x : T) (sample : Result (List ℕ) Refusal) (container : List ℕ) (old new : List (List ℕ)) → sample ≡ Ok container → new ≡ old ++ container ∷ [] → AcceptsSample (Ok x) sample old new
 accepts_one x sample container old new is same = subst (λ s. AcceptsSample (Ok x) s old new) (sym is) same
+
+-- more whole containers than one
+pub containers_append : (w few more : ℕ) (bytes : List ℕ) → containers w (few + more) bytes ≡ containers w few bytes ++ containers w more (drop (few * w) bytes)
+containers_append w zero more bytes = λ i. containers w (let e : 0 + more ≡ more = omega arith in e i) (drop (let e : 0 ≡ 0 * w = omega arith in e i) bytes)
+containers_append w (suc few) more bytes =
+    ap (λ n. containers w n bytes) (let e : suc few + more ≡ suc (few + more) = omega arith in e)
+    ∙ ap (λ (l : List (List ℕ)). take w bytes ∷ l)
+    (containers_append w few more (drop w bytes)
+    ∙ ap (λ l. containers w few (drop w bytes) ++ containers w more l) (drop-drop (few * w) w bytes ∙ ap (λ n. drop n bytes) (let e : w + few * w ≡ suc few * w = omega arith in e)))
+
+-- the count of whole containers of two parts
+pub count_append : (n more width : ℕ) → 1 ≤ width → n % width ≡ 0 → (n + more) / width ≡ n / width + more / width
+count_append n more width some whole =
+    ap (λ k. k / width) (let e : n + more ≡ n / width * width + more = omega (arith, count_bytes n width whole) in e) ∙ mul-add-div_right some (n / width) more
+
+-- bytes that a writer puts behind its data, all of them or none
+module _ {W T E V : Type 0} (keeps : Bool) (seen : W → Seen) (old new : Written W) (bytes : List ℕ) (put : Result T E) (result : Result V Error) (sound : IsSound old.spec_ex old.data_start old.data_length)
+    (stands : IsStanding old.spec_ex old.data_start old.data_length (seen old.medium).contents)
+    (puts : PutsAt keeps (old.data_start + old.data_length) bytes put (seen old.medium) (seen new.medium)) (spec : new.spec_ex ≡ old.spec_ex) (start : new.data_start ≡ old.data_start) where
+  pub accepts_no_bytes : IsErr result → new.data_length ≡ old.data_length → (seen new.medium).faults ≡ faults_told result (seen old.medium).faults → IsSound new.spec_ex new.data_start new.data_length
+      → AcceptsBytes seen result bytes old new
+  accepts_no_bytes err none faults sound_new = record {
+    faults = faults;
+    front = front_same keeps seen old new bytes put sound puts spec start (inside old.spec_ex old.data_start old.data_length (seen old.medium).contents (seen old.medium).contents stands);
+    reach = on_err _ result err;
+    whole = whole_stays keeps seen old new bytes put sound puts spec start none;
+    accepted = λ whole. accepted_stay keeps seen old new bytes put sound puts spec start none whole ∙ sym (append-nil (accepted seen old)) ∙ ap (λ l. accepted seen old ++ l) (sym (none_taken result err));
+    counts = λ whole. counts seen new sound_new (standing_put keeps seen old new bytes put sound puts spec start stands (omega (arith, none)));
+  }
+    where
+      on_err : (P : Type 0) (r : Result V Error) → IsErr r → OnOk r P
+      on_err P (Ok x) e = absurd (false≢true e)
+      on_err P (Err x) e = tt
+
+      none_taken : (r : Result V Error) → IsErr r → taken r old.spec_ex.bytes_per_sample bytes ≡ []
+      none_taken (Ok x) e = absurd (false≢true e)
+      none_taken (Err x) e = refl
+
+  pub accepts_all_bytes : (x : V) → result ≡ Ok x → puts.count ≡ length bytes → length bytes % old.spec_ex.bytes_per_sample ≡ 0 → new.data_length ≡ old.data_length + length bytes → (seen new.medium).faults ≡ (seen old.medium).faults → IsSound new.spec_ex new.data_start new.data_length
+      → AcceptsBytes seen result bytes old new
+  accepts_all_bytes x ok all whole_bytes more faults sound_new =
+      let width = old.spec_ex.bytes_per_sample in
+      let n = old.data_length in
+      let after = drop old.data_start (seen new.medium).contents in
+      let before = drop old.data_start (seen old.medium).contents in
+      subst (λ (r : Result V Error). AcceptsBytes seen r bytes old new) (sym ok) record {
+        faults = faults;
+        front = front_same keeps seen old new bytes put sound puts spec start (inside old.spec_ex old.data_start old.data_length (seen old.medium).contents (seen old.medium).contents stands);
+        reach = reach keeps seen old new bytes put sound puts spec start all more;
+        whole = whole_grows keeps seen old new bytes put sound puts spec start all more;
+        accepted = λ whole.
+            (λ i. containers (spec i).bytes_per_sample (more i / (spec i).bytes_per_sample) (drop (start i) (seen new.medium).contents))
+            ∙ ap (λ k. containers width k after) (count_append n (length bytes) width sound.width sound.whole)
+            ∙ containers_append width (n / width) (length bytes / width) after
+            ∙ (λ i. containers_stay width old.data_start n sound.width sound.whole (seen old.medium).contents (seen new.medium).contents (data_stays keeps old.data_start n bytes put (seen old.medium) (seen new.medium) puts whole) i
+            ++ containers width (length bytes / width) (drop (count_bytes n width sound.whole i) after))
+            ∙ ap (λ l. containers width (n / width) before ++ l)
+            (containers_front width (length bytes / width) (drop n after) bytes
+            (ap (λ k. take k (drop n after)) (count_bytes (length bytes) width whole_bytes)
+            ∙ ap (take (length bytes)) (drop-drop n old.data_start (seen new.medium).contents)
+            ∙ bytes_stand keeps old.data_start n bytes put (seen old.medium) (seen new.medium) puts all whole
+            ∙ sym (take_all (length bytes / width * width) bytes (omega (arith, count_bytes (length bytes) width whole_bytes)))));
+        counts = λ whole. counts seen new sound_new (standing_put keeps seen old new bytes put sound puts spec start stands (omega (arith, more)));
+      }
+
+-- a batch that isn't accepted says nothing of what was
+pub accepts_other_batches : {W T : Type 0} (seen : W → Seen) (result : Result T Error) (bytes : List ℕ) (old new : Written W) (b c : List ℕ) (n i m k : ℕ) → AcceptsBytes seen result bytes old new
+    → AcceptsBytes seen result bytes (record old { buffer = b; batch_length = n; batch_written = i }) (record new { buffer = c; batch_length = m; batch_written = k })
+accepts_other_batches seen result bytes old new b c n i m k accepts =
+    record { faults = accepts.faults; front = accepts.front; reach = accepts.reach; whole = accepts.whole; accepted = accepts.accepted; counts = accepts.counts }
+
+-- a call that puts nothing and accepts the containers of no bytes
+pub accepts_nothing : {W T : Type 0} (seen : W → Seen) (x : T) (w : Written W) → IsSound w.spec_ex w.data_start w.data_length → IsStanding w.spec_ex w.data_start w.data_length (seen w.medium).contents → AcceptsBytes seen (Ok x) [] w w
+accepts_nothing seen x w sound stands = record {
+  faults = refl;
+  front = refl;
+  reach = omega arith;
+  whole = λ whole. whole;
+  accepted = λ _. sym (append-nil (accepted seen w)) ∙ ap (λ n. accepted seen w ++ containers w.spec_ex.bytes_per_sample n []) (let e : 0 ≡ 0 / w.spec_ex.bytes_per_sample = none w.spec_ex.bytes_per_sample in e);
+  counts = λ _. counts seen w sound stands;
+}
+  where
+    none : (n : ℕ) → 0 ≡ 0 / n
+    none zero = refl
+    none (suc n) = omega arith
+
+-- the same of writers that differ in nothing else
+pub accepts_swapped : {W T : Type 0} (seen : W → Seen) (result : Result T Error) (bytes same : List ℕ) (a b c d : Written W) (before after : List ℕ) (n i m k : ℕ) → bytes ≡ same → a ≡ b → c ≡ d
+    → AcceptsBytes seen result bytes (record a { buffer = before; batch_length = n; batch_written = i }) d
+    → AcceptsBytes seen result same b (record c { buffer = after; batch_length = m; batch_written = k })
+accepts_swapped seen result bytes same a b c d before after n i m k same_bytes same_old same_new accepts =
+    let old = record a { buffer = before; batch_length = n; batch_written = i } in
+    let new = record c { buffer = after; batch_length = m; batch_written = k } in
+    subst (λ l. AcceptsBytes seen result l b new) same_bytes
+    (subst (λ w. AcceptsBytes seen result bytes w new) same_old
+    (accepts_other_batches seen result bytes old c a.buffer after a.batch_length a.batch_written m k (subst (λ w. AcceptsBytes seen result bytes old w) (sym same_new) accepts)))

@@ -1,5 +1,5 @@
 -- A file that begins: its header is put, and nothing else.
-use Rattle.std.proofs.Common.{◌≡◌, ℕ, zero, suc, ◌+◌, ◌%◌, ◌≤◌, Bool, false, List, ◌++◌, length, take, drop, Result, refl, sym, subst, ◌∙◌, ap, arith, append_assoc, length-append}
+use Rattle.std.proofs.Common.{◌≡◌, ℕ, zero, suc, ◌+◌, ◌%◌, ◌≤◌, Bool, false, List, ◌++◌, length, take, drop, Result, inl, refl, sym, subst, ◌∙◌, ap, arith, append_assoc, length-append}
 use Rattle.std.proofs.lemmas.List.{take_at, take_all, drop_at}
 use Rattle.hound_number.specs.Number.{bytes_of, number}
 use Rattle.hound_medium.specs.Bytes.{placed, overlay}
@@ -13,6 +13,7 @@ use Rattle.hound_spec.proofs.WritableLemmas.{pair_facts}
 use Rattle.hound_reader.specs.Chunks.{Head}
 use Rattle.hound_reader.proofs.WrittenLemmas.{header_head}
 use Rattle.hound_writer.specs.Parts.{Stands, field}
+use Rattle.hound_writer.specs.Room.{IsRoom}
 use Rattle.hound_writer.specs.Writer.{IsSound, HasHeader, PutsHeader}
 
 -- the data length of a header that says 0
@@ -24,6 +25,17 @@ field-header s p rest at =
     ap (λ l. l ++ rest) (header-parts s 0 0) ∙ append_assoc front (bytes_of 4 0) rest in
     ap (λ l. number (take 4 (drop p l))) whole
     ∙ ap (λ l. number (take 4 l)) (drop_at front (bytes_of 4 0 ++ rest) p long)
+
+-- there is room for a batch of no samples
+pub room_for_none : (s : WavSpecEx) (start n : ℕ) (buffer : List ℕ) → IsSound s start n → IsRoom s start n buffer 0 0
+room_for_none s start n buffer sound = record {
+  room = omega (arith, sound.fits);
+  memory = omega arith;
+  written = omega arith;
+  samples = refl;
+  whole = refl;
+  width = inl refl;
+}
 
 -- a writer of a writable spec that has accepted nothing
 pub sound_begin : (s : WavSpecEx) (start : ℕ) → IsWritable s → start ≡ data_start s → IsSound s start 0

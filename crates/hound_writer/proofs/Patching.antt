@@ -1,7 +1,7 @@
 -- The two sizes of a file, and what they leave.
 use Rattle.std.proofs.Common.{◌≡◌, ℕ, ◌+◌, ◌-◌, ◌^◌, ◌<◌, ◌≤◌, Bool, List, ◌++◌, length, take, drop, Result, Ok, Err, IsOk, IsErr, OnOk, MatchResult, sym, ◌∙◌, ap, subst, arith, append_assoc, length-append, length-drop, length-take}
 use Rattle.std.proofs.lemmas.Bool.{false≢true}
-use Rattle.std.proofs.lemmas.List.{take_at, drop_at, drop-drop, length-take-le, take_all}
+use Rattle.std.proofs.lemmas.List.{drop_at, length-take-le, take_all}
 use Rattle.std.proofs.lemmas.Slice.{between_is}
 use Rattle.std.proofs.Math.Seq.{take-append-add}
 use Rattle.hound_number.specs.Number.{number, bytes_of, AreBytes}
@@ -155,4 +155,3 @@ module _ (p size data_length : ℕ) (c : List ℕ) (behind : 8 ≤ p) (inside : 
 
   pub data_length_of_sizes : data_length < 2 ^ 32 → field p (with_sizes p size data_length c) ≡ data_length
   data_length_of_sizes small = ap (λ l. number (take 4 l)) at_data ∙ number-bytes_of data_length small
-

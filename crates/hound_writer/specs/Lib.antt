@@ -1,4 +1,6 @@
 pub mod Appending
+pub mod Batch
 pub mod Counts
 pub mod Parts
+pub mod Room
 pub mod Writer

@@ -1,5 +1,5 @@
 -- What contracts see of a writer, and what its calls answer.
-use Rattle.std.specs.Prelude.{◌≡◌, ℕ, ◌+◌, ◌-◌, ◌/◌, ◌%◌, ◌≤◌, ⊤, nat_le, if◌then◌else◌, List, [], ◌∷◌, ◌++◌, length, take, drop, Bool, Option, Some, None, Result, Ok, Err}
+use Rattle.std.specs.Prelude.{◌≡◌, ℕ, ◌+◌, ◌-◌, ◌/◌, ◌%◌, ◌≤◌, ⊤, nat_le, if◌then◌else◌, List, [], ◌∷◌, ◌++◌, length, take, drop, Bool, Option, Some, None, max, Result, Ok, Err, OnOk}
 use Rattle.std.specs.Io.{StartsWith}
 use Rattle.hound_spec.specs.declared.error.Error.{Error}
 use Rattle.hound_spec.specs.declared.error.Error.TheVariants.{IoError, UnfinishedSample, TooLong}
@@ -12,13 +12,16 @@ use Rattle.hound_medium.specs.Seen.{Seen, Takes, one_more}
 use Rattle.hound_writer.specs.Parts.{field}
 use Rattle.hound_writer.specs.Counts.{Counts}
 
--- A writer: its medium, the spec, the place of the first data byte, how many bytes of samples were accepted, and the bytes of the memory that it keeps for batches.
+-- A writer: its medium, the spec, the place of the first data byte, how many bytes of samples were accepted, the bytes of the memory
+-- that it keeps for batches, how many of them the batch has that was begun last, and how many of these are written. None are once samples were accepted.
 pub record Written (W : Type 0) : Type 0 where
   pub medium : W
   pub spec_ex : WavSpecEx
   pub data_start : ℕ
   pub data_length : ℕ
   pub buffer : List ℕ
+  pub batch_length : ℕ
+  pub batch_written : ℕ
 
 -- What holds of every writer, whatever its medium tells: its bits and width are a known pair, it can divide by the channels and the width, its samples are whole, and the RIFF size fits its field.
 pub record IsSound (spec_ex : WavSpecEx) (data_start data_length : ℕ) : Type 0 where
@@ -81,6 +84,38 @@ AcceptsSample (Ok x) (Ok container) old new = new ≡ old ++ container ∷ []
 AcceptsSample (Ok x) (Err refusal) old new = ⊥
 AcceptsSample (Err e) sample old new = new ≡ old
 
+-- the medium's faults after a call: one more where the call answers `IoError`, else the same
+abbrev pub faults_told : {T : Type 0} → Result T Error → ℕ → ℕ
+faults_told (Err (IoError e)) faults = one_more faults
+faults_told _ faults = faults
+
+-- a writer of the same file: its medium and what was accepted are the same
+pub record IsSameFile {W : Type 0} (old new : Written W) : Type 0 where
+  pub medium : new.medium ≡ old.medium
+  pub spec_ex : new.spec_ex ≡ old.spec_ex
+  pub data_start : new.data_start ≡ old.data_start
+  pub data_length : new.data_length ≡ old.data_length
+
+-- all of a writer stays but its medium, how much was accepted, and the batch
+pub record StaysInPlace {W : Type 0} (old new : Written W) : Type 0 where
+  pub spec_ex : new.spec_ex ≡ old.spec_ex
+  pub data_start : new.data_start ≡ old.data_start
+  pub buffer : new.buffer ≡ old.buffer
+
+-- the containers that an Ok accepts: those of these bytes; an Err accepts none
+abbrev pub taken : {T : Type 0} → Result T Error → ℕ → List ℕ → List (List ℕ)
+taken (Ok x) width bytes = containers width (length bytes / width) bytes
+taken (Err e) width bytes = []
+
+-- A call that accepts the containers of these bytes, or at an Err none of them. What stood before the data stays, and where all accepted samples stood, they stand and are counted after it.
+pub record AcceptsBytes {T W : Type 0} (seen : W → Seen) (result : Result T Error) (bytes : List ℕ) (old new : Written W) : Type 0 where
+  pub faults : (seen new.medium).faults ≡ faults_told result (seen old.medium).faults
+  pub front : take old.data_start (seen new.medium).contents ≡ take old.data_start (seen old.medium).contents
+  pub reach : OnOk result (length (seen new.medium).contents ≤ max (length (seen old.medium).contents) (new.data_start + new.data_length))
+  pub whole : IsWhole seen old → IsWhole seen new
+  pub accepted : IsWhole seen old → accepted seen new ≡ accepted seen old ++ taken result old.spec_ex.bytes_per_sample bytes
+  pub counts : IsWhole seen old → IsCounted seen new
+
 abbrev pub IsIoError : Error → Type 0
 IsIoError (IoError e) = ⊤
 IsIoError _ = ⊥
@@ -88,11 +123,6 @@ IsIoError _ = ⊥
 abbrev pub IsOkOrIoError : {T : Type 0} → Result T Error → Type 0
 IsOkOrIoError (Ok x) = ⊤
 IsOkOrIoError (Err e) = IsIoError e
-
--- the medium's faults after a call: one more where the call answers `IoError`, else the same
-abbrev pub faults_told : {T : Type 0} → Result T Error → ℕ → ℕ
-faults_told (Err (IoError e)) faults = one_more faults
-faults_told _ faults = faults
 
 -- a fact for an Ok and for `UnfinishedSample`, after which all accepted samples are published
 abbrev pub OnPublished : {T : Type 0} → Result T Error → Type 0 → Type 0

@@ -45,10 +45,7 @@ fn check_head(head: FileHead) -> Result<()>
 }
 
 // A writer behind the data of a file with this head.
-fn behind_data<W: Medium>(
-    writer: W,
-    head: FileHead,
-) -> result::Result<WavWriter<W>, (W, Error)>
+fn behind_data<W: Medium>(writer: W, head: FileHead) -> result::Result<WavWriter<W>, (W, Error)>
     requires sound { IsSound head.spec_ex }
     requires start { (20 ≤ head.data_start) × (head.data_start ≤ 4294967315) }
     requires head { IsTrue W.tells → Head (W.seen writer).contents head.spec_ex head.data_length head.data_start }
@@ -70,6 +67,8 @@ fn behind_data<W: Medium>(
         data_len_offset: head.data_start - 4,
         moved: false,
         buffer: None,
+        num_bytes: 0,
+        index: 0,
     })
 }
 

@@ -2,7 +2,10 @@
 #![tactic(auto)]
 
 mod append;
+mod batch;
+mod batching;
 mod patch;
 mod write;
 
+pub use batch::SampleWriter16;
 pub use write::WavWriter;

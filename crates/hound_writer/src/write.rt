@@ -35,12 +35,19 @@ pub struct WavWriter<W: Medium> {
 
     // The memory that batches use, which is kept for later ones.
     pub(crate) buffer: Option<Vec<u8>>,
+
+    // The bytes of the batch that was begun last.
+    pub(crate) num_bytes: usize,
+
+    // The bytes of its samples that were written.
+    pub(crate) index: usize,
 }
 
 impl<W: Medium> Model for WavWriter<W> {
     ghost use Rattle.std.specs.Prelude.{◌+◌, IsTrue};
     ghost use Rattle.hound_writer.specs.Writer.{Written, IsSound};
     ghost use Rattle.hound_writer.specs.Parts.{Stands, bytes_kept};
+    ghost use Rattle.hound_writer.specs.Room.{IsRoom};
 
     ghost Value = { Written W };
 
@@ -50,10 +57,13 @@ impl<W: Medium> Model for WavWriter<W> {
       data_start = w.data_len_offset + 4;
       data_length = w.data_bytes_written;
       buffer = bytes_kept (λ buffer. buffer.items) w.buffer;
+      batch_length = w.num_bytes;
+      batch_written = w.index;
     } };
 
     ghost invariant = { λ w. IsSound (record { spec = w.spec; bytes_per_sample = w.bytes_per_sample }) (w.data_len_offset + 4) w.data_bytes_written
-        × (IsTrue W.tells → Stands (record { spec = w.spec; bytes_per_sample = w.bytes_per_sample }) w.data_len_offset w.data_bytes_written w.moved (W.seen w.writer)) };
+        × (IsTrue W.tells → Stands (record { spec = w.spec; bytes_per_sample = w.bytes_per_sample }) w.data_len_offset w.data_bytes_written w.moved (W.seen w.writer))
+        × IsRoom (record { spec = w.spec; bytes_per_sample = w.bytes_per_sample }) (w.data_len_offset + 4) w.data_bytes_written (bytes_kept (λ buffer. buffer.items) w.buffer) w.num_bytes w.index };
 }
 
 // Whether the RIFF size of so many data bytes behind a field at this place fits 32 bits.
@@ -61,7 +71,7 @@ impl<W: Medium> Model for WavWriter<W> {
 pub(crate) fn riff_fits(data_len_offset: u64, data_length: u64) -> bool
     requires behind { 8 ≤ data_len_offset }
     requires small { data_len_offset ≤ 2 ^ 33 }
-    requires few { data_length ≤ 2 ^ 33 }
+    requires few { data_length ≤ 2 ^ 34 }
     ensures { IsTrue result ↔ (riff_size (data_len_offset + 4) data_length ≤ 4294967295) }
 {
     data_len_offset - 4 + data_length <= 4_294_967_295
@@ -159,6 +169,8 @@ impl<W: Medium> WavWriter<W> {
                 data_len_offset,
                 moved: false,
                 buffer: None,
+                num_bytes: 0,
+                index: 0,
             }),
             Err(error) => Err((writer, Error::IoError(error))),
         }
@@ -177,7 +189,7 @@ impl<W: Medium> WavWriter<W> {
 
     // Puts whole containers behind the accepted ones, and accepts them once they are out.
     #[inline(always)]
-    fn accept(&mut self, bytes: &[u8]) -> io::Result<()>
+    pub(crate) fn accept(&mut self, bytes: &[u8]) -> io::Result<()>
         requires room { riff_size self.old.data_start (self.old.data_length + length bytes.now) ≤ 4294967295 }
         requires whole { length bytes.now % self.old.spec_ex.bytes_per_sample ≡ 0 }
         ensures spec_stays { self.new.spec_ex ≡ self.old.spec_ex }
@@ -185,6 +197,9 @@ impl<W: Medium> WavWriter<W> {
         ensures buffer_stays { self.new.buffer ≡ self.old.buffer }
         ensures count { MatchResult result (λ _. self.new.data_length ≡ self.old.data_length + length bytes.now)
             (λ _. self.new.data_length ≡ self.old.data_length) }
+        ensures over { (self.new.batch_length ≡ 0) × (self.new.batch_written ≡ 0) }
+        ensures sound_before { IsSound self.old.spec_ex self.old.data_start self.old.data_length }
+        ensures stands { IsTrue W.tells → IsStanding self.old.spec_ex self.old.data_start self.old.data_length (W.seen self.old.medium).contents }
         ensures sound { IsSound self.new.spec_ex self.new.data_start self.new.data_length }
         ensures puts { IsTrue W.tells → PutsAt W.keeps (self.old.data_start + self.old.data_length) bytes.now result
             (W.seen self.old.medium) (W.seen self.new.medium) }
@@ -192,6 +207,8 @@ impl<W: Medium> WavWriter<W> {
         let end = self.data_len_offset + 4 + self.data_bytes_written as u64;
         let moved = self.moved;
         self.moved = true; // until the bytes are out
+        self.num_bytes = 0; // a batch is over once something else is accepted
+        self.index = 0;
         put_at_end(&mut self.writer, moved, end, bytes)?;
         self.data_bytes_written += bytes.len() as u32;
         self.moved = false;
@@ -308,6 +325,8 @@ impl<W: Medium> WavWriter<W> {
             data_len_offset,
             moved: _,
             buffer: _,
+            num_bytes: _,
+            index: _,
         } = self;
         let mut writer = writer;
         let riff_size = (data_len_offset - 4 + data_bytes_written as u64) as u32;

@@ -1,6 +1,8 @@
-use Rattle.std.proofs.Common.{rules}
+use Rattle.std.proofs.Common.{◌+◌, rules}
+use Rattle.hound_writer.specs.Writer.{IsSound}
 use Rattle.hound_writer.proofs.Containers.{whole_more}
-use Rattle.hound_writer.proofs.Accepting.{stands_moved, stands_behind}
+use Rattle.hound_writer.proofs.Beginning.{room_for_none}
+use Rattle.hound_writer.proofs.Accepting.{opened, standing, stands_moved, stands_behind}
 use Rattle.hound_writer.proofs.write.WavWriter.accept.Goals as goal
 
 pub invariant_of-self : goal.invariant_of-self
@@ -8,20 +10,43 @@ invariant_of-self g c =
     let w = c.self.inside in (
       c.self.invariant.0,
       λ tells. stands_moved g.W.Placed.keeps _ w.data_len_offset w.data_bytes_written c.args.bytes.now _ _ _ (c.in_err-put_at_end.ensures tells) w.moved (c.self.invariant.1 tells),
+      room_for_none _ _ _ _ c.self.invariant.0,
     )
 
 pub invariant_of-self-2 : goal.invariant_of-self-2
 invariant_of-self-2 g c =
     let w = c.self.inside in
-    let sound = c.self.invariant.0 in (
-      record {
-        pair = sound.pair;
-        channels = sound.channels;
-        width = sound.width;
-        whole = whole_more w.data_bytes_written _ w.bytes_per_sample sound.whole (search rules);
-        behind = sound.behind;
-        fits = search rules;
-      },
+    let before = c.self.invariant.0 in
+    let sound : IsSound (record { spec = w.spec; bytes_per_sample = w.bytes_per_sample }) (w.data_len_offset + 4) _ = record {
+      pair = before.pair;
+      channels = before.channels;
+      width = before.width;
+      whole = whole_more w.data_bytes_written _ w.bytes_per_sample before.whole (search rules);
+      behind = before.behind;
+      fits = search rules;
+    } in (
+      sound,
       λ tells. let puts = c.in_ok-put_at_end.ensures tells in
           stands_behind g.W.Placed.keeps _ w.data_len_offset w.data_bytes_written c.args.bytes.now _ _ _ puts w.moved (c.self.invariant.1 tells) puts.place,
+      room_for_none _ _ _ _ sound,
     )
+
+pub returns-in_err-put_at_end-clause-sound_before : goal.returns-in_err-put_at_end-clause-sound_before
+returns-in_err-put_at_end-clause-sound_before g c =
+    let w = opened g.W.Placed.tells g.W.Placed.seen _ _ c.self.view_is c.self.invariant.0 (λ t. standing _ _ _ _ _ (c.self.invariant.1 t)) in
+    w.sound
+
+pub returns-in_err-put_at_end-clause-stands : goal.returns-in_err-put_at_end-clause-stands
+returns-in_err-put_at_end-clause-stands g c tells =
+    let w = opened g.W.Placed.tells g.W.Placed.seen _ _ c.self.view_is c.self.invariant.0 (λ t. standing _ _ _ _ _ (c.self.invariant.1 t)) in
+    w.stands tells
+
+pub returns-clause-sound_before : goal.returns-clause-sound_before
+returns-clause-sound_before g c =
+    let w = opened g.W.Placed.tells g.W.Placed.seen _ _ c.self.view_is c.self.invariant.0 (λ t. standing _ _ _ _ _ (c.self.invariant.1 t)) in
+    w.sound
+
+pub returns-clause-stands : goal.returns-clause-stands
+returns-clause-stands g c tells =
+    let w = opened g.W.Placed.tells g.W.Placed.seen _ _ c.self.view_is c.self.invariant.0 (λ t. standing _ _ _ _ _ (c.self.invariant.1 t)) in
+    w.stands tells

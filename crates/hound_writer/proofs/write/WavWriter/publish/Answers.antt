@@ -1,4 +1,4 @@
-use Rattle.std.proofs.Common.{arith, ◌∙◌}
+use Rattle.std.proofs.Common.{arith}
 use Rattle.hound_writer.proofs.Accepting.{opened, standing, stands_published, placed_unless_failed}
 use Rattle.hound_writer.proofs.Publishing.{patches_seen}
 use Rattle.hound_writer.proofs.write.WavWriter.publish.Goals as goal
@@ -6,9 +6,12 @@ use Rattle.hound_writer.proofs.write.WavWriter.publish.Goals as goal
 pub invariant_of-self : goal.invariant_of-self
 invariant_of-self g c =
     let w = c.self.inside in
-    let publish = c.publish-published in
-    (c.self.invariant.0, λ tells. stands_published _ w.data_len_offset w.data_bytes_written w.moved c.is_err-self-inside.result _ publish.result _ _ (c.self.invariant.1 tells) (publish.ensures.patches tells)
-    (placed_unless_failed publish.result c.is_err-self-inside.result _ c.is_err-self-inside.ensures.value (publish.ensures.place tells)))
+    let publish = c.publish-published in (
+      c.self.invariant.0,
+      (λ tells. stands_published _ w.data_len_offset w.data_bytes_written w.moved c.is_err-self-inside.result _ publish.result _ _ (c.self.invariant.1 tells) (publish.ensures.patches tells)
+          (placed_unless_failed publish.result c.is_err-self-inside.result _ c.is_err-self-inside.ensures.value (publish.ensures.place tells))),
+      c.self.invariant.2,
+    )
 
 pub returns-clause-sound : goal.returns-clause-sound
 returns-clause-sound g c =

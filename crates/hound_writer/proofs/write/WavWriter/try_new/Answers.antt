@@ -2,7 +2,7 @@ use Rattle.std.proofs.Common.{◌≡◌, [], ◌+◌, ◌-◌, length, arith, �
 use Rattle.hound_spec.proofs.HeaderLemmas.{length-header, data_start_least}
 use Rattle.hound_spec.specs.Header.{data_start}
 use Rattle.hound_spec.specs.Writable.{IsWritable}
-use Rattle.hound_writer.proofs.Beginning.{sound_begin, stands_begin, header_begins, whole_begins}
+use Rattle.hound_writer.proofs.Beginning.{room_for_none, sound_begin, stands_begin, header_begins, whole_begins}
 use Rattle.hound_writer.proofs.Standing.{counts}
 use Rattle.hound_writer.proofs.Accepting.{standing}
 use Rattle.hound_writer.proofs.write.WavWriter.try_new.Goals as goal
@@ -20,6 +20,7 @@ invariant_of-result g c =
     let writable : IsWritable s = search rules in (
       sound_begin s _ writable at,
       λ tells. let puts = c.in-Ok.ensures tells in stands_begin g.W.Placed.keeps s _ _ _ _ is (c.requires tells) puts puts.whole writable _ at,
+      room_for_none s _ 0 [] (sound_begin s _ writable at),
     )
 
 pub returns-in-Ok-clause-begun : goal.returns-in-Ok-clause-begun
@@ -49,4 +50,4 @@ returns-in-Ok-clause-counts g c tells =
     let at : length c.as_slice-bytes.result.now - 4 + 4 ≡ data_start s = omega (arith, size, data_start_least s) in
     let writable : IsWritable s = search rules in
     let puts = c.in-Ok.ensures tells in
-    counts g.W.Placed.seen (record { medium = _; spec_ex = s; data_start = _; data_length = 0; buffer = [] }) (sound_begin s _ writable at) (standing _ _ _ _ _ (stands_begin g.W.Placed.keeps s _ _ _ _ is (c.requires tells) puts puts.whole writable _ at))
+    counts g.W.Placed.seen (record { medium = _; spec_ex = s; data_start = _; data_length = 0; buffer = []; batch_length = 0; batch_written = 0 }) (sound_begin s _ writable at) (standing _ _ _ _ _ (stands_begin g.W.Placed.keeps s _ _ _ _ is (c.requires tells) puts puts.whole writable _ at))

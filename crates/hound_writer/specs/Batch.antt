@@ -1,0 +1,30 @@
+-- What contracts see of a batch of samples of sixteen bits.
+use Rattle.std.specs.Prelude.{◌-◌, ◌/◌, ℕ, List, take}
+use Rattle.std.specs.Borrow.{GName}
+use Rattle.hound_writer.specs.Writer.{Written}
+use Rattle.hound_writer.specs.declared.batch.SampleWriter16.{SampleWriter16}
+
+-- the bytes of the samples that were written to a writer's batch
+abbrev pub written : {W : Type 0} → Written W → List ℕ
+written w = take w.batch_written w.buffer
+
+-- how many samples are still to be written to it
+abbrev pub left : {W : Type 0} → Written W → ℕ
+left w = (w.batch_length - w.batch_written) / 2
+
+module _ {W : Type 0} where
+  -- the writer that a batch goes to, as it is now
+  abbrev pub batch_writer : SampleWriter16 W → Written W
+  batch_writer batch = batch.parent.now
+
+  -- the ghost name of the reference to it
+  abbrev pub batch_lender : SampleWriter16 W → GName
+  batch_lender batch = batch.parent.ghost_name
+
+  -- the bytes of the samples that were written to a batch
+  abbrev pub batch_bytes : SampleWriter16 W → List ℕ
+  batch_bytes batch = written (batch_writer batch)
+
+  -- how many samples are still to be written
+  abbrev pub remaining : SampleWriter16 W → ℕ
+  remaining batch = left (batch_writer batch)

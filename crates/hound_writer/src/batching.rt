@@ -1,0 +1,200 @@
+// What is done with batches.
+ghost use Rattle.std.specs.Prelude.{◌≡◌, ◌+◌, ◌*◌, ◌/◌, ◌%◌, ◌≤◌, ◌<◌, ◌++◌, max, [], length, take, drop, IsTrue, IfOk, IfErr, MatchResult, Ok, Err, OnOk, OnErr};
+ghost use Rattle.std.specs.Borrow.{sem, RestsIfErr};
+ghost use Rattle.hound_number.specs.Number.{signed_bytes_of};
+ghost use Rattle.hound_spec.specs.Header.{riff_size};
+ghost use Rattle.hound_spec.specs.declared.error.Error.TheVariants.{OutOfMemory, TooLong};
+ghost use Rattle.hound_writer.specs.contracts.write.WavWriter.{the_row};
+ghost use Rattle.hound_writer.specs.Writer.{IsIoError, IsSameFile, StaysInPlace, AcceptsBytes};
+ghost use Rattle.hound_writer.specs.Batch.{written, left, batch_writer, batch_lender, batch_bytes, remaining};
+ghost use Rattle.hound_writer.specs.Room.{IsSixteen, HasRoom};
+
+use crate::write::riff_fits;
+use crate::{SampleWriter16, WavWriter};
+use hound_medium::Medium;
+use hound_number::le_i16;
+use hound_sample::Sample;
+use hound_spec::{Error, Result};
+use std::alloc::Global;
+
+impl<W: Medium> WavWriter<W> {
+    // Has memory for so many bytes.
+    fn keep(&mut self, alloc: Global, num_bytes: usize) -> Result<()>
+        ensures stays { self.new ≡ record self.old { buffer = self.new.buffer } }
+        ensures kept { OnOk result (length self.new.buffer ≡ max (length self.old.buffer) num_bytes) }
+        ensures refused { IfErr result (λ e. (e ≡ OutOfMemory) × (self.new ≡ self.old) × (length self.old.buffer < num_bytes)) }
+    {
+        let mut buffer = match self.buffer.take() {
+            Some(buffer) => buffer,
+            None => Vec::new(alloc),
+        };
+        let grown = grow(&mut buffer, num_bytes);
+        self.buffer = Some(buffer);
+        grown
+    }
+}
+
+// Fills up with zeros, where a buffer is shorter.
+fn grow(buffer: &mut Vec<u8>, num_bytes: usize) -> Result<()>
+    ensures kept { OnOk result (length buffer.new.items ≡ max (length buffer.old.items) num_bytes) }
+    ensures refused { IfErr result (λ e. (e ≡ OutOfMemory) × (buffer.new.items ≡ buffer.old.items) × (length buffer.old.items < num_bytes)) }
+{
+    if buffer.len() >= num_bytes {
+        return Ok(());
+    }
+    match buffer.resize(num_bytes, 0) {
+        Ok(()) => Ok(()),
+        Err(_) => Err(Error::OutOfMemory),
+    }
+}
+
+impl<W: Medium> WavWriter<W> {
+    // Puts a sample of sixteen bits into the batch.
+    #[inline(always)]
+    fn write_in_batch(&mut self, value: i16)
+        requires { 1 ≤ left self.old }
+        ensures stays { self.new ≡ record self.old { buffer = self.new.buffer; batch_written = self.old.batch_written + 2 } }
+        ensures written { written self.new ≡ written self.old ++ signed_bytes_of 2 value }
+        ensures kept { length self.new.buffer ≡ length self.old.buffer }
+    {
+        let index = self.index;
+        self.index = index + 2;
+        if let Some(buffer) = &mut self.buffer {
+            buffer[index..index + 2].copy_from_slice(&le_i16(value));
+        }
+    }
+
+    // How many samples are still to be written to the batch.
+    #[inline(always)]
+    fn left_in_batch(&self) -> u32
+        ensures { result ≡ left self.now }
+    {
+        ((self.num_bytes - self.index) / 2) as u32
+    }
+
+    /// A batch of so many samples of sixteen bits, which are accepted by one call. They are samples,
+    /// not frames: the channels of a frame follow one another.
+    ///
+    /// The writer must be one of integers with sixteen bits, as its spec tells. The memory is kept
+    /// for later batches. The errors, in their order: `TooLong`, where the RIFF size of the longer
+    /// file would pass 4294967295; `OutOfMemory`, where the batch needs more memory than is kept and
+    /// there is none. Either leaves the writer as it was.
+    pub fn get_i16_writer<'s>(
+        &'s mut self,
+        alloc: Global,
+        num_samples: u32,
+    ) -> Result<SampleWriter16<'s, W>>
+        requires { IsSixteen self.old.spec_ex }
+        ensures* unchanged { sem 𝓛 (RestsIfErr (the_row W.row W.Placed) self.entry batch_lender result (λ last. last ≡ self.old)) }
+        ensures lender { IfOk result (λ batch. batch_lender batch ≡ self.entry.ghost_name) }
+        ensures too_long { (HasRoom self.old (2 * num_samples) → ⊥) → result ≡ Err TooLong }
+        ensures room { OnOk result (HasRoom self.old (2 * num_samples)) }
+        ensures no_memory { HasRoom self.old (2 * num_samples) → IfErr result (λ e. (e ≡ OutOfMemory) × (length self.old.buffer < 2 * num_samples)) }
+        ensures size { IfOk result (λ batch. (remaining batch ≡ num_samples) × (batch_bytes batch ≡ [])) }
+        ensures stays { IfOk result (λ batch. IsSameFile self.old (batch_writer batch)) }
+        ensures kept { IfOk result (λ batch. length (batch_writer batch).buffer ≡ max (length self.old.buffer) (2 * num_samples)) }
+    {
+        let num_bytes = num_samples as u64 * 2;
+        if !riff_fits(
+            self.data_len_offset,
+            self.data_bytes_written as u64 + num_bytes,
+        ) {
+            return Err(Error::TooLong);
+        }
+        let num_bytes = num_bytes as usize;
+        self.keep(alloc, num_bytes)?;
+        self.num_bytes = num_bytes;
+        self.index = 0;
+        Ok(SampleWriter16 { parent: self })
+    }
+
+    // Puts whole containers behind the accepted ones, and accepts all of them or none.
+    fn accept_all(&mut self, bytes: &[u8]) -> Result<()>
+        requires room { HasRoom self.old (length bytes.now) }
+        requires whole { length bytes.now % self.old.spec_ex.bytes_per_sample ≡ 0 }
+        ensures failed { IfErr result IsIoError }
+        ensures stays { StaysInPlace self.old self.new }
+        ensures over { (self.new.batch_length ≡ 0) × (self.new.batch_written ≡ 0) }
+        ensures count { MatchResult result (λ _. self.new.data_length ≡ self.old.data_length + length bytes.now)
+            (λ _. self.new.data_length ≡ self.old.data_length) }
+        ensures accepts { IsTrue W.tells → AcceptsBytes W.seen result bytes.now self.old self.new }
+    {
+        self.accept(bytes)?;
+        Ok(())
+    }
+
+    // Accepts all samples of the batch, or none of them.
+    fn accept_batch(&mut self) -> Result<()>
+        requires { left self.old ≡ 0 }
+        ensures failed { IfErr result IsIoError }
+        ensures stays { StaysInPlace self.old self.new }
+        ensures count { MatchResult result (λ _. self.new.data_length ≡ self.old.data_length + length (written self.old))
+            (λ _. self.new.data_length ≡ self.old.data_length) }
+        ensures accepts { IsTrue W.tells → AcceptsBytes W.seen result (written self.old) self.old self.new }
+    {
+        let num_bytes = self.num_bytes;
+        self.num_bytes = 0; // it is over, whatever becomes of it
+        self.index = 0;
+        let Some(buffer) = self.buffer.take() else {
+            return Ok(());
+        };
+        let accepted = self.accept_all(&buffer[..num_bytes]);
+        self.buffer = Some(buffer);
+        accepted
+    }
+}
+
+impl<'parent, W: Medium> SampleWriter16<'parent, W> {
+    /// Writes a sample to the batch: its lowest sixteen bits, as a signed number.
+    ///
+    /// The batch must have room for it, and the sample must have such bits: an integer has.
+    #[inline]
+    pub fn write_sample<S: Sample>(&mut self, sample: S)
+        requires room { 1 ≤ remaining self.old }
+        requires short { S.can_cast sample }
+        ensures lender { batch_lender self.new ≡ batch_lender self.old }
+        ensures written { batch_bytes self.new ≡ batch_bytes self.old ++ signed_bytes_of 2 (S.as_short sample) }
+        ensures left { remaining self.new + 1 ≡ remaining self.old }
+        ensures stays { IsSameFile (batch_writer self.old) (batch_writer self.new) }
+        ensures kept { length (batch_writer self.new).buffer ≡ length (batch_writer self.old).buffer }
+    {
+        self.parent.write_in_batch(sample.as_i16());
+    }
+
+    /// Does what [`SampleWriter16::write_sample`] does, which is safe and checks nothing.
+    #[inline]
+    pub fn write_sample_unchecked<S: Sample>(&mut self, sample: S)
+        requires room { 1 ≤ remaining self.old }
+        requires short { S.can_cast sample }
+        ensures lender { batch_lender self.new ≡ batch_lender self.old }
+        ensures written { batch_bytes self.new ≡ batch_bytes self.old ++ signed_bytes_of 2 (S.as_short sample) }
+        ensures left { remaining self.new + 1 ≡ remaining self.old }
+        ensures stays { IsSameFile (batch_writer self.old) (batch_writer self.new) }
+        ensures kept { length (batch_writer self.new).buffer ≡ length (batch_writer self.old).buffer }
+    {
+        self.write_sample(sample);
+    }
+
+    /// How many samples are still to be written to the batch.
+    pub fn remaining(&self) -> u32
+        ensures { result ≡ remaining self.now }
+    {
+        self.parent.left_in_batch()
+    }
+
+    /// Accepts all samples of a batch that is full, or none of them.
+    ///
+    /// The one error is `IoError`, where the medium failed: none of the batch is accepted, and the
+    /// writer may go on.
+    pub fn flush(self) -> Result<()>
+        requires { remaining self ≡ 0 }
+        ensures failed { IfErr result IsIoError }
+        ensures stays { StaysInPlace (batch_writer self.entry) self.exit.0.now }
+        ensures count { MatchResult result (λ _. self.exit.0.now.data_length ≡ (batch_writer self.entry).data_length + length (batch_bytes self.entry))
+            (λ _. self.exit.0.now.data_length ≡ (batch_writer self.entry).data_length) }
+        ensures accepts { IsTrue W.tells → AcceptsBytes W.seen result (batch_bytes self.entry) (batch_writer self.entry) self.exit.0.now }
+    {
+        let SampleWriter16 { parent } = self;
+        parent.accept_batch()
+    }
+}
