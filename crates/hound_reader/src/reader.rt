@@ -167,6 +167,14 @@ impl<R: io::Read + Drop> WavReader<R> {
         (self.num_samples as u64).saturating_sub(self.samples_read) as u32
     }
 
+    /// As many items as samples are left, and no more.
+    pub(crate) fn size_hint(&self) -> (usize, Option<usize>)
+        ensures exact { (result.0 ≡ samples_left self.now) × (result.1 ≡ Some (samples_left self.now)) }
+    {
+        let left = self.samples_left() as usize;
+        (left, Some(left))
+    }
+
     /// The next sample, while one is left.
     #[inline(always)]
     pub(crate) fn next_sample<S: Sample>(&mut self) -> Option<Result<S>>
