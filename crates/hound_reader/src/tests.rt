@@ -307,6 +307,24 @@ fn torn_samples(rt: HostRuntime) -> Result<(), Fail> {
 }
 
 #[test]
+fn seeking(rt: HostRuntime) -> Result<(), Fail> {
+    let tape = Tape::new(FOUR_SAMPLES.to_vec(rt.alloc())?);
+    let mut reader = WavReader::new(tape).ok().ok_or("a file")?;
+    reader.seek(2)?;
+    assert_eq!(rt; reader.samples::<i16>().size_hint(), (2, Some(2)));
+    assert!(rt; matches!(reader.samples::<i16>().next(), Some(Ok(5))));
+    reader.seek(4)?;
+    assert!(rt; reader.samples::<i16>().next().is_none());
+    reader.seek(1)?;
+    // The source stands at the sample.
+    let mut tape = reader.into_inner();
+    let mut sample = [0; 2];
+    assert_eq!(rt; tape.read(&mut sample)?, 2);
+    assert_eq!(rt; sample, [0xfd, 0xff]);
+    Ok(())
+}
+
+#[test]
 fn refused_heads(rt: HostRuntime) {
     assert!(rt; is_refused_with(&[(16, 0x0e)], "invalid fmt chunk size", 20));
     assert!(rt; is_refused_with(&[(16, 0x11)], "unexpected fmt chunk size", 36));
