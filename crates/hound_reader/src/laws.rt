@@ -1,4 +1,4 @@
-// What holds of all bytes and of all files that are written.
+// What holds of all bytes, of all files that are written, and of all readers.
 ghost use Rattle.std.specs.Prelude.{◌≡◌, ℕ, ◌+◌, ◌*◌, ◌/◌, List, length, drop, ◌++◌, ◌<◌, ◌≤◌, IsTrue, Option, None, Result, IfSome};
 ghost use Rattle.hound_spec.specs.Writable.{IsWritable};
 ghost use Rattle.hound_spec.specs.Header.{header, data_start, canonical};
