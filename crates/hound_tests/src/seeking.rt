@@ -140,7 +140,7 @@ impl Placed for Held {
     }
 
     fn shift(&mut self, _by: i64) -> io::Result<()> {
-        Err(io::Error::from(ErrorKind::Other))
+        Err(io::Error::from(ErrorKind::Interrupted))
     }
 }
 
@@ -157,7 +157,8 @@ fn a_seek_that_fails_changes_nothing(rt: HostRuntime) -> Result<(), Fail> {
     let tape = Tape::new(FOUR_SAMPLES.to_vec(rt.alloc())?);
     let mut reader = WavReader::new(Held { tape })?;
     assert!(rt; gives(&mut reader, 2i16));
-    assert!(rt; reader.seek(0).is_err());
+    let error = reader.seek(0).err().ok_or("a tape that stays")?;
+    assert_eq!(rt; error.kind(), ErrorKind::Interrupted);
     assert_eq!(rt; reader.samples::<i16>().size_hint(), (3, Some(3)));
     assert!(rt; gives(&mut reader, -3i16));
     Ok(())
