@@ -10,6 +10,7 @@ pub use Rattle.hound_medium.specs.Seen
 pub use Rattle.hound_reader.specs.Chunks
 pub use Rattle.hound_reader.specs.Refusals
 pub use Rattle.hound_reader.specs.Reading
+pub use Rattle.hound_reader.specs.Seeking
 pub use Rattle.hound_writer.specs.Writer
 pub use Rattle.hound_writer.specs.Counts
 pub use Rattle.hound_writer.specs.Appending

@@ -3,6 +3,7 @@ pub mod FmtLemmas
 pub mod Gives
 pub mod ItemLemmas
 pub mod ReaderLemmas
+pub mod SeekLemmas
 pub mod SourceReads
 pub mod Unique
 pub mod WalkLemmas

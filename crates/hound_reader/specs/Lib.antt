@@ -10,3 +10,4 @@ pub mod Sources
 pub mod Containers
 pub mod Items
 pub mod Rows
+pub mod Seeking

@@ -1,5 +1,5 @@
-// What holds of all bytes and of all files that are written.
-ghost use Rattle.std.specs.Prelude.{◌≡◌, ℕ, ◌+◌, List, length, drop, ◌++◌, ◌≤◌, Result, IfSome};
+// What holds of all bytes, of all files that are written, and of all readers.
+ghost use Rattle.std.specs.Prelude.{◌≡◌, ℕ, ◌+◌, ◌*◌, ◌/◌, List, length, drop, ◌++◌, ◌<◌, ◌≤◌, IsTrue, Option, None, Result, IfSome};
 ghost use Rattle.hound_spec.specs.Writable.{IsWritable};
 ghost use Rattle.hound_spec.specs.Header.{header, data_start, canonical};
 ghost use Rattle.hound_spec.specs.declared.spec.WavSpecEx.{WavSpecEx};
@@ -8,9 +8,12 @@ ghost use Rattle.hound_reader.specs.Chunks.{Head, Readable};
 ghost use Rattle.hound_sample.specs.Container.{containers};
 ghost use Rattle.hound_reader.specs.Containers.{AreContainers};
 ghost use Rattle.hound_reader.specs.Items.{AreItems, GivesItems};
-ghost use Rattle.hound_reader.specs.Reading.{Reading, refusal_at, meaning_at, samples_left};
+ghost use Rattle.hound_reader.specs.Reading.{Reading, IsNext, refusal_at, meaning_at, samples_left};
+ghost use Rattle.hound_reader.specs.Seeking.{HasSought, IsMeaningOf, container_at, samples_before};
+ghost use Rattle.hound_reader.specs.Sources.{unread};
 ghost use Rattle.hound_spec.specs.declared.error.Error.{Error};
 
+use hound_medium::Source;
 use hound_sample::Sample;
 use std::io;
 
@@ -41,4 +44,29 @@ pub fn items_are_of_the_file<R: io::Read, S: Sample>()
         AreItems (refusal_at S.refusal old.spec_ex) (meaning_at S.meaning old.spec_ex) old.spec_ex.bytes_per_sample bytes items) }
     ensures counted { (items : List (Result S Error)) (old new : Reading R) → GivesItems R.remaining S.refusal S.meaning items old new →
         (new.samples_read ≡ old.samples_read + length items) × (length items ≤ samples_left old) }
+{}
+
+/// An iterator gives exactly as many items as are left where it begins, and then none: so many as
+/// its `size_hint` says.
+pub fn an_iterator_gives_what_it_hints<R: io::Read, S: Sample>()
+    ensures behind { (items : List (Result S Error)) (old new end : Reading R) → GivesItems R.remaining S.refusal S.meaning items old new →
+        IsNext {A = S} R.remaining S.refusal S.meaning None new end → length items ≡ samples_left old }
+    ensures inside { (items : List (Result S Error)) (next : Option (Result S Error)) (old new end : Reading R) → GivesItems R.remaining S.refusal S.meaning items old new →
+        length items ≡ samples_left old → IsNext R.remaining S.refusal S.meaning next new end → next ≡ None }
+{}
+
+/// An Ok `seek` leads to its frame, where the source stood as many bytes behind the first data byte
+/// as the reader counts as taken; so it does afterwards. In a type that reads the samples, the next
+/// item is then the meaning of the frame's first container, unless it is an `IoError`, and that
+/// container is all there where the data chunk is.
+pub fn a_seek_leads_to_its_frame<R: Source, S: Sample>()
+    ensures place { (start time : ℕ) (old new : Reading R) → HasSought R.seen start time old new →
+        (R.seen new.reader).place ≡ start + new.bytes_read }
+    ensures item { (start time : ℕ) (old mid new : Reading R) (next : Option (Result S Error)) → IsTrue R.tells → HasSought R.seen start time old mid →
+        time < old.num_samples / old.spec_ex.spec.channels → refusal_at S.refusal old.spec_ex ≡ None → IsNext R.remaining S.refusal S.meaning next mid new →
+        IsMeaningOf (meaning_at S.meaning old.spec_ex)
+        (container_at old.spec_ex.bytes_per_sample (samples_before time old.spec_ex) (drop start (R.seen old.reader).contents)) next }
+    ensures there { (start time : ℕ) (old mid : Reading R) → HasSought R.seen start time old mid →
+        time < old.num_samples / old.spec_ex.spec.channels → start + old.num_samples * old.spec_ex.bytes_per_sample ≤ length (R.seen old.reader).contents →
+        old.spec_ex.bytes_per_sample ≤ length (unread (R.seen mid.reader)) }
 {}

@@ -1,5 +1,5 @@
 // Readers of files.
-ghost use Rattle.std.specs.Prelude.{◌≡◌, ℕ, ◌+◌, ◌*◌, ◌/◌, ◌%◌, ◌++◌, List, length, drop, Some, IfOk, IfErr, IfSome, MatchResult};
+ghost use Rattle.std.specs.Prelude.{◌≡◌, ℕ, ◌+◌, ◌*◌, ◌/◌, ◌%◌, ◌++◌, List, length, drop, Some, IsTrue, IfOk, IfErr, IfSome, MatchResult};
 ghost use Rattle.hound_number.specs.Input.{Known};
 ghost use Rattle.hound_number.specs.Number.{number};
 ghost use Rattle.hound_spec.specs.Header.{riff_tag, wave_tag};
@@ -9,13 +9,16 @@ ghost use Rattle.hound_reader.specs.Fmt.{IsSound};
 ghost use Rattle.hound_reader.specs.Chunks.{Readable, Unreadable, front_fault};
 ghost use Rattle.hound_reader.specs.declared.fault.Cause.{Cause};
 ghost use Rattle.hound_reader.specs.Refusals.{IsRefusal, OpensAs, FailsAs};
+ghost use Rattle.hound_medium.specs.Seen.{Shifts};
 ghost use Rattle.hound_reader.specs.Reading.{IsNext, samples_left};
+ghost use Rattle.hound_reader.specs.Seeking.{Recounts, way_to};
 ghost use Rattle.hound_reader.specs.Samples.{lent_reader, lender, taken_reader};
 
 use crate::chunks::{read_riff_header, read_until_data};
 use crate::counting::CountingReader;
 use crate::fault::{Cause, HeadError, Reason, error_of};
 use crate::samples::{WavIntoSamples, WavSamples};
+use hound_medium::{Placed, Source};
 use hound_number::Input;
 use hound_sample::Sample;
 use hound_spec::{Error, Result, WavSpec, WavSpecEx};
@@ -153,6 +156,29 @@ impl<R: io::Read + Drop> WavReader<R> {
         WavIntoSamples::new(self)
     }
 
+    /// Moves the source to the first container of a frame; `time` counts frames from 0.
+    ///
+    /// A frame is a sample of each channel, and the source moves by the frame's place in bytes less
+    /// the bytes that samples really took so far. So the place is right after samples that were
+    /// refused, which took none, and after one that was torn, which took a part.
+    ///
+    /// A `time` at or behind the end is allowed; then no samples are left. An error leaves the source
+    /// where it was, and the reader counts as before.
+    pub fn seek(&mut self, time: u32) -> io::Result<()>
+    where
+        R: Source,
+        ensures counts { Recounts time result self.old self.new }
+        ensures source { IsTrue R.tells → Shifts (way_to time self.old) result (R.seen self.old.reader) (R.seen self.new.reader) }
+    {
+        let samples = time as u64 * self.spec_ex.spec.channels as u64;
+        let bytes = samples * self.spec_ex.bytes_per_sample as u64;
+        let by = bytes as i64 - self.bytes_read as i64;
+        Placed::shift(&mut self.reader.reader, by)?;
+        self.samples_read = samples;
+        self.bytes_read = bytes;
+        Ok(())
+    }
+
     /// What the samples were read from, as it was left.
     pub fn into_inner(self) -> R
         ensures { result ≡ self.reader }
@@ -165,6 +191,14 @@ impl<R: io::Read + Drop> WavReader<R> {
         ensures { result ≡ samples_left self.now }
     {
         (self.num_samples as u64).saturating_sub(self.samples_read) as u32
+    }
+
+    /// As many items as samples are left, and no more.
+    pub(crate) fn size_hint(&self) -> (usize, Option<usize>)
+        ensures exact { (result.0 ≡ samples_left self.now) × (result.1 ≡ Some (samples_left self.now)) }
+    {
+        let left = self.samples_left() as usize;
+        (left, Some(left))
     }
 
     /// The next sample, while one is left.

@@ -51,8 +51,7 @@ impl<R: io::Read + Drop, S: Sample> Iterator for WavSamples<'_, R, S> {
         ensures upper { IfSome result.1 (UpTo (at_most (samples_left (lent_reader self.now)))) }
         ensures exact { (result.0 ≡ samples_left (lent_reader self.now)) × (result.1 ≡ Some (samples_left (lent_reader self.now))) }
     {
-        let left = self.reader.samples_left() as usize;
-        (left, Some(left))
+        self.reader.size_hint()
     }
 }
 
@@ -97,8 +96,7 @@ impl<R: io::Read + Drop, S: Sample> Iterator for WavIntoSamples<R, S> {
         ensures upper { IfSome result.1 (UpTo (at_most (samples_left (taken_reader self.now)))) }
         ensures exact { (result.0 ≡ samples_left (taken_reader self.now)) × (result.1 ≡ Some (samples_left (taken_reader self.now))) }
     {
-        let left = self.reader.samples_left() as usize;
-        (left, Some(left))
+        self.reader.size_hint()
     }
 }
 

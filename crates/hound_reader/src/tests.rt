@@ -1,8 +1,9 @@
 // What no clause says: whole files, the errors of plain readers, and how many bytes a refusal took.
 // The expected values are those of the public format and of files that were written elsewhere.
-ghost use Rattle.std.specs.Prelude.{pos, negsuc, [], ◌∷◌, take};
+ghost use Rattle.std.specs.Prelude.{◌≡◌, pos, negsuc, [], ◌∷◌, take};
 ghost use Rattle.hound_reader.specs.Chunks.{Head, Refused};
-ghost use Rattle.hound_reader.specs.Rows.{four_samples, four_containers, long_fact, past_the_limit, mono_16, AreRead};
+ghost use Rattle.hound_reader.specs.Rows.{four_samples, four_containers, padded_containers, long_fact, past_the_limit, mono_16, stereo_24, counted, AreRead};
+ghost use Rattle.hound_reader.specs.Seeking.{way_to, container_at};
 ghost use Rattle.hound_reader.specs.declared.fault.Cause.TheVariants.{Ended, Format};
 ghost use Rattle.hound_reader.specs.declared.fault.Reason.TheVariants.{NoDataChunk};
 
@@ -307,6 +308,24 @@ fn torn_samples(rt: HostRuntime) -> Result<(), Fail> {
 }
 
 #[test]
+fn seeking(rt: HostRuntime) -> Result<(), Fail> {
+    let tape = Tape::new(FOUR_SAMPLES.to_vec(rt.alloc())?);
+    let mut reader = WavReader::new(tape).ok().ok_or("a file")?;
+    reader.seek(2)?;
+    assert_eq!(rt; reader.samples::<i16>().size_hint(), (2, Some(2)));
+    assert!(rt; matches!(reader.samples::<i16>().next(), Some(Ok(5))));
+    reader.seek(4)?;
+    assert!(rt; reader.samples::<i16>().next().is_none());
+    reader.seek(1)?;
+    // The source stands at the sample.
+    let mut tape = reader.into_inner();
+    let mut sample = [0; 2];
+    assert_eq!(rt; tape.read(&mut sample)?, 2);
+    assert_eq!(rt; sample, [0xfd, 0xff]);
+    Ok(())
+}
+
+#[test]
 fn refused_heads(rt: HostRuntime) {
     assert!(rt; is_refused_with(&[(16, 0x0e)], "invalid fmt chunk size", 20));
     assert!(rt; is_refused_with(&[(16, 0x11)], "unexpected fmt chunk size", 36));
@@ -469,8 +488,12 @@ fn definitions_at_files()
     ensures one_byte { AreRead 1 8 (0x93 ∷ 0x4b ∷ 0xd9 ∷ 0x01 ∷ 0x00 ∷ []) (pos 19 ∷ negsuc 52 ∷ pos 89 ∷ negsuc 126 ∷ negsuc 127 ∷ []) }
     ensures two_bytes { AreRead 2 16 four_containers (pos 2 ∷ negsuc 2 ∷ pos 5 ∷ negsuc 6 ∷ []) }
     ensures three_bytes { AreRead 3 24 (0xef ∷ 0xff ∷ 0xff ∷ 0x0f ∷ 0x00 ∷ 0x40 ∷ 0x13 ∷ 0x00 ∷ 0xa0 ∷ 0xe9 ∷ 0x7f ∷ 0x7f ∷ []) (negsuc 16 ∷ pos 4194319 ∷ negsuc 6291436 ∷ pos 8355817 ∷ []) }
-    ensures three_of_four { AreRead 4 24 (0xa0 ∷ 0xff ∷ 0xff ∷ 0x00 ∷ 0x0c ∷ 0x5a ∷ 0x00 ∷ 0x00 ∷ 0xff ∷ 0xff ∷ 0x7f ∷ 0x00 ∷ 0x20 ∷ 0x6d ∷ 0x80 ∷ 0x00 ∷ []) (negsuc 95 ∷ pos 23052 ∷ pos 8388607 ∷ negsuc 8360671 ∷ []) }
+    ensures three_of_four { AreRead 4 24 padded_containers (negsuc 95 ∷ pos 23052 ∷ pos 8388607 ∷ negsuc 8360671 ∷ []) }
     ensures four_bytes { AreRead 4 32 (0x13 ∷ 0x00 ∷ 0x00 ∷ 0x00 ∷ 0x03 ∷ 0x80 ∷ 0xfc ∷ 0xff ∷ 0xd9 ∷ 0x7f ∷ 0x00 ∷ 0x02 ∷ 0x97 ∷ 0x00 ∷ 0x00 ∷ 0x80 ∷ []) (pos 19 ∷ negsuc 229372 ∷ pos 33587161 ∷ negsuc 2147483496 ∷ []) }
+    ensures after_a_refusal { way_to 1 (counted stereo_24 1 0) ≡ pos 8 }
+    ensures after_a_sample { way_to 1 (counted stereo_24 1 4) ≡ pos 4 }
+    ensures after_a_torn_one { way_to 0 (counted mono_16 2 3) ≡ negsuc 2 }
+    ensures third { container_at 4 2 padded_containers ≡ 0xff ∷ 0xff ∷ 0x7f ∷ 0x00 ∷ [] }
 {}
 
 #[test]

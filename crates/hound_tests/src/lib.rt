@@ -8,6 +8,8 @@ pub use twelve::Twelve;
 #[cfg(test)]
 mod reading;
 #[cfg(test)]
+mod seeking;
+#[cfg(test)]
 mod widths;
 #[cfg(test)]
 mod writing;

@@ -33,7 +33,7 @@ fn samples_of<S: Sample, R: io::Read + Drop>(alloc: Global, input: R) -> hound::
 }
 
 // A file of one fmt chunk and the data.
-fn file(alloc: Global, fmt: &[u8], data: &[u8]) -> Result<Vec<u8>, Fail> {
+pub(crate) fn file(alloc: Global, fmt: &[u8], data: &[u8]) -> Result<Vec<u8>, Fail> {
     let mut bytes = b"RIFF\0\0\0\0WAVEfmt ".to_vec(alloc)?;
     bytes.extend_from_slice(&[(fmt.len() % 256) as u8, 0, 0, 0])?;
     bytes.extend_from_slice(fmt)?;

@@ -1,0 +1,49 @@
+-- What `seek` does.
+use Rattle.std.specs.Prelude.{◌≡◌, ℕ, ℤ, pos, ◌+◌, ◌-ℤ◌, ◌*◌, List, take, drop, ⊤, Option, None, Some, Result, Ok, Err}
+use Rattle.hound_spec.specs.declared.error.Error.{Error}
+use Rattle.hound_spec.specs.declared.error.Error.TheVariants.{IoError}
+use Rattle.hound_spec.specs.declared.spec.WavSpecEx.{WavSpecEx}
+use Rattle.std.specs.declared.io.Error.{Error as IoFault}
+use Rattle.hound_medium.specs.Seen.{Seen, Shifts}
+use Rattle.hound_reader.specs.Reading.{Reading}
+
+-- how many samples stand before a frame
+abbrev pub samples_before : ℕ → WavSpecEx → ℕ
+samples_before time s = time * s.spec.channels
+
+-- how many bytes of the data stand before a frame
+abbrev pub bytes_before : ℕ → WavSpecEx → ℕ
+bytes_before time s = samples_before time s * s.bytes_per_sample
+
+-- the way to a frame in bytes, from where the reader counts itself to be
+abbrev pub way_to : {R : Type 0} → ℕ → Reading R → ℤ
+way_to time reading = pos (bytes_before time reading.spec_ex) -ℤ pos reading.bytes_read
+
+-- a count after a call: an Err leaves the old one
+abbrev pub count_after : {T E : Type 0} → Result T E → ℕ → ℕ → ℕ
+count_after (Ok x) count old = count
+count_after (Err e) count old = old
+
+-- The counts after `seek`: all that stands before the frame counts as read, and an Err leaves them.
+pub record Recounts {R T E : Type 0} (time : ℕ) (result : Result T E) (old new : Reading R) : Type 0 where
+  pub samples : new.samples_read ≡ count_after result (samples_before time old.spec_ex) old.samples_read
+  pub bytes : new.bytes_read ≡ count_after result (bytes_before time old.spec_ex) old.bytes_read
+  pub spec_ex : new.spec_ex ≡ old.spec_ex
+  pub num_samples : new.num_samples ≡ old.num_samples
+
+-- `seek` was Ok, over a source that tells and stood where the reader counts itself to be: the data begin at `start`.
+pub record HasSought {R : Type 0} (seen : R → Seen) (start time : ℕ) (old new : Reading R) : Type 0 where
+  pub stood : (seen old.reader).place ≡ start + old.bytes_read
+  pub counts : Recounts {T = Unit {0}} {E = IoFault} time (Ok tt) old new
+  pub source : Shifts {T = Unit {0}} {E = IoFault} (way_to time old) (Ok tt) (seen old.reader) (seen new.reader)
+
+-- the container with this number, from 0 on, of data with containers of this width
+abbrev pub container_at : ℕ → ℕ → List ℕ → List ℕ
+container_at width number bytes = take width (drop (number * width) bytes)
+
+-- an item was given, which is the meaning of this container unless it is an `IoError`
+abbrev pub IsMeaningOf : {A : Type 0} → (List ℕ → A) → List ℕ → Option (Result A Error) → Type 0
+IsMeaningOf meaning container None = ⊥
+IsMeaningOf meaning container (Some (Ok value)) = value ≡ meaning container
+IsMeaningOf meaning container (Some (Err (IoError e))) = ⊤
+IsMeaningOf meaning container (Some (Err _)) = ⊥
