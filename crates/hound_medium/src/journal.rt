@@ -93,7 +93,7 @@ impl Journal {
         self.fail_to = to;
     }
 
-    /// How many bytes have been put, each time counted that one was put at the same place.
+    /// How many bytes have been put in all. One that was put over another counts too.
     pub fn taken(&self) -> usize
         ensures { result ≡ length (⟦<Journal as Placed>⟧.seen self.now).past }
     {
@@ -210,7 +210,7 @@ impl Medium for Journal {
         ensures flushes { let seen = ⟦<Journal as Placed>⟧.seen in Flushes result (seen self.old) (seen self.new) }
     {
         self.call()?;
-        self.flushed = self.past.len();
+        self.flushed = self.taken();
         Ok(())
     }
 }
