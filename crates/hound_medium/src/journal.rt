@@ -1,10 +1,10 @@
 // Bytes in memory as a medium and a source that keeps its past and fails on request.
-ghost use Rattle.std.specs.Prelude.{◌≡◌, ◌<◌, ◌≤◌, true, Some, [], length, drop, refl, IfOk, IfErr};
+ghost use Rattle.std.specs.Prelude.{◌≡◌, ◌<◌, ◌≤◌, ◌↔◌, true, Some, [], length, drop, refl, IsErr, IfOk, IfErr};
 ghost use Rattle.std.specs.Io.{ReadsAtMost};
 ghost use Rattle.std.specs.Io.KnownBytes.{ReadConsumes};
 ghost use Rattle.hound_number.specs.Number.{AreBytes};
 ghost use Rattle.hound_medium.specs.Bytes.{overlay, moment};
-ghost use Rattle.hound_medium.specs.Seen.{Goes, Shifts, Gets, Puts, Flushes, faults_after};
+ghost use Rattle.hound_medium.specs.Seen.{Goes, Shifts, Gets, Puts, Flushes, one_more, faults_after};
 
 use crate::bytes::copy_from;
 use crate::past::{put_and_keep, replay};
@@ -127,10 +127,11 @@ impl Journal {
 
     // Numbers a call, and fails it where it was asked for.
     fn call(&mut self) -> io::Result<()>
-        ensures { self.new ≡ record self.old {
-          calls = self.new.calls;
+        ensures counts { self.new ≡ record self.old {
+          calls = one_more self.old.calls;
           faults = faults_after result self.old.faults;
         } }
+        ensures fails { IsErr result ↔ (self.old.fail_from ≤ self.new.calls) × (self.new.calls ≤ self.old.fail_to) }
     {
         self.calls = self.calls.saturating_add(1);
         if self.fail_from <= self.calls && self.calls <= self.fail_to {
