@@ -3,4 +3,5 @@ pub mod Inside
 pub mod Taking
 pub mod Reading
 pub mod Spans
+pub mod Torn
 pub mod Outcomes
