@@ -1,7 +1,7 @@
 //! WAV audio, written and read: a port of the crate `hound` with every function proved.
 #![tactic(auto)]
 
-pub use hound_medium::{Medium, Placed, Source, Tape};
+pub use hound_medium::{Journal, Medium, Placed, Source, Tape};
 pub use hound_reader::{WavIntoSamples, WavReader, WavSamples, read_wave_header};
 pub use hound_sample::{FloatBits, Sample};
 pub use hound_spec::{Error, Result, SampleFormat, WavSpec, WavSpecEx};

@@ -24,7 +24,7 @@ unknown = record {
   flushed = 0;
 }
 
--- a count of faults that has grown by one; the greatest `u64` stays
+-- a count of faults or of calls that has grown by one; the greatest `u64` stays
 abbrev pub one_more : ℕ → ℕ
 one_more faults = min (faults + 1) (2 ^ 64 - 1)
 

@@ -1,6 +1,7 @@
 // What no clause says: that calls succeed where there is memory, and what files do. The expected
 // bytes are what a seek and a write leave in a file.
 use super::*;
+use std::alloc::Global;
 use std::io::{BufReader, BufWriter, ErrorKind, Read};
 use std::test::Fail;
 use std::{env, fs, io, process};
@@ -76,6 +77,143 @@ fn a_tape_serves_through_its_bounds(rt: HostRuntime) -> Result<(), Fail> {
     assert_eq!(rt; skip_and_get(&mut tape)?, (*b"bc", 2));
     tape.go(4)?;
     assert_eq!(rt; skip_and_get(tape)?, (*b"c\0", 1));
+    Ok(())
+}
+
+fn journal(alloc: Global, bytes: &[u8]) -> Result<Journal, Fail> {
+    Ok(Journal::new(alloc, bytes.to_vec(alloc)?)?)
+}
+
+// Whether the bytes were these after the first k of those that were put.
+fn was(journal: &Journal, alloc: Global, k: usize, bytes: &[u8]) -> Result<bool, Fail> {
+    if k > journal.taken() {
+        return Ok(false);
+    }
+    Ok(journal.bytes_after(alloc, k)?.as_slice() == bytes)
+}
+
+#[test]
+fn a_journal_keeps_each_moment(rt: HostRuntime) -> Result<(), Fail> {
+    let alloc = rt.alloc();
+    let mut journal = journal(alloc, b"wave")?;
+    assert_eq!(rt; (journal.taken(), journal.flushed()), (0, 0));
+    assert!(rt; was(&journal, alloc, 0, b"wave")?);
+    journal.go(1)?;
+    assert_eq!(rt; journal.put(b"AV")?, 2);
+    journal.flush()?;
+    journal.shift(3)?;
+    assert_eq!(rt; journal.put(b"!?")?, 2);
+    journal.go(1)?;
+    assert_eq!(rt; journal.put(b"o")?, 1);
+    assert_eq!(rt; (journal.taken(), journal.flushed()), (5, 2));
+    assert!(rt; was(&journal, alloc, 0, b"wave")?);
+    assert!(rt; was(&journal, alloc, 1, b"wAve")?);
+    assert!(rt; was(&journal, alloc, 2, b"wAVe")?);
+    assert!(rt; was(&journal, alloc, 3, b"wAVe\0\0!")?);
+    assert!(rt; was(&journal, alloc, 4, b"wAVe\0\0!?")?);
+    assert!(rt; was(&journal, alloc, 5, b"woVe\0\0!?")?);
+    let mut rest = [0; 8];
+    assert_eq!(rt; journal.get(&mut rest)?, 6);
+    assert_eq!(rt; rest, *b"Ve\0\0!?\0\0");
+    journal.flush()?;
+    assert_eq!(rt; journal.flushed(), 5);
+    Ok(())
+}
+
+#[test]
+fn a_journal_takes_and_gives_at_most_so_much(rt: HostRuntime) -> Result<(), Fail> {
+    let alloc = rt.alloc();
+    let mut journal = journal(alloc, b"")?;
+    journal.most(1);
+    assert_eq!(rt; journal.put(b"wave")?, 1);
+    assert_eq!(rt; journal.put(b"ave")?, 1);
+    journal.most(3);
+    assert_eq!(rt; journal.put(b"veform")?, 3);
+    assert_eq!(rt; journal.put(b"or")?, 2);
+    assert!(rt; was(&journal, alloc, 7, b"wavefor")?);
+    journal.go(0)?;
+    let mut four = [0; 4];
+    assert_eq!(rt; journal.get(&mut four)?, 3);
+    assert_eq!(rt; four, *b"wav\0");
+    journal.most(1);
+    assert_eq!(rt; Read::read(&mut journal, &mut four)?, 1);
+    assert_eq!(rt; four, *b"eav\0");
+    Ok(())
+}
+
+// Which of seven calls fail: at least one of each kind, and none that fails by itself.
+fn failed_calls(journal: &mut Journal) -> [bool; 7] {
+    let mut one = [0];
+    [
+        journal.put(b"w").is_err(),
+        journal.go(0).is_err(),
+        journal.get(&mut one).is_err(),
+        journal.shift(1).is_err(),
+        journal.flush().is_err(),
+        Read::read(journal, &mut one).is_err(),
+        journal.put(b"a").is_err(),
+    ]
+}
+
+#[test]
+fn a_journal_fails_at_the_calls_asked_for(rt: HostRuntime) -> Result<(), Fail> {
+    let alloc = rt.alloc();
+    for from in 0..9 {
+        for to in 0..9 {
+            let mut journal = journal(alloc, b"")?;
+            journal.fail(from, to);
+            let failed = failed_calls(&mut journal);
+            for (i, failed) in failed.iter().enumerate() {
+                let number = i as u64 + 1;
+                assert_eq!(rt; *failed, from <= number && number <= to);
+            }
+        }
+    }
+    Ok(())
+}
+
+#[test]
+fn a_failed_call_of_a_journal_changes_nothing(rt: HostRuntime) -> Result<(), Fail> {
+    let alloc = rt.alloc();
+    let mut journal = journal(alloc, b"wave")?;
+    assert_eq!(rt; failed_calls(&mut journal), [false; 7]);
+    // The next calls have the numbers from 8 on. The later `fail` replaces the earlier one.
+    journal.fail(1, u64::MAX);
+    journal.fail(8, 14);
+    assert_eq!(rt; failed_calls(&mut journal), [true; 7]);
+    assert_eq!(rt; (journal.taken(), journal.flushed()), (2, 1));
+    assert!(rt; was(&journal, alloc, 2, b"wava")?);
+    journal.shift(-4)?;
+    let mut two = [0; 2];
+    assert_eq!(rt; journal.get(&mut two)?, 2);
+    assert_eq!(rt; two, *b"wa");
+    Ok(())
+}
+
+#[test]
+fn a_journal_refuses_places_outside(rt: HostRuntime) -> Result<(), Fail> {
+    let mut journal = journal(rt.alloc(), b"wave")?;
+    let below = journal.shift(-1).map_err(|e| e.kind());
+    assert_eq!(rt; below, Err(ErrorKind::InvalidInput));
+    journal.go(u64::MAX)?;
+    let above = journal.shift(1).map_err(|e| e.kind());
+    assert_eq!(rt; above, Err(ErrorKind::InvalidInput));
+    let beyond = journal.put(b"z").map_err(|e| e.kind());
+    assert_eq!(rt; beyond, Err(ErrorKind::OutOfMemory));
+    assert_eq!(rt; journal.taken(), 0);
+    Ok(())
+}
+
+#[test]
+fn a_journal_serves_through_its_bounds(rt: HostRuntime) -> Result<(), Fail> {
+    let alloc = rt.alloc();
+    let mut journal = put_letters(journal(alloc, b"")?, 1)?;
+    put_letters(&mut journal, 3)?;
+    assert!(rt; was(&journal, alloc, 6, b"\0ababc")?);
+    journal.go(3)?;
+    assert_eq!(rt; skip_and_get(&mut journal)?, (*b"bc", 2));
+    journal.go(4)?;
+    assert_eq!(rt; skip_and_get(journal)?, (*b"c\0", 1));
     Ok(())
 }
 

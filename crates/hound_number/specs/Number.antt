@@ -1,5 +1,5 @@
 -- Numbers as bytes, the low byte first (RIFF: "all numbers are little-endian").
-use Rattle.std.specs.Prelude.{ℕ, ℤ, pos, negsuc, zero, suc, ◌+◌, ◌-◌, ◌-ℤ◌, ◌*◌, ◌/◌, ◌%◌, ◌^◌, ◌<◌, List, [], ◌∷◌, length, slice_index, nat_lt, if◌then◌else◌}
+use Rattle.std.specs.Prelude.{ℕ, ℤ, pos, negsuc, zero, suc, ◌+◌, ◌-◌, ◌-ℤ◌, ◌*◌, ◌/◌, ◌%◌, ◌^◌, ◌<◌, List, [], ◌∷◌, ◌++◌, length, take, drop, slice_index, nat_lt, if◌then◌else◌}
 
 -- the number of these bytes: the sum of each times its power of 256
 abbrev pub number : List ℕ → ℕ
@@ -10,6 +10,10 @@ number (b ∷ bytes) = b + 256 * number bytes
 abbrev pub bytes_of : ℕ → ℕ → List ℕ
 bytes_of zero n = []
 bytes_of (suc k) n = n % 256 ∷ bytes_of k (n / 256)
+
+-- a number of four bytes that is half put over another: the k low bytes of new, and the other bytes of old
+abbrev pub mix : ℕ → ℕ → ℕ → ℕ
+mix k old new = number (take k (bytes_of 4 new) ++ drop k (bytes_of 4 old))
 
 -- two's complement in k bytes: a negative number counts from 256 ^ k downwards
 abbrev pub twos_complement : ℕ → ℤ → ℕ

@@ -6,6 +6,8 @@ mod twelve;
 pub use twelve::Twelve;
 
 #[cfg(test)]
+mod moments;
+#[cfg(test)]
 mod reading;
 #[cfg(test)]
 mod seeking;

@@ -1,0 +1,19 @@
+use Rattle.std.proofs.Common.{rules, ◌∙◌, take, ap, subst, sym}
+use Rattle.hound_number.specs.Number.{AreBytes}
+use Rattle.hound_medium.specs.Bytes.{overlay, placed}
+use Rattle.hound_medium.proofs.Overlays.{small_overlay, small_take, replays_more}
+use Rattle.hound_medium.proofs.journal.JournalMedium.put.Goals as goal
+
+pub invariant_of-self-clause-are_bytes : goal.invariant_of-self-clause-are_bytes
+invariant_of-self-clause-are_bytes c =
+    let j = c.call.new.self in
+    let new = take c.min-n.result c.args.bytes.now in
+    subst AreBytes (sym c.in-Ok.ensures.ok) (small_overlay j.bytes.items j.place new j.are_bytes (small_take c.min-n.result c.args.bytes.now (λ i. search rules)))
+
+pub invariant_of-self-clause-replays : goal.invariant_of-self-clause-replays
+invariant_of-self-clause-replays c =
+    let j = c.call.new.self in
+    let added = placed j.place (take c.min-n.result c.args.bytes.now) in
+    c.in-Ok.ensures.ok
+    ∙ replays_more j.start.items j.past.items added j.bytes.items j.replays
+    ∙ ap (overlay j.start.items) (sym c.in-Ok.ensures.kept)

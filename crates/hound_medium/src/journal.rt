@@ -1,0 +1,249 @@
+// Bytes in memory as a medium and a source that keeps its past and fails on request.
+ghost use Rattle.std.specs.Prelude.{◌≡◌, ◌<◌, ◌≤◌, ◌↔◌, true, Some, [], length, drop, refl, IsErr, IfOk, IfErr};
+ghost use Rattle.std.specs.Io.{ReadsAtMost};
+ghost use Rattle.std.specs.Io.KnownBytes.{ReadConsumes};
+ghost use Rattle.hound_number.specs.Number.{AreBytes};
+ghost use Rattle.hound_medium.specs.Bytes.{overlay, moment};
+ghost use Rattle.hound_medium.specs.Seen.{Goes, Shifts, Gets, Puts, Flushes, one_more, faults_after};
+
+use crate::bytes::copy_from;
+use crate::past::{put_and_keep, replay};
+use crate::{Medium, Placed, Source};
+use hound_spec::{Error, Result};
+use std::alloc::Global;
+use std::io;
+use std::io::ErrorKind;
+
+/// Bytes in memory with a place among them, to read and to put, that keep each byte that was put
+/// with its place.
+///
+/// It serves to see what lies in a medium at each moment of its past, as after a loss of power: the
+/// tests of a recorder that makes checkpoints look at [`Journal::bytes_after`] for each count of
+/// bytes from [`Journal::flushed`] to [`Journal::taken`]. By [`Journal::fail`] and
+/// [`Journal::most`] it also fails, and takes few bytes at once, when a test wants that.
+///
+/// A `put` that finds no memory, or whose end would lie above `u64::MAX`, is an `Err` of kind
+/// `OutOfMemory`; it makes all its growths before it changes anything. Every `Err` changes nothing
+/// but the count of faults. Its memory grows with each byte that is put.
+#[derive(Drop)]
+pub struct Journal {
+    start: Vec<u8>,
+    past: Vec<(u64, u8)>,
+    bytes: Vec<u8>,
+    place: u64,
+    flushed: usize,
+    faults: u64,
+    calls: u64,
+    fail_from: u64,
+    fail_to: u64,
+    most: usize,
+    ghost are_bytes: { AreBytes bytes.items },
+    ghost replays: { bytes.items ≡ overlay start.items past.items },
+    ghost some: { 1 ≤ most },
+}
+
+impl Journal {
+    /// A journal of these bytes, at place 0, with nothing taken yet. It keeps a copy of them to
+    /// begin with, so it is an `Err` where there is no memory for that.
+    pub fn new(alloc: Global, bytes: Vec<u8>) -> Result<Journal>
+        ensures contents { IfOk result (λ j. (⟦<Journal as Placed>⟧.seen j).contents ≡ bytes.items) }
+        ensures place { IfOk result (λ j. (⟦<Journal as Placed>⟧.seen j).place ≡ 0) }
+        ensures faults { IfOk result (λ j. (⟦<Journal as Placed>⟧.seen j).faults ≡ 0) }
+        ensures start { IfOk result (λ j. (⟦<Journal as Placed>⟧.seen j).start ≡ bytes.items) }
+        ensures past { IfOk result (λ j. (⟦<Journal as Placed>⟧.seen j).past ≡ []) }
+        ensures flushed { IfOk result (λ j. (⟦<Journal as Placed>⟧.seen j).flushed ≡ 0) }
+        ensures err { IfErr result (λ e. e ≡ Error.OutOfMemory) }
+    {
+        let Ok(start) = bytes.to_vec(alloc) else {
+            return Err(Error::OutOfMemory);
+        };
+        Ok(Journal {
+            start,
+            past: Vec::new(alloc),
+            bytes,
+            place: 0,
+            flushed: 0,
+            faults: 0,
+            calls: 0,
+            fail_from: 1,
+            fail_to: 0,
+            most: usize::MAX,
+        })
+    }
+
+    /// Limits the bytes that one `put` takes, and that one `get` or `read` gives, to this many. A
+    /// new journal has no such limit; a later one replaces an earlier one.
+    pub fn most(&mut self, n: usize)
+        requires { 1 ≤ n }
+        ensures { ⟦<Journal as Placed>⟧.seen self.new ≡ ⟦<Journal as Placed>⟧.seen self.old }
+    {
+        self.most = n;
+    }
+
+    /// Lets calls fail, by their numbers, from the first to the last, both included.
+    ///
+    /// Each call of `get` or `read`, `go`, `shift`, `put` and `flush` has a number, the first call
+    /// of all 1, whether it fails or not; where the number would pass `u64::MAX`, it stays there. A
+    /// call that fails is an `Err` of kind `Other`, takes and gives nothing and doesn't move, and
+    /// counts a fault. No call of a new journal fails so; a later `fail` replaces an earlier one.
+    pub fn fail(&mut self, from: u64, to: u64)
+        ensures { ⟦<Journal as Placed>⟧.seen self.new ≡ ⟦<Journal as Placed>⟧.seen self.old }
+    {
+        self.fail_from = from;
+        self.fail_to = to;
+    }
+
+    /// How many bytes have been put in all. One that was put over another counts too.
+    pub fn taken(&self) -> usize
+        ensures { result ≡ length (⟦<Journal as Placed>⟧.seen self.now).past }
+    {
+        self.past.len()
+    }
+
+    /// How many bytes had been put at the last `flush` that was Ok; 0 before the first.
+    pub fn flushed(&self) -> usize
+        ensures { result ≡ (⟦<Journal as Placed>⟧.seen self.now).flushed }
+    {
+        self.flushed
+    }
+
+    /// All of the bytes as they were after the first k of those that were put: for 0 the bytes that
+    /// the journal began with, for [`Journal::taken`] those of now. It is an `Err` where there is
+    /// no memory for them.
+    pub fn bytes_after(&self, alloc: Global, k: usize) -> Result<Vec<u8>>
+        requires { k ≤ length (⟦<Journal as Placed>⟧.seen self.now).past }
+        ensures moment { let seen = ⟦<Journal as Placed>⟧.seen self.now in
+            IfOk result (λ bytes. bytes.items ≡ moment seen.start seen.past k) }
+        ensures err { IfErr result (λ e. e ≡ Error.OutOfMemory) }
+    {
+        let Ok(mut bytes) = self.start.to_vec(alloc) else {
+            return Err(Error::OutOfMemory);
+        };
+        match replay(&mut bytes, &self.past[..k]) {
+            Ok(()) => Ok(bytes),
+            Err(_) => Err(Error::OutOfMemory),
+        }
+    }
+
+    // Numbers a call, and fails it where it was asked for.
+    fn call(&mut self) -> io::Result<()>
+        ensures counts { self.new ≡ record self.old {
+          calls = one_more self.old.calls;
+          faults = faults_after result self.old.faults;
+        } }
+        ensures fails { IsErr result ↔ (self.old.fail_from ≤ self.new.calls) × (self.new.calls ≤ self.old.fail_to) }
+    {
+        self.calls = self.calls.saturating_add(1);
+        if self.fail_from <= self.calls && self.calls <= self.fail_to {
+            self.faults = self.faults.saturating_add(1);
+            return Err(io::Error::from(ErrorKind::Other));
+        }
+        Ok(())
+    }
+}
+
+impl Placed for Journal {
+    ghost tells = { true };
+
+    ghost keeps = { true };
+
+    ghost seen = { λ j. record {
+      contents = j.bytes.items;
+      place = j.place;
+      faults = j.faults;
+      start = j.start.items;
+      past = j.past.items;
+      flushed = j.flushed;
+    } };
+
+    ghost bytes = { λ j _. j.are_bytes };
+
+    fn go(&mut self, to: u64) -> io::Result<()>
+        ensures goes { let seen = ⟦<Journal as Placed>⟧.seen in Goes to result (seen self.old) (seen self.new) }
+    {
+        self.call()?;
+        self.place = to;
+        Ok(())
+    }
+
+    fn shift(&mut self, by: i64) -> io::Result<()>
+        ensures shifts { let seen = ⟦<Journal as Placed>⟧.seen in Shifts by result (seen self.old) (seen self.new) }
+    {
+        self.call()?;
+        match self.place.checked_add_signed(by) {
+            Some(place) => {
+                self.place = place;
+                Ok(())
+            }
+            None => {
+                self.faults = self.faults.saturating_add(1);
+                Err(io::Error::from(ErrorKind::InvalidInput))
+            }
+        }
+    }
+}
+
+impl Medium for Journal {
+    ghost replays = { λ j _ _. j.replays };
+
+    #[inline]
+    fn put(&mut self, bytes: &[u8]) -> io::Result<usize>
+        requires { 0 < length bytes.now }
+        ensures bound { IfOk result (λ n. (1 ≤ n) × (n ≤ length bytes.now)) }
+        ensures puts { let seen = ⟦<Journal as Placed>⟧.seen in
+            Puts true bytes.now result (seen self.old) (seen self.new) }
+    {
+        self.call()?;
+        let n = bytes.len().min(self.most);
+        match put_and_keep(&mut self.bytes, &mut self.past, self.place, &bytes[..n]) {
+            Ok(()) => {
+                self.place += n as u64;
+                Ok(n)
+            }
+            Err(e) => {
+                self.faults = self.faults.saturating_add(1);
+                Err(io::Error::from(e))
+            }
+        }
+    }
+
+    fn flush(&mut self) -> io::Result<()>
+        ensures flushes { let seen = ⟦<Journal as Placed>⟧.seen in Flushes result (seen self.old) (seen self.new) }
+    {
+        self.call()?;
+        self.flushed = self.taken();
+        Ok(())
+    }
+}
+
+impl io::Read for Journal {
+    ghost remaining = { λ j. Some (drop j.place j.bytes.items) };
+
+    #[inline]
+    fn read(&mut self, buf: &mut [u8]) -> io::Result<usize>
+        ensures bound { ReadsAtMost result buf.new }
+        ensures bytes { ReadConsumes (⟦<Journal as io::Read>⟧.remaining self.old)
+            (⟦<Journal as io::Read>⟧.remaining self.new) result buf.new }
+        ensures gets { let seen = ⟦<Journal as Placed>⟧.seen in
+            Gets buf.new result (seen self.old) (seen self.new) }
+    {
+        self.get(buf)
+    }
+}
+
+impl Source for Journal {
+    ghost left = { λ j _. refl };
+
+    #[inline]
+    fn get(&mut self, buf: &mut [u8]) -> io::Result<usize>
+        ensures bound { IfOk result (λ n. n ≤ length buf.new) }
+        ensures gets { let seen = ⟦<Journal as Placed>⟧.seen in
+            Gets buf.new result (seen self.old) (seen self.new) }
+    {
+        self.call()?;
+        let room = buf.len().min(self.most);
+        let n = copy_from(&self.bytes, self.place, &mut buf[..room]);
+        self.place += n as u64;
+        Ok(n)
+    }
+}
