@@ -236,6 +236,8 @@ impl<W: Medium> WavWriter<W> {
         ensures buffer_stays { self.new.buffer ≡ self.old.buffer }
         ensures count { MatchResult result (λ _. sample_count self.new ≡ sample_count self.old + 1) (λ _. self.new.data_length ≡ self.old.data_length) }
 
+        ensures bytes { OnOk result (self.new.data_length ≡ self.old.data_length + self.old.spec_ex.bytes_per_sample) }
+
         // Over a medium that tells.
         ensures accepted { IsTrue W.tells → IsWhole W.seen self.old →
             AcceptsSample result (S.container sample self.old.spec_ex.spec.bits_per_sample self.old.spec_ex.bytes_per_sample) (accepted W.seen self.old) (accepted W.seen self.new) }
