@@ -89,6 +89,7 @@ impl<W: Medium> WavWriter<W> {
         ensures lender { IfOk result (λ batch. batch_lender batch ≡ self.entry.ghost_name) }
         ensures too_long { (HasRoom self.old (2 * num_samples) → ⊥) → result ≡ Err TooLong }
         ensures room { OnOk result (HasRoom self.old (2 * num_samples)) }
+        ensures width { OnOk result (self.old.spec_ex.bytes_per_sample ≡ 2) }
         ensures no_memory { HasRoom self.old (2 * num_samples) → IfErr result (λ e. (e ≡ OutOfMemory) × (length self.old.buffer < 2 * num_samples)) }
         ensures size { IfOk result (λ batch. (remaining batch ≡ num_samples) × (batch_bytes batch ≡ [])) }
         ensures stays { IfOk result (λ batch. IsSameFile self.old (batch_writer batch)) }

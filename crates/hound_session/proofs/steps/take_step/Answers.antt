@@ -1,0 +1,47 @@
+use Rattle.std.proofs.Common.{◌≡◌, w32, to_z, of_z, rules, sym, ap, subst}
+use Rattle.std.proofs.Math.Facts.{to_z-of_z}
+use Rattle.hound_sample.specs.ContainerLaws.{int_container-in_width, pattern_container-in_width}
+use Rattle.hound_session.specs.declared.session.Step.TheVariants.{Whole, Flush}
+use Rattle.hound_session.specs.Run.{AcceptsAs, Takes}
+use Rattle.hound_session.specs.Steps.{step_containers}
+use Rattle.hound_session.proofs.Taking.{sample_accepts, whole_takes, bits_takes, batch_takes, flush_takes}
+use Rattle.hound_session.proofs.steps.take_step.Goals as goal
+
+pub returns-in-Whole : goal.returns-in-Whole
+returns-in-Whole g c tells =
+    let seen = g.M.Placed.seen in
+    let e = c.write_sample.ensures in
+    let old = c.args.writer.now in
+    let new = c.write_sample.new.self in
+    let value = c.in-Whole.value in
+    let back : to_z w32 (of_z w32 value) ≡ value = to_z-of_z {w = w32} (search rules) in
+    subst (λ step. Takes seen step c.write_sample.result old new) (sym c.in-Whole.is)
+    (whole_takes seen c.write_sample.result old new value
+    (subst (λ v. AcceptsAs seen _ (step_containers old.spec_ex (Whole v)) c.write_sample.result old new) back
+    (sample_accepts seen old new e.spec_stays e.start_stays (e.whole tells) (e.counts tells) (e.front tells) _ _ c.write_sample.result
+    (λ container is. (int_container-in_width _ _ _ container is).0) e.refused e.failed (e.faults tells) e.bytes e.count (e.accepted tells) (e.reach tells))))
+
+pub returns-in-Bits : goal.returns-in-Bits
+returns-in-Bits g c tells =
+    let seen = g.M.Placed.seen in
+    let write = c.write_sample-in-Bits in
+    let e = write.ensures in
+    let old = c.args.writer.now in
+    subst (λ step. Takes seen step write.result old write.new.self) (sym c.in-Bits.is)
+    (bits_takes seen write.result old write.new.self c.in-Bits.bits
+    (sample_accepts seen old write.new.self e.spec_stays e.start_stays (e.whole tells) (e.counts tells) (e.front tells) _ _ write.result
+    (λ container is. (pattern_container-in_width _ _ _ container is).0) e.refused e.failed (e.faults tells) e.bytes e.count (e.accepted tells) (e.reach tells)))
+
+pub returns-in-Batch : goal.returns-in-Batch
+returns-in-Batch g c tells =
+    let seen = g.M.Placed.seen in
+    subst (λ step. Takes seen step c.write_batch.result c.args.writer.now c.write_batch.new.writer) (sym c.in-Batch.is)
+    (batch_takes seen c.write_batch.result c.args.writer.now c.write_batch.new.writer c.in-Batch.values (c.write_batch.ensures tells))
+
+pub returns-in-Flush : goal.returns-in-Flush
+returns-in-Flush g c tells =
+    let flush = c.flush in
+    let seen = g.M.Placed.seen in
+    subst (λ step. Takes seen step flush.result c.args.writer.now flush.new.self) (sym c.in-Flush.is)
+    (subst (λ w. Takes seen Flush flush.result c.args.writer.now w) (sym flush.ensures.stays)
+    (flush_takes seen flush.result c.args.writer.now flush.new.self.medium flush.ensures.answer (flush.ensures.publishes tells)))

@@ -1,0 +1,7 @@
+//! Whole runs of a writer as one call each.
+#![tactic(auto)]
+
+mod session;
+mod steps;
+
+pub use session::{Begin, End, Step};
