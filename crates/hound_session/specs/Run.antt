@@ -119,3 +119,7 @@ pub record NotRun (begin : Begin) (steps : List Step) (marks : List Bool) (old :
 -- what `run_session` does
 abbrev pub IsSession : {M : Type 0} → Bool → (M → Seen) → Begin → List Step → List Bool → End → Seen → Result (Unit {0}) Error → M → Type 0
 IsSession keeps seen begin steps marks end old answer medium = NotRun begin steps marks old answer (seen medium) ⊎ Ran keeps seen begin steps marks end old answer medium
+
+-- steps in their order, with these marks
+abbrev pub IsMarkedRun : {M : Type 0} → (M → Seen) → List Step → List Bool → Written M → Written M → Type 0
+IsMarkedRun seen steps marks old new = (answers : List (Result (Unit {0}) Error)) × (marks ≡ map mark_of answers) × Runs seen steps answers old new

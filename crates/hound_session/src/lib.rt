@@ -1,6 +1,7 @@
 //! Whole runs of a writer as one call each.
 #![tactic(auto)]
 
+mod runs;
 mod session;
 mod steps;
 
