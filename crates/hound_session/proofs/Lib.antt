@@ -1,3 +1,5 @@
 pub mod Taking
 pub mod Batching
 pub mod Running
+pub mod Leading
+pub mod Whole

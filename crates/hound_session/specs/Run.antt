@@ -1,10 +1,13 @@
 -- A run of a writer: how it begins, its steps, and how it ends.
-use Rattle.std.specs.Prelude.{◌≡◌, ℕ, ◌+◌, ◌-◌, ◌≤◌, ◌⊎◌, max, ⊤, Bool, false, List, [], ◌∷◌, ◌++◌, length, take, map, Result, Ok, Err}
+use Rattle.std.specs.Prelude.{◌≡◌, ℕ, ◌+◌, ◌-◌, ◌<◌, ◌≤◌, ◌⊎◌, max, replicate, ⊤, Bool, false, List, [], ◌∷◌, ◌++◌, length, take, map, Result, Ok, Err}
 use Rattle.std.specs.List.{concat}
 use Rattle.hound_spec.specs.declared.error.Error.{Error}
 use Rattle.hound_spec.specs.declared.error.Error.TheVariants.{IoError, Unsupported}
 use Rattle.hound_spec.specs.declared.spec.WavSpecEx.{WavSpecEx}
 use Rattle.hound_spec.specs.Writable.{IsWritable}
+use Rattle.hound_spec.specs.Header.{canonical}
+use Rattle.std.specs.Io.{StartsWith}
+use Rattle.hound_writer.specs.Counts.{Counts}
 use Rattle.hound_medium.specs.Seen.{Seen, one_more}
 use Rattle.hound_writer.specs.Parts.{field}
 use Rattle.hound_writer.specs.Writer.{Written, HasBegun, HasHeader, PutsHeader, IsWhole, IsBegun, IsCounted, IsIoError, IsPublishing, OnPublished, Publishes, ChangesSizesOnly, accepted, faults_told}
@@ -16,7 +19,7 @@ use Rattle.hound_session.specs.declared.session.Begin.TheVariants.{New, Append}
 use Rattle.hound_session.specs.declared.session.End.{End}
 use Rattle.hound_session.specs.declared.session.End.TheVariants.{Finalize, Drop}
 use Rattle.hound_sample.specs.Container.{Refusal}
-use Rattle.hound_session.specs.Steps.{AcceptAnswer, StepAnswer, accepted_by, if_marked, mark_of}
+use Rattle.hound_session.specs.Steps.{AcceptAnswer, StepAnswer, accepted_by, accepted_by_all, if_marked, mark_of}
 
 -- P, unless the medium failed
 abbrev pub UnlessFailed : Result (Unit {0}) Error → Type 0 → Type 0
@@ -87,11 +90,11 @@ pub record BeginsFile {M : Type 0} (keeps : Bool) (seen : M → Seen) (spec_ex :
 -- how a run begins: with a new file, or behind the data of the one that is there
 abbrev pub Begins : {M : Type 0} → Bool → (M → Seen) → Begin → Seen → Written M → Type 0
 Begins keeps seen (New spec_ex) old w = BeginsFile keeps seen spec_ex old w
-Begins keeps seen Append old w = GoesOn old seen w
+Begins keeps seen Append old w = GoesOn old seen w × (IsWhole seen w → IsCounted seen w)
 
 -- why a run doesn't begin: a spec that can't be written, and the medium is as it was; a file that isn't gone on with; or the medium failed
 abbrev pub IsNotBegun : Begin → Seen → Seen → Error → Type 0
-IsNotBegun (New spec_ex) old new e = ((IsWritable spec_ex → ⊥) × (e ≡ Unsupported) × (new ≡ old)) ⊎ (IsWritable spec_ex × IsIoError e × (new.faults ≡ one_more old.faults))
+IsNotBegun (New spec_ex) old new e = ((IsWritable spec_ex → ⊥) × (e ≡ Unsupported) × (new ≡ old)) ⊎ (IsIoError e × (new.faults ≡ one_more old.faults))
 IsNotBegun Append old new e = IsNotAppended old new e
 
 -- how a run ends: by a call that publishes, whose answer is told, or by a drop, which does the same and is told as Ok
@@ -99,27 +102,42 @@ abbrev pub Ends : {M : Type 0} → (M → Seen) → End → Written M → Result
 Ends seen Finalize last answer medium = IsPublishing answer last × Publishes seen last answer medium
 Ends seen Drop last answer medium = (answer ≡ Ok tt) × (dropped : Result (Unit {0}) Error) × IsPublishing dropped last × Publishes seen last dropped medium
 
--- a run that began, took every step and ended
+-- steps in their order, with these marks
+abbrev pub IsMarkedRun : {M : Type 0} → (M → Seen) → List Step → List Bool → Written M → Written M → Type 0
+IsMarkedRun seen steps marks old new = (answers : List (Result (Unit {0}) Error)) × (marks ≡ map mark_of answers) × Runs seen steps answers old new
+
+-- a fact of a run that published all at its end, as its answer tells
+abbrev pub OnFinalized : End → Result (Unit {0}) Error → Type 0 → Type 0
+OnFinalized Finalize answer P = OnPublished answer P
+OnFinalized Drop answer P = ⊤
+
+-- no call of the medium failed between these; at the greatest count of faults one more can't be told
+abbrev pub NoFault : Seen → Seen → Type 0
+NoFault old new = (new.faults ≡ old.faults) × (old.faults < 18446744073709551615)
+
+-- A run that began, took every step and ended. What it accepted, behind what it found, is counted; before the data only the two sizes
+-- changed; and a file that was begun with the header of its spec is then the canonical one, of no more bytes than that or than there were before.
 pub record Ran {M : Type 0} (keeps : Bool) (seen : M → Seen) (begin : Begin) (steps : List Step) (marks : List Bool) (end : End) (old : Seen) (answer : Result (Unit {0}) Error) (medium : M) : Type 0 where
   pub first : Written M
   pub last : Written M
-  pub answers : List (Result (Unit {0}) Error)
   pub begins : Begins keeps seen begin old first
-  pub marked : marks ≡ map mark_of answers
-  pub runs : Runs seen steps answers first last
+  pub runs : IsMarkedRun seen steps marks first last
   pub ends : Ends seen end last answer medium
+  pub adds : IsWhole seen first → accepted seen last ≡ accepted seen first ++ accepted_by_all first.spec_ex steps marks
+  pub counts : IsWhole seen first → Counts first.spec_ex first.data_start (accepted seen first ++ accepted_by_all first.spec_ex steps marks) (seen medium).contents
+  pub front : ChangesSizesOnly first.data_start (seen first.medium).contents (seen medium).contents
+  pub file : IsWhole seen first → IsBegun seen first → OnFinalized end answer (StartsWith (seen medium).contents (canonical first.spec_ex (accepted seen first ++ accepted_by_all first.spec_ex steps marks)))
+  pub exact : IsWhole seen first → IsBegun seen first → NoFault (seen first.medium) (seen medium) →
+      StartsWith (seen medium).contents (canonical first.spec_ex (accepted seen first ++ accepted_by_all first.spec_ex steps marks))
+      × (length (seen medium).contents ≤ max (length (seen first.medium).contents) (length (canonical first.spec_ex (accepted seen first ++ accepted_by_all first.spec_ex steps marks))))
 
 -- a run that didn't begin: no step was taken
 pub record NotRun (begin : Begin) (steps : List Step) (marks : List Bool) (old : Seen) (answer : Result (Unit {0}) Error) (new : Seen) : Type 0 where
   pub error : Error
   pub told : answer ≡ Err error
   pub why : IsNotBegun begin old new error
-  pub marked : marks ≡ map (λ (s : Step). false) steps
+  pub marked : marks ≡ replicate (length steps) false
 
 -- what `run_session` does
 abbrev pub IsSession : {M : Type 0} → Bool → (M → Seen) → Begin → List Step → List Bool → End → Seen → Result (Unit {0}) Error → M → Type 0
 IsSession keeps seen begin steps marks end old answer medium = NotRun begin steps marks old answer (seen medium) ⊎ Ran keeps seen begin steps marks end old answer medium
-
--- steps in their order, with these marks
-abbrev pub IsMarkedRun : {M : Type 0} → (M → Seen) → List Step → List Bool → Written M → Written M → Type 0
-IsMarkedRun seen steps marks old new = (answers : List (Result (Unit {0}) Error)) × (marks ≡ map mark_of answers) × Runs seen steps answers old new

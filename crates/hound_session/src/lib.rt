@@ -5,4 +5,5 @@ mod runs;
 mod session;
 mod steps;
 
+pub use runs::run_session;
 pub use session::{Begin, End, Step};

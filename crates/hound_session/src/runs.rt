@@ -1,15 +1,21 @@
 // Whole runs.
-ghost use Rattle.std.specs.Prelude.{◌≡◌, IsTrue, List, Result, length, map};
-ghost use Rattle.hound_spec.specs.declared.error.Error.{Error};
-ghost use Rattle.hound_session.specs.Steps.{mark_of};
-ghost use Rattle.hound_session.specs.Run.{Runs, IsMarkedRun};
+ghost use Rattle.std.specs.Prelude.{◌≡◌, IsTrue, OnOk, [], length, IfOk, MatchResult};
+ghost use Rattle.std.specs.Io.{StartsWith};
+ghost use Rattle.hound_spec.specs.declared.spec.WavSpecEx.{WavSpecEx};
+ghost use Rattle.hound_spec.specs.Writable.{IsWritable};
+ghost use Rattle.hound_spec.specs.Header.{canonical};
+ghost use Rattle.hound_session.specs.declared.session.Begin.TheVariants.{New};
+ghost use Rattle.hound_session.specs.declared.session.End.TheVariants.{Finalize};
+ghost use Rattle.hound_session.specs.Steps.{mark_of, accepted_by_all};
+ghost use Rattle.hound_session.specs.Run.{IsMarkedRun, Begins, IsNotBegun, Ends, IsSession, NoFault};
 
-use crate::session::Step;
+use crate::session::{Begin, End, Step};
 use crate::steps::take_step;
-use hound_medium::Medium;
+use hound_medium::{Medium, Source};
 use hound_spec::{Error, Result};
 use hound_writer::WavWriter;
 use std::alloc::Global;
+use std::result;
 
 // Whether a sample or batch was accepted, or all was published.
 fn is_marked(answer: &Result<()>) -> bool
@@ -18,6 +24,20 @@ fn is_marked(answer: &Result<()>) -> bool
     match answer {
         Ok(()) | Err(Error::UnfinishedSample) => true,
         Err(_) => false,
+    }
+}
+
+// Begins a new file, or goes on with the one that is there.
+fn begin_writer<M: Source + Medium>(
+    medium: M,
+    begin: Begin,
+) -> result::Result<WavWriter<M>, (M, Error)>
+    requires { IsTrue M.tells → (M.seen medium).place ≡ 0 }
+    ensures { IsTrue M.tells → MatchResult result (Begins M.keeps M.seen begin (M.seen medium)) (λ refused. IsNotBegun begin (M.seen medium) (M.seen refused.0) refused.1) }
+{
+    match begin {
+        Begin::New(spec_ex) => WavWriter::try_new(medium, spec_ex),
+        Begin::Append => WavWriter::try_append(medium),
     }
 }
 
@@ -36,4 +56,51 @@ fn take_steps<M: Medium>(
         let answer = take_step(alloc, writer, steps[i]);
         marks[i] = is_marked(&answer);
     }
+}
+
+// Ends a run, and hands the medium back.
+fn end_writer<M: Medium>(writer: WavWriter<M>, end: End) -> (M, Result<()>)
+    ensures { IsTrue M.tells → Ends M.seen end writer result.1 result.0 }
+{
+    match end {
+        End::Finalize => writer.finalize_into(),
+        End::Drop => (writer.drop_into(), Ok(())),
+    }
+}
+
+/// Runs a whole session of a writer, and hands the medium back.
+///
+/// It begins a file or goes on with one, takes every step whatever earlier ones answered, and ends.
+/// A mark is true where a sample or a whole batch was accepted, or a flush published all that was.
+/// The answer is that of the constructor, where it refuses, and all marks are false; else that of
+/// `finalize_into`, or Ok at a drop. There are as many marks as steps, and the medium stands at its
+/// beginning.
+pub fn run_session<M: Source + Medium>(
+    alloc: Global,
+    medium: M,
+    begin: Begin,
+    steps: &[Step],
+    marks: &mut [bool],
+    end: End,
+) -> (M, Result<()>)
+    requires place { IsTrue M.tells → (M.seen medium).place ≡ 0 }
+    requires size { length steps.now ≡ length marks.old }
+    ensures size { length marks.new ≡ length marks.old }
+    ensures session { IsTrue M.tells → IsSession M.keeps M.seen begin steps.now marks.new end (M.seen medium) result.1 result.0 }
+
+    // A new file that was finalized is the canonical one of what was accepted.
+    ensures canonical { IsTrue M.tells → (spec_ex : WavSpecEx) → begin ≡ New spec_ex → end ≡ Finalize →
+        OnOk result.1 (StartsWith (M.seen result.0).contents (canonical spec_ex (accepted_by_all spec_ex steps.now marks.new))) }
+
+    // Where the medium was empty and no call of it failed, it is exactly that, also at a drop.
+    ensures exact { IsTrue M.tells → (spec_ex : WavSpecEx) → begin ≡ New spec_ex → IsWritable spec_ex → (M.seen medium).contents ≡ [] → NoFault (M.seen medium) (M.seen result.0) →
+        (M.seen result.0).contents ≡ canonical spec_ex (accepted_by_all spec_ex steps.now marks.new) }
+{
+    marks.fill(false);
+    let mut writer = match begin_writer(medium, begin) {
+        Ok(writer) => writer,
+        Err((medium, error)) => return (medium, Err(error)),
+    };
+    take_steps(alloc, &mut writer, steps, marks);
+    end_writer(writer, end)
 }
