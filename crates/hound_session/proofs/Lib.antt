@@ -3,3 +3,4 @@ pub mod Batching
 pub mod Running
 pub mod Leading
 pub mod Whole
+pub mod Chaining

@@ -43,7 +43,7 @@ abbrev err_of : {T E : Type 0} → E → Result T E → E
 err_of d (Ok x) = d
 err_of d (Err e) = e
 
-same_err : {T E : Type 0} (a b : E) → ◌≡◌ {A = Result T E} (Err a) (Err b) → a ≡ b
+pub same_err : {T E : Type 0} (a b : E) → ◌≡◌ {A = Result T E} (Err a) (Err b) → a ≡ b
 same_err a b is = ap (err_of a) is
 
 -- a refusal that is no fault is that of a spec that can't be written
@@ -112,7 +112,7 @@ first_whole keeps seen (New s) old w begins = ap (λ n. n % w.spec_ex.bytes_per_
 first_whole keeps seen Append old w (on, counts) = head_whole w.spec_ex w.data_length w.data_start on.sound
 
 -- the accepted samples of a writer, joined
-length-accepted : {M : Type 0} (seen : M → Seen) (w : Written M) → w.data_length % w.spec_ex.bytes_per_sample ≡ 0 → IsWhole seen w → length (concat (accepted seen w)) ≡ w.data_length
+pub length-accepted : {M : Type 0} (seen : M → Seen) (w : Written M) → w.data_length % w.spec_ex.bytes_per_sample ≡ 0 → IsWhole seen w → length (concat (accepted seen w)) ≡ w.data_length
 length-accepted seen w whole stands =
     let n = w.data_length / w.spec_ex.bytes_per_sample in
     let bytes = drop w.data_start (seen w.medium).contents in
@@ -122,7 +122,7 @@ length-accepted seen w whole stands =
     ∙ e
 
 -- a call that publishes and meets no fault has published all
-all_published : {P : Type 0} {M : Type 0} (answer : Result (Unit {0}) Error) (w : Written M) (f : ℕ) → f < 18446744073709551615 → faults_told answer f ≡ f → IsPublishing answer w → OnPublished answer P → P
+pub all_published : {P : Type 0} {M : Type 0} (answer : Result (Unit {0}) Error) (w : Written M) (f : ℕ) → f < 18446744073709551615 → faults_told answer f ≡ f → IsPublishing answer w → OnPublished answer P → P
 all_published (Ok x) w f small same is here = here
 all_published (Err (IoError e)) w f small same is here = absurd (omega (arith, small, same))
 all_published (Err UnfinishedSample) w f small same is here = here
@@ -133,7 +133,7 @@ all_published (Err InvalidSampleFormat) w f small same is here = absurd is
 all_published (Err TooLong) w f small same is here = absurd is
 all_published (Err OutOfMemory) w f small same is here = absurd is
 
-on_published_then : {P Q : Type 0} (answer : Result (Unit {0}) Error) → (P → Q) → OnPublished answer P → OnPublished answer Q
+pub on_published_then : {P Q : Type 0} (answer : Result (Unit {0}) Error) → (P → Q) → OnPublished answer P → OnPublished answer Q
 on_published_then (Ok x) then here = then here
 on_published_then (Err (IoError e)) then here = tt
 on_published_then (Err UnfinishedSample) then here = then here
@@ -149,7 +149,7 @@ ended : {M : Type 0} (seen : M → Seen) (end : End) (last : Written M) (answer 
 ended seen Finalize last answer medium (is, publishes) = (answer, is, publishes)
 ended seen Drop last answer medium (ok, a, is, publishes) = (a, is, publishes)
 
-length-canonical : (s : WavSpecEx) (list : List (List ℕ)) → length (canonical s list) ≡ data_start s + length (concat list)
+pub length-canonical : (s : WavSpecEx) (list : List (List ℕ)) → length (canonical s list) ≡ data_start s + length (concat list)
 length-canonical s list =
     let n = length (concat list) in
     length-append (header s (riff_size (data_start s) n) n) (concat list) ∙ ap (λ k. k + n) (length-header s (riff_size (data_start s) n) n)

@@ -141,3 +141,17 @@ pub record NotRun (begin : Begin) (steps : List Step) (marks : List Bool) (old :
 -- what `run_session` does
 abbrev pub IsSession : {M : Type 0} → Bool → (M → Seen) → Begin → List Step → List Bool → End → Seen → Result (Unit {0}) Error → M → Type 0
 IsSession keeps seen begin steps marks end old answer medium = NotRun begin steps marks old answer (seen medium) ⊎ Ran keeps seen begin steps marks end old answer medium
+
+-- all of these steps were Ok
+abbrev pub IsStrictRun : {M : Type 0} → (M → Seen) → List Step → Written M → Written M → Type 0
+IsStrictRun seen steps old new = Runs seen steps (replicate (length steps) (Ok tt)) old new
+
+-- the first steps were Ok, and then one was this error
+pub record StopsIn {M : Type 0} (seen : M → Seen) (steps : List Step) (e : Error) (old new : Written M) : Type 0 where
+  pub before : List Step
+  pub step : Step
+  pub after : List Step
+  pub whole : steps ≡ before ++ step ∷ after
+  pub last : Written M
+  pub runs : IsStrictRun seen before old last
+  pub takes : Takes seen step (Err e) last new

@@ -3,6 +3,7 @@
 
 mod runs;
 mod session;
+mod sessions;
 mod steps;
 
 pub use runs::run_session;

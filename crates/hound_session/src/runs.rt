@@ -28,7 +28,7 @@ fn is_marked(answer: &Result<()>) -> bool
 }
 
 // Begins a new file, or goes on with the one that is there.
-fn begin_writer<M: Source + Medium>(
+pub(crate) fn begin_writer<M: Source + Medium>(
     medium: M,
     begin: Begin,
 ) -> result::Result<WavWriter<M>, (M, Error)>

@@ -17,7 +17,7 @@ use Rattle.hound_writer.proofs.Standing.{inside, stands_front, stands_patched, s
 use Rattle.hound_writer.proofs.Containers.{containers_front, containers_more, count_bytes, count_more}
 
 -- bytes at a place reach no further than the old end or their own
-length_overlay_max : (bs : List ℕ) (p : ℕ) (c : List ℕ) → length (overlay c (placed p bs)) ≤ max (length c) (p + length bs)
+pub length_overlay_max : (bs : List ℕ) (p : ℕ) (c : List ℕ) → length (overlay c (placed p bs)) ≤ max (length c) (p + length bs)
 length_overlay_max [] p c = omega arith
 length_overlay_max (b ∷ bs) p c = omega (arith, length_overlay_max bs (suc p) (put_at p b c), length-put_at p b c)
 
