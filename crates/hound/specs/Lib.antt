@@ -16,3 +16,6 @@ pub use Rattle.hound_writer.specs.Counts
 pub use Rattle.hound_writer.specs.Appending
 pub use Rattle.hound_writer.specs.Room
 pub use Rattle.hound_writer.specs.Batch
+pub use Rattle.hound_session.specs.Steps
+pub use Rattle.hound_session.specs.Run
+pub use Rattle.hound_session.specs.Sessions

@@ -1,8 +1,8 @@
 -- What a batch accepts.
-use Rattle.std.proofs.Common.{◌≡◌, ℕ, ℤ, zero, suc, ◌+◌, ◌*◌, ◌-◌, ◌/◌, ◌<◌, ◌≤◌, max, Bool, true, false, nat_le, cond, List, [], ◌∷◌, ◌++◌, length, take, drop, map, Result, Ok, Err, IfErr, OnOk, MatchResult, refl, sym, ◌∙◌, ap, subst, arith, inl, inr, length-append, le-leb}
+use Rattle.std.proofs.Common.{◌≡◌, ℕ, ℤ, ◌+◌, ◌*◌, ◌/◌, ◌<◌, ◌≤◌, true, false, nat_le, cond, List, [], ◌∷◌, ◌++◌, length, take, drop, map, Result, Ok, Err, IfErr, MatchResult, refl, sym, ◌∙◌, ap, subst, arith, inl, inr, length-append, le-leb}
 use Rattle.std.proofs.lemmas.Bool.{cases_Bool, true≢false}
 use Rattle.std.proofs.lemmas.Bool.Decides.{nat_tests}
-use Rattle.std.proofs.lemmas.List.{append-nil, take_at, drop_at}
+use Rattle.std.proofs.lemmas.List.{take_at, drop_at}
 use Rattle.std.specs.List.{concat, flat_map}
 use Rattle.hound_number.specs.Number.{signed_bytes_of}
 use Rattle.hound_spec.specs.declared.error.Error.{Error}
@@ -10,10 +10,10 @@ use Rattle.hound_spec.specs.declared.error.Error.TheVariants.{IoError, FormatErr
 use Rattle.hound_spec.specs.Header.{riff_size}
 use Rattle.hound_sample.specs.Container.{containers, unsupported}
 use Rattle.hound_medium.specs.Seen.{Seen, one_more}
-use Rattle.hound_writer.specs.Writer.{Written, IsWhole, IsCounted, IsIoError, IsSameFile, StaysInPlace, AcceptsBytes, accepted, taken, faults_told}
+use Rattle.hound_writer.specs.Writer.{Written, IsWhole, IsIoError, IsSameFile, StaysInPlace, AcceptsBytes, accepted}
 use Rattle.hound_writer.specs.Room.{HasRoom}
-use Rattle.hound_session.specs.Steps.{is_sixteen, batch_containers, mark_of, if_marked, AcceptAnswer, FitAnswer}
-use Rattle.hound_session.specs.Run.{AcceptsAs, UnlessFailed}
+use Rattle.hound_session.specs.Steps.{is_sixteen, batch_containers, FitAnswer}
+use Rattle.hound_session.specs.Run.{AcceptsAs}
 use Rattle.hound_session.proofs.Taking.{refused_as}
 
 -- the bytes of a batch's values are those of its containers, two to each

@@ -1,6 +1,6 @@
 -- Sessions one after the other.
-use Rattle.std.proofs.Common.{◌≡◌, ℕ, zero, suc, ◌+◌, ◌-◌, ◌*◌, ◌/◌, ◌%◌, ◌<◌, ◌≤◌, max, Bool, true, false, not, cond, eqb, nat_le, nat_lt, List, [], ◌∷◌, ◌++◌, length, take, drop, replicate, map, Option, Some, None, Result, Ok, Err, OnOk, IfErr, refl, sym, ◌∙◌, ap, subst, arith, inl, inr, length-append, length-drop, append_assoc, take-append-drop, le-ltb, eq-eqb}
-use Rattle.std.proofs.lemmas.List.{append-nil, length-take-le}
+use Rattle.std.proofs.Common.{◌≡◌, ℕ, zero, suc, ◌+◌, ◌-◌, ◌*◌, ◌/◌, ◌%◌, ◌<◌, ◌≤◌, max, Bool, true, false, get_or, Bor, nat_le, List, [], ◌∷◌, ◌++◌, length, take, drop, replicate, map, Some, None, Result, Ok, Err, OnOk, IfErr, refl, sym, ◌∙◌, ap, subst, arith, inl, inr, length-append, length-drop, append_assoc, take-append-drop, le-ltb, eq-eqb}
+use Rattle.std.proofs.lemmas.List.{append-nil, take_all, take_more, length-take-le}
 use Rattle.std.proofs.lemmas.Nat.{div-add-mod'}
 use Rattle.std.proofs.Math.Nat.{div-mul-le_self}
 use Rattle.hound_writer.proofs.Containers.{concat-containers}
@@ -17,21 +17,25 @@ use Rattle.hound_spec.specs.Header.{header, data_start, canonical, riff_size}
 use Rattle.hound_spec.proofs.HeaderLemmas.{length-header, data_start_least}
 use Rattle.hound_sample.specs.Container.{Refusal, too_wide, unsupported, containers}
 use Rattle.hound_medium.specs.Seen.{Seen, one_more}
+use Rattle.hound_medium.specs.Bytes.{placed, overlay}
 use Rattle.hound_reader.specs.Chunks.{Head}
 use Rattle.hound_reader.proofs.WrittenLemmas.{header_head}
 use Rattle.hound_reader.proofs.Unique.{heads_agree, head_no_fault}
 use Rattle.hound_writer.specs.Parts.{field}
-use Rattle.hound_writer.specs.Writer.{Written, HasHeader, IsWhole, IsBegun, IsPublishing, OnPublished, Publishes, accepted, faults_told}
-use Rattle.hound_writer.specs.Appending.{GoesOn, IsNotAppended, IsAppendFault, AppendFault, by_bytes, head_fault, is_written_pair}
+use Rattle.hound_writer.specs.Writer.{Written, HasHeader, IsWhole, IsBegun, IsPublishing, Publishes, accepted, faults_told}
+use Rattle.hound_writer.specs.Appending.{GoesOn, IsNotAppended, IsAppendFault, AppendFault, head_fault, is_written_pair}
 use Rattle.hound_writer.proofs.Sizes.{field_small}
 use Rattle.hound_writer.proofs.Accepting.{length_overlay_max}
 use Rattle.hound_session.specs.declared.session.Step.{Step}
 use Rattle.hound_session.specs.declared.session.Step.TheVariants.{Whole, Bits, Batch, Flush}
 use Rattle.hound_session.specs.Steps.{mark_of, accepted_by, accepted_by_all, step_containers, FitAnswer, AcceptAnswer, StepAnswer}
-use Rattle.hound_session.specs.Run.{Takes, NoFault, IsStrictRun, StopsIn}
-use Rattle.hound_session.specs.Sessions.{Event, taken, finished, session_events, containers_of, writer_of, EventAnswer, StopsAt, FaultsGrow, HoldsFile, SessionEnds}
+use Rattle.hound_session.specs.Run.{Takes, Begins, BeginsFile, IsNotBegun, NoFault, IsStrictRun, StopsIn}
+use Rattle.hound_session.specs.Sessions.{Event, taken, finished, session_events, events, containers_of, writer_of, EventAnswer, StopsAt, FaultsGrow, HoldsFile, IsReady, LeadsOn}
+use Rattle.hound_session.specs.declared.session.Begin.{Begin}
+use Rattle.hound_session.specs.declared.session.Begin.TheVariants.{New, Append}
 use Rattle.hound_session.proofs.Leading.{Leads, leads, told_grows, unless_told, concat-append}
-use Rattle.hound_session.proofs.Whole.{length-accepted, all_published, length-canonical}
+use Rattle.hound_session.proofs.Running.{parted}
+use Rattle.hound_session.proofs.Whole.{all_published, length-canonical}
 
 -- faults that grow, and then grow again
 pub grow_then : (a b c : Seen) → FaultsGrow a b → FaultsGrow b c → FaultsGrow a c
@@ -265,13 +269,13 @@ publish_grows seen last answer medium p small =
 module _ {M : Type 0} (seen : M → Seen) (s : WavSpecEx) (list : List (List ℕ)) (start : Seen) (steps : List Step) (first : Written M) (on : OnFile seen s list start first) where
   -- all steps were Ok
   pub finishes : (last : Written M) (medium : M) (answer : Result (Unit {0}) Error) → IsStrictRun seen steps first last → AreBytes (seen medium).contents → IsPublishing answer last → Publishes seen last answer medium
-      → SessionEnds s list steps start (seen medium) answer
+      → LeadsOn s list (session_events steps) start (seen medium) answer
   finishes last medium answer runs small is p =
       let then = on_file_then seen s list start steps first last on runs in
       let grows = publish_grows seen last answer medium p in
       record {
         faults = grow_then start (seen last.medium) (seen medium) then.faults grows;
-        ok = go answer is p;
+        done = go answer is p;
         stopped = λ clean. stop answer is p (no_fault_then start (seen last.medium) (seen medium) then.faults grows clean);
       }
     where
@@ -296,14 +300,14 @@ module _ {M : Type 0} (seen : M → Seen) (s : WavSpecEx) (list : List (List ℕ
 
   -- a step was an error, and the writer was dropped
   pub stops_short : (new : Written M) (medium : M) (e : Error) (dropped : Result (Unit {0}) Error) → StopsIn seen steps e first new → IsPublishing dropped new → Publishes seen new dropped medium
-      → SessionEnds s list steps start (seen medium) (Err e)
+      → LeadsOn s list (session_events steps) start (seen medium) (Err e)
   stops_short new medium e dropped st is p =
       let before = on_file_then seen s list start st.before first st.last on st.runs in
       let after = on_file_still seen s (list ++ containers_of s (map taken st.before)) start st.step e st.last new before st.takes in
       let grows = publish_grows seen new dropped medium p in
       record {
         faults = grow_then start (seen new.medium) (seen medium) after.faults grows;
-        ok = tt;
+        done = tt;
         stopped = λ clean. record {
           before = map taken st.before;
           event = taken st.step;
@@ -313,3 +317,200 @@ module _ {M : Type 0} (seen : M → Seen) (s : WavSpecEx) (list : List (List ℕ
           file = file_there seen s (list ++ containers_of s (map taken st.before)) start new after medium dropped (no_fault_then start (seen new.medium) (seen medium) after.faults grows clean) is p;
         };
       }
+
+-- a session that didn't begin, since the medium failed
+pub not_begun : (s : WavSpecEx) (list : List (List ℕ)) (all : List Event) (start now new : Seen) (e : Error) → FaultsGrow start now → new.faults ≡ one_more now.faults → LeadsOn s list all start new (Err e)
+not_begun s list all start now new e grows faults = record {
+  faults = λ small. let g = grows small in (omega (arith, g.0, g.1, faults), omega (arith, g.1, faults));
+  done = tt;
+  stopped = λ (same, small). let g = grows (omega (arith, small)) in absurd (omega (arith, g.0, g.1, faults, same, small));
+}
+
+-- the writer of a new file
+pub on_new : {M : Type 0} (keeps : Bool) (seen : M → Seen) (s : WavSpecEx) (start : Seen) (w : Written M) → IsWritable s → start.place ≡ 0 → BeginsFile keeps seen s start w → OnFile seen s [] start w
+on_new keeps seen s start w writable begins b =
+    let h = header s 0 0 in
+    let put : (seen w.medium).contents ≡ overlay start.contents (placed 0 h) = b.puts.takes.contents ∙ (λ i. overlay start.contents (placed (begins i) (take_all (length h) h (omega arith) i))) in
+    record {
+      writable = writable;
+      spec = b.begun.spec;
+      at = b.begun.start;
+      size = b.begun.empty;
+      whole = b.whole;
+      begun = (b.header, b.begun.start ∙ ap data_start (sym b.begun.spec));
+      holds =
+          (λ i. containers w.spec_ex.bytes_per_sample (b.begun.empty i / w.spec_ex.bytes_per_sample) (drop w.data_start (seen w.medium).contents))
+          ∙ ap (λ n. containers w.spec_ex.bytes_per_sample n (drop w.data_start (seen w.medium).contents)) (zero_div w.spec_ex.bytes_per_sample);
+      faults = λ small. (omega (arith, b.puts.faults), omega (arith, small, b.puts.faults));
+      reach = λ _. omega (arith, ap length put, length_overlay_max h 0 start.contents, length-header s 0 0, length-canonical s []);
+    }
+  where
+    zero_div : (w : ℕ) → 0 / w ≡ 0
+    zero_div zero = refl
+    zero_div (suc w) = omega arith
+
+-- the writer that goes on with a file
+pub on_append : {M : Type 0} (seen : M → Seen) (s : WavSpecEx) (list : List (List ℕ)) (start now : Seen) (w : Written M) → IsWritable s → HoldsFile s list start now → GoesOn now seen w → OnFile seen s list start w
+on_append seen s list start now w writable file goes =
+    let agree = heads_agree now.contents s w.spec_ex file.length_is w.data_length (data_start s) w.data_start file.head goes.head in
+    let same = goes.puts.stays.contents in
+    record {
+      writable = writable;
+      spec = sym agree.0;
+      at = sym agree.2;
+      size = sym agree.1 ∙ file.size;
+      whole = omega (arith, file.whole, agree.1, agree.2, ap length same);
+      begun = (subst (λ (x : WavSpecEx × List ℕ). HasHeader x.0 x.1) (λ i. (agree.0 i, sym same i)) file.header, sym agree.2 ∙ ap data_start agree.0);
+      holds = (λ i. containers (sym agree.0 i).bytes_per_sample (sym agree.1 i / (sym agree.0 i).bytes_per_sample) (drop (sym agree.2 i) (same i))) ∙ file.samples;
+      faults = λ small. let g = file.faults small in (omega (arith, g.0, goes.faults), omega (arith, g.1, goes.faults));
+      reach = λ (none, small). omega (arith, ap length same, file.reach (omega (arith, none, goes.faults), small));
+    }
+
+-- such a file is gone on with, unless the medium fails
+pub append_failed : (s : WavSpecEx) (list : List (List ℕ)) (start now new : Seen) (e : Error) → HoldsFile s list start now → IsNotAppended now new e → new.faults ≡ one_more now.faults
+append_failed s list start now new e file refused = elim refused.why [
+  | inl (fault, is, names, same) ↦ absurd (never fault is)
+  | inr (io, faults) ↦ faults
+]
+  where
+    some_none : (fault : AppendFault) → Some fault ≡ None → ⊥
+    some_none fault is = cc
+
+    never : (fault : AppendFault) → IsAppendFault now.contents fault → ⊥
+    never fault (inl (cause, is, refused)) = head_no_fault now.contents s file.length_is (data_start s) cause file.head refused
+    never fault (inr (t, len, h, head, is)) =
+        let agree = heads_agree now.contents s t file.length_is len (data_start s) h file.head head in
+        some_none fault (sym is ∙ (λ i. head_fault (sym agree.0 i) (sym agree.1 i) (sym agree.2 i)) ∙ file.sound)
+
+-- a call that puts nothing leaves the file
+pub holds_still : (s : WavSpecEx) (list : List (List ℕ)) (start old new : Seen) → new.contents ≡ old.contents → new.faults ≡ old.faults → HoldsFile s list start old → HoldsFile s list start new
+holds_still s list start old new same faults file = record {
+  length_is = file.length_is;
+  size = file.size;
+  head = subst (λ c. Head c s file.length_is (data_start s)) (sym same) file.head;
+  sound = file.sound;
+  header = subst (HasHeader s) (sym same) file.header;
+  whole = omega (arith, file.whole, ap length same);
+  samples = ap (λ c. containers s.bytes_per_sample (file.length_is / s.bytes_per_sample) (drop (data_start s) c)) same ∙ file.samples;
+  file = subst (λ c. StartsWith c (canonical s list)) (sym same) file.file;
+  faults = λ small. let g = file.faults small in (omega (arith, g.0, faults), omega (arith, g.1, faults));
+  reach = λ (none, small). omega (arith, ap length same, file.reach (omega (arith, none, faults), small));
+}
+
+-- events, and then more
+pub leads_then : (s : WavSpecEx) (list : List (List ℕ)) (first then : List Event) (start now : Seen) (answer : Result (Unit {0}) Error) → LeadsOn s (list ++ containers_of s first) then start now answer → LeadsOn s list (first ++ then) start now answer
+leads_then s list first then start now answer on =
+    let both : (es : List Event) → (list ++ containers_of s first) ++ containers_of s es ≡ list ++ containers_of s (first ++ es) =
+    λ es. append_assoc list (containers_of s first) (containers_of s es) ∙ ap (λ l. list ++ l) (sym (containers_of-append s first es)) in
+    record { faults = on.faults; done = done answer on.done (both then); stopped = λ clean. stopped answer (on.stopped clean) both }
+  where
+    done : (answer : Result (Unit {0}) Error) → OnOk answer (HoldsFile s ((list ++ containers_of s first) ++ containers_of s then) start now) → (list ++ containers_of s first) ++ containers_of s then ≡ list ++ containers_of s (first ++ then)
+        → OnOk answer (HoldsFile s (list ++ containers_of s (first ++ then)) start now)
+    done (Ok x) here same = subst (λ l. HoldsFile s l start now) same here
+    done (Err e) here same = tt
+
+    stopped : (answer : Result (Unit {0}) Error) → IfErr answer (λ e. StopsAt s (list ++ containers_of s first) then e now.contents) → ((es : List Event) → (list ++ containers_of s first) ++ containers_of s es ≡ list ++ containers_of s (first ++ es))
+        → IfErr answer (λ e. StopsAt s list (first ++ then) e now.contents)
+    stopped (Ok x) here both = tt
+    stopped (Err e) here both = record {
+      before = first ++ here.before;
+      event = here.event;
+      after = here.after;
+      whole = ap (λ l. first ++ l) here.whole ∙ sym (append_assoc first here.before (here.event ∷ here.after));
+      answer = subst (λ l. EventAnswer here.event (writer_of s l) (Err e)) (both here.before) here.answer;
+      file = subst (λ l. StartsWith now.contents (canonical s l)) (both here.before) here.file;
+    }
+
+-- an error, whatever would have come behind it
+pub stops_before : (s : WavSpecEx) (list : List (List ℕ)) (first then : List Event) (start now : Seen) (e : Error) → LeadsOn s list first start now (Err e) → LeadsOn s list (first ++ then) start now (Err e)
+stops_before s list first then start now e on = record {
+  faults = on.faults;
+  done = tt;
+  stopped = λ clean. let here = on.stopped clean in record {
+    before = here.before;
+    event = here.event;
+    after = here.after ++ then;
+    whole = ap (λ l. l ++ then) here.whole ∙ append_assoc here.before (here.event ∷ here.after) then;
+    answer = here.answer;
+    file = here.file;
+  };
+}
+
+-- the first writer of a session
+pub first_on : {M : Type 0} (keeps : Bool) (seen : M → Seen) (begin : Begin) (s : WavSpecEx) (list : List (List ℕ)) (start now : Seen) (w : Written M) → IsReady begin s list start now → now.place ≡ 0 → Begins keeps seen begin now w → OnFile seen s list start w
+first_on keeps seen (New spec_ex) s list start now w (writable, same, empty, is_start) begins b =
+    subst (λ l. OnFile seen s l start w) (sym empty)
+    (on_new keeps seen s start w writable (ap (λ (t : Seen). t.place) (sym is_start) ∙ begins) (subst (λ (x : WavSpecEx × Seen). BeginsFile keeps seen x.0 x.1 w) (λ i. (same i, is_start i)) b))
+first_on keeps seen Append s list start now w (writable, file) begins (goes, counts) = on_append seen s list start now w writable file goes
+
+-- a session that didn't begin
+pub first_failed : (begin : Begin) (s : WavSpecEx) (list : List (List ℕ)) (all : List Event) (start now new : Seen) (e : Error) → IsReady begin s list start now → IsNotBegun begin now new e → LeadsOn s list all start new (Err e)
+first_failed (New spec_ex) s list all start now new e (writable, same, empty, is_start) (inl (unwritable, told, still)) = absurd (unwritable (subst IsWritable (sym same) writable))
+first_failed (New spec_ex) s list all start now new e (writable, same, empty, is_start) (inr (io, faults)) =
+    let one : now.faults ≡ start.faults = ap (λ (t : Seen). t.faults) is_start in
+    not_begun s list all start now new e (λ small. (omega (arith, one), omega (arith, small, one))) faults
+first_failed Append s list all start now new e (writable, file) refused = not_begun s list all start now new e file.faults (append_failed s list start now new e file refused)
+
+events-append : (xs ys : List (Bor (List Step))) → events (xs ++ ys) ≡ events xs ++ events ys
+events-append [] ys = refl
+events-append (x ∷ xs) ys = ap (λ l. session_events x.now ++ l) (events-append xs ys) ∙ sym (append_assoc (session_events x.now) (events xs) (events ys))
+
+events-one : (x : Bor (List Step)) → events (x ∷ []) ≡ session_events x.now
+events-one x = append-nil (session_events x.now)
+
+-- the file after some sessions, and one more that was Ok
+pub one_more_session : (s : WavSpecEx) (list : List (List ℕ)) (start now : Seen) (sessions : List (Bor (List Step))) (i : ℕ) (d : Bor (List Step)) (answer : Result (Unit {0}) Error) → i < length sessions → ((e : Error) → answer ≡ Err e → ⊥)
+    → LeadsOn s (list ++ containers_of s (events (take i sessions))) (session_events (get_or sessions i d).now) start now answer → HoldsFile s (list ++ containers_of s (events (take (i + 1) sessions))) start now
+one_more_session s list start now sessions i d (Err e) inside fine on = absurd (fine e refl)
+one_more_session s list start now sessions i d (Ok x) inside fine on =
+    let step = get_or sessions i d in
+    let more : events (take (i + 1) sessions) ≡ events (take i sessions) ++ session_events step.now =
+    ap events (take_more sessions i d inside) ∙ events-append (take i sessions) (step ∷ []) ∙ ap (λ l. events (take i sessions) ++ l) (events-one step) in
+    subst (λ l. HoldsFile s l start now) (append_assoc list (containers_of s (events (take i sessions))) (containers_of s (session_events step.now))
+    ∙ ap (λ l. list ++ l) (sym (containers_of-append s (events (take i sessions)) (session_events step.now)) ∙ ap (containers_of s) (sym more))) on.done
+
+-- the same, and one that wasn't
+pub session_failed : (s : WavSpecEx) (list : List (List ℕ)) (start now : Seen) (sessions : List (Bor (List Step))) (i : ℕ) (d : Bor (List Step)) (answer : Result (Unit {0}) Error) (e : Error) → i < length sessions → answer ≡ Err e
+    → LeadsOn s (list ++ containers_of s (events (take i sessions))) (session_events (get_or sessions i d).now) start now answer → LeadsOn s list (events sessions) start now (Err e)
+session_failed s list start now sessions i d answer e inside is on =
+    let step = get_or sessions i d in
+    let rest = drop (i + 1) sessions in
+    let all : (events (take i sessions) ++ session_events step.now) ++ events rest ≡ events sessions =
+    append_assoc (events (take i sessions)) (session_events step.now) (events rest)
+    ∙ sym (events-append (take i sessions) (step ∷ rest)) ∙ ap events (sym (parted sessions i d inside)) in
+    subst (λ l. LeadsOn s list l start now (Err e)) all
+    (stops_before s list (events (take i sessions) ++ session_events step.now) (events rest) start now e
+    (leads_then s list (events (take i sessions)) (session_events step.now) start now (Err e) (subst (LeadsOn s (list ++ containers_of s (events (take i sessions))) (session_events step.now) start now) is on)))
+
+-- all of them were Ok
+pub all_done : (s : WavSpecEx) (list : List (List ℕ)) (start now : Seen) (sessions : List (Bor (List Step))) (i : ℕ) → length sessions ≤ i → HoldsFile s (list ++ containers_of s (events (take i sessions))) start now → LeadsOn s list (events sessions) start now (Ok tt)
+all_done s list start now sessions i all file = record {
+  faults = file.faults;
+  done = subst (λ l. HoldsFile s (list ++ containers_of s (events l)) start now) (take_all i sessions all) file;
+  stopped = λ _. tt;
+}
+
+-- no sessions so far
+pub none_done : (s : WavSpecEx) (list : List (List ℕ)) (start now : Seen) → HoldsFile s list start now → HoldsFile s (list ++ containers_of s (events [])) start now
+none_done s list start now file = subst (λ l. HoldsFile s l start now) (sym (append-nil list)) file
+
+-- what a file of these containers is, by the answer of what led to it
+pub leads_file : (s : WavSpecEx) (all : List Event) (start now : Seen) (answer : Result (Unit {0}) Error) → LeadsOn s [] all start now answer → OnOk answer (StartsWith now.contents (canonical s (containers_of s all)))
+leads_file s all start now (Ok x) on = on.done.file
+leads_file s all start now (Err e) on = tt
+
+pub leads_exactly : (s : WavSpecEx) (all : List Event) (start now : Seen) (answer : Result (Unit {0}) Error) → start.contents ≡ [] → NoFault start now → LeadsOn s [] all start now answer → OnOk answer (now.contents ≡ canonical s (containers_of s all))
+leads_exactly s all start now (Ok x) empty clean on =
+    let c = canonical s (containers_of s all) in
+    let none : length start.contents ≡ 0 = ap length empty in
+    sym (take_all (length c) now.contents (short (length now.contents) (length start.contents) (length c) (on.done.reach clean) none)) ∙ on.done.file
+  where
+    short : (n m k : ℕ) → n ≤ max m k → m ≡ 0 → n ≤ k
+    short n m k le nothing = omega (arith, le, nothing)
+leads_exactly s all start now (Err e) empty clean on = tt
+
+-- the first session, and then the others
+pub first_then : (s : WavSpecEx) (first : Bor (List Step)) (others : List (Bor (List Step))) (start mid now : Seen) (answer then : Result (Unit {0}) Error) → ((e : Error) → answer ≡ Err e → ⊥) → LeadsOn s [] (session_events first.now) start mid answer
+    → ((list : List (List ℕ)) → HoldsFile s list start mid → LeadsOn s list (events others) start now then) → LeadsOn s [] (events (first ∷ others)) start now then
+first_then s first others start mid now (Err e) then fine on more = absurd (fine e refl)
+first_then s first others start mid now (Ok x) then fine on more = leads_then s [] (session_events first.now) (events others) start now then (more (containers_of s (session_events first.now)) on.done)

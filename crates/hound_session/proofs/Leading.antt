@@ -1,15 +1,15 @@
 -- Where a run leads.
-use Rattle.std.proofs.Common.{◌≡◌, ℕ, ◌+◌, ◌-◌, ◌*◌, ◌/◌, ◌<◌, ◌≤◌, max, min, Bool, List, [], ◌∷◌, ◌++◌, length, take, drop, map, Result, Ok, Err, refl, sym, ◌∙◌, ap, subst, arith, append_assoc, length-append}
+use Rattle.std.proofs.Common.{◌≡◌, ℕ, ◌+◌, ◌-◌, ◌<◌, ◌≤◌, max, Bool, List, [], ◌∷◌, ◌++◌, length, take, drop, map, Result, Ok, Err, refl, sym, ◌∙◌, ap, subst, arith, append_assoc, length-append}
 use Rattle.std.proofs.lemmas.List.{append-nil, take-take}
 use Rattle.std.specs.List.{concat}
 use Rattle.hound_spec.specs.declared.error.Error.{Error}
 use Rattle.hound_spec.specs.declared.error.Error.TheVariants.{IoError, FormatError, TooWide, UnfinishedSample, Unsupported, InvalidSampleFormat, TooLong, OutOfMemory}
-use Rattle.hound_medium.specs.Seen.{Seen, one_more}
+use Rattle.hound_medium.specs.Seen.{Seen}
 use Rattle.hound_writer.specs.Writer.{Written, IsWhole, IsBegun, IsCounted, ChangesSizesOnly, accepted, faults_told}
 use Rattle.hound_session.specs.declared.session.Step.{Step}
 use Rattle.hound_session.specs.declared.session.Step.TheVariants.{Whole, Bits, Batch, Flush}
 use Rattle.hound_session.specs.Steps.{mark_of, accepted_by, accepted_by_all}
-use Rattle.hound_session.specs.Run.{Takes, Runs, UnlessFailed, FrontAfter}
+use Rattle.hound_session.specs.Run.{Runs, UnlessFailed, FrontAfter}
 
 abbrev most : ℕ
 most = 18446744073709551615

@@ -1,5 +1,5 @@
 -- What a step does, from the contract of its call.
-use Rattle.std.proofs.Common.{◌≡◌, ℕ, ◌+◌, ◌-◌, ◌/◌, ◌≤◌, max, Bool, true, false, nat_le, List, [], ◌∷◌, ◌++◌, length, take, Result, Ok, Err, IfSome, IfNone, IfErr, OnOk, MatchResult, refl, sym, ◌∙◌, ap, subst, arith, inl, inr, length-append}
+use Rattle.std.proofs.Common.{◌≡◌, ℕ, ◌+◌, ◌-◌, ◌/◌, ◌≤◌, max, Bool, true, false, nat_le, List, [], ◌∷◌, ◌++◌, length, take, Result, Ok, Err, IfSome, IfNone, IfErr, OnOk, MatchResult, refl, sym, ◌∙◌, ap, subst, arith, inl, inr}
 use Rattle.std.proofs.lemmas.Bool.{cases_Bool}
 use Rattle.std.proofs.lemmas.List.{append-nil}
 use Rattle.std.specs.List.{concat}
@@ -9,16 +9,14 @@ use Rattle.hound_spec.specs.declared.error.Error.TheVariants.{IoError, FormatErr
 use Rattle.hound_spec.specs.Header.{header, data_start, riff_size}
 use Rattle.hound_spec.proofs.HeaderLemmas.{length-header}
 use Rattle.hound_sample.specs.Container.{Refusal, too_wide, unsupported, containers}
-use Rattle.hound_sample.specs.Encoding.{error_of}
 use Rattle.hound_medium.specs.Seen.{Seen}
 use Rattle.hound_medium.proofs.Overlays.{front_part}
 use Rattle.hound_writer.specs.Parts.{field}
 use Rattle.hound_writer.specs.Writer.{Written, IsWhole, IsBegun, IsCounted, IsIoError, AcceptsSample, HasHeader, accepted, sample_refusal, faults_told, IsPublishing, Publishes}
 use Rattle.hound_writer.specs.Counts.{Counts}
-use Rattle.hound_session.specs.declared.session.Step.{Step}
 use Rattle.hound_session.specs.declared.session.Step.TheVariants.{Whole, Bits, Batch, Flush}
-use Rattle.hound_session.specs.Steps.{one, mark_of, if_marked, step_containers, accepted_by, AcceptAnswer, FitAnswer, StepAnswer}
-use Rattle.hound_session.specs.Run.{AcceptsAs, Takes, UnlessFailed, FieldAfter, FrontAfter}
+use Rattle.hound_session.specs.Steps.{one, mark_of, if_marked, step_containers, AcceptAnswer, FitAnswer}
+use Rattle.hound_session.specs.Run.{AcceptsAs, Takes, UnlessFailed}
 
 -- a refusal by type, size or memory, after which all is as it was
 pub refused_as : {M : Type 0} (seen : M → Seen) (memory : Bool) (asked : Result (List (List ℕ)) Refusal) (e : Error) (old new : Written M) → mark_of (Err e) ≡ false → faults_told {T = Unit {0}} (Err e) (seen old.medium).faults ≡ (seen old.medium).faults
@@ -134,16 +132,52 @@ field_front start old new behind same = ap number (front_part start (start - 4) 
 -- a step that asks for containers
 module _ {M : Type 0} (seen : M → Seen) (answer : Result (Unit {0}) Error) (old new : Written M) where
   pub whole_takes : (value : _) → AcceptsAs seen false (step_containers old.spec_ex (Whole value)) answer old new → Takes seen (Whole value) answer old new
-  whole_takes value a = record { answers = a.answers; faults = a.faults; spec_ex = a.spec_ex; data_start = a.data_start; data_length = a.data_length; front = a.front; reach = a.reach;
-    field = λ behind. field_front old.data_start _ _ behind a.front; begun = begun_front seen old new a.spec_ex a.data_start a.front; whole = a.whole; accepted = a.accepted; counts = a.counts }
+  whole_takes value a = record {
+    answers = a.answers;
+    faults = a.faults;
+    spec_ex = a.spec_ex;
+    data_start = a.data_start;
+    data_length = a.data_length;
+    front = a.front;
+    reach = a.reach;
+    field = λ behind. field_front old.data_start _ _ behind a.front;
+    begun = begun_front seen old new a.spec_ex a.data_start a.front;
+    whole = a.whole;
+    accepted = a.accepted;
+    counts = a.counts;
+  }
 
   pub bits_takes : (bits : _) → AcceptsAs seen false (step_containers old.spec_ex (Bits bits)) answer old new → Takes seen (Bits bits) answer old new
-  bits_takes bits a = record { answers = a.answers; faults = a.faults; spec_ex = a.spec_ex; data_start = a.data_start; data_length = a.data_length; front = a.front; reach = a.reach;
-    field = λ behind. field_front old.data_start _ _ behind a.front; begun = begun_front seen old new a.spec_ex a.data_start a.front; whole = a.whole; accepted = a.accepted; counts = a.counts }
+  bits_takes bits a = record {
+    answers = a.answers;
+    faults = a.faults;
+    spec_ex = a.spec_ex;
+    data_start = a.data_start;
+    data_length = a.data_length;
+    front = a.front;
+    reach = a.reach;
+    field = λ behind. field_front old.data_start _ _ behind a.front;
+    begun = begun_front seen old new a.spec_ex a.data_start a.front;
+    whole = a.whole;
+    accepted = a.accepted;
+    counts = a.counts;
+  }
 
   pub batch_takes : (values : _) → AcceptsAs seen true (step_containers old.spec_ex (Batch values)) answer old new → Takes seen (Batch values) answer old new
-  batch_takes values a = record { answers = a.answers; faults = a.faults; spec_ex = a.spec_ex; data_start = a.data_start; data_length = a.data_length; front = a.front; reach = a.reach;
-    field = λ behind. field_front old.data_start _ _ behind a.front; begun = begun_front seen old new a.spec_ex a.data_start a.front; whole = a.whole; accepted = a.accepted; counts = a.counts }
+  batch_takes values a = record {
+    answers = a.answers;
+    faults = a.faults;
+    spec_ex = a.spec_ex;
+    data_start = a.data_start;
+    data_length = a.data_length;
+    front = a.front;
+    reach = a.reach;
+    field = λ behind. field_front old.data_start _ _ behind a.front;
+    begun = begun_front seen old new a.spec_ex a.data_start a.front;
+    whole = a.whole;
+    accepted = a.accepted;
+    counts = a.counts;
+  }
 
 -- a flush
 pub flush_takes : {M : Type 0} (seen : M → Seen) (answer : Result (Unit {0}) Error) (old : Written M) (medium : M) → IsPublishing answer old → Publishes seen old answer medium → Takes seen Flush answer old (record old { medium = medium })

@@ -1,5 +1,5 @@
 -- A whole run, from its beginning to its end.
-use Rattle.std.proofs.Common.{◌≡◌, ℕ, zero, suc, ◌+◌, ◌-◌, ◌*◌, ◌/◌, ◌%◌, ◌<◌, ◌≤◌, ◌⊎◌, max, Bool, true, false, not, cond, eqb, List, [], ◌∷◌, ◌++◌, length, take, drop, map, Option, Some, None, Result, Ok, Err, OnOk, IfOk, IfErr, MatchResult, refl, sym, ◌∙◌, ap, subst, arith, inl, inr, length-append, length-drop, eqb-true}
+use Rattle.std.proofs.Common.{◌≡◌, ℕ, zero, suc, ◌+◌, ◌*◌, ◌/◌, ◌%◌, ◌<◌, ◌≤◌, ◌⊎◌, max, Bool, true, false, not, cond, List, [], ◌++◌, length, take, drop, Option, Some, None, Result, Ok, Err, OnOk, IfOk, IfErr, MatchResult, refl, sym, ◌∙◌, ap, subst, arith, inl, inr, length-append, length-drop, eqb-true}
 use Rattle.std.proofs.lemmas.Bool.{cases_lt}
 use Rattle.std.proofs.lemmas.List.{take_all, length-take-le}
 use Rattle.std.specs.List.{concat}
@@ -16,7 +16,7 @@ use Rattle.hound_medium.proofs.Overlays.{overlay_is}
 use Rattle.hound_sample.specs.Container.{containers}
 use Rattle.hound_writer.specs.Counts.{Counts}
 use Rattle.hound_writer.specs.Writer.{Written, HasBegun, HasHeader, IsWhole, IsBegun, IsCounted, IsIoError, IsPublishing, OnPublished, Publishes, ChangesSizesOnly, accepted, faults_told, medium_of}
-use Rattle.hound_writer.specs.Appending.{GoesOn, head_fault}
+use Rattle.hound_writer.specs.Appending.{head_fault}
 use Rattle.hound_writer.proofs.Beginning.{header_put}
 use Rattle.hound_writer.proofs.Heads.{head_behind}
 use Rattle.hound_writer.proofs.Containers.{concat-containers, count_bytes}
@@ -25,7 +25,7 @@ use Rattle.hound_session.specs.declared.session.Begin.{Begin}
 use Rattle.hound_session.specs.declared.session.Begin.TheVariants.{New, Append}
 use Rattle.hound_session.specs.declared.session.End.{End}
 use Rattle.hound_session.specs.declared.session.End.TheVariants.{Finalize, Drop}
-use Rattle.hound_session.specs.Steps.{mark_of, accepted_by_all}
+use Rattle.hound_session.specs.Steps.{accepted_by_all}
 use Rattle.hound_session.specs.Run.{Begins, IsNotBegun, Ends, IsMarkedRun, OnFinalized, NoFault, Ran}
 use Rattle.hound_session.proofs.Leading.{Leads, leads, sizes_then, told_grows, concat-append}
 

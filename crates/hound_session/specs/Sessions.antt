@@ -1,5 +1,5 @@
 -- Sessions one after the other over one medium.
-use Rattle.std.specs.Prelude.{◌≡◌, ℕ, ◌+◌, ◌<◌, ◌≤◌, max, List, [], ◌∷◌, ◌++◌, length, map, drop, take, ◌/◌, Option, None, Result, Ok, Err, OnOk, IfErr, true}
+use Rattle.std.specs.Prelude.{◌≡◌, ℕ, ◌+◌, ◌≤◌, max, List, [], ◌∷◌, ◌++◌, length, map, drop, ◌/◌, None, Result, Err, OnOk, IfErr, true}
 use Rattle.std.specs.Borrow.{Bor}
 use Rattle.std.specs.List.{concat, flat_map}
 use Rattle.std.specs.Io.{StartsWith}
@@ -72,11 +72,11 @@ pub record HoldsFile (s : WavSpecEx) (list : List (List ℕ)) (start now : Seen)
   pub faults : FaultsGrow start now
   pub reach : NoFault start now → length now.contents ≤ max (length start.contents) (length (canonical s list))
 
--- what a session does behind a file of these containers
-pub record SessionEnds (s : WavSpecEx) (list : List (List ℕ)) (steps : List Step) (start now : Seen) (answer : Result (Unit {0}) Error) : Type 0 where
+-- What these events lead to behind a file of these containers: that file with theirs behind them; or, unless the medium failed, an error of one of them.
+pub record LeadsOn (s : WavSpecEx) (list : List (List ℕ)) (all : List Event) (start now : Seen) (answer : Result (Unit {0}) Error) : Type 0 where
   pub faults : FaultsGrow start now
-  pub ok : OnOk answer (HoldsFile s (list ++ containers_of s (session_events steps)) start now)
-  pub stopped : NoFault start now → IfErr answer (λ e. StopsAt s list (session_events steps) e now.contents)
+  pub done : OnOk answer (HoldsFile s (list ++ containers_of s all) start now)
+  pub stopped : NoFault start now → IfErr answer (λ e. StopsAt s list all e now.contents)
 
 -- a medium that a session begins over: a new file of a spec that can be written, or the file of what was accepted so far
 abbrev pub IsReady : Begin → WavSpecEx → List (List ℕ) → Seen → Seen → Type 0

@@ -8,3 +8,4 @@ mod steps;
 
 pub use runs::run_session;
 pub use session::{Begin, End, Step};
+pub use sessions::run_sessions;

@@ -1,9 +1,10 @@
 // Whole runs.
-ghost use Rattle.std.specs.Prelude.{◌≡◌, IsTrue, OnOk, [], length, IfOk, MatchResult};
+ghost use Rattle.std.specs.Prelude.{◌≡◌, IsTrue, Err, OnOk, [], length, MatchResult};
 ghost use Rattle.std.specs.Io.{StartsWith};
 ghost use Rattle.hound_spec.specs.declared.spec.WavSpecEx.{WavSpecEx};
 ghost use Rattle.hound_spec.specs.Writable.{IsWritable};
 ghost use Rattle.hound_spec.specs.Header.{canonical};
+ghost use Rattle.hound_spec.specs.declared.error.Error.TheVariants.{Unsupported};
 ghost use Rattle.hound_session.specs.declared.session.Begin.TheVariants.{New};
 ghost use Rattle.hound_session.specs.declared.session.End.TheVariants.{Finalize};
 ghost use Rattle.hound_session.specs.Steps.{mark_of, accepted_by_all};
@@ -33,7 +34,8 @@ pub(crate) fn begin_writer<M: Source + Medium>(
     begin: Begin,
 ) -> result::Result<WavWriter<M>, (M, Error)>
     requires { IsTrue M.tells → (M.seen medium).place ≡ 0 }
-    ensures { IsTrue M.tells → MatchResult result (Begins M.keeps M.seen begin (M.seen medium)) (λ refused. IsNotBegun begin (M.seen medium) (M.seen refused.0) refused.1) }
+    ensures unwritable { (s : WavSpecEx) → begin ≡ New s → (IsWritable s → ⊥) → result ≡ Err (medium, Unsupported) }
+    ensures begins { IsTrue M.tells → MatchResult result (Begins M.keeps M.seen begin (M.seen medium)) (λ refused. IsNotBegun begin (M.seen medium) (M.seen refused.0) refused.1) }
 {
     match begin {
         Begin::New(spec_ex) => WavWriter::try_new(medium, spec_ex),
@@ -86,6 +88,7 @@ pub fn run_session<M: Source + Medium>(
     requires place { IsTrue M.tells → (M.seen medium).place ≡ 0 }
     requires size { length steps.now ≡ length marks.old }
     ensures size { length marks.new ≡ length marks.old }
+    ensures unwritable { (spec_ex : WavSpecEx) → begin ≡ New spec_ex → (IsWritable spec_ex → ⊥) → result ≡ (medium, Err Unsupported) }
     ensures session { IsTrue M.tells → IsSession M.keeps M.seen begin steps.now marks.new end (M.seen medium) result.1 result.0 }
 
     // A new file that was finalized is the canonical one of what was accepted.

@@ -1,11 +1,14 @@
 // Sessions one after the other over one medium.
-ghost use Rattle.std.specs.Prelude.{◌≡◌, ◌⊎◌, IsTrue, List, [], Ok, Err, OnOk, OnErr, IfErr, IfOk, length, MatchResult};
+ghost use Rattle.std.specs.Prelude.{◌≡◌, ℕ, IsTrue, List, [], Ok, Err, OnOk, OnErr, IfErr, IfOk, ◌<◌, length, MatchResult};
 ghost use Rattle.std.specs.Io.{StartsWith};
 ghost use Rattle.hound_spec.specs.Writable.{IsWritable};
 ghost use Rattle.hound_spec.specs.Header.{canonical};
 ghost use Rattle.hound_spec.specs.declared.error.Error.TheVariants.{Unsupported};
 ghost use Rattle.hound_session.specs.Run.{NoFault, IsStrictRun, StopsIn};
-ghost use Rattle.hound_session.specs.Sessions.{events, containers_of, StopsAt, HoldsFile, SessionEnds};
+ghost use Rattle.hound_session.specs.Sessions.{events, session_events, containers_of, StopsAt, HoldsFile, IsReady, LeadsOn};
+ghost use Rattle.hound_spec.specs.declared.spec.WavSpecEx.{WavSpecEx};
+ghost use Rattle.hound_session.specs.declared.session.Begin.TheVariants.{New};
+ghost use Rattle.hound_medium.specs.Seen.{Seen};
 
 use crate::runs::begin_writer;
 use crate::session::{Begin, Step};
@@ -30,4 +33,95 @@ fn take_until_error<M: Medium>(
         }
     }
     Ok(())
+}
+
+// Runs a session up to the first error, and hands the medium back.
+fn run_until_error<M: Source + Medium>(
+    alloc: Global,
+    medium: M,
+    begin: Begin,
+    steps: &[Step],
+) -> (M, Result<()>)
+    requires { IsTrue M.tells → (M.seen medium).place ≡ 0 }
+    ensures unwritable { IsTrue M.tells → (s : WavSpecEx) → begin ≡ New s → (IsWritable s → ⊥) → (result.1 ≡ Err Unsupported) × (M.seen result.0 ≡ M.seen medium) }
+    ensures only_writable { IsTrue M.tells → (s : WavSpecEx) → begin ≡ New s → OnOk result.1 (IsWritable s) }
+    ensures leads { IsTrue M.tells → (s : WavSpecEx) (list : List (List ℕ)) (start : Seen) → IsReady begin s list start (M.seen medium) → LeadsOn s list (session_events steps.now) start (M.seen result.0) result.1 }
+{
+    let mut writer = match begin_writer(medium, begin) {
+        Ok(writer) => writer,
+        Err((medium, error)) => return (medium, Err(error)),
+    };
+    match take_until_error(alloc, &mut writer, steps) {
+        Ok(()) => writer.finalize_into(),
+        Err(error) => (writer.drop_into(), Err(error)),
+    }
+}
+
+// Goes on with the file in a medium by one more session.
+fn append_session<M: Source + Medium>(alloc: Global, medium: M, steps: &[Step]) -> (M, Result<()>)
+    ensures { IsTrue M.tells → (s : WavSpecEx) (list : List (List ℕ)) (start : Seen) → IsWritable s → HoldsFile s list start (M.seen medium) → LeadsOn s list (session_events steps.now) start (M.seen result.0) result.1 }
+{
+    let mut medium = medium;
+    if let Err(error) = medium.go(0) {
+        return (medium, Err(Error::IoError(error)));
+    }
+    run_until_error(alloc, medium, Begin::Append, steps)
+}
+
+// Goes on with the file in a medium by further sessions, up to the first error.
+fn append_sessions<M: Source + Medium>(
+    alloc: Global,
+    medium: M,
+    sessions: &[&[Step<'_>]],
+) -> (M, Result<()>)
+    ensures { IsTrue M.tells → (s : WavSpecEx) (list : List (List ℕ)) (start : Seen) → IsWritable s → HoldsFile s list start (M.seen medium) → LeadsOn s list (events sessions.now) start (M.seen result.0) result.1 }
+{
+    let mut medium = medium;
+    for i in 0..sessions.len() {
+        let (back, answer) = append_session(alloc, medium, sessions[i]);
+        medium = back;
+        if let Err(error) = answer {
+            return (medium, Err(error));
+        }
+    }
+    (medium, Ok(()))
+}
+
+/// Runs sessions over one medium: the first begins a file of this spec, each further one goes on
+/// with it, and each is finalized.
+///
+/// It ends at the first error of any call, which it answers: `Unsupported`, for a spec that can't be
+/// written or a batch for samples of other than sixteen bits; a refusal of a sample; an
+/// `UnfinishedSample` of a flush or an end; or an `IoError` of the medium. What was accepted before
+/// is published then, unless the medium failed. No sessions: nothing is done. The medium stands at
+/// its beginning, and is handed back.
+pub fn run_sessions<'a, M: Source + Medium>(
+    alloc: Global,
+    medium: M,
+    spec_ex: WavSpecEx,
+    sessions: &'a [&'a [Step<'a>]],
+) -> (M, Result<()>)
+    requires { IsTrue M.tells → (M.seen medium).place ≡ 0 }
+    ensures none { length sessions.now ≡ 0 → result ≡ (medium, Ok tt) }
+    ensures unwritable { IsTrue M.tells → 0 < length sessions.now → (IsWritable spec_ex → ⊥) → (result.1 ≡ Err Unsupported) × (M.seen result.0 ≡ M.seen medium) }
+
+    // Over a spec that can be written: all sessions are there in one file, or an event of one was an
+    // error that its own contract allows, or the medium failed.
+    ensures leads { IsTrue M.tells → 0 < length sessions.now → IsWritable spec_ex →
+        LeadsOn spec_ex [] (events sessions.now) (M.seen medium) (M.seen result.0) result.1 }
+
+    // The bytes of one session over all containers.
+    ensures canonical { IsTrue M.tells → 0 < length sessions.now →
+        OnOk result.1 (StartsWith (M.seen result.0).contents (canonical spec_ex (containers_of spec_ex (events sessions.now)))) }
+    ensures exact { IsTrue M.tells → 0 < length sessions.now → (M.seen medium).contents ≡ [] → NoFault (M.seen medium) (M.seen result.0) →
+        OnOk result.1 ((M.seen result.0).contents ≡ canonical spec_ex (containers_of spec_ex (events sessions.now))) }
+{
+    let Some((first, others)) = sessions.split_first() else {
+        return (medium, Ok(()));
+    };
+    let (medium, answer) = run_until_error(alloc, medium, Begin::New(spec_ex), first);
+    if let Err(error) = answer {
+        return (medium, Err(error));
+    }
+    append_sessions(alloc, medium, others)
 }

@@ -17,11 +17,7 @@ fn is_sixteen(spec: WavSpec) -> bool
 }
 
 // Writes a batch, of samples of sixteen bits only.
-fn write_batch<M: Medium>(
-    alloc: Global,
-    writer: &mut WavWriter<M>,
-    values: &[i16],
-) -> Result<()>
+fn write_batch<M: Medium>(alloc: Global, writer: &mut WavWriter<M>, values: &[i16]) -> Result<()>
     ensures { IsTrue M.tells → AcceptsAs M.seen true (batch_containers writer.old.spec_ex values.now) result writer.old writer.new }
 {
     if !is_sixteen(writer.spec()) {

@@ -1,10 +1,10 @@
-use Rattle.std.proofs.Common.{◌≡◌, sym, subst, MatchResult}
+use Rattle.std.proofs.Common.{sym, subst, MatchResult}
 use Rattle.hound_session.specs.Run.{Begins, IsNotBegun}
 use Rattle.hound_session.proofs.Whole.{begins_new}
 use Rattle.hound_session.proofs.runs.begin_writer.Goals as goal
 
-pub returns-in-New : goal.returns-in-New
-returns-in-New g c tells =
+pub returns-in-New-clause-begins : goal.returns-in-New-clause-begins
+returns-in-New-clause-begins g c tells =
     let seen = g.M.Placed.seen in
     let e = c.try_new.ensures in
     subst (λ b. MatchResult c.try_new.result (Begins g.M.Placed.keeps seen b (seen c.args.medium)) (λ refused. IsNotBegun b (seen c.args.medium) (seen refused.0) refused.1)) (sym c.in-New.is)

@@ -1,4 +1,4 @@
-use Rattle.std.proofs.Common.{◌≡◌, List, Bool, ◌∷◌, [], ◌++◌, ◌+◌, take, rules, arith, sym, ap, ◌∙◌, subst}
+use Rattle.std.proofs.Common.{List, Bool, ◌∷◌, [], ◌++◌, take, rules, arith, sym, ap, ◌∙◌, subst}
 use Rattle.std.proofs.lemmas.List.{take_more, take_more_set}
 use Rattle.hound_session.specs.declared.session.Step.{Step}
 use Rattle.hound_session.specs.Run.{IsMarkedRun}

@@ -1,4 +1,4 @@
-use Rattle.std.proofs.Common.{◌≡◌, IsTrue, length, take, ◌≤◌}
+use Rattle.std.proofs.Common.{IsTrue, length, take, ◌≤◌}
 use Rattle.hound_session.specs.Run.{IsStrictRun}
 use Rattle.hound_session.proofs.sessions.take_until_error.Given as goal
 

@@ -1,4 +1,4 @@
-use Rattle.std.proofs.Common.{◌≡◌, w32, to_z, of_z, rules, sym, ap, subst}
+use Rattle.std.proofs.Common.{◌≡◌, w32, to_z, of_z, rules, sym, subst}
 use Rattle.std.proofs.Math.Facts.{to_z-of_z}
 use Rattle.hound_sample.specs.ContainerLaws.{int_container-in_width, pattern_container-in_width}
 use Rattle.hound_session.specs.declared.session.Step.TheVariants.{Whole, Flush}

@@ -1,4 +1,4 @@
-use Rattle.std.proofs.Common.{◌≡◌, ℕ, ◌+◌, ◌≤◌, length, take}
+use Rattle.std.proofs.Common.{◌≡◌, ◌+◌, length, take}
 use Rattle.std.specs.List.{flat_map}
 use Rattle.hound_number.specs.Number.{signed_bytes_of}
 use Rattle.hound_writer.specs.Batch.{batch_writer, batch_lender, batch_bytes, remaining}
