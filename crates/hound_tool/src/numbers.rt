@@ -2,7 +2,7 @@
 ghost use Rattle.std.specs.Prelude.{◌≤◌, IfSome};
 
 use hound::Error;
-use std::alloc::{AllocFailed, Global};
+use std::alloc::{AllocError, AllocFailed, Global};
 use std::io;
 use std::io::ErrorKind;
 use thiserror::Error as DeriveError;
@@ -33,6 +33,12 @@ impl From<Error> for Failure {
 impl From<io::Error> for Failure {
     fn from(_: io::Error) -> Failure {
         Failure::InputOrOutput
+    }
+}
+
+impl From<AllocError> for Failure {
+    fn from(_: AllocError) -> Failure {
+        Failure::Refused(Error::OutOfMemory)
     }
 }
 

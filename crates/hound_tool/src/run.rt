@@ -2,7 +2,7 @@
 ghost use Rattle.std.specs.Prelude.{◌≡◌, ◌≤◌};
 
 use crate::numbers::{Failure, digits, read_numbers};
-use hound::{FloatBits, SampleFormat, Tape, WavReader, WavSpec, WavWriter};
+use hound::{FloatBits, SampleFormat, Step, Tape, WavReader, WavSpec, WavSpecEx, run_sessions};
 use std::alloc::Global;
 use std::io;
 
@@ -125,13 +125,17 @@ fn show_spec<O: io::Write>(spec: WavSpec, samples: u32, output: &mut O) -> io::R
     )
 }
 
-// The whole file of these samples.
-fn file_of(alloc: Global, spec: WavSpec, numbers: &[i32]) -> hound::Result<Tape> {
-    let mut writer = WavWriter::new(Tape::new(Vec::new(alloc)), spec)?;
-    for number in numbers {
-        writer.write_sample(*number)?;
-    }
-    let (file, result) = writer.finalize_into();
+// The whole file of these samples: one session over a new tape.
+fn file_of(alloc: Global, spec: WavSpec, numbers: &[i32]) -> Result<Tape, Failure> {
+    let spec_ex = WavSpecEx {
+        spec,
+        bytes_per_sample: spec.bits_per_sample.div_ceil(8),
+    };
+    let steps: Vec<Step> = numbers
+        .iter()
+        .map(|number| Step::Whole(*number))
+        .collect(alloc)?;
+    let (file, result) = run_sessions(alloc, Tape::new(Vec::new(alloc)), spec_ex, &[&steps]);
     result?;
     Ok(file)
 }
