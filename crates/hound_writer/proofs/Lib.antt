@@ -8,3 +8,4 @@ pub mod Patching
 pub mod Publishing
 pub mod Beginning
 pub mod Continuing
+pub mod AcceptMoments

@@ -95,6 +95,7 @@ impl<W: Medium> WavWriter<W> {
     ghost use Rattle.hound_spec.specs.declared.error.Error.TheVariants.{Unsupported};
     ghost use Rattle.hound_spec.specs.Header.{header, riff_size};
     ghost use Rattle.hound_spec.specs.Writable.{IsWritable, with_default_width};
+    ghost use Rattle.hound_writer.specs.Moments.{AcceptsAtEach, PatchesAtEach, PublishesAtEach};
     ghost use Rattle.hound_writer.specs.Parts.{PutsAt, Patches, IsStanding};
     ghost use Rattle.hound_writer.specs.Writer.{IsSound, HasBegun, HasHeader, PutsHeader, medium_of, sample_refusal, AcceptsSample, accepted, IsWhole, IsCounted, AreFrames, IsIoError, IsOkOrIoError, IsPublishing, Publishes, faults_told, sample_count};
 
@@ -245,6 +246,9 @@ impl<W: Medium> WavWriter<W> {
         ensures counts { IsTrue W.tells → IsWhole W.seen self.old → IsCounted W.seen self.new }
         ensures front { IsTrue W.tells → take self.old.data_start (W.seen self.new.medium).contents ≡ take self.old.data_start (W.seen self.old.medium).contents }
         ensures reach { IsTrue W.tells → OnOk result (length (W.seen self.new.medium).contents ≤ max (length (W.seen self.old.medium).contents) (self.new.data_start + self.new.data_length)) }
+
+        // Over one that also keeps its past, at each moment of the call.
+        ensures moments { IsTrue W.tells → IsTrue W.keeps → AcceptsAtEach W.seen self.old (W.seen self.new.medium) }
     {
         let width = self.bytes_per_sample;
         let container = sample.encode(self.spec.bits_per_sample, width)?;
