@@ -9,3 +9,4 @@ pub mod Publishing
 pub mod Beginning
 pub mod Continuing
 pub mod AcceptMoments
+pub mod PatchMoments
