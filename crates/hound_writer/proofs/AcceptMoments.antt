@@ -3,7 +3,6 @@ use Rattle.std.proofs.Common.{◌≡◌, ℕ, ◌+◌, ◌≤◌, Bool, IsTrue, 
 use Rattle.std.proofs.lemmas.List.{take-take, length-take-le}
 use Rattle.hound_medium.specs.Bytes.{placed, overlay}
 use Rattle.hound_medium.specs.Seen.{Seen}
-use Rattle.hound_medium.specs.Moments.{Span}
 use Rattle.hound_medium.proofs.Overlays.{take_overlay_before, front_part}
 use Rattle.hound_medium.proofs.Spans.{span_puts, span_still}
 use Rattle.hound_writer.specs.Counts.{Counts}

@@ -1,5 +1,5 @@
 -- The moments of a patch, part after part, and of a call that publishes.
-use Rattle.std.proofs.Common.{◌≡◌, ℕ, suc, ◌+◌, ◌-◌, ◌<◌, ◌≤◌, ◌^◌, ◌⊎◌, inl, inr, Bool, IsTrue, Result, OnOk, IsOk, List, [], ◌∷◌, ◌++◌, length, take, drop, get_or, refl, sym, ◌∙◌, ap, subst, arith, length-append, length-take}
+use Rattle.std.proofs.Common.{◌≡◌, ℕ, suc, ◌+◌, ◌-◌, ◌<◌, ◌≤◌, ◌^◌, inl, inr, Bool, IsTrue, Result, OnOk, IsOk, List, [], ◌∷◌, ◌++◌, length, take, drop, refl, sym, ◌∙◌, ap, subst, arith, length-append, length-take}
 use Rattle.std.proofs.lemmas.Bool.{cases_lt}
 use Rattle.std.proofs.lemmas.List.{take-take, length-take-le, get_or_at}
 use Rattle.std.proofs.lemmas.Result.{on_ok_weaker}
@@ -15,9 +15,9 @@ use Rattle.hound_medium.proofs.Spans.{span_puts, join, and_still}
 use Rattle.hound_medium.proofs.Torn.{number_at_small, number_at_mix}
 use Rattle.hound_spec.specs.declared.error.Error.{Error}
 use Rattle.hound_writer.specs.Counts.{Counts}
-use Rattle.hound_writer.specs.Moments.{HasSize, IsPatched, PutsField, PatchesAtEach, EachWhole, IsOutside, IsOldOrNew, PublishesAtEach, place_of}
-use Rattle.hound_writer.specs.Parts.{PutsAt, SameButSizes, IsStanding, IsTold, field}
-use Rattle.hound_writer.specs.Writer.{Written, IsSound, IsWhole, OnPublished, accepted}
+use Rattle.hound_writer.specs.Moments.{HasSize, IsPatched, PutsField, PatchesAtEach, IsOldOrNew, PublishesAtEach, place_of}
+use Rattle.hound_writer.specs.Parts.{PutsAt, IsStanding, IsTold, field}
+use Rattle.hound_writer.specs.Writer.{Written, IsSound, accepted}
 use Rattle.hound_writer.proofs.AcceptMoments.{counts_at}
 use Rattle.hound_writer.proofs.Publishing.{published}
 use Rattle.hound_writer.proofs.Sizes.{same_reflexive, same_transitive, same_riff, field_riff, same_length}
