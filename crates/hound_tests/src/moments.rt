@@ -242,3 +242,27 @@ fn a_torn_length_of_24_bits_is_refused(rt: HostRuntime) -> Result<(), Fail> {
     assert!(rt; has_first_at_each_moment(&journal, alloc, &samples, 68, 3, 1)?);
     Ok(())
 }
+
+#[test]
+fn a_length_that_a_fault_has_torn_is_put_over(rt: HostRuntime) -> Result<(), Fail> {
+    let alloc = rt.alloc();
+    let samples = numbers(alloc, 259)?;
+    // 298 calls put the header and the samples, 12 publish them and 4 put four more. The next seven
+    // put the RIFF size and the low byte of the length; its second byte fails.
+    let mut writer = WavWriter::new(byte_by_byte(alloc, 322, 322)?, mono(8))?;
+    write_all(&mut writer, first(&samples, 254)?)?;
+    writer.flush()?;
+    write_all(&mut writer, &[54, 55, 56, 57])?;
+    assert!(rt; matches!(writer.flush(), Err(Error::IoError(_))));
+    assert_eq!(rt; writer.len(), 258);
+    writer.write_sample(58i32)?;
+    writer.flush()?;
+    let journal = writer.drop_into();
+    // The torn length stands until the next checkpoint puts its own low byte.
+    for (k, count) in [(315, 2), (316, 2), (320, 2), (321, 3), (322, 259)] {
+        let bytes = bytes_after(&journal, alloc, k)?;
+        assert!(rt; has_samples(&bytes, first(&samples, count)?)?);
+    }
+    assert!(rt; has_first_at_each_moment(&journal, alloc, &samples, 44, 1, 1)?);
+    Ok(())
+}
