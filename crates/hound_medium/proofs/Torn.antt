@@ -35,12 +35,14 @@ module _ (p : ℕ) (c : List ℕ) (inside : p + 4 ≤ length c) where
     pub number_at_small : number (take 4 (drop p c)) < 2 ^ 32
     number_at_small = number_small (take 4 (drop p c)) four are_bytes
 
+    -- the four bytes are those of their number
+    pub bytes_at : bytes_of 4 (number (take 4 (drop p c))) ≡ take 4 (drop p c)
+    bytes_at = ap (λ n. bytes_of n (number (take 4 (drop p c)))) (sym four) ∙ bytes_of-number (take 4 (drop p c)) are_bytes
+
     -- the number at p, when k bytes of a new one were put over it
     pub number_at_mix : (new k : ℕ) → k ≤ 4 → number (take 4 (drop p (overlay c (placed p (take k (bytes_of 4 new)))))) ≡ mix k (number (take 4 (drop p c))) new
     number_at_mix new k h =
         let size : length (take k (bytes_of 4 new)) ≡ k = length-take-le k (bytes_of 4 new) (omega (arith, h, length-bytes_of 4 new)) in
-        let was : bytes_of 4 (number (take 4 (drop p c))) ≡ take 4 (drop p c) =
-        ap (λ n. bytes_of n (number (take 4 (drop p c)))) (sym four) ∙ bytes_of-number (take 4 (drop p c)) are_bytes in
         ap number (four_bytes (take k (bytes_of 4 new)) (omega (arith, size, h))
         ∙ ap (λ n. take k (bytes_of 4 new) ++ drop n (take 4 (drop p c))) size
-        ∙ ap (λ l. take k (bytes_of 4 new) ++ drop k l) (sym was))
+        ∙ ap (λ l. take k (bytes_of 4 new) ++ drop k l) (sym bytes_at))

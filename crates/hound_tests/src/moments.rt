@@ -1,17 +1,21 @@
 // Files over a medium that keeps its past and fails on request.
-ghost use Rattle.std.specs.Prelude.{◌≡◌, IfOk};
+ghost use Rattle.std.specs.Prelude.{◌≡◌, ◌≤◌, IfOk};
 
 use hound::{Error, Journal, Placed, SampleFormat, WavReader, WavSpec, WavWriter};
 use std::alloc::Global;
 use std::test::Fail;
 
-fn mono(bits_per_sample: u16) -> WavSpec {
+fn spec(channels: u16, bits_per_sample: u16) -> WavSpec {
     WavSpec {
-        channels: 1,
+        channels,
         sample_rate: 44100,
         bits_per_sample,
         sample_format: SampleFormat::Int,
     }
+}
+
+fn mono(bits_per_sample: u16) -> WavSpec {
+    spec(1, bits_per_sample)
 }
 
 // An empty journal that takes one byte a call, and fails at the calls with these numbers.
@@ -30,6 +34,104 @@ fn bytes_after(journal: &Journal, alloc: Global, k: usize) -> Result<Vec<u8>, Fa
         return Err(Fail::from("fewer bytes were put"));
     }
     Ok(journal.bytes_after(alloc, k)?)
+}
+
+// The numbers below 100 in turn, so many.
+fn numbers(alloc: Global, count: i32) -> Result<Vec<i32>, Fail> {
+    let mut numbers = Vec::new(alloc);
+    for i in 0..count {
+        numbers.push(i % 100)?;
+    }
+    Ok(numbers)
+}
+
+// The first of these samples, if there are so many.
+fn first(samples: &[i32], count: usize) -> Result<&[i32], Fail> {
+    match samples.get(..count) {
+        Some(first) => Ok(first),
+        None => Err(Fail::from("fewer samples were written")),
+    }
+}
+
+fn write_all(writer: &mut WavWriter<Journal>, samples: &[i32]) -> hound::Result<()> {
+    for sample in samples {
+        writer.write_sample(*sample)?;
+    }
+    Ok(())
+}
+
+// Whether a file has these samples and no others.
+fn has_samples(bytes: &[u8], samples: &[i32]) -> hound::Result<bool> {
+    let mut reader = WavReader::new(bytes)?;
+    if reader.len() as usize != samples.len() {
+        return Ok(false);
+    }
+    let mut items = reader.samples::<i32>();
+    for sample in samples {
+        match items.next() {
+            Some(Ok(value)) if value == *sample => {}
+            _ => return Ok(false),
+        }
+    }
+    Ok(items.next().is_none())
+}
+
+// The length in the four bytes before the data.
+fn data_length(bytes: &[u8], data_start: usize) -> Option<usize> {
+    match bytes.get(data_start.saturating_sub(4)..data_start) {
+        Some([a, b, c, d]) => Some(u32::from_le_bytes([*a, *b, *c, *d]) as usize),
+        _ => None,
+    }
+}
+
+// Whether a file has the first of these samples, as many as its length counts, or is refused for a
+// length of no whole frames.
+fn has_first(
+    bytes: &[u8],
+    samples: &[i32],
+    data_start: usize,
+    width: usize,
+    channels: usize,
+) -> bool
+    requires wide { 1 ≤ width }
+    requires many { 1 ≤ channels }
+{
+    let Some(length) = data_length(bytes, data_start) else {
+        return false;
+    };
+    let count = length / width;
+    let words = if length % width != 0 {
+        "data chunk length is not a multiple of sample size"
+    } else if count % channels != 0 {
+        "invalid data chunk length"
+    } else {
+        return match samples.get(..count) {
+            Some(first) => matches!(has_samples(bytes, first), Ok(true)),
+            None => false,
+        };
+    };
+    matches!(WavReader::new(bytes), Err(Error::FormatError(reason)) if reason == words)
+}
+
+// Whether that is so at each moment from the end of the header on.
+fn has_first_at_each_moment(
+    journal: &Journal,
+    alloc: Global,
+    samples: &[i32],
+    data_start: usize,
+    width: usize,
+    channels: usize,
+) -> Result<bool, Fail>
+    requires wide { 1 ≤ width }
+    requires many { 1 ≤ channels }
+{
+    for k in data_start..=journal.taken() {
+        let bytes = bytes_after(journal, alloc, k)?;
+        if !has_first(&bytes, samples, data_start, width, channels) {
+            return Ok(false);
+        }
+    }
+    Ok(true)
 }
 
 #[test]
@@ -70,5 +172,97 @@ fn a_torn_sample_is_put_over(rt: HostRuntime) -> Result<(), Fail> {
     assert!(rt; matches!(samples.next(), Some(Ok(1))));
     assert!(rt; matches!(samples.next(), Some(Ok(3))));
     assert!(rt; samples.next().is_none());
+    assert!(rt; has_first_at_each_moment(&journal, alloc, &[1, 3], 68, 3, 1)?);
+    Ok(())
+}
+
+#[test]
+fn a_checkpoint_in_stereo_stands_until_the_next(rt: HostRuntime) -> Result<(), Fail> {
+    let alloc = rt.alloc();
+    let samples = [2i32, 4, 5, 7, 11, 13, 17, 19];
+    let mut writer = WavWriter::new(Journal::new(alloc, Vec::new(alloc))?, spec(2, 16))?;
+    write_all(&mut writer, &samples[..6])?;
+    writer.flush()?;
+    write_all(&mut writer, &samples[6..])?;
+    let journal = writer.drop_into();
+    // The header, six samples and the sizes, two samples, and the sizes again.
+    assert_eq!(rt; journal.taken(), 44 + 12 + 8 + 4 + 8);
+    for k in [64, 68] {
+        let bytes = bytes_after(&journal, alloc, k)?;
+        assert_eq!(rt; bytes.get(40..44), Some(b"\x0c\0\0\0".as_slice()));
+        assert!(rt; has_samples(&bytes, &samples[..6])?);
+    }
+    let bytes = bytes_after(&journal, alloc, 76)?;
+    assert!(rt; has_samples(&bytes, &samples)?);
+    assert!(rt; has_first_at_each_moment(&journal, alloc, &samples, 44, 2, 2)?);
+    Ok(())
+}
+
+#[test]
+fn a_torn_length_of_8_bits_counts_accepted_samples(rt: HostRuntime) -> Result<(), Fail> {
+    let alloc = rt.alloc();
+    let samples = numbers(alloc, 258)?;
+    let mut writer = WavWriter::new(Journal::new(alloc, Vec::new(alloc))?, mono(8))?;
+    write_all(&mut writer, first(&samples, 254)?)?;
+    writer.flush()?;
+    write_all(&mut writer, &[54, 55, 56, 57])?;
+    writer.flush()?;
+    let journal = writer.drop_into();
+    // The RIFF size is out after 314 bytes, and the length goes from 0x00fe to 0x0102.
+    for (k, count) in [(314, 254), (315, 2), (316, 258)] {
+        let bytes = bytes_after(&journal, alloc, k)?;
+        assert!(rt; has_samples(&bytes, first(&samples, count)?)?);
+    }
+    assert!(rt; has_first_at_each_moment(&journal, alloc, &samples, 44, 1, 1)?);
+    Ok(())
+}
+
+#[test]
+fn a_torn_length_of_24_bits_is_refused(rt: HostRuntime) -> Result<(), Fail> {
+    let alloc = rt.alloc();
+    let samples = numbers(alloc, 86)?;
+    let mut writer = WavWriter::new(Journal::new(alloc, Vec::new(alloc))?, mono(24))?;
+    write_all(&mut writer, first(&samples, 85)?)?;
+    writer.flush()?;
+    writer.write_sample(85i32)?;
+    writer.flush()?;
+    let journal = writer.drop_into();
+    // The RIFF size is out after 338 bytes, and the length goes from 0x00ff to 0x0102.
+    for (k, count) in [(338, 85), (340, 86)] {
+        let bytes = bytes_after(&journal, alloc, k)?;
+        assert!(rt; has_samples(&bytes, first(&samples, count)?)?);
+    }
+    let bytes = bytes_after(&journal, alloc, 339)?;
+    assert!(rt;
+        matches!(
+            WavReader::new(bytes.as_slice()),
+            Err(Error::FormatError("data chunk length is not a multiple of sample size"))
+        )
+    );
+    assert!(rt; has_first_at_each_moment(&journal, alloc, &samples, 68, 3, 1)?);
+    Ok(())
+}
+
+#[test]
+fn a_length_that_a_fault_has_torn_is_put_over(rt: HostRuntime) -> Result<(), Fail> {
+    let alloc = rt.alloc();
+    let samples = numbers(alloc, 259)?;
+    // 298 calls put the header and the samples, 12 publish them and 4 put four more. The next seven
+    // put the RIFF size and the low byte of the length; its second byte fails.
+    let mut writer = WavWriter::new(byte_by_byte(alloc, 322, 322)?, mono(8))?;
+    write_all(&mut writer, first(&samples, 254)?)?;
+    writer.flush()?;
+    write_all(&mut writer, &[54, 55, 56, 57])?;
+    assert!(rt; matches!(writer.flush(), Err(Error::IoError(_))));
+    assert_eq!(rt; writer.len(), 258);
+    writer.write_sample(58i32)?;
+    writer.flush()?;
+    let journal = writer.drop_into();
+    // The torn length stands until the next checkpoint puts its own low byte.
+    for (k, count) in [(315, 2), (316, 2), (320, 2), (321, 3), (322, 259)] {
+        let bytes = bytes_after(&journal, alloc, k)?;
+        assert!(rt; has_samples(&bytes, first(&samples, count)?)?);
+    }
+    assert!(rt; has_first_at_each_moment(&journal, alloc, &samples, 44, 1, 1)?);
     Ok(())
 }

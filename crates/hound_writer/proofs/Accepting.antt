@@ -3,13 +3,14 @@ use Rattle.std.proofs.Common.{◌≡◌, ℕ, zero, suc, ◌+◌, ◌*◌, ◌-�
 use Rattle.std.proofs.lemmas.Bool.{true≢false, false≢true}
 use Rattle.std.proofs.lemmas.List.{take_at, take_all, drop_at, drop-drop, append-nil, length-take-le}
 use Rattle.std.proofs.Math.Nat.{mul-add-div_right}
+use Rattle.hound_number.specs.Number.{mix}
 use Rattle.hound_medium.specs.Bytes.{put_at, placed, overlay}
 use Rattle.hound_medium.specs.Seen.{Seen}
 use Rattle.hound_medium.proofs.Overlays.{overlay_is, length-put_at, take_overlay_before, length_overlay_le, front_part}
 use Rattle.hound_spec.specs.declared.error.Error.{Error}
 use Rattle.hound_sample.specs.Container.{Refusal, containers}
 use Rattle.hound_sample.specs.Encoding.{IsEncoded}
-use Rattle.hound_writer.specs.Parts.{PutsAt, Patches, SameButSizes, Stands, IsStanding, field, mix}
+use Rattle.hound_writer.specs.Parts.{PutsAt, Patches, SameButSizes, Stands, IsStanding, field}
 use Rattle.hound_writer.specs.Writer.{Written, IsSound, IsWhole, sample_count, accepted, taken, AcceptsSample, AcceptsBytes, faults_told}
 use Rattle.hound_reader.specs.Chunks.{Head}
 use Rattle.hound_spec.specs.declared.spec.WavSpecEx.{WavSpecEx}

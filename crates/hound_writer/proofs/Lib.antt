@@ -8,3 +8,5 @@ pub mod Patching
 pub mod Publishing
 pub mod Beginning
 pub mod Continuing
+pub mod AcceptMoments
+pub mod PatchMoments

@@ -4,13 +4,15 @@ use Rattle.std.proofs.lemmas.Bool.{false≢true}
 use Rattle.std.proofs.lemmas.List.{drop_at, length-take-le, take_all}
 use Rattle.std.proofs.lemmas.Slice.{between_is}
 use Rattle.std.proofs.Math.Seq.{take-append-add}
-use Rattle.hound_number.specs.Number.{number, bytes_of, AreBytes}
+use Rattle.hound_number.specs.Number.{number, bytes_of, mix, AreBytes}
+use Rattle.hound_number.proofs.Mixing.{mix_none}
 use Rattle.hound_medium.specs.Bytes.{placed, overlay}
 use Rattle.hound_medium.specs.Seen.{Seen, Stays, Flushes, faults_after, one_more}
 use Rattle.hound_medium.proofs.Overlays.{overlay_is}
 use Rattle.hound_medium.proofs.Inside.{drop_behind, same_size}
-use Rattle.hound_writer.specs.Parts.{PutsAt, Patches, SameButSizes, with_sizes, field, mix}
-use Rattle.hound_writer.proofs.Sizes.{same_transitive, same_riff, field_riff, same_length, field_length, field_small, mix_none}
+use Rattle.hound_medium.proofs.Torn.{number_at_small, number_at_mix}
+use Rattle.hound_writer.specs.Parts.{PutsAt, Patches, SameButSizes, with_sizes, field}
+use Rattle.hound_writer.proofs.Sizes.{same_transitive, same_riff, field_riff, same_length}
 
 -- both sizes put, one after the other
 pub sizes_put : (p size data_length : ℕ) (c : List ℕ) → 8 ≤ p → p + 4 ≤ length c → overlay (overlay c (placed 4 (bytes_of 4 size))) (placed p (bytes_of 4 data_length)) ≡ with_sizes p size data_length c
@@ -52,7 +54,7 @@ module _ {T E : Type 0} (keeps : Bool) (p size : ℕ) (r : Result T E) (a b : Se
         (subst (SameButSizes p b.contents) (sym second.contents) (same_length p b.contents behind inside_then (take second.count (bytes_of 4 data_length)) (omega (arith, length-take second.count (bytes_of 4 data_length)))))
 
     then_field : field p c.contents ≡ mix second.count (field p a.contents) data_length
-    then_field = ap (field p) second.contents ∙ field_length p b.contents behind inside_then small data_length second.count second.within ∙ ap (λ n. mix second.count n data_length) first_field
+    then_field = ap (field p) second.contents ∙ number_at_mix p b.contents inside_then small data_length second.count second.within ∙ ap (λ n. mix second.count n data_length) first_field
 
 on_ok : {T E : Type 0} {P : Type 0} (result : Result T E) → P → OnOk result P
 on_ok (Ok x) here = here
@@ -69,7 +71,7 @@ pub cut_first : {T E V F : Type 0} (keeps : Bool) (p size data_length : ℕ) (r 
     → PutsAt keeps 4 (bytes_of 4 size) r a b → b.faults ≡ one_more a.faults → Patches p size data_length answer a b
 cut_first keeps p size data_length r answer a b err behind inside small first faults =
     cut p size data_length 0 answer a b err (first_same keeps p size r a b behind inside first) (omega arith)
-    (first_field keeps p size r a b behind inside first ∙ sym (mix_none (field p a.contents) data_length (field_small p a.contents inside small))) faults
+    (first_field keeps p size r a b behind inside first ∙ sym (mix_none (field p a.contents) data_length (number_at_small p a.contents inside small))) faults
 
 -- a patch whose data length met a fault
 pub cut_second : {T E V F X Y : Type 0} (keeps : Bool) (p size data_length : ℕ) (r : Result T E) (s : Result V F) (answer : Result X Y) (a b c : Seen) → IsErr answer → 8 ≤ p → p + 4 ≤ length a.contents → AreBytes b.contents

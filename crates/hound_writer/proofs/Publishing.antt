@@ -6,6 +6,7 @@ use Rattle.std.specs.Io.{StartsWith}
 use Rattle.std.specs.List.{concat}
 use Rattle.hound_number.specs.Number.{bytes_of, AreBytes}
 use Rattle.hound_medium.specs.Seen.{Seen, faults_after}
+use Rattle.hound_medium.proofs.Torn.{bytes_at}
 use Rattle.hound_spec.specs.declared.error.Error.{Error}
 use Rattle.hound_spec.specs.declared.spec.WavSpecEx.{WavSpecEx}
 use Rattle.hound_spec.specs.Header.{riff_tag, data_start, header, riff_size, canonical}
@@ -17,7 +18,6 @@ use Rattle.hound_writer.specs.Writer.{Written, IsSound, IsWhole, IsBegun, HasHea
 use Rattle.hound_writer.proofs.Containers.{concat-containers, count_bytes}
 use Rattle.hound_writer.proofs.Patching.{riff_size_of_sizes, data_length_of_sizes}
 use Rattle.hound_writer.proofs.Heads.{in_parts}
-use Rattle.hound_writer.proofs.Sizes.{field_bytes_of}
 use Rattle.hound_writer.proofs.Standing.{inside, stands_patched, counts}
 
 -- what holds after an Ok patch holds where its caller says that all was published
@@ -69,7 +69,7 @@ sizes_of : (p : ℕ) (old new : List ℕ) → 8 ≤ p → p + 4 ≤ length new �
 unfolding with_sizes
 sizes_of p old new behind inside small same =
     in_parts p new behind
-    ∙ (λ i. same.front i ++ (sym (field_bytes_of 4 new (omega (arith, behind, inside)) small) i ++ (same.middle i ++ (sym (field_bytes_of p new inside small) i ++ same.behind i))))
+    ∙ (λ i. same.front i ++ (sym (bytes_at 4 new (omega (arith, behind, inside)) small) i ++ (same.middle i ++ (sym (bytes_at p new inside small) i ++ same.behind i))))
 
 -- a file that was begun with the header of a spec still has it, whatever its sizes
 pub begun_still : (s : WavSpecEx) (start : ℕ) (old new : List ℕ) → data_start s ≡ start → 12 ≤ start → start ≤ length new → AreBytes new → SameButSizes (start - 4) old new → HasHeader s old → HasHeader s new

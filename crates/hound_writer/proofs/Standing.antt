@@ -1,13 +1,13 @@
 -- A writer's file between its calls: the head stands, and the data length counts no more than was accepted.
 use Rattle.std.proofs.Common.{◌≡◌, ℕ, ◌-◌, ◌≤◌, List, length, take, ap, arith}
-use Rattle.hound_number.specs.Number.{number}
+use Rattle.hound_number.specs.Number.{number, mix}
+use Rattle.hound_number.proofs.Mixing.{mix_le}
 use Rattle.hound_medium.proofs.Overlays.{front_part}
 use Rattle.hound_spec.specs.declared.spec.WavSpecEx.{WavSpecEx}
 use Rattle.hound_medium.specs.Seen.{Seen}
-use Rattle.hound_writer.specs.Parts.{SameButSizes, IsStanding, field, mix}
+use Rattle.hound_writer.specs.Parts.{SameButSizes, IsStanding, field}
 use Rattle.hound_writer.specs.Writer.{Written, IsSound, IsCounted}
 use Rattle.hound_writer.proofs.Heads.{head_with, head_front, head_behind, head_inside}
-use Rattle.hound_writer.proofs.Sizes.{mix_le}
 use Rattle.hound_writer.proofs.Counted.{counts_standing}
 
 module _ (s : WavSpecEx) (start n : ℕ) (old new : List ℕ) (stands : IsStanding s start n old) where

@@ -1,6 +1,6 @@
 -- What the parts of a writer's calls do to its medium.
 use Rattle.std.specs.Prelude.{◌≡◌, ℕ, ◌+◌, ◌-◌, ◌≤◌, List, [], ◌++◌, length, take, drop, Bool, true, false, IsTrue, Option, None, Some, Result, Ok, Err, OnOk}
-use Rattle.hound_number.specs.Number.{bytes_of, number}
+use Rattle.hound_number.specs.Number.{bytes_of, number, mix}
 use Rattle.std.specs.declared.io.Error.{Error as IoFault}
 use Rattle.hound_spec.specs.declared.error.Error.{Error}
 use Rattle.hound_spec.specs.declared.error.Error.TheVariants.{IoError, UnfinishedSample}
@@ -24,10 +24,6 @@ pub record PutsAt {T E : Type 0} (keeps : Bool) (at : ℕ) (bytes : List ℕ) (r
 -- the number in the four bytes at a place
 abbrev pub field : ℕ → List ℕ → ℕ
 field p contents = number (take 4 (drop p contents))
-
--- the number of the k low bytes of new and the other bytes of old: a field of four bytes that is partly overwritten
-abbrev pub mix : ℕ → ℕ → ℕ → ℕ
-mix k old new = number (take k (bytes_of 4 new) ++ drop k (bytes_of 4 old))
 
 -- the contents with these two sizes: the RIFF size at 4, the data length at p
 unfoldable pub with_sizes : ℕ → ℕ → ℕ → List ℕ → List ℕ

@@ -5,6 +5,7 @@ ghost use Rattle.hound_number.specs.Number.{signed_bytes_of};
 ghost use Rattle.hound_spec.specs.Header.{riff_size};
 ghost use Rattle.hound_spec.specs.declared.error.Error.TheVariants.{OutOfMemory, TooLong};
 ghost use Rattle.hound_writer.specs.contracts.write.WavWriter.{the_row};
+ghost use Rattle.hound_writer.specs.Moments.{AcceptsAtEach};
 ghost use Rattle.hound_writer.specs.Writer.{IsIoError, IsSameFile, StaysInPlace, AcceptsBytes};
 ghost use Rattle.hound_writer.specs.Batch.{written, left, batch_writer, batch_lender, batch_bytes, remaining};
 ghost use Rattle.hound_writer.specs.Room.{IsSixteen, HasRoom};
@@ -119,6 +120,7 @@ impl<W: Medium> WavWriter<W> {
         ensures count { MatchResult result (λ _. self.new.data_length ≡ self.old.data_length + length bytes.now)
             (λ _. self.new.data_length ≡ self.old.data_length) }
         ensures accepts { IsTrue W.tells → AcceptsBytes W.seen result bytes.now self.old self.new }
+        ensures moments { IsTrue W.tells → IsTrue W.keeps → AcceptsAtEach W.seen self.old (W.seen self.new.medium) }
     {
         self.accept(bytes)?;
         Ok(())
@@ -132,6 +134,7 @@ impl<W: Medium> WavWriter<W> {
         ensures count { MatchResult result (λ _. self.new.data_length ≡ self.old.data_length + length (written self.old))
             (λ _. self.new.data_length ≡ self.old.data_length) }
         ensures accepts { IsTrue W.tells → AcceptsBytes W.seen result (written self.old) self.old self.new }
+        ensures moments { IsTrue W.tells → IsTrue W.keeps → AcceptsAtEach W.seen self.old (W.seen self.new.medium) }
     {
         let num_bytes = self.num_bytes;
         self.num_bytes = 0; // it is over, whatever becomes of it
@@ -194,6 +197,7 @@ impl<'parent, W: Medium> SampleWriter16<'parent, W> {
         ensures count { MatchResult result (λ _. self.exit.0.now.data_length ≡ (batch_writer self.entry).data_length + length (batch_bytes self.entry))
             (λ _. self.exit.0.now.data_length ≡ (batch_writer self.entry).data_length) }
         ensures accepts { IsTrue W.tells → AcceptsBytes W.seen result (batch_bytes self.entry) (batch_writer self.entry) self.exit.0.now }
+        ensures moments { IsTrue W.tells → IsTrue W.keeps → AcceptsAtEach W.seen (batch_writer self.entry) (W.seen self.exit.0.now.medium) }
     {
         let SampleWriter16 { parent } = self;
         parent.accept_batch()

@@ -1,6 +1,8 @@
 // The parts that a writer's calls are put together from.
-ghost use Rattle.std.specs.Prelude.{◌≡◌, ◌+◌, ◌≤◌, ◌^◌, ◌<◌, length, false, IsTrue, OnOk};
+ghost use Rattle.std.specs.Prelude.{◌≡◌, ◌+◌, ◌≤◌, ◌^◌, ◌<◌, ℕ, List, length, false, IsTrue, OnOk};
 ghost use Rattle.hound_number.specs.Number.{bytes_of};
+ghost use Rattle.hound_medium.specs.Moments.{Span};
+ghost use Rattle.hound_writer.specs.Moments.{HasSize, IsPatched, PatchesAtEach};
 ghost use Rattle.hound_writer.specs.Parts.{PutsAt, Patches};
 
 use hound_medium::{Medium, put_all};
@@ -33,6 +35,26 @@ fn put_size<M: Medium>(medium: &mut M, at: u64, size: u32) -> io::Result<()>
     put_all(medium, &bytes)
 }
 
+// Puts the RIFF size.
+fn put_riff_size<M: Medium>(medium: &mut M, riff_size: u32) -> io::Result<()>
+    ensures puts { IsTrue M.tells → PutsAt M.keeps 4 (bytes_of 4 riff_size) result (M.seen medium.old) (M.seen medium.new) }
+    ensures moments { IsTrue M.tells → IsTrue M.keeps → (p data_length : ℕ) (base : List ℕ) →
+        HasSize p base → IsPatched p base data_length 0 (M.seen medium.old).contents →
+        Span (IsPatched p base data_length) (length (M.seen medium.new).past) (M.seen medium.old) (M.seen medium.new) }
+{
+    put_size(medium, 4, riff_size)
+}
+
+// Puts the data length.
+fn put_data_length<M: Medium>(medium: &mut M, at: u64, data_length: u32) -> io::Result<()>
+    ensures puts { IsTrue M.tells → PutsAt M.keeps at (bytes_of 4 data_length) result (M.seen medium.old) (M.seen medium.new) }
+    ensures moments { IsTrue M.tells → IsTrue M.keeps → (base : List ℕ) →
+        HasSize at base → IsPatched at base data_length 0 (M.seen medium.old).contents →
+        Span (IsPatched at base data_length) (length (M.seen medium.old).past) (M.seen medium.old) (M.seen medium.new) }
+{
+    put_size(medium, at, data_length)
+}
+
 /// Puts both sizes, the RIFF size first, and flushes the medium. It ends at the first fault.
 pub(crate) fn patch<M: Medium>(
     medium: &mut M,
@@ -42,10 +64,11 @@ pub(crate) fn patch<M: Medium>(
 ) -> io::Result<()>
     requires behind { 8 ≤ data_len_offset }
     requires inside { IsTrue M.tells → data_len_offset + 4 ≤ length (M.seen medium.old).contents }
-    ensures { IsTrue M.tells → Patches data_len_offset riff_size data_length result (M.seen medium.old) (M.seen medium.new) }
+    ensures patches { IsTrue M.tells → Patches data_len_offset riff_size data_length result (M.seen medium.old) (M.seen medium.new) }
+    ensures moments { IsTrue M.tells → IsTrue M.keeps → PatchesAtEach data_len_offset data_length result (M.seen medium.old) (M.seen medium.new) }
 {
-    put_size(medium, 4, riff_size)?;
-    put_size(medium, data_len_offset, data_length)?;
+    put_riff_size(medium, riff_size)?;
+    put_data_length(medium, data_len_offset, data_length)?;
     medium.flush()
 }
 
@@ -60,6 +83,7 @@ pub(crate) fn publish<M: Medium>(
     requires behind { 8 ≤ data_len_offset }
     requires inside { IsTrue M.tells → data_len_offset + 4 ≤ length (M.seen medium.old).contents }
     ensures patches { IsTrue M.tells → Patches data_len_offset riff_size data_length result (M.seen medium.old) (M.seen medium.new) }
+    ensures moments { IsTrue M.tells → IsTrue M.keeps → PatchesAtEach data_len_offset data_length result (M.seen medium.old) (M.seen medium.new) }
     ensures place { IsTrue M.tells → OnOk result ((M.seen medium.new).place ≡ end) }
 {
     patch(medium, data_len_offset, riff_size, data_length)?;

@@ -95,6 +95,7 @@ impl<W: Medium> WavWriter<W> {
     ghost use Rattle.hound_spec.specs.declared.error.Error.TheVariants.{Unsupported};
     ghost use Rattle.hound_spec.specs.Header.{header, riff_size};
     ghost use Rattle.hound_spec.specs.Writable.{IsWritable, with_default_width};
+    ghost use Rattle.hound_writer.specs.Moments.{AcceptsAtEach, PatchesAtEach, PublishesAtEach};
     ghost use Rattle.hound_writer.specs.Parts.{PutsAt, Patches, IsStanding};
     ghost use Rattle.hound_writer.specs.Writer.{IsSound, HasBegun, HasHeader, PutsHeader, medium_of, sample_refusal, AcceptsSample, accepted, IsWhole, IsCounted, AreFrames, IsIoError, IsOkOrIoError, IsPublishing, Publishes, faults_told, sample_count};
 
@@ -245,6 +246,9 @@ impl<W: Medium> WavWriter<W> {
         ensures counts { IsTrue W.tells → IsWhole W.seen self.old → IsCounted W.seen self.new }
         ensures front { IsTrue W.tells → take self.old.data_start (W.seen self.new.medium).contents ≡ take self.old.data_start (W.seen self.old.medium).contents }
         ensures reach { IsTrue W.tells → OnOk result (length (W.seen self.new.medium).contents ≤ max (length (W.seen self.old.medium).contents) (self.new.data_start + self.new.data_length)) }
+
+        // Over one that also keeps its past, at each moment of the call.
+        ensures moments { IsTrue W.tells → IsTrue W.keeps → AcceptsAtEach W.seen self.old (W.seen self.new.medium) }
     {
         let width = self.bytes_per_sample;
         let container = sample.encode(self.spec.bits_per_sample, width)?;
@@ -269,6 +273,7 @@ impl<W: Medium> WavWriter<W> {
         ensures stands { IsTrue W.tells → IsStanding self.old.spec_ex self.old.data_start self.old.data_length (W.seen self.old.medium).contents }
         ensures patches { IsTrue W.tells → Patches (self.old.data_start - 4) (riff_size self.old.data_start self.old.data_length) self.old.data_length result
             (W.seen self.old.medium) (W.seen self.new.medium) }
+        ensures moments { IsTrue W.tells → IsTrue W.keeps → PatchesAtEach (self.old.data_start - 4) self.old.data_length result (W.seen self.old.medium) (W.seen self.new.medium) }
     {
         let end = self.data_len_offset + 4 + self.data_bytes_written as u64;
         let riff_size = (self.data_len_offset - 4 + self.data_bytes_written as u64) as u32;
@@ -294,6 +299,7 @@ impl<W: Medium> WavWriter<W> {
         ensures answer { IsPublishing result self.old }
         ensures stays { self.new ≡ record self.old { medium = self.new.medium } }
         ensures publishes { IsTrue W.tells → Publishes W.seen self.old result self.new.medium }
+        ensures moments { IsTrue W.tells → IsTrue W.keeps → PublishesAtEach W.seen self.old result self.new.medium }
     {
         let published = self.publish();
         told(published, self.are_frames())
@@ -318,6 +324,7 @@ impl<W: Medium> WavWriter<W> {
     pub fn finalize_into(self) -> (W, Result<()>)
         ensures answer { IsPublishing result.1 self }
         ensures publishes { IsTrue W.tells → Publishes W.seen self result.1 result.0 }
+        ensures moments { IsTrue W.tells → IsTrue W.keeps → PublishesAtEach W.seen self result.1 result.0 }
     {
         let WavWriter {
             spec,
@@ -341,6 +348,7 @@ impl<W: Medium> WavWriter<W> {
     /// [`WavWriter::finalize_into`] does, and a fault goes unseen.
     pub fn drop_into(self) -> W
         ensures publishes { IsTrue W.tells → (answer : Result Unit Error) × IsPublishing answer self × Publishes W.seen self answer result }
+        ensures moments { IsTrue W.tells → IsTrue W.keeps → (answer : Result Unit Error) × IsPublishing answer self × PublishesAtEach W.seen self answer result }
     {
         let (writer, _) = self.finalize_into();
         writer

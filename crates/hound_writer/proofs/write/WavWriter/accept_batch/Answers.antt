@@ -3,6 +3,7 @@ use Rattle.std.proofs.lemmas.List.{take_all}
 use Rattle.hound_writer.specs.Parts.{bytes_kept}
 use Rattle.hound_writer.specs.Batch.{written}
 use Rattle.hound_writer.proofs.Accepting.{standing, accepts_nothing, accepts_swapped}
+use Rattle.hound_writer.proofs.AcceptMoments.{accepts_still, accepts_at_each_swapped}
 use Rattle.hound_writer.proofs.write.WavWriter.accept_batch.Goals as goal
 
 pub returns-in_default-clause-accepts : goal.returns-in_default-clause-accepts
@@ -28,3 +29,17 @@ returns-clause-accepts g c tells =
     let same : take c.self.inside.num_bytes c.deref.result.now ≡ written w = (λ i. take (full i) ((c.deref.ensures.value ∙ sym kept) i)) in
     accepts_swapped seen c.accept_all-accepted.result (take c.self.inside.num_bytes c.deref.result.now) _ _ w _ c.accept_all-accepted.new.self (items c.take.new.self) c.in-Some.buffer.items 0 0 c.self-2.inside.num_bytes c.self-2.inside.index
     same c.self.view_is c.self-2.view_is (c.accept_all-accepted.ensures.accepts tells)
+
+pub returns-in_default-clause-moments : goal.returns-in_default-clause-moments
+returns-in_default-clause-moments g c tells keeps =
+    let seen = g.W.Placed.seen in
+    let items = bytes_kept (λ (b : Vec ℕ Global). b.items) in
+    accepts_at_each_swapped seen _ c.args.self.now (items c.self.inside.buffer) c.self.inside.num_bytes c.self.inside.index _ _ c.self.view_is refl
+    (accepts_still seen _ c.self.invariant.0 (standing _ _ _ _ _ (c.self.invariant.1 tells)) (g.met.W.Medium.replays c.self.inside.writer tells keeps))
+
+pub returns-clause-moments : goal.returns-clause-moments
+returns-clause-moments g c tells keeps =
+    let seen = g.W.Placed.seen in
+    let items = bytes_kept (λ (b : Vec ℕ Global). b.items) in
+    accepts_at_each_swapped seen _ c.args.self.now (items c.take.new.self) 0 0 (seen c.accept_all-accepted.new.self.medium) _ c.self.view_is (ap (λ w. seen w.medium) (sym c.self-2.view_is))
+    (c.accept_all-accepted.ensures.moments tells keeps)

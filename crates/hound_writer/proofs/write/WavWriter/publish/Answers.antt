@@ -1,6 +1,7 @@
 use Rattle.std.proofs.Common.{arith}
 use Rattle.hound_writer.proofs.Accepting.{opened, standing, stands_published, placed_unless_failed}
 use Rattle.hound_writer.proofs.Publishing.{patches_seen}
+use Rattle.hound_writer.proofs.PatchMoments.{patches_at_each_seen}
 use Rattle.hound_writer.proofs.write.WavWriter.publish.Goals as goal
 
 pub invariant_of-self : goal.invariant_of-self
@@ -26,3 +27,7 @@ returns-clause-stands g c tells =
 pub returns-clause-patches : goal.returns-clause-patches
 returns-clause-patches g c tells =
     patches_seen g.W.Placed.seen _ c.args.self.now _ _ c.publish-published.result _ c.self.view_is (omega arith) (omega arith) (c.publish-published.ensures.patches tells)
+
+pub returns-clause-moments : goal.returns-clause-moments
+returns-clause-moments g c tells keeps =
+    patches_at_each_seen g.W.Placed.seen _ c.args.self.now _ c.publish-published.result _ c.self.view_is (omega arith) (c.publish-published.ensures.moments tells keeps)

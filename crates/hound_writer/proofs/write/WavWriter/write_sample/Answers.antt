@@ -1,6 +1,7 @@
 use Rattle.std.proofs.Common.{arith, length, sym, ap, ◌∙◌}
 use Rattle.hound_writer.proofs.Accepting.{encoded, opened, standing, same_container, cut, accepts_none, accepts_one, accepted_stay, accepted_grow, whole_stays, whole_grows, front_same, standing_put, reach, count_grows}
 use Rattle.hound_writer.proofs.Standing.{inside, counts}
+use Rattle.hound_writer.proofs.AcceptMoments.{accepts_at_each, accepts_still}
 use Rattle.hound_writer.proofs.write.WavWriter.write_sample.Goals as goal
 
 pub returns-in_err-accept-clause-accepted : goal.returns-in_err-accept-clause-accepted
@@ -86,3 +87,23 @@ returns-clause-counts g c tells whole =
     let accept = c.in_ok-accept.ensures in
     counts g.W.Placed.seen c.accept.new.self accept.sound
     (standing_put g.W.Placed.keeps g.W.Placed.seen c.args.self.now c.accept.new.self _ _ w.sound (accept.puts tells) accept.spec_stays accept.start_stays (w.stands tells) (omega (arith, accept.count)))
+
+pub returns-in_err-container-clause-moments : goal.returns-in_err-container-clause-moments
+returns-in_err-container-clause-moments g c tells keeps =
+    let w = opened g.W.Placed.tells g.W.Placed.seen _ _ c.self.view_is c.self.invariant.0 (λ t. standing _ _ _ _ _ (c.self.invariant.1 t)) in
+    accepts_still g.W.Placed.seen c.args.self.now w.sound (w.stands tells) (g.met.W.Medium.replays c.args.self.now.medium tells keeps)
+
+pub returns-then-not-has_room-clause-moments : goal.returns-then-not-has_room-clause-moments
+returns-then-not-has_room-clause-moments g c tells keeps =
+    let w = opened g.W.Placed.tells g.W.Placed.seen _ _ c.self.view_is c.self.invariant.0 (λ t. standing _ _ _ _ _ (c.self.invariant.1 t)) in
+    accepts_still g.W.Placed.seen c.args.self.now w.sound (w.stands tells) (g.met.W.Medium.replays c.args.self.now.medium tells keeps)
+
+pub returns-in_err-accept-clause-moments : goal.returns-in_err-accept-clause-moments
+returns-in_err-accept-clause-moments g c tells keeps =
+    let accept = c.in_err-accept.ensures in
+    accepts_at_each g.W.Placed.seen c.args.self.now accept.sound_before (accept.stands tells) g.W.Placed.keeps _ _ (g.W.Placed.seen c.accept.new.self.medium) (accept.puts tells) keeps (g.met.W.Medium.replays c.args.self.now.medium tells keeps)
+
+pub returns-clause-moments : goal.returns-clause-moments
+returns-clause-moments g c tells keeps =
+    let accept = c.in_ok-accept.ensures in
+    accepts_at_each g.W.Placed.seen c.args.self.now accept.sound_before (accept.stands tells) g.W.Placed.keeps _ _ (g.W.Placed.seen c.accept.new.self.medium) (accept.puts tells) keeps (g.met.W.Medium.replays c.args.self.now.medium tells keeps)
