@@ -24,7 +24,7 @@ use Rattle.hound_reader.proofs.Unique.{heads_agree, head_no_fault}
 use Rattle.hound_writer.specs.Parts.{field}
 use Rattle.hound_writer.specs.Writer.{Written, HasHeader, IsWhole, IsBegun, IsPublishing, Publishes, accepted, faults_told}
 use Rattle.hound_writer.specs.Appending.{GoesOn, IsNotAppended, IsAppendFault, AppendFault, head_fault, is_written_pair}
-use Rattle.hound_writer.proofs.Sizes.{field_small}
+use Rattle.hound_medium.proofs.Torn.{number_at_small}
 use Rattle.hound_writer.proofs.Accepting.{length_overlay_max}
 use Rattle.hound_session.specs.declared.session.Step.{Step}
 use Rattle.hound_session.specs.declared.session.Step.TheVariants.{Whole, Bits, Batch, Flush}
@@ -166,8 +166,8 @@ module _ {M : Type 0} (seen : M → Seen) (s : WavSpecEx) (list : List (List ℕ
       let least = data_start_least s in
       let riff : field 4 c ≡ riff_size h n = p.riff_size ∙ (λ i. riff_size (on.at i) (on.size i)) in
       let says : field (last.data_start - 4) c ≡ n = p.data_length ∙ on.size in
-      let fits : riff_size h n ≤ 4294967295 = omega (arith, riff, field_small 4 c (omega (arith, inside, least)) small) in
-      let few : n ≤ 4294967295 = omega (arith, says, field_small (last.data_start - 4) c (omega (arith, inside, least, on.at)) small) in
+      let fits : riff_size h n ≤ 4294967295 = omega (arith, riff, number_at_small 4 c (omega (arith, inside, least)) small) in
+      let few : n ≤ 4294967295 = omega (arith, says, number_at_small (last.data_start - 4) c (omega (arith, inside, least, on.at)) small) in
       let w = s.bytes_per_sample in
       let samples_same : containers w (n / w) (drop h c) ≡ list =
       (λ i. containers (sym on.spec i).bytes_per_sample (sym on.size i / (sym on.spec i).bytes_per_sample) (drop (sym on.at i) c))
