@@ -10,6 +10,8 @@ mod appending;
 #[cfg(test)]
 mod batches;
 #[cfg(test)]
+mod channels;
+#[cfg(test)]
 mod checkpoints;
 #[cfg(test)]
 mod files;
