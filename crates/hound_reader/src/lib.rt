@@ -7,6 +7,7 @@
 mod chunks;
 mod counting;
 mod fault;
+mod file;
 mod fmt;
 mod input;
 mod laws;

@@ -4,8 +4,9 @@ ghost use Rattle.hound_spec.specs.Writable.{IsWritable};
 ghost use Rattle.hound_number.specs.Number.{bytes_of};
 ghost use Rattle.hound_spec.specs.Header.{is_short, fields, header, mask, short_fmt, long_fmt, sized_fmt, subformat};
 
-use crate::{SampleFormat, WavSpecEx};
+use crate::{Error, Result, SampleFormat, WavSpec, WavSpecEx, with_default_width};
 use hound_number::{le_u16, le_u32};
+use std::alloc::Global;
 use std::marker::Model;
 
 // The subformats of WAVEFORMATEXTENSIBLE, as GUIDs of mmreg.h: the first three groups are
@@ -175,6 +176,37 @@ pub fn header_of(spec_ex: WavSpecEx, riff_size: u32, data_length: u32) -> Header
     header.write_all(b"data");
     header.write_le_u32(data_length);
     header
+}
+
+impl WavSpec {
+    ghost use Rattle.std.specs.Prelude.{◌≡◌, IfOk, IfErr, OnOk, Err};
+    ghost use Rattle.hound_spec.specs.declared.error.Error.TheVariants.{OutOfMemory, Unsupported};
+    ghost use Rattle.hound_spec.specs.Header.{header};
+    ghost use Rattle.hound_spec.specs.Writable.{IsWritable, with_default_width};
+
+    /// The header of a stream whose length isn't known when it begins: both sizes are 4294967295.
+    ///
+    /// A sample takes the bytes that its bits need: `(bits_per_sample + 7) / 8`, rounded down.
+    /// `WavReader` refuses such a header of 16 or 32 bits, since 4294967295 bytes are no whole
+    /// samples of them.
+    ///
+    /// The errors, in their order: `Unsupported`, for a spec that can't be written; `OutOfMemory`.
+    pub fn into_header_for_infinite_file(self, alloc: Global) -> Result<Vec<u8>>
+        ensures unsupported { (IsWritable (with_default_width self) → ⊥) → result ≡ Err Unsupported }
+        ensures only_writable { OnOk result (IsWritable (with_default_width self)) }
+        ensures header { IfOk result (λ bytes. bytes.items ≡ header (with_default_width self) 4294967295 4294967295) }
+        ensures writable { IsWritable (with_default_width self) → IfErr result (λ e. e ≡ OutOfMemory) }
+    {
+        let spec_ex = with_default_width(self);
+        if !spec_ex.is_writable() {
+            return Err(Error::Unsupported);
+        }
+        let header = header_of(spec_ex, u32::MAX, u32::MAX);
+        match header.as_slice().to_vec(alloc) {
+            Ok(bytes) => Ok(bytes),
+            Err(_) => Err(Error::OutOfMemory),
+        }
+    }
 }
 
 #[cfg(test)]

@@ -6,11 +6,25 @@ mod twelve;
 pub use twelve::Twelve;
 
 #[cfg(test)]
+mod appending;
+#[cfg(test)]
+mod batches;
+#[cfg(test)]
+mod channels;
+#[cfg(test)]
+mod checkpoints;
+#[cfg(test)]
+mod files;
+#[cfg(test)]
+mod memory;
+#[cfg(test)]
 mod moments;
 #[cfg(test)]
 mod reading;
 #[cfg(test)]
 mod seeking;
+#[cfg(test)]
+mod unknown_length;
 #[cfg(test)]
 mod widths;
 #[cfg(test)]

@@ -150,10 +150,10 @@ fn an_unfinished_frame_is_told_and_published(rt: HostRuntime) -> Result<(), Fail
 
 // A tape that takes one byte a call, and fails at one of its calls.
 #[derive(Drop)]
-struct Faulty {
-    tape: Tape,
-    calls: u64,
-    fails_at: u64,
+pub(crate) struct Faulty {
+    pub(crate) tape: Tape,
+    pub(crate) calls: u64,
+    pub(crate) fails_at: u64,
 }
 
 impl Faulty {

@@ -44,8 +44,11 @@ fn check_head(head: FileHead) -> Result<()>
     Ok(())
 }
 
-// A writer behind the data of a file with this head.
-fn behind_data<W: Medium>(writer: W, head: FileHead) -> result::Result<WavWriter<W>, (W, Error)>
+/// A writer behind the data of a file with this head.
+pub(crate) fn behind_data<W: Medium>(
+    writer: W,
+    head: FileHead,
+) -> result::Result<WavWriter<W>, (W, Error)>
     requires sound { IsSound head.spec_ex }
     requires start { (20 ≤ head.data_start) × (head.data_start ≤ 4294967315) }
     requires head { IsTrue W.tells → Head (W.seen writer).contents head.spec_ex head.data_length head.data_start }

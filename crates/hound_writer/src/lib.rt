@@ -4,6 +4,7 @@
 mod append;
 mod batch;
 mod batching;
+mod file;
 mod patch;
 mod write;
 

@@ -1,0 +1,29 @@
+// Readers of files on disk.
+ghost use Rattle.std.specs.Prelude.{◌≡◌, IfOk};
+
+use crate::WavReader;
+use hound_spec::{Error, Result};
+use std::alloc::Global;
+use std::path::Path;
+use std::rt::Files;
+use std::{fs, io};
+
+impl WavReader<io::BufReader<fs::File>> {
+    /// Opens a file that is there, which stays as it is, and takes what stands before the data.
+    ///
+    /// The errors, in their order: `IoError`, where the file can't be opened; `OutOfMemory`, where
+    /// there is none for the buffer; those of [`WavReader::new`].
+    pub fn open(
+        rt: &impl Files<File = fs::File>,
+        alloc: Global,
+        path: Path<'_>,
+    ) -> Result<WavReader<io::BufReader<fs::File>>>
+        ensures fresh { IfOk result (λ r. (r.samples_read ≡ 0) × (r.bytes_read ≡ 0)) }
+    {
+        let file = fs::open(rt, path)?;
+        let Ok(reader) = io::BufReader::new(alloc, file) else {
+            return Err(Error::OutOfMemory);
+        };
+        WavReader::new(reader)
+    }
+}

@@ -1,0 +1,113 @@
+// Checkpoints, and writers that are dropped.
+ghost use Rattle.std.specs.Prelude.{◌≡◌};
+
+use crate::widths::{empty_tape, file_of, integers, samples_of};
+use crate::writing::Faulty;
+use hound::{Error, Placed, Tape, WavReader, WavSpec, WavWriter};
+use std::test::Fail;
+
+fn spec(channels: u16) -> WavSpec {
+    integers(channels, 44100, 16, 2).spec
+}
+
+#[test]
+fn a_checkpoint_inside_a_frame(rt: HostRuntime) -> Result<(), Fail> {
+    let mut writer = WavWriter::new(empty_tape(rt.alloc()), spec(2))?;
+    writer.write_sample(1i16)?;
+    assert!(rt; matches!(writer.flush(), Err(Error::UnfinishedSample)));
+    writer.write_sample(2i16)?;
+    let (tape, result) = writer.finalize_into();
+    result?;
+    let bytes = tape.into_bytes();
+    assert_eq!(rt; bytes.get(4..8), Some([0x28u8, 0, 0, 0].as_slice()));
+    assert_eq!(rt;
+        bytes.get(40..),
+        Some([4u8, 0, 0, 0, 1, 0, 2, 0].as_slice())
+    );
+    let read: Vec<i16> = samples_of(rt.alloc(), &bytes)?;
+    assert_eq!(rt; read.as_slice(), [1i16, 2].as_slice());
+    Ok(())
+}
+
+// Begins a file, or goes on with the one that is there, writes these samples and drops the writer.
+fn write_and_drop(tape: &mut Tape, samples: &[i16]) -> hound::Result<()>
+    requires { (⟦<Tape as Placed>⟧.seen tape.old).place ≡ 0 }
+{
+    let mut writer = if Tape::bytes(tape).is_empty() {
+        WavWriter::new(tape, spec(2))?
+    } else {
+        WavWriter::new_append(tape)?
+    };
+    for sample in samples {
+        writer.write_sample(*sample)?;
+    }
+    Ok(())
+}
+
+#[test]
+fn a_dropped_writer_publishes(rt: HostRuntime) -> Result<(), Fail> {
+    let four = [2i16, 5, 7, 11];
+    let mut tape = empty_tape(rt.alloc());
+    write_and_drop(&mut tape, &four)?;
+    let begun = tape.into_bytes();
+    let read: Vec<i16> = samples_of(rt.alloc(), &begun)?;
+    assert_eq!(rt; read.as_slice(), four.as_slice());
+    let mut tape = Tape::new(begun);
+    write_and_drop(&mut tape, &four)?;
+    let eight = [2i16, 5, 7, 11, 2, 5, 7, 11];
+    let whole = file_of(rt.alloc(), integers(2, 44100, 16, 2), &eight)?;
+    assert_eq!(rt; tape.into_bytes().as_slice(), whole.as_slice());
+    Ok(())
+}
+
+#[test]
+fn a_drop_hands_the_medium_back(rt: HostRuntime) -> Result<(), Fail> {
+    let mut writer = WavWriter::new(empty_tape(rt.alloc()), spec(1))?;
+    for sample in [2i16, 5, 7, 11] {
+        writer.write_sample(sample)?;
+    }
+    let tape = writer.drop_into();
+    let whole = file_of(rt.alloc(), integers(1, 44100, 16, 2), &[2i16, 5, 7, 11])?;
+    assert_eq!(rt; tape.into_bytes().as_slice(), whole.as_slice());
+    Ok(())
+}
+
+// A writer of one channel over a medium that takes a byte a call, of which this one fails. The
+// header takes 44 calls, a sample 2, a size 5 and each flush 1.
+fn faulty(fails_at: u64, tape: Tape) -> hound::Result<WavWriter<Faulty>> {
+    let medium = Faulty {
+        tape,
+        calls: 0,
+        fails_at,
+    };
+    WavWriter::new(medium, spec(1))
+}
+
+#[test]
+fn a_checkpoint_outlasts_a_failing_end(rt: HostRuntime) -> Result<(), Fail> {
+    // After 46 calls the checkpoint takes 12, and the next sample 2.
+    let mut writer = faulty(61, empty_tape(rt.alloc()))?;
+    writer.write_sample(1i16)?;
+    writer.flush()?;
+    writer.write_sample(2i16)?;
+    let bytes = writer.drop_into().tape.into_bytes();
+    assert_eq!(rt; bytes.len(), 48);
+    let mut reader = WavReader::new(bytes.as_slice())?;
+    assert_eq!(rt; reader.len(), 1);
+    assert!(rt; matches!(reader.samples::<i16>().next(), Some(Ok(1))));
+    Ok(())
+}
+
+#[test]
+fn writing_goes_on_behind_a_failed_checkpoint(rt: HostRuntime) -> Result<(), Fail> {
+    // The second byte of the data length fails.
+    let mut writer = faulty(54, empty_tape(rt.alloc()))?;
+    writer.write_sample(1i16)?;
+    assert!(rt; matches!(writer.flush(), Err(Error::IoError(_))));
+    writer.write_sample(3i16)?;
+    let (medium, result) = writer.finalize_into();
+    result?;
+    let whole = file_of(rt.alloc(), integers(1, 44100, 16, 2), &[1i16, 3])?;
+    assert_eq!(rt; medium.tape.into_bytes().as_slice(), whole.as_slice());
+    Ok(())
+}

@@ -1,0 +1,124 @@
+// Files on disk.
+use crate::widths::{file_of, integers, samples_of};
+use crate::writing::FOUR_SAMPLES;
+use hound::{Error, WavReader, WavSpec, WavWriter};
+use std::alloc::Global;
+use std::path::{Path, PathBuf};
+use std::test::Fail;
+use std::{env, fs, io, process};
+
+fn spec(channels: u16) -> WavSpec {
+    integers(channels, 44100, 16, 2).spec
+}
+
+// A file that no other test names.
+fn path_of(rt: &HostRuntime, name: &str) -> Result<PathBuf, Fail> {
+    let id = process::id(rt.process());
+    let name = format!(in rt.alloc(); "hound_tests_{id}_{name}.wav")?;
+    Ok(env::temp_dir(rt)?.join(rt.alloc(), name.as_str())?)
+}
+
+fn write_to(rt: &HostRuntime, path: Path<'_>, samples: &[i16]) -> hound::Result<()> {
+    let mut writer = WavWriter::create(rt, rt.alloc(), path, spec(1))?;
+    for sample in samples {
+        writer.write_sample(*sample)?;
+    }
+    writer.finalize()
+}
+
+fn append_to(rt: &HostRuntime, path: Path<'_>, samples: &[i16]) -> hound::Result<()> {
+    let mut writer = WavWriter::append(rt, rt.alloc(), path)?;
+    for sample in samples {
+        writer.write_sample(*sample)?;
+    }
+    writer.finalize()
+}
+
+// The writer is dropped.
+fn append_one(rt: &HostRuntime, path: Path<'_>, sample: i16) -> hound::Result<()> {
+    let mut writer = WavWriter::append(rt, rt.alloc(), path)?;
+    writer.write_sample(sample)
+}
+
+fn read_from(rt: &HostRuntime, path: Path<'_>) -> hound::Result<Vec<i16>> {
+    let mut reader = WavReader::open(rt, rt.alloc(), path)?;
+    let mut read = Vec::new(rt.alloc());
+    for sample in reader.samples::<i16>() {
+        let sample = sample?;
+        read.push(sample).map_err(|_| Error::OutOfMemory)?;
+    }
+    Ok(read)
+}
+
+// A file that is made, gone on with twice, and read.
+fn make_and_read(rt: &HostRuntime, path: Path<'_>) -> hound::Result<Vec<i16>> {
+    write_to(rt, path, &[11, 13, 17])?;
+    append_to(rt, path, &[19, 23])?;
+    append_one(rt, path, 29)?;
+    read_from(rt, path)
+}
+
+#[test]
+fn a_file_is_made_gone_on_with_and_read(rt: HostRuntime) -> Result<(), Fail> {
+    let path = path_of(&rt, "made")?;
+    let read = make_and_read(&rt, path.as_path());
+    let bytes = fs::read(&rt, path.as_path());
+    fs::remove_file(&rt, path.as_path())?;
+    let numbers = [11i16, 13, 17, 19, 23, 29];
+    assert_eq!(rt; read?.as_slice(), numbers.as_slice());
+    let whole = file_of(rt.alloc(), integers(1, 44100, 16, 2), &numbers)?;
+    assert_eq!(rt; bytes?.as_slice(), whole.as_slice());
+    Ok(())
+}
+
+#[test]
+fn a_file_that_is_missing_stays_so(rt: HostRuntime) -> Result<(), Fail> {
+    let path = path_of(&rt, "missing")?;
+    let writer = WavWriter::append(&rt, rt.alloc(), path.as_path());
+    assert!(rt; matches!(writer.err(), Some(Error::IoError(_))));
+    let reader = WavReader::open(&rt, rt.alloc(), path.as_path());
+    assert!(rt; matches!(reader.err(), Some(Error::IoError(_))));
+    assert!(rt; fs::read(&rt, path.as_path()).is_err());
+    Ok(())
+}
+
+#[test]
+fn an_unwritable_spec_leaves_an_empty_file(rt: HostRuntime) -> Result<(), Fail> {
+    let path = path_of(&rt, "unwritable")?;
+    fs::write(&rt, path.as_path(), FOUR_SAMPLES.as_slice())?;
+    let writer = WavWriter::create(&rt, rt.alloc(), path.as_path(), spec(0));
+    let error = writer.err();
+    let bytes = fs::read(&rt, path.as_path());
+    fs::remove_file(&rt, path.as_path())?;
+    assert!(rt; matches!(error, Some(Error::Unsupported)));
+    assert!(rt; bytes?.is_empty());
+    Ok(())
+}
+
+// What appending to a file of these bytes is refused with, and its bytes behind that.
+fn refusal(rt: &HostRuntime, path: Path<'_>, bytes: &[u8]) -> io::Result<(Option<Error>, Vec<u8>)> {
+    fs::write(rt, path, bytes)?;
+    let error = WavWriter::append(rt, rt.alloc(), path).err();
+    Ok((error, fs::read(rt, path)?))
+}
+
+#[test]
+fn a_file_that_is_refused_stays(rt: HostRuntime) -> Result<(), Fail> {
+    let path = path_of(&rt, "refused")?;
+    let begun = FOUR_SAMPLES.get(..30).ok_or("52 bytes")?;
+    let early = refusal(&rt, path.as_path(), begun);
+    // Two channels of 16 bits with a data length of 2.
+    let mut half = file_of(rt.alloc(), integers(2, 44100, 16, 2), &[2i16, -3])?;
+    if let Some(byte) = half.get_mut(40) {
+        *byte = 2;
+    }
+    let torn = refusal(&rt, path.as_path(), &half);
+    fs::remove_file(&rt, path.as_path())?;
+    let (error, left) = early?;
+    assert!(rt; matches!(error, Some(Error::IoError(_))));
+    assert_eq!(rt; left.as_slice(), begun);
+    let (error, left) = torn?;
+    assert!(rt; matches!(error, Some(Error::FormatError("invalid data chunk length"))));
+    assert_eq!(rt; left.as_slice(), half.as_slice());
+    Ok(())
+}
