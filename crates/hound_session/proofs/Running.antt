@@ -6,14 +6,14 @@ use Rattle.hound_medium.specs.Seen.{Seen}
 use Rattle.hound_writer.specs.Writer.{Written}
 use Rattle.hound_session.specs.declared.session.Step.{Step}
 use Rattle.hound_session.specs.Steps.{mark_of}
-use Rattle.hound_session.specs.Run.{Takes, Runs, IsMarkedRun, IsStrictRun, StopsIn}
+use Rattle.hound_session.specs.Run.{Takes, RunsBy, Runs, IsMarkedRun, IsStrictRun, StopsIn}
 
-pub runs_more : {M : Type 0} (seen : M → Seen) (steps : List Step) (answers : List (Result (Unit {0}) Error)) (step : Step) (answer : Result (Unit {0}) Error) (a b c : Written M) → Runs seen steps answers a b → Takes seen step answer b c
-    → Runs seen (steps ++ step ∷ []) (answers ++ answer ∷ []) a c
-runs_more seen [] [] step answer a b c same takes = (c, subst (λ w. Takes seen step answer w c) same takes, refl)
-runs_more seen [] (x ∷ answers) step answer a b c runs takes = absurd runs
-runs_more seen (s ∷ steps) [] step answer a b c runs takes = absurd runs
-runs_more seen (s ∷ steps) (x ∷ answers) step answer a b c (mid, first, runs) takes = (mid, first, runs_more seen steps answers step answer mid b c runs takes)
+pub runs_more : {M : Type 0} (does : Step → Result (Unit {0}) Error → Written M → Written M → Type 0) (steps : List Step) (answers : List (Result (Unit {0}) Error)) (step : Step) (answer : Result (Unit {0}) Error) (a b c : Written M) → RunsBy does steps answers a b → does step answer b c
+    → RunsBy does (steps ++ step ∷ []) (answers ++ answer ∷ []) a c
+runs_more does [] [] step answer a b c same one = (c, subst (λ w. does step answer w c) same one, refl)
+runs_more does [] (x ∷ answers) step answer a b c runs one = absurd runs
+runs_more does (s ∷ steps) [] step answer a b c runs one = absurd runs
+runs_more does (s ∷ steps) (x ∷ answers) step answer a b c (mid, first, runs) one = (mid, first, runs_more does steps answers step answer mid b c runs one)
 
 map_more : {A B : Type 0} (f : A → B) (xs : List A) (x : A) → map f (xs ++ x ∷ []) ≡ map f xs ++ f x ∷ []
 map_more f [] x = refl
@@ -27,7 +27,7 @@ none_run seen w = ([], refl, refl)
 pub marked_more : {M : Type 0} (seen : M → Seen) (steps : List Step) (marks : List Bool) (step : Step) (answer : Result (Unit {0}) Error) (a b c : Written M) → IsMarkedRun seen steps marks a b → Takes seen step answer b c
     → IsMarkedRun seen (steps ++ step ∷ []) (marks ++ mark_of answer ∷ []) a c
 marked_more seen steps marks step answer a b c (answers, same, runs) takes =
-    (answers ++ answer ∷ [], ap (λ l. l ++ mark_of answer ∷ []) same ∙ sym (map_more mark_of answers answer), runs_more seen steps answers step answer a b c runs takes)
+    (answers ++ answer ∷ [], ap (λ l. l ++ mark_of answer ∷ []) same ∙ sym (map_more mark_of answers answer), runs_more (Takes seen) steps answers step answer a b c runs takes)
 
 replicate_more : {A : Type 0} (n : ℕ) (x : A) → replicate n x ++ x ∷ [] ≡ replicate (suc n) x
 replicate_more zero x = refl
@@ -40,7 +40,7 @@ strict_more seen steps step a b c runs takes =
     let ok : Result (Unit {0}) Error = Ok tt in
     let same : replicate n ok ++ ok ∷ [] ≡ replicate (length (steps ++ step ∷ [])) ok =
     replicate_more n ok ∙ ap (λ k. replicate k ok) (let e : suc n ≡ length (steps ++ step ∷ []) = omega (arith, length-append steps (step ∷ [])) in e) in
-    subst (λ l. Runs seen (steps ++ step ∷ []) l a c) same (runs_more seen steps (replicate n (Ok tt)) step (Ok tt) a b c runs takes)
+    subst (λ l. Runs seen (steps ++ step ∷ []) l a c) same (runs_more (Takes seen) steps (replicate n (Ok tt)) step (Ok tt) a b c runs takes)
 
 -- the front of a list, an element, and the rest
 pub parted : {X : Type 0} (xs : List X) (i : ℕ) (d : X) → i < length xs → xs ≡ take i xs ++ (get_or xs i d ∷ drop (i + 1) xs)

@@ -71,12 +71,15 @@ pub record Takes {M : Type 0} (seen : M → Seen) (step : Step) (answer : Result
   pub accepted : IsWhole seen old → accepted seen new ≡ accepted seen old ++ accepted_by old.spec_ex step (mark_of answer)
   pub counts : IsWhole seen old → IsCounted seen old → IsCounted seen new
 
--- the steps in their order, each from where the one before it left off
+-- the steps in their order, each from where the one before it left off, by what one step does
+abbrev pub RunsBy : {M : Type 0} → (Step → Result (Unit {0}) Error → Written M → Written M → Type 0) → List Step → List (Result (Unit {0}) Error) → Written M → Written M → Type 0
+RunsBy does [] [] old new = new ≡ old
+RunsBy does [] (answer ∷ answers) old new = ⊥
+RunsBy does (step ∷ steps) [] old new = ⊥
+RunsBy {M} does (step ∷ steps) (answer ∷ answers) old new = (mid : Written M) × does step answer old mid × RunsBy does steps answers mid new
+
 abbrev pub Runs : {M : Type 0} → (M → Seen) → List Step → List (Result (Unit {0}) Error) → Written M → Written M → Type 0
-Runs seen [] [] old new = new ≡ old
-Runs seen [] (answer ∷ answers) old new = ⊥
-Runs seen (step ∷ steps) [] old new = ⊥
-Runs {M} seen (step ∷ steps) (answer ∷ answers) old new = (mid : Written M) × Takes seen step answer old mid × Runs seen steps answers mid new
+Runs seen steps answers old new = RunsBy (Takes seen) steps answers old new
 
 -- a writer of a new file: just its header was put, with both sizes 0
 pub record BeginsFile {M : Type 0} (keeps : Bool) (seen : M → Seen) (spec_ex : WavSpecEx) (old : Seen) (w : Written M) : Type 0 where
