@@ -4,3 +4,4 @@ pub mod Running
 pub mod Leading
 pub mod Whole
 pub mod Chaining
+pub mod Moments

@@ -1,6 +1,6 @@
 -- A run goes on by one step.
-use Rattle.std.proofs.Common.{◌≡◌, ℕ, zero, suc, ◌+◌, ◌<◌, List, [], ◌∷◌, ◌++◌, length, get_or, take, drop, replicate, map, Bool, Result, Ok, Err, refl, sym, ◌∙◌, ap, subst, arith, append_assoc, length-append, take-append-drop}
-use Rattle.std.proofs.lemmas.List.{take_more}
+use Rattle.std.proofs.Common.{◌≡◌, ℕ, zero, suc, ◌+◌, ◌<◌, List, [], ◌∷◌, ◌++◌, length, get_or, set, take, drop, replicate, map, Bool, Result, Ok, Err, refl, sym, ◌∙◌, ap, subst, arith, append_assoc, length-append, take-append-drop}
+use Rattle.std.proofs.lemmas.List.{take_more, take_more_set}
 use Rattle.hound_spec.specs.declared.error.Error.{Error}
 use Rattle.hound_medium.specs.Seen.{Seen}
 use Rattle.hound_writer.specs.Writer.{Written}
@@ -15,7 +15,7 @@ runs_more does [] (x ∷ answers) step answer a b c runs one = absurd runs
 runs_more does (s ∷ steps) [] step answer a b c runs one = absurd runs
 runs_more does (s ∷ steps) (x ∷ answers) step answer a b c (mid, first, runs) one = (mid, first, runs_more does steps answers step answer mid b c runs one)
 
-map_more : {A B : Type 0} (f : A → B) (xs : List A) (x : A) → map f (xs ++ x ∷ []) ≡ map f xs ++ f x ∷ []
+pub map_more : {A B : Type 0} (f : A → B) (xs : List A) (x : A) → map f (xs ++ x ∷ []) ≡ map f xs ++ f x ∷ []
 map_more f [] x = refl
 map_more f (y ∷ xs) x = ap (λ l. f y ∷ l) (map_more f xs x)
 
@@ -64,3 +64,9 @@ pub strict_step : {M : Type 0} (seen : M → Seen) (steps : List Step) (i : ℕ)
     → IsStrictRun seen (take (i + 1) steps) a c
 strict_step seen steps i d answer x a b c inside is runs takes =
     subst (λ l. IsStrictRun seen l a c) (sym (take_more steps i d inside)) (strict_more seen (take i steps) (get_or steps i d) a b c runs (subst (λ r. Takes seen (get_or steps i d) r b c) is takes))
+
+-- the fronts of steps and of their marks, with one more of each
+pub fronts_more : (steps : List Step) (marks : List Bool) (i : ℕ) (d : Step) (mark is : Bool) → i < length steps → i < length marks → is ≡ mark → (P : List Step → List Bool → Type 0)
+    → P (take i steps ++ get_or steps i d ∷ []) (take i marks ++ mark ∷ []) → P (take (i + 1) steps) (take (i + 1) (set marks i is))
+fronts_more steps marks i d mark is inside within same P here =
+    subst (λ (x : List Step × List Bool). P x.0 x.1) (λ j. (sym (take_more steps i d inside) j, (ap (λ b. take i marks ++ b ∷ []) (sym same) ∙ sym (take_more_set marks i is within)) j)) here

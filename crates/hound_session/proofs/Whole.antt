@@ -81,12 +81,12 @@ begins_new keeps seen s writer (Err (medium, TooLong)) begins unsupported writab
 begins_new keeps seen s writer (Err (medium, OutOfMemory)) begins unsupported writable failed begun puts header whole counts = inl (refused seen s writer medium OutOfMemory unsupported failed)
 
 -- the data of a run's first writer begin behind the first twelve bytes
-first_behind : {M : Type 0} (keeps : Bool) (seen : M → Seen) (begin : Begin) (old : Seen) (w : Written M) → Begins keeps seen begin old w → 4 ≤ w.data_start
+pub first_behind : {M : Type 0} (keeps : Bool) (seen : M → Seen) (begin : Begin) (old : Seen) (w : Written M) → Begins keeps seen begin old w → 4 ≤ w.data_start
 first_behind keeps seen (New s) old w begins = omega (arith, begins.begun.start, data_start_least s)
 first_behind keeps seen Append old w (on, counts) = omega (arith, head_behind old.contents w.spec_ex w.data_length w.data_start on.head)
 
 -- its accepted samples are counted where they stand
-first_counts : {M : Type 0} (keeps : Bool) (seen : M → Seen) (begin : Begin) (old : Seen) (w : Written M) → Begins keeps seen begin old w → IsWhole seen w → IsCounted seen w
+pub first_counts : {M : Type 0} (keeps : Bool) (seen : M → Seen) (begin : Begin) (old : Seen) (w : Written M) → Begins keeps seen begin old w → IsWhole seen w → IsCounted seen w
 first_counts keeps seen (New s) old w begins whole = begins.counts
 first_counts keeps seen Append old w (on, counts) whole = counts whole
 

@@ -1,3 +1,4 @@
 pub mod Steps
 pub mod Run
 pub mod Sessions
+pub mod AtEach

@@ -8,6 +8,7 @@ ghost use Rattle.hound_spec.specs.declared.error.Error.TheVariants.{Unsupported}
 ghost use Rattle.hound_session.specs.declared.session.Begin.TheVariants.{New};
 ghost use Rattle.hound_session.specs.declared.session.End.TheVariants.{Finalize};
 ghost use Rattle.hound_session.specs.Steps.{mark_of, accepted_by_all};
+ghost use Rattle.hound_session.specs.AtEach.{IsMarkedRunAtEach, EndsAtEach, IsSessionAtEach};
 ghost use Rattle.hound_session.specs.Run.{IsMarkedRun, Begins, IsNotBegun, Ends, IsSession, NoFault};
 
 use crate::session::{Begin, End, Step};
@@ -53,6 +54,7 @@ fn take_steps<M: Medium>(
     requires { length steps.now ≡ length marks.old }
     ensures size { length marks.new ≡ length marks.old }
     ensures runs { IsTrue M.tells → IsMarkedRun M.seen steps.now marks.new writer.old writer.new }
+    ensures moments { IsTrue M.tells → IsTrue M.keeps → IsMarkedRunAtEach M.seen steps.now marks.new writer.old writer.new }
 {
     for i in 0..steps.len() {
         let answer = take_step(alloc, writer, steps[i]);
@@ -62,7 +64,8 @@ fn take_steps<M: Medium>(
 
 // Ends a run, and hands the medium back.
 fn end_writer<M: Medium>(writer: WavWriter<M>, end: End) -> (M, Result<()>)
-    ensures { IsTrue M.tells → Ends M.seen end writer result.1 result.0 }
+    ensures ends { IsTrue M.tells → Ends M.seen end writer result.1 result.0 }
+    ensures moments { IsTrue M.tells → IsTrue M.keeps → EndsAtEach M.seen end writer result.1 result.0 }
 {
     match end {
         End::Finalize => writer.finalize_into(),
@@ -90,6 +93,9 @@ pub fn run_session<M: Source + Medium>(
     ensures size { length marks.new ≡ length marks.old }
     ensures unwritable { (spec_ex : WavSpecEx) → begin ≡ New spec_ex → (IsWritable spec_ex → ⊥) → result ≡ (medium, Err Unsupported) }
     ensures session { IsTrue M.tells → IsSession M.keeps M.seen begin steps.now marks.new end (M.seen medium) result.1 result.0 }
+
+    // At each moment of a medium that keeps its past, whatever byte was put last.
+    ensures moments { IsTrue M.tells → IsTrue M.keeps → IsSessionAtEach M.keeps M.seen begin steps.now marks.new end (M.seen medium) result.1 result.0 }
 
     // A new file that was finalized is the canonical one of what was accepted.
     ensures canonical { IsTrue M.tells → (spec_ex : WavSpecEx) → begin ≡ New spec_ex → end ≡ Finalize →

@@ -1,5 +1,7 @@
 // Steps taken with a writer.
 ghost use Rattle.std.specs.Prelude.{◌≡◌, true, IsTrue};
+ghost use Rattle.hound_writer.specs.Moments.{AcceptsAtEach};
+ghost use Rattle.hound_session.specs.AtEach.{StepAtEach};
 ghost use Rattle.hound_session.specs.Run.{AcceptsAs, Takes};
 ghost use Rattle.hound_session.specs.Steps.{is_sixteen, batch_containers};
 
@@ -18,7 +20,8 @@ fn is_sixteen(spec: WavSpec) -> bool
 
 // Writes a batch, of samples of sixteen bits only.
 fn write_batch<M: Medium>(alloc: Global, writer: &mut WavWriter<M>, values: &[i16]) -> Result<()>
-    ensures { IsTrue M.tells → AcceptsAs M.seen true (batch_containers writer.old.spec_ex values.now) result writer.old writer.new }
+    ensures accepts { IsTrue M.tells → AcceptsAs M.seen true (batch_containers writer.old.spec_ex values.now) result writer.old writer.new }
+    ensures moments { IsTrue M.tells → IsTrue M.keeps → AcceptsAtEach M.seen writer.old (M.seen writer.new.medium) }
 {
     if !is_sixteen(writer.spec()) {
         return Err(Error::Unsupported);
@@ -42,7 +45,8 @@ pub(crate) fn take_step<M: Medium>(
     writer: &mut WavWriter<M>,
     step: Step<'_>,
 ) -> Result<()>
-    ensures { IsTrue M.tells → Takes M.seen step.entry result writer.old writer.new }
+    ensures takes { IsTrue M.tells → Takes M.seen step.entry result writer.old writer.new }
+    ensures moments { IsTrue M.tells → IsTrue M.keeps → StepAtEach M.seen step.entry result writer.old writer.new }
 {
     match step {
         Step::Whole(value) => writer.write_sample(value),

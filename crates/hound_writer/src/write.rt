@@ -356,21 +356,24 @@ impl<W: Medium> WavWriter<W> {
 
     /// The spec that the file was begun with.
     pub fn spec(&self) -> WavSpec
-        ensures { result ≡ self.now.spec_ex.spec }
+        ensures spec { result ≡ self.now.spec_ex.spec }
+        ensures counts { IsTrue W.tells → IsWhole W.seen self.now → IsCounted W.seen self.now }
     {
         self.spec
     }
 
     /// The number of frames, rounded down: samples for each channel.
     pub fn duration(&self) -> u32
-        ensures { result ≡ sample_count self.now / self.now.spec_ex.spec.channels }
+        ensures frames { result ≡ sample_count self.now / self.now.spec_ex.spec.channels }
+        ensures counts { IsTrue W.tells → IsWhole W.seen self.now → IsCounted W.seen self.now }
     {
         self.len() / self.spec.channels as u32
     }
 
     /// The number of samples, of all channels together.
     pub fn len(&self) -> u32
-        ensures { result ≡ sample_count self.now }
+        ensures samples { result ≡ sample_count self.now }
+        ensures counts { IsTrue W.tells → IsWhole W.seen self.now → IsCounted W.seen self.now }
     {
         self.data_bytes_written / self.bytes_per_sample as u32
     }

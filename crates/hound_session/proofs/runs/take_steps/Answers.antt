@@ -1,21 +1,28 @@
-use Rattle.std.proofs.Common.{List, Bool, ◌∷◌, [], ◌++◌, take, rules, arith, sym, ap, ◌∙◌, subst}
-use Rattle.std.proofs.lemmas.List.{take_more, take_more_set}
-use Rattle.hound_session.specs.declared.session.Step.{Step}
+use Rattle.std.proofs.Common.{arith, rules, take}
 use Rattle.hound_session.specs.Run.{IsMarkedRun}
-use Rattle.hound_session.proofs.Running.{marked_more}
+use Rattle.hound_session.specs.AtEach.{IsMarkedRunAtEach}
+use Rattle.hound_session.proofs.Running.{marked_more, fronts_more}
+use Rattle.hound_session.proofs.Moments.{marked_at_each}
 use Rattle.hound_session.proofs.runs.take_steps.Goals as goal
 
 pub loop-i-preserved : goal.loop-i-preserved
 loop-i-preserved g c =
     let i = c.loop-i.i in
     let loop = c.loop-i.invariant in
+    let seen = g.M.Placed.seen in
+    let first = c.args.writer.now in
+    let answer = c.take_step-answer.result in
+    let new = c.take_step-answer.new.writer in
+    let steps = c.args.steps.now in
+    let marks = c.loop-i.marks in
+    let inside = c.loop-i-test.true in
     record {
       size = search rules;
       within = omega arith;
       runs = λ tells.
-          let takes = c.take_step-answer.ensures tells in
-          let more = marked_more g.M.Placed.seen (take i c.args.steps.now) (take i c.loop-i.marks) _ c.take_step-answer.result c.args.writer.now c.loop-i.writer c.take_step-answer.new.writer (loop.runs tells) takes in
-          let steps = take_more c.args.steps.now i _ c.loop-i-test.true in
-          let marks = take_more_set c.loop-i.marks i c.is_marked.result (omega (arith, loop.size, c.requires, c.loop-i-test.true)) in
-          subst (λ (x : List Step × List Bool). IsMarkedRun g.M.Placed.seen x.0 x.1 c.args.writer.now c.take_step-answer.new.writer) (λ j. (sym steps j, (ap (λ b. take i c.loop-i.marks ++ b ∷ []) (sym c.is_marked.ensures) ∙ sym marks) j)) more;
+          fronts_more steps marks i _ _ c.is_marked.result inside (omega (arith, loop.size, c.requires, inside)) c.is_marked.ensures (λ s m. IsMarkedRun seen s m first new)
+          (marked_more seen (take i steps) (take i marks) _ answer first c.loop-i.writer new (loop.runs tells) (c.take_step-answer.ensures.takes tells));
+      moments = λ tells keeps.
+          fronts_more steps marks i _ _ c.is_marked.result inside (omega (arith, loop.size, c.requires, inside)) c.is_marked.ensures (λ s m. IsMarkedRunAtEach seen s m first new)
+          (marked_at_each seen (take i steps) (take i marks) _ answer first c.loop-i.writer new (loop.moments tells keeps) (c.take_step-answer.ensures.takes tells, c.take_step-answer.ensures.moments tells keeps));
     }
