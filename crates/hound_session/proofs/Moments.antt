@@ -1,12 +1,16 @@
 -- A run at each moment.
-use Rattle.std.proofs.Common.{◌≡◌, ℕ, zero, suc, ◌+◌, ◌-◌, ◌<◌, ◌≤◌, Bool, List, [], ◌∷◌, ◌++◌, length, take, map, Result, Ok, Err, refl, sym, ◌∙◌, ap, subst, arith, inl, inr, append_assoc, length-append}
-use Rattle.std.proofs.lemmas.Bool.{cases_lt}
+use Rattle.std.proofs.Common.{◌≡◌, ℕ, zero, suc, ◌+◌, ◌-◌, ◌<◌, ◌≤◌, Bool, true, List, [], ◌∷◌, ◌++◌, length, take, map, Result, Ok, Err, refl, sym, ◌∙◌, ap, subst, arith, inl, inr, append_assoc, length-append}
+use Rattle.std.proofs.lemmas.Bool.{cases_lt, false≢true}
 use Rattle.std.proofs.lemmas.List.{append-nil, take_all}
+use Rattle.hound_number.specs.Number.{number}
 use Rattle.hound_spec.specs.declared.error.Error.{Error}
+use Rattle.hound_spec.specs.declared.error.Error.TheVariants.{IoError, FormatError, TooWide, UnfinishedSample, Unsupported, InvalidSampleFormat, TooLong, OutOfMemory}
 use Rattle.hound_spec.specs.declared.spec.WavSpecEx.{WavSpecEx}
 use Rattle.hound_medium.specs.Bytes.{moment, overlay}
 use Rattle.hound_medium.specs.Seen.{Seen}
 use Rattle.hound_medium.specs.Moments.{Span}
+use Rattle.hound_medium.proofs.Overlays.{front_part}
+use Rattle.hound_writer.specs.Parts.{field}
 use Rattle.hound_medium.proofs.Spans.{moment_before, moment_last, span_still}
 use Rattle.hound_writer.specs.Counts.{Counts}
 use Rattle.hound_writer.specs.Moments.{AcceptsAtEach}
@@ -18,7 +22,7 @@ use Rattle.hound_session.specs.declared.session.End.{End}
 use Rattle.hound_session.specs.declared.session.End.TheVariants.{Finalize, Drop}
 use Rattle.hound_session.specs.Steps.{mark_of, accepted_by, accepted_by_all}
 use Rattle.hound_session.specs.Run.{Takes, RunsBy, Begins}
-use Rattle.hound_session.specs.AtEach.{StepAtEach, TakesAtEach, IsMarkedRunAtEach, EndsAtEach, RanAtEach}
+use Rattle.hound_session.specs.AtEach.{StepAtEach, TakesAtEach, IsMarkedRunAtEach, EndsAtEach, RanAtEach, HoldsNoFlush}
 use Rattle.hound_session.proofs.Leading.{Leads, leads}
 use Rattle.hound_session.proofs.Running.{runs_more, map_more}
 use Rattle.hound_session.proofs.Whole.{first_behind, first_counts}
@@ -177,3 +181,56 @@ ran_at_each keeps seen begin steps marks end old answer medium first last replay
             )
       ];
     }
+
+-- a step that writes samples: nothing before the data changes at its moments
+step_field : {M : Type 0} (seen : M → Seen) (old : Written M) (mid new : Seen) (n k : ℕ) → 4 ≤ old.data_start → field (old.data_start - 4) (seen old.medium).contents ≡ n → IsWhole seen old → AcceptsAtEach seen old mid → Later mid new
+    → length (seen old.medium).past ≤ k → k ≤ length mid.past → field (old.data_start - 4) (moment new.start new.past k) ≡ n
+step_field seen old mid new n k behind says whole at_each later from within =
+    let m = old.data_start + old.data_length in
+    let c = moment mid.start mid.past k in
+    let same : take m c ≡ take m (seen old.medium).contents = (at_each.front whole).each k from within in
+    ap (field (old.data_start - 4)) (sym (same_moment mid new k later within))
+    ∙ ap number (front_part m (old.data_start - 4) 4 c (seen old.medium).contents (omega (arith, behind)) same) ∙ says
+
+-- the data length stays what it is while samples are written
+pub field_until_flush : {M : Type 0} (seen : M → Seen) (steps : List Step) (answers : List (Result (Unit {0}) Error)) (old new : Written M) (n : ℕ) → ((m : M) → (seen m).contents ≡ overlay (seen m).start (seen m).past) → HoldsNoFlush steps
+    → 4 ≤ old.data_start → field (old.data_start - 4) (seen old.medium).contents ≡ n → IsWhole seen old → RunsBy (TakesAtEach seen) steps answers old new
+    → (k : ℕ) → length (seen old.medium).past ≤ k → k ≤ length (seen new.medium).past → field (old.data_start - 4) (moment (seen new.medium).start (seen new.medium).past k) ≡ n
+field_until_flush {M} seen [] [] old new n replays none behind says whole same k from to =
+    let e : length (seen old.medium).past ≡ k = omega (arith, from, to, ap (λ (w : Written M). length (seen w.medium).past) same) in
+    let here : field (old.data_start - 4) (moment (seen old.medium).start (seen old.medium).past k) ≡ n =
+    ap (λ m. field (old.data_start - 4) (moment (seen old.medium).start (seen old.medium).past m)) (sym e) ∙ ap (field (old.data_start - 4)) (moment_last (seen old.medium) (replays old.medium)) ∙ says in
+    subst (λ (w : Written M). field (old.data_start - 4) (moment (seen w.medium).start (seen w.medium).past k) ≡ n) (sym same) here
+field_until_flush seen [] (answer ∷ answers) old new n replays none behind says whole runs k from to = absurd runs
+field_until_flush seen (step ∷ steps) [] old new n replays none behind says whole runs k from to = absurd runs
+field_until_flush seen (Flush ∷ steps) (answer ∷ answers) old new n replays none behind says whole runs k from to = absurd none
+field_until_flush seen (Whole value ∷ steps) (answer ∷ answers) old new n replays none behind says whole (mid, (t, at_each), runs) k from to =
+    elim (cases_lt (length (seen mid.medium).past) k) [
+      | inr within ↦ step_field seen old (seen mid.medium) (seen new.medium) n k behind says whole at_each (run_later seen steps answers mid new runs (t.whole whole)) from within
+      | inl later ↦ ap (λ p. field (p - 4) (moment (seen new.medium).start (seen new.medium).past k)) (sym t.data_start)
+      ∙ field_until_flush seen steps answers mid new n replays none (omega (arith, behind, t.data_start)) (ap (λ p. field (p - 4) (seen mid.medium).contents) t.data_start ∙ t.field behind ∙ says) (t.whole whole) runs k (omega (arith, later)) to
+    ]
+field_until_flush seen (Bits bits ∷ steps) (answer ∷ answers) old new n replays none behind says whole (mid, (t, at_each), runs) k from to =
+    elim (cases_lt (length (seen mid.medium).past) k) [
+      | inr within ↦ step_field seen old (seen mid.medium) (seen new.medium) n k behind says whole at_each (run_later seen steps answers mid new runs (t.whole whole)) from within
+      | inl later ↦ ap (λ p. field (p - 4) (moment (seen new.medium).start (seen new.medium).past k)) (sym t.data_start)
+      ∙ field_until_flush seen steps answers mid new n replays none (omega (arith, behind, t.data_start)) (ap (λ p. field (p - 4) (seen mid.medium).contents) t.data_start ∙ t.field behind ∙ says) (t.whole whole) runs k (omega (arith, later)) to
+    ]
+field_until_flush seen (Batch values ∷ steps) (answer ∷ answers) old new n replays none behind says whole (mid, (t, at_each), runs) k from to =
+    elim (cases_lt (length (seen mid.medium).past) k) [
+      | inr within ↦ step_field seen old (seen mid.medium) (seen new.medium) n k behind says whole at_each (run_later seen steps answers mid new runs (t.whole whole)) from within
+      | inl later ↦ ap (λ p. field (p - 4) (moment (seen new.medium).start (seen new.medium).past k)) (sym t.data_start)
+      ∙ field_until_flush seen steps answers mid new n replays none (omega (arith, behind, t.data_start)) (ap (λ p. field (p - 4) (seen mid.medium).contents) t.data_start ∙ t.field behind ∙ says) (t.whole whole) runs k (omega (arith, later)) to
+    ]
+
+-- a flush with a mark has published all
+pub flush_says : {M : Type 0} (seen : M → Seen) (answer : Result (Unit {0}) Error) (old new : Written M) → 4 ≤ old.data_start → mark_of answer ≡ true → Takes seen Flush answer old new → field (old.data_start - 4) (seen new.medium).contents ≡ old.data_length
+flush_says seen (Ok x) old new behind marked t = t.field behind
+flush_says seen (Err UnfinishedSample) old new behind marked t = t.field behind
+flush_says seen (Err (IoError e)) old new behind marked t = absurd (false≢true marked)
+flush_says seen (Err (FormatError x)) old new behind marked t = absurd (false≢true marked)
+flush_says seen (Err TooWide) old new behind marked t = absurd (false≢true marked)
+flush_says seen (Err Unsupported) old new behind marked t = absurd (false≢true marked)
+flush_says seen (Err InvalidSampleFormat) old new behind marked t = absurd (false≢true marked)
+flush_says seen (Err TooLong) old new behind marked t = absurd (false≢true marked)
+flush_says seen (Err OutOfMemory) old new behind marked t = absurd (false≢true marked)

@@ -1,5 +1,5 @@
 -- A run of a writer at each moment of its medium.
-use Rattle.std.specs.Prelude.{◌≡◌, ℕ, ◌+◌, ◌-◌, ◌≤◌, ◌⊎◌, Bool, List, ◌++◌, length, take, map, Result}
+use Rattle.std.specs.Prelude.{◌≡◌, ℕ, ◌+◌, ◌-◌, ◌≤◌, ◌⊎◌, ⊤, Bool, List, [], ◌∷◌, ◌++◌, length, take, map, Result}
 use Rattle.hound_spec.specs.declared.error.Error.{Error}
 use Rattle.hound_medium.specs.Bytes.{moment}
 use Rattle.hound_medium.specs.Seen.{Seen}
@@ -48,3 +48,11 @@ pub record RanAtEach {M : Type 0} (keeps : Bool) (seen : M → Seen) (begin : Be
 -- what `run_session` does at each moment
 abbrev pub IsSessionAtEach : {M : Type 0} → Bool → (M → Seen) → Begin → List Step → List Bool → End → Seen → Result (Unit {0}) Error → M → Type 0
 IsSessionAtEach keeps seen begin steps marks end old answer medium = NotRun begin steps marks old answer (seen medium) ⊎ RanAtEach keeps seen begin steps marks end old answer medium
+
+-- steps that write samples only: no flush is among them
+abbrev pub HoldsNoFlush : List Step → Type 0
+HoldsNoFlush [] = ⊤
+HoldsNoFlush (Flush ∷ steps) = ⊥
+HoldsNoFlush (Whole value ∷ steps) = HoldsNoFlush steps
+HoldsNoFlush (Bits bits ∷ steps) = HoldsNoFlush steps
+HoldsNoFlush (Batch values ∷ steps) = HoldsNoFlush steps
