@@ -5,3 +5,4 @@ pub mod Leading
 pub mod Whole
 pub mod Chaining
 pub mod Moments
+pub mod OneByOne

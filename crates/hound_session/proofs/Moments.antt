@@ -1,5 +1,5 @@
 -- A run at each moment.
-use Rattle.std.proofs.Common.{◌≡◌, ℕ, zero, suc, ◌+◌, ◌-◌, ◌<◌, ◌≤◌, Bool, true, List, [], ◌∷◌, ◌++◌, length, take, map, Result, Ok, Err, refl, sym, ◌∙◌, ap, subst, arith, inl, inr, append_assoc, length-append}
+use Rattle.std.proofs.Common.{◌≡◌, ℕ, suc, ◌+◌, ◌-◌, ◌≤◌, Bool, true, List, [], ◌∷◌, ◌++◌, length, take, map, Result, Ok, Err, refl, sym, ◌∙◌, ap, subst, arith, inl, inr, append_assoc}
 use Rattle.std.proofs.lemmas.Bool.{cases_lt, false≢true}
 use Rattle.std.proofs.lemmas.List.{append-nil, take_all}
 use Rattle.hound_number.specs.Number.{number}
@@ -208,19 +208,19 @@ field_until_flush seen (Whole value ∷ steps) (answer ∷ answers) old new n re
     elim (cases_lt (length (seen mid.medium).past) k) [
       | inr within ↦ step_field seen old (seen mid.medium) (seen new.medium) n k behind says whole at_each (run_later seen steps answers mid new runs (t.whole whole)) from within
       | inl later ↦ ap (λ p. field (p - 4) (moment (seen new.medium).start (seen new.medium).past k)) (sym t.data_start)
-      ∙ field_until_flush seen steps answers mid new n replays none (omega (arith, behind, t.data_start)) (ap (λ p. field (p - 4) (seen mid.medium).contents) t.data_start ∙ t.field behind ∙ says) (t.whole whole) runs k (omega (arith, later)) to
+          ∙ field_until_flush seen steps answers mid new n replays none (omega (arith, behind, t.data_start)) (ap (λ p. field (p - 4) (seen mid.medium).contents) t.data_start ∙ t.field behind ∙ says) (t.whole whole) runs k (omega (arith, later)) to
     ]
 field_until_flush seen (Bits bits ∷ steps) (answer ∷ answers) old new n replays none behind says whole (mid, (t, at_each), runs) k from to =
     elim (cases_lt (length (seen mid.medium).past) k) [
       | inr within ↦ step_field seen old (seen mid.medium) (seen new.medium) n k behind says whole at_each (run_later seen steps answers mid new runs (t.whole whole)) from within
       | inl later ↦ ap (λ p. field (p - 4) (moment (seen new.medium).start (seen new.medium).past k)) (sym t.data_start)
-      ∙ field_until_flush seen steps answers mid new n replays none (omega (arith, behind, t.data_start)) (ap (λ p. field (p - 4) (seen mid.medium).contents) t.data_start ∙ t.field behind ∙ says) (t.whole whole) runs k (omega (arith, later)) to
+          ∙ field_until_flush seen steps answers mid new n replays none (omega (arith, behind, t.data_start)) (ap (λ p. field (p - 4) (seen mid.medium).contents) t.data_start ∙ t.field behind ∙ says) (t.whole whole) runs k (omega (arith, later)) to
     ]
 field_until_flush seen (Batch values ∷ steps) (answer ∷ answers) old new n replays none behind says whole (mid, (t, at_each), runs) k from to =
     elim (cases_lt (length (seen mid.medium).past) k) [
       | inr within ↦ step_field seen old (seen mid.medium) (seen new.medium) n k behind says whole at_each (run_later seen steps answers mid new runs (t.whole whole)) from within
       | inl later ↦ ap (λ p. field (p - 4) (moment (seen new.medium).start (seen new.medium).past k)) (sym t.data_start)
-      ∙ field_until_flush seen steps answers mid new n replays none (omega (arith, behind, t.data_start)) (ap (λ p. field (p - 4) (seen mid.medium).contents) t.data_start ∙ t.field behind ∙ says) (t.whole whole) runs k (omega (arith, later)) to
+          ∙ field_until_flush seen steps answers mid new n replays none (omega (arith, behind, t.data_start)) (ap (λ p. field (p - 4) (seen mid.medium).contents) t.data_start ∙ t.field behind ∙ says) (t.whole whole) runs k (omega (arith, later)) to
     ]
 
 -- a flush with a mark has published all

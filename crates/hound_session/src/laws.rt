@@ -1,13 +1,13 @@
 // What holds of every run.
-ghost use Rattle.std.specs.Prelude.{◌≡◌, ℕ, ◌-◌, ◌≤◌, true, IsTrue, List, length, Result};
+ghost use Rattle.std.specs.Prelude.{◌≡◌, ℕ, ◌-◌, ◌≤◌, true, IsTrue, List, length, map, replicate, Result, Ok};
 ghost use Rattle.hound_spec.specs.declared.error.Error.{Error};
 ghost use Rattle.hound_medium.specs.Bytes.{moment};
 ghost use Rattle.hound_writer.specs.Parts.{field};
-ghost use Rattle.hound_writer.specs.Writer.{Written, IsWhole};
+ghost use Rattle.hound_writer.specs.Writer.{Written, IsWhole, accepted};
 ghost use Rattle.hound_session.specs.declared.session.Step.{Step};
-ghost use Rattle.hound_session.specs.declared.session.Step.TheVariants.{Flush};
+ghost use Rattle.hound_session.specs.declared.session.Step.TheVariants.{Whole, Batch, Flush};
 ghost use Rattle.hound_session.specs.Steps.{mark_of};
-ghost use Rattle.hound_session.specs.Run.{RunsBy};
+ghost use Rattle.hound_session.specs.Run.{Runs, RunsBy, Takes};
 ghost use Rattle.hound_session.specs.AtEach.{TakesAtEach, HoldsNoFlush};
 
 use hound_medium::Medium;
@@ -20,4 +20,11 @@ pub fn published_until_the_next_flush<M: Medium>()
         HoldsNoFlush steps → RunsBy (TakesAtEach M.seen) steps answers b c → (k : ℕ) →
         length (M.seen b.medium).past ≤ k → k ≤ length (M.seen c.medium).past →
         field (a.data_start - 4) (moment (M.seen c.medium).start (M.seen c.medium).past k) ≡ a.data_length }
+{}
+
+/// A batch accepts what its values do one by one: the same samples, and the same count of them.
+pub fn a_batch_is_its_values<M: Medium>(values: &[i16])
+    ensures { IsTrue M.tells → (a b c : Written M) → 4 ≤ a.data_start → IsWhole M.seen a →
+        Takes M.seen (Batch values.entry) (Ok tt) a b → Runs M.seen (map (λ v. Whole v) values.now) (replicate (length values.now) (Ok tt)) a c →
+        (accepted M.seen b ≡ accepted M.seen c) × (b.data_length ≡ c.data_length) }
 {}

@@ -6,8 +6,9 @@ mod run;
 #[cfg(test)]
 mod tests;
 
-use run::run;
+use run::{run, run_append};
 use std::io::{BufReader, BufWriter};
+use std::path::Path;
 use std::process::ExitCode;
 use std::{env, io};
 
@@ -20,7 +21,13 @@ fn main(rt: HostRuntime) -> io::Result<ExitCode> {
         .map(|word| word.as_str())
         .collect(alloc)?;
     let mut input = BufReader::new(alloc, rt.stdin())?;
-    let mut output = BufWriter::new(alloc, rt.stdout())?;
-    let status = run(alloc, &words, &mut input, &mut output, &mut rt.stderr());
+    let mut errors = rt.stderr();
+    let status = match words.as_slice() {
+        ["append", file] => run_append(&rt, alloc, Path::new(file), &mut input, &mut errors),
+        _ => {
+            let mut output = BufWriter::new(alloc, rt.stdout())?;
+            run(alloc, &words, &mut input, &mut output, &mut errors)
+        }
+    };
     Ok(ExitCode::from(status))
 }

@@ -2,9 +2,13 @@
 ghost use Rattle.std.specs.Prelude.{◌≡◌, ◌≤◌};
 
 use crate::numbers::{Failure, digits, read_numbers};
-use hound::{FloatBits, SampleFormat, Step, Tape, WavReader, WavSpec, WavSpecEx, run_sessions};
+use hound::{
+    FloatBits, SampleFormat, Step, Tape, WavReader, WavSpec, WavSpecEx, WavWriter, run_sessions,
+};
 use std::alloc::Global;
-use std::io;
+use std::path::Path;
+use std::rt::Files;
+use std::{fs, io};
 
 const USAGE: &str = "usage: hound_tool pack CHANNELS RATE BITS | show | append FILE";
 
@@ -14,7 +18,8 @@ const USAGE: &str = "usage: hound_tool pack CHANNELS RATE BITS | show | append F
 /// `pack CHANNELS RATE BITS` reads numbers from the input and writes a WAV file of them to the
 /// output, which stays empty where it fails. `show` reads a WAV file from the input and writes its
 /// spec and its samples, a line each; what was written before it fails stands. A failure has one
-/// line on `errors`; a fault while that is written isn't told.
+/// line on `errors`; a fault while that is written isn't told. Words of `append` get the usage line
+/// here: they are for [`run_append`].
 pub fn run<R: io::Read, O: io::Write, E: io::Write>(
     alloc: Global,
     words: &[&str],
@@ -32,7 +37,32 @@ pub fn run<R: io::Read, O: io::Write, E: io::Write>(
         ["show"] => show(input, output),
         _ => return usage(errors),
     };
-    match result {
+    status_of(result, errors)
+}
+
+/// Carries out `append FILE`, and answers the status: 0 for success, 1 where it failed.
+///
+/// Reads numbers from the input, all of them before the file is opened, and puts them as samples
+/// behind those of a WAV file that is there. The first that is refused ends it: those before it are
+/// kept. A failure has one line on `errors`; a fault while that is written isn't told.
+pub fn run_append<R: io::Read, E: io::Write>(
+    rt: &impl Files<File = fs::File>,
+    alloc: Global,
+    path: Path<'_>,
+    input: &mut R,
+    errors: &mut E,
+) -> u8
+    ensures { result ≤ 1 }
+{
+    let result = append(rt, alloc, path, input);
+    status_of(result, errors)
+}
+
+// The status of a result; a failure has its line on `errors`.
+fn status_of<E: io::Write>(outcome: Result<(), Failure>, errors: &mut E) -> u8
+    ensures { result ≤ 1 }
+{
+    match outcome {
         Ok(()) => 0,
         Err(failure) => {
             let _ = writeln!(errors, "{failure}");
@@ -68,6 +98,21 @@ fn pack<R: io::Read, O: io::Write>(
     let file = file_of(alloc, spec, &numbers)?;
     output.write_all(Tape::bytes(&file))?;
     output.flush()?;
+    Ok(())
+}
+
+fn append<R: io::Read>(
+    rt: &impl Files<File = fs::File>,
+    alloc: Global,
+    path: Path<'_>,
+    input: &mut R,
+) -> Result<(), Failure> {
+    let numbers = read_numbers(alloc, input)?;
+    let mut writer = WavWriter::append(rt, alloc, path)?;
+    for number in &numbers {
+        writer.write_sample(*number)?;
+    }
+    writer.finalize()?;
     Ok(())
 }
 

@@ -1,10 +1,11 @@
 // The program's runs, over readers and writers in memory.
-use crate::run::run;
+use crate::run::{run, run_append};
 use std::alloc::Global;
-use std::io;
 use std::io::{Error, ErrorKind};
+use std::path::{Path, PathBuf};
 use std::process::Abort;
 use std::test::Fail;
+use std::{env, fs, io, process};
 
 // What a run answers, writes, and says.
 #[derive(Drop)]
@@ -256,5 +257,96 @@ fn every_width_goes_through(rt: HostRuntime) -> Result<(), Fail> {
         let shown = run_on(rt.alloc(), &["show"], &file.output);
         assert_eq!(rt; shown.output.as_slice(), lines);
     }
+    Ok(())
+}
+
+// A file that no other test names.
+fn path_of(rt: &HostRuntime, name: &str) -> Result<PathBuf, Fail> {
+    let id = process::id(rt.process());
+    let name = format!(in rt.alloc(); "hound_tool_{id}_{name}.wav")?;
+    Ok(env::temp_dir(rt)?.join(rt.alloc(), name.as_str())?)
+}
+
+// What a run of `append` answers and says, and the file after it.
+fn append_on(rt: &HostRuntime, path: Path<'_>, file: &[u8], input: &[u8]) -> io::Result<Answer> {
+    fs::write(rt, path, file)?;
+    let mut errors = Vec::new(rt.alloc());
+    let mut bytes = input;
+    let status = run_append(rt, rt.alloc(), path, &mut bytes, &mut errors);
+    Ok(Answer {
+        status,
+        output: fs::read(rt, path)?,
+        errors,
+    })
+}
+
+#[test]
+fn append_goes_on_with_a_file(rt: HostRuntime) -> Result<(), Fail> {
+    let packed = run_on(rt.alloc(), &["pack", "1", "44100", "16"], b"11 13 17");
+    let path = path_of(&rt, "append")?;
+    let answer = append_on(&rt, path.as_path(), &packed.output, b"19 23");
+    fs::remove_file(&rt, path.as_path())?;
+    let Answer {
+        status,
+        output,
+        errors,
+    } = answer?;
+    assert_eq!(rt; status, 0);
+    assert!(rt; errors.is_empty());
+    assert_eq!(rt; output.len(), 54);
+    let lines: &[u8] = b"channels 1 rate 44100 bits 16 format int samples 5\n11\n13\n17\n19\n23\n";
+    assert_eq!(rt;
+        run_on(rt.alloc(), &["show"], &output).output.as_slice(),
+        lines
+    );
+    Ok(())
+}
+
+#[test]
+fn append_tests_its_numbers_before_it_opens_a_file(rt: HostRuntime) -> Result<(), Fail> {
+    let path = path_of(&rt, "numbers")?;
+    let answer = append_on(&rt, path.as_path(), &FOUR_SAMPLES, b"19 x");
+    fs::remove_file(&rt, path.as_path())?;
+    let Answer {
+        status,
+        output,
+        errors,
+    } = answer?;
+    assert_eq!(rt; status, 1);
+    assert_eq!(rt; errors.as_slice(), b"bad number\n".as_slice());
+    assert_eq!(rt; output.as_slice(), FOUR_SAMPLES.as_slice());
+    Ok(())
+}
+
+#[test]
+fn append_keeps_what_came_before_a_refusal(rt: HostRuntime) -> Result<(), Fail> {
+    let path = path_of(&rt, "refused")?;
+    let answer = append_on(&rt, path.as_path(), &FOUR_SAMPLES, b"11 32768 13");
+    fs::remove_file(&rt, path.as_path())?;
+    let Answer {
+        status,
+        output,
+        errors,
+    } = answer?;
+    let line: &[u8] = b"The sample has more bits than the destination type.\n";
+    let lines: &[u8] = b"channels 1 rate 44100 bits 16 format int samples 5\n2\n-3\n5\n-7\n11\n";
+    assert_eq!(rt; status, 1);
+    assert_eq!(rt; errors.as_slice(), line);
+    assert_eq!(rt;
+        run_on(rt.alloc(), &["show"], &output).output.as_slice(),
+        lines
+    );
+    Ok(())
+}
+
+#[test]
+fn append_makes_no_file(rt: HostRuntime) -> Result<(), Fail> {
+    let path = path_of(&rt, "missing")?;
+    let mut errors = Vec::new(rt.alloc());
+    let mut input: &[u8] = b"19 23";
+    let status = run_append(&rt, rt.alloc(), path.as_path(), &mut input, &mut errors);
+    assert_eq!(rt; status, 1);
+    assert_eq!(rt; errors.as_slice(), b"input or output failed\n".as_slice());
+    assert!(rt; fs::read(&rt, path.as_path()).is_err());
     Ok(())
 }
