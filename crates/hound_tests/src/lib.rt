@@ -12,6 +12,8 @@ mod reading;
 #[cfg(test)]
 mod seeking;
 #[cfg(test)]
+mod sessions;
+#[cfg(test)]
 mod widths;
 #[cfg(test)]
 mod writing;
