@@ -2,35 +2,15 @@
 ghost use Rattle.std.specs.Prelude.{◌≡◌, IfOk};
 ghost use Rattle.hound.specs.Seen.{Seen};
 
+use crate::widths::{empty_tape, integers, samples_of};
 use hound::{
-    Begin, End, Error, FloatBits, Journal, Placed, SampleFormat, Step, Tape, WavReader, WavSpec,
-    WavSpecEx, run_session, run_sessions,
+    Begin, End, Error, FloatBits, Journal, Placed, Step, Tape, WavSpecEx, run_session, run_sessions,
 };
 use std::alloc::Global;
 use std::test::Fail;
 
 fn sixteen(channels: u16) -> WavSpecEx {
-    WavSpecEx {
-        spec: WavSpec {
-            channels,
-            sample_rate: 44100,
-            bits_per_sample: 16,
-            sample_format: SampleFormat::Int,
-        },
-        bytes_per_sample: 2,
-    }
-}
-
-fn mono_of_24_bits() -> WavSpecEx {
-    WavSpecEx {
-        spec: WavSpec {
-            channels: 1,
-            sample_rate: 44100,
-            bits_per_sample: 24,
-            sample_format: SampleFormat::Int,
-        },
-        bytes_per_sample: 3,
-    }
+    integers(channels, 44100, 16, 2)
 }
 
 fn tape_of(alloc: Global, bytes: &[u8]) -> Result<Tape, Fail>
@@ -71,17 +51,6 @@ const FIVE_SAMPLES: [u8; 54] = [
     0x11, 0x00, 0x13, 0x00, 0x17, 0x00,
 ];
 
-// The samples of 16 bits in a file.
-fn samples_in(alloc: Global, bytes: &[u8]) -> hound::Result<Vec<i16>> {
-    let mut reader = WavReader::new(bytes)?;
-    let mut samples = Vec::new(alloc);
-    for sample in reader.samples::<i16>() {
-        let sample = sample?;
-        samples.push(sample).map_err(|_| Error::OutOfMemory)?;
-    }
-    Ok(samples)
-}
-
 #[test]
 fn refused_steps_are_marked_and_passed_over(rt: HostRuntime) -> Result<(), Fail> {
     let alloc = rt.alloc();
@@ -94,7 +63,7 @@ fn refused_steps_are_marked_and_passed_over(rt: HostRuntime) -> Result<(), Fail>
     ];
     let mut marks = [false; 5];
     let begin = Begin::New(sixteen(2));
-    let tape = tape_of(alloc, &[])?;
+    let tape = empty_tape(alloc);
     let (tape, answer) = run_session(alloc, tape, begin, &steps, &mut marks, End::Finalize);
     answer?;
     assert_eq!(rt; marks, [true, false, true, false, true]);
@@ -108,13 +77,13 @@ fn two_sessions_are_as_one(rt: HostRuntime) -> Result<(), Fail> {
     let first = [Step::Whole(11), Step::Whole(13)];
     let second = [Step::Whole(17)];
     let sessions = [first.as_slice(), second.as_slice()];
-    let (two, answer) = run_sessions(alloc, tape_of(alloc, &[])?, sixteen(1), &sessions);
+    let (two, answer) = run_sessions(alloc, empty_tape(alloc), sixteen(1), &sessions);
     answer?;
     assert_eq!(rt; two.bytes(), THREE_SAMPLES.as_slice());
     let all = [Step::Whole(11), Step::Whole(13), Step::Whole(17)];
     let mut marks = [false; 3];
     let begin = Begin::New(sixteen(1));
-    let tape = tape_of(alloc, &[])?;
+    let tape = empty_tape(alloc);
     let (one, answer) = run_session(alloc, tape, begin, &all, &mut marks, End::Finalize);
     answer?;
     assert_eq!(rt; marks, [true, true, true]);
@@ -129,10 +98,10 @@ fn sessions_end_at_the_first_refusal(rt: HostRuntime) -> Result<(), Fail> {
     let second = [Step::Whole(40000)];
     let third = [Step::Whole(17)];
     let sessions = [first.as_slice(), second.as_slice(), third.as_slice()];
-    let (tape, answer) = run_sessions(alloc, tape_of(alloc, &[])?, sixteen(1), &sessions);
+    let (tape, answer) = run_sessions(alloc, empty_tape(alloc), sixteen(1), &sessions);
     assert!(rt; matches!(answer, Err(Error::TooWide)));
     assert_eq!(rt;
-        samples_in(alloc, tape.bytes())?.as_slice(),
+        samples_of::<i16>(alloc, tape.bytes())?.as_slice(),
         [11i16].as_slice()
     );
     Ok(())
@@ -141,7 +110,7 @@ fn sessions_end_at_the_first_refusal(rt: HostRuntime) -> Result<(), Fail> {
 #[test]
 fn no_sessions_do_nothing(rt: HostRuntime) -> Result<(), Fail> {
     let alloc = rt.alloc();
-    let (tape, answer) = run_sessions(alloc, tape_of(alloc, &[])?, sixteen(1), &[]);
+    let (tape, answer) = run_sessions(alloc, empty_tape(alloc), sixteen(1), &[]);
     answer?;
     assert!(rt; tape.bytes().is_empty());
     Ok(())
@@ -153,7 +122,7 @@ fn batches_of_two_sessions(rt: HostRuntime) -> Result<(), Fail> {
     let first = [Step::Batch(&[11, 13])];
     let second = [Step::Batch(&[17])];
     let sessions = [first.as_slice(), second.as_slice()];
-    let (tape, answer) = run_sessions(alloc, tape_of(alloc, &[])?, sixteen(1), &sessions);
+    let (tape, answer) = run_sessions(alloc, empty_tape(alloc), sixteen(1), &sessions);
     answer?;
     assert_eq!(rt; tape.bytes(), THREE_SAMPLES.as_slice());
     Ok(())
@@ -169,7 +138,7 @@ fn batch_of_other_samples(
     let steps = [Step::Whole(1), Step::Batch(&[5, 6]), Step::Whole(2)];
     let mut marks = [false; 3];
     let journal = failing(alloc, from, to)?;
-    let begin = Begin::New(mono_of_24_bits());
+    let begin = Begin::New(integers(1, 44100, 24, 3));
     let (journal, answer) = run_session(alloc, journal, begin, &steps, &mut marks, End::Finalize);
     Ok((marks, journal.taken(), answer))
 }
@@ -199,7 +168,12 @@ fn sessions_end_at_a_batch_of_other_samples(rt: HostRuntime) -> Result<(), Fail>
     let alloc = rt.alloc();
     let first = [Step::Whole(1), Step::Batch(&[5, 6]), Step::Whole(2)];
     let sessions = [first.as_slice()];
-    let (tape, answer) = run_sessions(alloc, tape_of(alloc, &[])?, mono_of_24_bits(), &sessions);
+    let (tape, answer) = run_sessions(
+        alloc,
+        empty_tape(alloc),
+        integers(1, 44100, 24, 3),
+        &sessions,
+    );
     assert!(rt; matches!(answer, Err(Error::Unsupported)));
     assert_eq!(rt; tape.bytes().len(), 68 + 3);
     assert_eq!(rt;
@@ -240,7 +214,7 @@ fn an_unwritable_spec_takes_no_step(rt: HostRuntime) -> Result<(), Fail> {
         bytes_per_sample: 4,
         ..sixteen(1)
     });
-    let tape = tape_of(alloc, &[])?;
+    let tape = empty_tape(alloc);
     let (tape, answer) = run_session(alloc, tape, begin, &steps, &mut marks, End::Finalize);
     assert!(rt; matches!(answer, Err(Error::Unsupported)));
     assert_eq!(rt; marks, [false, false]);
@@ -347,7 +321,7 @@ fn reads_back(alloc: Global, bytes: &[u8], samples: &[i16]) -> bool {
         return false;
     };
     let length = u32::from_le_bytes([*a, *b, *c, *d]) as usize;
-    match samples_in(alloc, bytes) {
+    match samples_of::<i16>(alloc, bytes) {
         Ok(read) => {
             length == read.len() * 2 && length % 4 == 0 && samples.starts_with(read.as_slice())
         }
@@ -400,7 +374,7 @@ fn a_run_without_faults(rt: HostRuntime) -> Result<(), Fail> {
     assert_eq!(rt; run.bytes.get(4..8), Some(b"\x30\0\0\0".as_slice()));
     assert_eq!(rt; run.bytes.get(40..44), Some(b"\x0c\0\0\0".as_slice()));
     assert_eq!(rt;
-        samples_in(alloc, run.bytes.as_slice())?.as_slice(),
+        samples_of::<i16>(alloc, run.bytes.as_slice())?.as_slice(),
         [1i16, 2, 3, 4, 5, 6].as_slice()
     );
     assert!(rt;

@@ -8,7 +8,12 @@ use hound::{
 use std::alloc::Global;
 use std::test::Fail;
 
-fn integers(channels: u16, sample_rate: u32, bits: u16, bytes_per_sample: u16) -> WavSpecEx {
+pub(crate) fn integers(
+    channels: u16,
+    sample_rate: u32,
+    bits: u16,
+    bytes_per_sample: u16,
+) -> WavSpecEx {
     WavSpecEx {
         spec: WavSpec {
             channels,
@@ -20,7 +25,7 @@ fn integers(channels: u16, sample_rate: u32, bits: u16, bytes_per_sample: u16) -
     }
 }
 
-fn floats(sample_rate: u32) -> WavSpecEx {
+pub(crate) fn floats(sample_rate: u32) -> WavSpecEx {
     WavSpecEx {
         spec: WavSpec {
             channels: 1,
@@ -32,14 +37,14 @@ fn floats(sample_rate: u32) -> WavSpecEx {
     }
 }
 
-fn empty_tape(alloc: Global) -> Tape
+pub(crate) fn empty_tape(alloc: Global) -> Tape
     ensures { (⟦<Tape as Placed>⟧.seen result).place ≡ 0 }
 {
     Tape::new(Vec::new(alloc))
 }
 
 // The bytes of a file of these samples.
-fn file_of<S: Sample + Copy>(
+pub(crate) fn file_of<S: Sample + Copy>(
     alloc: Global,
     spec_ex: WavSpecEx,
     samples: &[S],
@@ -54,7 +59,7 @@ fn file_of<S: Sample + Copy>(
 }
 
 // The samples of a file, up to the first that is refused.
-fn samples_of<S: Sample>(alloc: Global, file: &[u8]) -> hound::Result<Vec<S>> {
+pub(crate) fn samples_of<S: Sample>(alloc: Global, file: &[u8]) -> hound::Result<Vec<S>> {
     let mut reader = WavReader::new(file)?;
     let mut samples = Vec::new(alloc);
     for sample in reader.samples::<S>() {
