@@ -24,6 +24,8 @@ mod reading;
 #[cfg(test)]
 mod seeking;
 #[cfg(test)]
+mod sessions;
+#[cfg(test)]
 mod unknown_length;
 #[cfg(test)]
 mod widths;

@@ -1,0 +1,413 @@
+// Whole runs of a writer as one call.
+ghost use Rattle.std.specs.Prelude.{◌≡◌, IfOk};
+ghost use Rattle.hound.specs.Seen.{Seen};
+
+use crate::widths::{empty_tape, integers, samples_of};
+use hound::{
+    Begin, End, Error, FloatBits, Journal, Placed, Step, Tape, WavSpecEx, run_session, run_sessions,
+};
+use std::alloc::Global;
+use std::test::Fail;
+
+fn sixteen(channels: u16) -> WavSpecEx {
+    integers(channels, 44100, 16, 2)
+}
+
+fn tape_of(alloc: Global, bytes: &[u8]) -> Result<Tape, Fail>
+    ensures { IfOk result (λ t. (⟦<Tape as Placed>⟧.seen t).place ≡ 0) }
+{
+    Ok(Tape::new(bytes.to_vec(alloc)?))
+}
+
+// An empty journal that fails at the calls with these numbers.
+fn failing(alloc: Global, from: u64, to: u64) -> hound::Result<Journal>
+    ensures { IfOk result (λ j. (⟦<Journal as Placed>⟧.seen j).place ≡ 0) }
+{
+    let mut journal = Journal::new(alloc, Vec::new(alloc))?;
+    journal.fail(from, to);
+    Ok(journal)
+}
+
+// Stereo, 44100 Hz, 16 bits: 1, 2.
+const ONE_FRAME: [u8; 48] = [
+    0x52, 0x49, 0x46, 0x46, 0x28, 0x00, 0x00, 0x00, 0x57, 0x41, 0x56, 0x45, 0x66, 0x6d, 0x74, 0x20,
+    0x10, 0x00, 0x00, 0x00, 0x01, 0x00, 0x02, 0x00, 0x44, 0xac, 0x00, 0x00, 0x10, 0xb1, 0x02, 0x00,
+    0x04, 0x00, 0x10, 0x00, 0x64, 0x61, 0x74, 0x61, 0x04, 0x00, 0x00, 0x00, 0x01, 0x00, 0x02, 0x00,
+];
+
+// Mono, 44100 Hz, 16 bits: 11, 13, 17.
+const THREE_SAMPLES: [u8; 50] = [
+    0x52, 0x49, 0x46, 0x46, 0x2a, 0x00, 0x00, 0x00, 0x57, 0x41, 0x56, 0x45, 0x66, 0x6d, 0x74, 0x20,
+    0x10, 0x00, 0x00, 0x00, 0x01, 0x00, 0x01, 0x00, 0x44, 0xac, 0x00, 0x00, 0x88, 0x58, 0x01, 0x00,
+    0x02, 0x00, 0x10, 0x00, 0x64, 0x61, 0x74, 0x61, 0x06, 0x00, 0x00, 0x00, 0x0b, 0x00, 0x0d, 0x00,
+    0x11, 0x00,
+];
+
+// The same with 19 and 23 behind them.
+const FIVE_SAMPLES: [u8; 54] = [
+    0x52, 0x49, 0x46, 0x46, 0x2e, 0x00, 0x00, 0x00, 0x57, 0x41, 0x56, 0x45, 0x66, 0x6d, 0x74, 0x20,
+    0x10, 0x00, 0x00, 0x00, 0x01, 0x00, 0x01, 0x00, 0x44, 0xac, 0x00, 0x00, 0x88, 0x58, 0x01, 0x00,
+    0x02, 0x00, 0x10, 0x00, 0x64, 0x61, 0x74, 0x61, 0x0a, 0x00, 0x00, 0x00, 0x0b, 0x00, 0x0d, 0x00,
+    0x11, 0x00, 0x13, 0x00, 0x17, 0x00,
+];
+
+#[test]
+fn refused_steps_are_marked_and_passed_over(rt: HostRuntime) -> Result<(), Fail> {
+    let alloc = rt.alloc();
+    let steps = [
+        Step::Whole(1),
+        Step::Whole(40000),
+        Step::Flush,
+        Step::Bits(FloatBits(1)),
+        Step::Whole(2),
+    ];
+    let mut marks = [false; 5];
+    let begin = Begin::New(sixteen(2));
+    let tape = empty_tape(alloc);
+    let (tape, answer) = run_session(alloc, tape, begin, &steps, &mut marks, End::Finalize);
+    answer?;
+    assert_eq!(rt; marks, [true, false, true, false, true]);
+    assert_eq!(rt; tape.bytes(), ONE_FRAME.as_slice());
+    Ok(())
+}
+
+#[test]
+fn two_sessions_are_as_one(rt: HostRuntime) -> Result<(), Fail> {
+    let alloc = rt.alloc();
+    let first = [Step::Whole(11), Step::Whole(13)];
+    let second = [Step::Whole(17)];
+    let sessions = [first.as_slice(), second.as_slice()];
+    let (two, answer) = run_sessions(alloc, empty_tape(alloc), sixteen(1), &sessions);
+    answer?;
+    assert_eq!(rt; two.bytes(), THREE_SAMPLES.as_slice());
+    let all = [Step::Whole(11), Step::Whole(13), Step::Whole(17)];
+    let mut marks = [false; 3];
+    let begin = Begin::New(sixteen(1));
+    let tape = empty_tape(alloc);
+    let (one, answer) = run_session(alloc, tape, begin, &all, &mut marks, End::Finalize);
+    answer?;
+    assert_eq!(rt; marks, [true, true, true]);
+    assert_eq!(rt; one.bytes(), two.bytes());
+    Ok(())
+}
+
+#[test]
+fn sessions_end_at_the_first_refusal(rt: HostRuntime) -> Result<(), Fail> {
+    let alloc = rt.alloc();
+    let first = [Step::Whole(11)];
+    let second = [Step::Whole(40000)];
+    let third = [Step::Whole(17)];
+    let sessions = [first.as_slice(), second.as_slice(), third.as_slice()];
+    let (tape, answer) = run_sessions(alloc, empty_tape(alloc), sixteen(1), &sessions);
+    assert!(rt; matches!(answer, Err(Error::TooWide)));
+    assert_eq!(rt;
+        samples_of::<i16>(alloc, tape.bytes())?.as_slice(),
+        [11i16].as_slice()
+    );
+    Ok(())
+}
+
+#[test]
+fn no_sessions_do_nothing(rt: HostRuntime) -> Result<(), Fail> {
+    let alloc = rt.alloc();
+    let (tape, answer) = run_sessions(alloc, empty_tape(alloc), sixteen(1), &[]);
+    answer?;
+    assert!(rt; tape.bytes().is_empty());
+    Ok(())
+}
+
+#[test]
+fn batches_of_two_sessions(rt: HostRuntime) -> Result<(), Fail> {
+    let alloc = rt.alloc();
+    let first = [Step::Batch(&[11, 13])];
+    let second = [Step::Batch(&[17])];
+    let sessions = [first.as_slice(), second.as_slice()];
+    let (tape, answer) = run_sessions(alloc, empty_tape(alloc), sixteen(1), &sessions);
+    answer?;
+    assert_eq!(rt; tape.bytes(), THREE_SAMPLES.as_slice());
+    Ok(())
+}
+
+// The marks of a sample, a batch and a sample in a session of 24 bits, and how many bytes were put,
+// where the calls with these numbers fail.
+fn batch_of_other_samples(
+    alloc: Global,
+    from: u64,
+    to: u64,
+) -> Result<([bool; 3], usize, hound::Result<()>), Fail> {
+    let steps = [Step::Whole(1), Step::Batch(&[5, 6]), Step::Whole(2)];
+    let mut marks = [false; 3];
+    let journal = failing(alloc, from, to)?;
+    let begin = Begin::New(integers(1, 44100, 24, 3));
+    let (journal, answer) = run_session(alloc, journal, begin, &steps, &mut marks, End::Finalize);
+    Ok((marks, journal.taken(), answer))
+}
+
+#[test]
+fn a_batch_of_other_samples_calls_nothing(rt: HostRuntime) -> Result<(), Fail> {
+    let alloc = rt.alloc();
+    // The header, two samples, and the two sizes.
+    let (marks, taken, answer) = batch_of_other_samples(alloc, 1, 0)?;
+    answer?;
+    assert_eq!(rt; marks, [true, false, true]);
+    assert_eq!(rt; taken, 68 + 3 + 3 + 8);
+    // The second call of the medium puts the first sample, and the third one the last.
+    let (marks, taken, answer) = batch_of_other_samples(alloc, 2, 2)?;
+    answer?;
+    assert_eq!(rt; marks, [false, false, true]);
+    assert_eq!(rt; taken, 68 + 3 + 8);
+    let (marks, taken, answer) = batch_of_other_samples(alloc, 3, 3)?;
+    answer?;
+    assert_eq!(rt; marks, [true, false, false]);
+    assert_eq!(rt; taken, 68 + 3 + 8);
+    Ok(())
+}
+
+#[test]
+fn sessions_end_at_a_batch_of_other_samples(rt: HostRuntime) -> Result<(), Fail> {
+    let alloc = rt.alloc();
+    let first = [Step::Whole(1), Step::Batch(&[5, 6]), Step::Whole(2)];
+    let sessions = [first.as_slice()];
+    let (tape, answer) = run_sessions(
+        alloc,
+        empty_tape(alloc),
+        integers(1, 44100, 24, 3),
+        &sessions,
+    );
+    assert!(rt; matches!(answer, Err(Error::Unsupported)));
+    assert_eq!(rt; tape.bytes().len(), 68 + 3);
+    assert_eq!(rt;
+        tape.bytes().get(64..),
+        Some(b"\x03\0\0\0\x01\0\0".as_slice())
+    );
+    Ok(())
+}
+
+// Goes on with the file of three samples by two more.
+fn two_more(alloc: Global, end: End) -> Result<Tape, Fail> {
+    let steps = [Step::Whole(19), Step::Whole(23)];
+    let mut marks = [false; 2];
+    let tape = tape_of(alloc, &THREE_SAMPLES)?;
+    let (tape, answer) = run_session(alloc, tape, Begin::Append, &steps, &mut marks, end);
+    answer?;
+    if marks != [true, true] {
+        return Err(Fail::from("a sample was refused"));
+    }
+    Ok(tape)
+}
+
+#[test]
+fn a_session_goes_on_with_a_file(rt: HostRuntime) -> Result<(), Fail> {
+    let finalized = two_more(rt.alloc(), End::Finalize)?;
+    assert_eq!(rt; finalized.bytes(), FIVE_SAMPLES.as_slice());
+    let dropped = two_more(rt.alloc(), End::Drop)?;
+    assert_eq!(rt; dropped.bytes(), FIVE_SAMPLES.as_slice());
+    Ok(())
+}
+
+#[test]
+fn an_unwritable_spec_takes_no_step(rt: HostRuntime) -> Result<(), Fail> {
+    let alloc = rt.alloc();
+    let steps = [Step::Whole(1), Step::Flush];
+    let mut marks = [true; 2];
+    let begin = Begin::New(WavSpecEx {
+        bytes_per_sample: 4,
+        ..sixteen(1)
+    });
+    let tape = empty_tape(alloc);
+    let (tape, answer) = run_session(alloc, tape, begin, &steps, &mut marks, End::Finalize);
+    assert!(rt; matches!(answer, Err(Error::Unsupported)));
+    assert_eq!(rt; marks, [false, false]);
+    assert!(rt; tape.bytes().is_empty());
+    Ok(())
+}
+
+#[test]
+fn bytes_that_are_no_file_are_not_gone_on_with(rt: HostRuntime) -> Result<(), Fail> {
+    let alloc = rt.alloc();
+    let steps = [Step::Whole(1), Step::Flush];
+    let mut marks = [true; 2];
+    let bytes = b"this is no WAVE file";
+    let tape = tape_of(alloc, bytes)?;
+    let (tape, answer) = run_session(
+        alloc,
+        tape,
+        Begin::Append,
+        &steps,
+        &mut marks,
+        End::Finalize,
+    );
+    assert!(rt; matches!(answer, Err(Error::FormatError("no RIFF tag found"))));
+    assert_eq!(rt; marks, [false, false]);
+    assert_eq!(rt; tape.bytes(), bytes.as_slice());
+    Ok(())
+}
+
+// A run of samples, a batch and checkpoints over a medium that may fail.
+#[derive(Drop)]
+struct Run {
+    marks: [bool; 8],
+    answer: hound::Result<()>,
+    taken: usize,
+    bytes: Vec<u8>,
+}
+
+// The run over a medium that takes so many bytes a call, and fails at the calls with these numbers.
+fn run_over_faults(alloc: Global, most: usize, from: u64, to: u64) -> Result<Run, Fail> {
+    let steps = [
+        Step::Whole(1),
+        Step::Whole(2),
+        Step::Flush,
+        Step::Whole(3),
+        Step::Flush,
+        Step::Whole(4),
+        Step::Batch(&[5, 6]),
+        Step::Flush,
+    ];
+    let mut marks = [false; 8];
+    let mut journal = failing(alloc, from, to)?;
+    journal.most(most.max(1));
+    let begin = Begin::New(sixteen(2));
+    let (journal, answer) = run_session(alloc, journal, begin, &steps, &mut marks, End::Finalize);
+    let taken = journal.taken();
+    let bytes = journal.bytes_after(alloc, taken)?;
+    Ok(Run {
+        marks,
+        answer,
+        taken,
+        bytes,
+    })
+}
+
+// The samples that these marks say were accepted.
+fn marked_samples(alloc: Global, marks: [bool; 8]) -> Result<Vec<i16>, Fail> {
+    let none: [i16; 0] = [];
+    let values = [
+        [1i16].as_slice(),
+        [2].as_slice(),
+        none.as_slice(),
+        [3].as_slice(),
+        none.as_slice(),
+        [4].as_slice(),
+        [5, 6].as_slice(),
+        none.as_slice(),
+    ];
+    let mut samples = Vec::new(alloc);
+    for (mark, values) in marks.iter().zip(values) {
+        if *mark {
+            samples.extend_from_slice(values)?;
+        }
+    }
+    Ok(samples)
+}
+
+// The file of these samples, of which there are few.
+fn stereo_file(alloc: Global, samples: &[i16]) -> Result<Vec<u8>, Fail> {
+    let length = (samples.len() % 100 * 2) as u8;
+    let mut bytes = b"RIFF".to_vec(alloc)?;
+    bytes.extend_from_slice(&[36 + length, 0, 0, 0])?;
+    bytes.extend_from_slice(&ONE_FRAME[8..40])?;
+    bytes.extend_from_slice(&[length, 0, 0, 0])?;
+    for sample in samples {
+        bytes.extend_from_slice(&sample.to_le_bytes())?;
+    }
+    Ok(bytes)
+}
+
+// Whether a file reads back as the first of these samples, as many as its length field counts, or
+// is refused for a length of no whole samples or frames.
+fn reads_back(alloc: Global, bytes: &[u8], samples: &[i16]) -> bool {
+    let Some([a, b, c, d]) = bytes.get(40..44) else {
+        return false;
+    };
+    let length = u32::from_le_bytes([*a, *b, *c, *d]) as usize;
+    match samples_of::<i16>(alloc, bytes) {
+        Ok(read) => {
+            length == read.len() * 2 && length % 4 == 0 && samples.starts_with(read.as_slice())
+        }
+        Err(Error::FormatError("data chunk length is not a multiple of sample size")) => {
+            length % 2 == 1
+        }
+        Err(Error::FormatError("invalid data chunk length")) => length % 4 == 2,
+        Err(_) => false,
+    }
+}
+
+// Whether a run left what its marks say.
+fn keeps_its_marks(alloc: Global, run: &Run) -> Result<bool, Fail> {
+    let samples = marked_samples(alloc, run.marks)?;
+    if run.answer.is_ok() {
+        let file = stereo_file(alloc, samples.as_slice())?;
+        if !run.bytes.starts_with(file.as_slice()) {
+            return Ok(false);
+        }
+    }
+    Ok(run.taken < 44 || reads_back(alloc, run.bytes.as_slice(), samples.as_slice()))
+}
+
+// Whether each run in which a range of so many calls fails left what its marks say.
+fn all_keep_their_marks(alloc: Global, most: usize, calls: u64) -> Result<bool, Fail> {
+    for from in 1..=calls {
+        for to in from..=calls {
+            let run = run_over_faults(alloc, most, from, to)?;
+            if !keeps_its_marks(alloc, &run)? {
+                return Ok(false);
+            }
+        }
+    }
+    Ok(true)
+}
+
+// Whether a run was without a fault.
+fn is_whole(run: &Run) -> bool {
+    run.answer.is_ok() && run.marks == [true; 8] && run.taken == 88 && run.bytes.len() == 56
+}
+
+// The header takes one call, each sample and the batch one, each checkpoint six, and the end five.
+const CALLS: u64 = 1 + 5 + 3 * 6 + 5;
+
+#[test]
+fn a_run_without_faults(rt: HostRuntime) -> Result<(), Fail> {
+    let alloc = rt.alloc();
+    let run = run_over_faults(alloc, usize::MAX, CALLS + 1, u64::MAX)?;
+    assert!(rt; is_whole(&run));
+    assert_eq!(rt; run.bytes.get(4..8), Some(b"\x30\0\0\0".as_slice()));
+    assert_eq!(rt; run.bytes.get(40..44), Some(b"\x0c\0\0\0".as_slice()));
+    assert_eq!(rt;
+        samples_of::<i16>(alloc, run.bytes.as_slice())?.as_slice(),
+        [1i16, 2, 3, 4, 5, 6].as_slice()
+    );
+    assert!(rt;
+        run_over_faults(alloc, usize::MAX, CALLS, CALLS)?
+            .answer
+            .is_err()
+    );
+    // The first call puts the header.
+    let run = run_over_faults(alloc, usize::MAX, 1, 1)?;
+    assert!(rt; matches!(run.answer, Err(Error::IoError(_))));
+    assert_eq!(rt; run.marks, [false; 8]);
+    assert_eq!(rt; run.taken, 0);
+    Ok(())
+}
+
+#[test]
+fn marks_are_true_over_any_range_of_faults(rt: HostRuntime) -> Result<(), Fail> {
+    assert!(rt; all_keep_their_marks(rt.alloc(), usize::MAX, CALLS)?);
+    Ok(())
+}
+
+// A call for each byte of the header, the samples and the sizes.
+const CALLS_BY_BYTES: u64 = 44 + 12 + 3 * 12 + 11;
+
+#[test]
+fn marks_are_true_where_each_byte_is_a_call(rt: HostRuntime) -> Result<(), Fail> {
+    let alloc = rt.alloc();
+    assert!(rt; is_whole(&run_over_faults(alloc, 1, CALLS_BY_BYTES + 1, u64::MAX)?));
+    assert!(rt;
+        run_over_faults(alloc, 1, CALLS_BY_BYTES, CALLS_BY_BYTES)?
+            .answer
+            .is_err()
+    );
+    assert!(rt; all_keep_their_marks(alloc, 1, CALLS_BY_BYTES)?);
+    Ok(())
+}
