@@ -222,7 +222,7 @@ impl<W: Medium> WavWriter<W> {
     /// type's table says of the file's bits and bytes; `TooLong`, where the RIFF size of the longer
     /// file would pass 4294967295; `IoError`, where the medium failed. At each of them nothing is
     /// accepted, and the writer may go on: the next sample goes where this one should have gone.
-    #[inline]
+    #[inline(always)]
     pub fn write_sample<S: Sample>(&mut self, sample: S) -> Result<()>
         // A refusal leaves all as it was.
         ensures refused { IfSome (sample_refusal (S.container sample self.old.spec_ex.spec.bits_per_sample self.old.spec_ex.bytes_per_sample) self.old)
