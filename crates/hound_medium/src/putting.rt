@@ -15,7 +15,10 @@ pub fn put_all<M: Medium>(medium: &mut M, bytes: &[u8]) -> io::Result<()>
 {
     let mut at = 0;
     while at < bytes.len() {
-        at += medium.put(&bytes[at..])?;
+        match medium.put(&bytes[at..]) {
+            Ok(count) => at += count,
+            Err(error) => return Err(error),
+        }
     }
     Ok(())
 }
