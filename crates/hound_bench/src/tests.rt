@@ -1,6 +1,6 @@
 // Each case with few samples, and words that aren't known.
 use crate::run::run;
-use std::path::PathBuf;
+use std::path::{Path, PathBuf};
 use std::test::Fail;
 use std::{env, fs, process};
 
@@ -28,6 +28,14 @@ fn path_of(rt: &HostRuntime, name: &str) -> Result<PathBuf, Fail> {
     let id = process::id(rt.process());
     let name = format!(in rt.alloc(); "hound_bench_{id}_{name}.wav")?;
     Ok(env::temp_dir(rt)?.join(rt.alloc(), name.as_str())?)
+}
+
+// The file is removed behind the run.
+fn run_on_disk(rt: &HostRuntime, name: &str, count: &str, path: Path<'_>) -> Result<Answer, Fail> {
+    let file = path.to_str().ok_or("a path in UTF-8")?;
+    let answer = run_on(rt, &[name, count, file, "untimed"]);
+    fs::remove_file(rt, path)?;
+    Ok(answer)
 }
 
 // The sums are those that hound 3.5.1 gives.
@@ -93,7 +101,6 @@ fn cases_in_memory_give_their_sums(rt: HostRuntime) -> Result<(), Fail> {
 #[test]
 fn cases_on_disk_give_their_sums(rt: HostRuntime) -> Result<(), Fail> {
     let path = path_of(&rt, "samples")?;
-    let file = path.as_path().to_str().ok_or("a path in UTF-8")?;
     let cases = [
         (
             "write_i16_file",
@@ -126,8 +133,7 @@ fn cases_on_disk_give_their_sums(rt: HostRuntime) -> Result<(), Fail> {
             status,
             output,
             errors,
-        } = run_on(&rt, &[name, count, file, "untimed"]);
-        fs::remove_file(&rt, path.as_path())?;
+        } = run_on_disk(&rt, name, count, path.as_path())?;
         assert_eq!(rt; status, 0, "{name}");
         assert_eq!(rt; output.as_slice(), line, "{name}");
         assert!(rt; errors.is_empty(), "{name}");
