@@ -20,6 +20,7 @@ pub(crate) fn copy_from(from: &[u8], at: u64, to: &mut [u8]) -> usize
 }
 
 // Copies bytes over those from a place on.
+#[inline(always)]
 fn copy_over(bytes: &mut [u8], at: usize, new: &[u8])
     requires { at + length new.now ≤ length bytes.old }
     ensures { bytes.new ≡ take at bytes.old ++ (new.now ++ drop (at + length new.now) bytes.old) }
@@ -28,6 +29,7 @@ fn copy_over(bytes: &mut [u8], at: usize, new: &[u8])
 }
 
 // Fills up with zeros to an end, where the list is shorter.
+#[inline(always)]
 fn grow(bytes: &mut Vec<u8>, end: usize) -> Result<(), AllocError>
     ensures ok { OnOk result (bytes.new.items ≡ bytes.old.items ++ replicate (end - length bytes.old.items) 0) }
     ensures err { OnErr result (bytes.new.items ≡ bytes.old.items) }
@@ -39,6 +41,7 @@ fn grow(bytes: &mut Vec<u8>, end: usize) -> Result<(), AllocError>
 }
 
 // Puts bytes at any place, with zeros before it where the list is shorter.
+#[inline(always)]
 fn put_anywhere(bytes: &mut Vec<u8>, at: usize, new: &[u8]) -> Result<(), AllocError>
     requires some { 0 < length new.now }
     requires fits { at + length new.now < 2 ^ 64 }
@@ -51,7 +54,7 @@ fn put_anywhere(bytes: &mut Vec<u8>, at: usize, new: &[u8]) -> Result<(), AllocE
 }
 
 // Puts bytes at a place. An end above `u64::MAX` is refused as memory is.
-#[inline]
+#[inline(always)]
 pub(crate) fn put_at(bytes: &mut Vec<u8>, at: u64, new: &[u8]) -> Result<(), AllocError>
     requires { 0 < length new.now }
     ensures ok { OnOk result (bytes.new.items ≡ overlay bytes.old.items (placed at new.now)) }

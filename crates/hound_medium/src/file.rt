@@ -28,7 +28,7 @@ impl Placed for BufWriter<fs::File> {
 impl Medium for BufWriter<fs::File> {
     ghost replays = { λ _ tells. Prim.absurd (false≢true tells) };
 
-    #[inline]
+    #[inline(always)]
     fn put(&mut self, bytes: &[u8]) -> io::Result<usize> {
         let n = self.write(bytes)?;
         if n == 0 {

@@ -86,7 +86,7 @@ impl<P: Placed> Placed for &mut P {
 impl<M: Medium> Medium for &mut M {
     ghost replays = { λ m. M.replays m.now };
 
-    #[inline]
+    #[inline(always)]
     fn put(&mut self, bytes: &[u8]) -> io::Result<usize> {
         Medium::put(&mut **self, bytes)
     }

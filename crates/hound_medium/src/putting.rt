@@ -8,14 +8,17 @@ use std::io;
 /// Puts all of the bytes, in order, or stops at the first `put` that fails.
 ///
 /// At an `Err` a beginning of the bytes may have been put. No bytes: no call of `put`.
-#[inline]
+#[inline(always)]
 pub fn put_all<M: Medium>(medium: &mut M, bytes: &[u8]) -> io::Result<()>
     ensures { IsTrue M.tells →
         PutsAll M.keeps bytes.now result (M.seen medium.old) (M.seen medium.new) }
 {
     let mut at = 0;
     while at < bytes.len() {
-        at += medium.put(&bytes[at..])?;
+        match medium.put(&bytes[at..]) {
+            Ok(count) => at += count,
+            Err(error) => return Err(error),
+        }
     }
     Ok(())
 }

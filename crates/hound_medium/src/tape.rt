@@ -102,7 +102,7 @@ impl Placed for Tape {
 impl Medium for Tape {
     ghost replays = { λ t _ keeps. Prim.absurd (false≢true keeps) };
 
-    #[inline]
+    #[inline(always)]
     fn put(&mut self, bytes: &[u8]) -> io::Result<usize>
         requires { 0 < length bytes.now }
         ensures puts { let seen = ⟦<Tape as Placed>⟧.seen in

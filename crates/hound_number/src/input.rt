@@ -60,7 +60,7 @@ impl From<ReadError> for io::Error {
 ///
 /// `Interrupted` is passed on like any other fault. At an `Err` fewer bytes than the buffer holds
 /// were taken.
-#[inline]
+#[inline(always)]
 pub fn read_into<R: Input>(reader: &mut R, buf: &mut [u8]) -> Result<(), ReadError>
     ensures filled { OnOk result (Consumes (R.left reader.old) (R.left reader.new) buf.new) }
     ensures part { OnErr result ((bytes : List ℕ)

@@ -15,8 +15,10 @@ impl<R: io::Read> io::Read for CountingReader<R> {
 
     #[inline(always)]
     fn read(&mut self, buf: &mut [u8]) -> io::Result<usize> {
-        let count = self.reader.read(buf)?;
-        self.given = self.given.saturating_add(count as u64);
-        Ok(count)
+        let result = self.reader.read(buf);
+        if let Ok(count) = &result {
+            self.given = self.given.saturating_add(*count as u64);
+        }
+        result
     }
 }

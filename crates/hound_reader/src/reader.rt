@@ -212,18 +212,24 @@ impl<R: io::Read + Drop> WavReader<R> {
         let spec = self.spec_ex.spec;
         let width = self.spec_ex.bytes_per_sample;
         self.reader.given = 0;
-        let sample = S::read(
+        self.samples_read += 1;
+        match S::read(
             &mut self.reader,
             spec.sample_format,
             width,
             spec.bits_per_sample,
-        );
-        self.samples_read += 1;
-        self.bytes_read += match &sample {
-            Ok(_) => width as u64,
-            Err(Error::IoError(_)) => self.reader.given.min(width as u64),
-            Err(_) => 0,
-        };
-        Some(sample)
+        ) {
+            Ok(sample) => {
+                self.bytes_read += width as u64;
+                Some(Ok(sample))
+            }
+            Err(error) => {
+                self.bytes_read += match &error {
+                    Error::IoError(_) => self.reader.given.min(width as u64),
+                    _ => 0,
+                };
+                Some(Err(error))
+            }
+        }
     }
 }

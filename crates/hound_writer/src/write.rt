@@ -210,10 +210,14 @@ impl<W: Medium> WavWriter<W> {
         self.moved = true; // until the bytes are out
         self.num_bytes = 0; // a batch is over once something else is accepted
         self.index = 0;
-        put_at_end(&mut self.writer, moved, end, bytes)?;
-        self.data_bytes_written += bytes.len() as u32;
-        self.moved = false;
-        Ok(())
+        match put_at_end(&mut self.writer, moved, end, bytes) {
+            Ok(()) => {
+                self.data_bytes_written += bytes.len() as u32;
+                self.moved = false;
+                Ok(())
+            }
+            Err(error) => Err(error),
+        }
     }
 
     /// Writes a sample of one channel; the channels of a frame follow one another.
@@ -222,7 +226,7 @@ impl<W: Medium> WavWriter<W> {
     /// type's table says of the file's bits and bytes; `TooLong`, where the RIFF size of the longer
     /// file would pass 4294967295; `IoError`, where the medium failed. At each of them nothing is
     /// accepted, and the writer may go on: the next sample goes where this one should have gone.
-    #[inline]
+    #[inline(always)]
     pub fn write_sample<S: Sample>(&mut self, sample: S) -> Result<()>
         // A refusal leaves all as it was.
         ensures refused { IfSome (sample_refusal (S.container sample self.old.spec_ex.spec.bits_per_sample self.old.spec_ex.bytes_per_sample) self.old)
@@ -251,12 +255,18 @@ impl<W: Medium> WavWriter<W> {
         ensures moments { IsTrue W.tells → IsTrue W.keeps → AcceptsAtEach W.seen self.old (W.seen self.new.medium) }
     {
         let width = self.bytes_per_sample;
-        let container = sample.encode(self.spec.bits_per_sample, width)?;
-        if !self.has_room(width as u32) {
-            return Err(Error::TooLong);
+        match sample.encode(self.spec.bits_per_sample, width) {
+            Ok(container) => {
+                if !self.has_room(width as u32) {
+                    return Err(Error::TooLong);
+                }
+                match self.accept(&container[..width as usize]) {
+                    Ok(()) => Ok(()),
+                    Err(error) => Err(Error::IoError(error)),
+                }
+            }
+            Err(refusal) => Err(refusal),
         }
-        self.accept(&container[..width as usize])?;
-        Ok(())
     }
 
     // Whether the accepted samples are whole frames.

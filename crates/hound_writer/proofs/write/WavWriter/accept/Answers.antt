@@ -5,16 +5,16 @@ use Rattle.hound_writer.proofs.Beginning.{room_for_none}
 use Rattle.hound_writer.proofs.Accepting.{opened, standing, stands_moved, stands_behind}
 use Rattle.hound_writer.proofs.write.WavWriter.accept.Goals as goal
 
-pub invariant_of-self : goal.invariant_of-self
-invariant_of-self g c =
+pub invariant_of-self-in-Err : goal.invariant_of-self-in-Err
+invariant_of-self-in-Err g c =
     let w = c.self.inside in (
       c.self.invariant.0,
-      λ tells. stands_moved g.W.Placed.keeps _ w.data_len_offset w.data_bytes_written c.args.bytes.now _ _ _ (c.in_err-put_at_end.ensures tells) w.moved (c.self.invariant.1 tells),
+      λ tells. stands_moved g.W.Placed.keeps _ w.data_len_offset w.data_bytes_written c.args.bytes.now _ _ _ (c.in-Err.ensures tells) w.moved (c.self.invariant.1 tells),
       room_for_none _ _ _ _ c.self.invariant.0,
     )
 
-pub invariant_of-self-2 : goal.invariant_of-self-2
-invariant_of-self-2 g c =
+pub invariant_of-self : goal.invariant_of-self
+invariant_of-self g c =
     let w = c.self.inside in
     let before = c.self.invariant.0 in
     let sound : IsSound (record { spec = w.spec; bytes_per_sample = w.bytes_per_sample }) (w.data_len_offset + 4) _ = record {
@@ -26,27 +26,27 @@ invariant_of-self-2 g c =
       fits = search rules;
     } in (
       sound,
-      λ tells. let puts = c.in_ok-put_at_end.ensures tells in
+      λ tells. let puts = c.in-Ok.ensures tells in
           stands_behind g.W.Placed.keeps _ w.data_len_offset w.data_bytes_written c.args.bytes.now _ _ _ puts w.moved (c.self.invariant.1 tells) puts.place,
       room_for_none _ _ _ _ sound,
     )
 
-pub returns-in_err-put_at_end-clause-sound_before : goal.returns-in_err-put_at_end-clause-sound_before
-returns-in_err-put_at_end-clause-sound_before g c =
+pub returns-in-Err-clause-sound_before : goal.returns-in-Err-clause-sound_before
+returns-in-Err-clause-sound_before g c =
     let w = opened g.W.Placed.tells g.W.Placed.seen _ _ c.self.view_is c.self.invariant.0 (λ t. standing _ _ _ _ _ (c.self.invariant.1 t)) in
     w.sound
 
-pub returns-in_err-put_at_end-clause-stands : goal.returns-in_err-put_at_end-clause-stands
-returns-in_err-put_at_end-clause-stands g c tells =
+pub returns-in-Err-clause-stands : goal.returns-in-Err-clause-stands
+returns-in-Err-clause-stands g c tells =
     let w = opened g.W.Placed.tells g.W.Placed.seen _ _ c.self.view_is c.self.invariant.0 (λ t. standing _ _ _ _ _ (c.self.invariant.1 t)) in
     w.stands tells
 
-pub returns-clause-sound_before : goal.returns-clause-sound_before
-returns-clause-sound_before g c =
+pub returns-in-Ok-clause-sound_before : goal.returns-in-Ok-clause-sound_before
+returns-in-Ok-clause-sound_before g c =
     let w = opened g.W.Placed.tells g.W.Placed.seen _ _ c.self.view_is c.self.invariant.0 (λ t. standing _ _ _ _ _ (c.self.invariant.1 t)) in
     w.sound
 
-pub returns-clause-stands : goal.returns-clause-stands
-returns-clause-stands g c tells =
+pub returns-in-Ok-clause-stands : goal.returns-in-Ok-clause-stands
+returns-in-Ok-clause-stands g c tells =
     let w = opened g.W.Placed.tells g.W.Placed.seen _ _ c.self.view_is c.self.invariant.0 (λ t. standing _ _ _ _ _ (c.self.invariant.1 t)) in
     w.stands tells

@@ -1,0 +1,43 @@
+// The workload of batches.
+ghost use Rattle.std.specs.Prelude.{◌≡◌};
+ghost use Rattle.hound.specs.Room.{IsSixteen};
+
+use crate::pattern::{Pattern, Sixteen};
+use hound::{Medium, Result, WavWriter};
+use std::alloc::Global;
+
+/// How many samples a batch has.
+const BATCH: u32 = 1024;
+
+// Writes as many samples by one batch, from a number on.
+fn write_batch<W: Medium>(
+    writer: &mut WavWriter<W>,
+    alloc: Global,
+    first: u32,
+    count: u32,
+) -> Result<()>
+    requires { IsSixteen writer.old.spec_ex }
+    ensures { writer.new.spec_ex ≡ writer.old.spec_ex }
+{
+    let mut batch = writer.get_i16_writer(alloc, count)?;
+    let mut index = first;
+    while batch.remaining() > 0 {
+        batch.write_sample(Sixteen::sample(index));
+        index = index.wrapping_add(1);
+    }
+    batch.flush()
+}
+
+/// Writes so many samples of sixteen bits in batches of 1024, and closes the file.
+pub fn write_batches<W: Medium>(writer: WavWriter<W>, alloc: Global, count: u32) -> Result<()>
+    requires { IsSixteen writer.spec_ex }
+{
+    let mut writer = writer;
+    let mut first = 0;
+    while first < count {
+        let length = (count - first).min(BATCH);
+        write_batch(&mut writer, alloc, first, length)?;
+        first += length;
+    }
+    writer.finalize()
+}

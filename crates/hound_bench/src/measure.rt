@@ -1,0 +1,176 @@
+// Cases from end to end: what is made before, what is timed, and what is looked at behind it.
+ghost use Rattle.std.specs.Prelude.{◌≡◌, IfOk};
+
+use crate::batches::write_batches;
+use crate::case::{Bits, Case};
+use crate::pattern::{Pattern, Sixteen, ThirtyTwo, TwentyFour, spec_of};
+use crate::workloads::{open_often, read_all, write_all, write_flushing};
+use hound::{Error, Placed, Result, Tape, WavReader, WavSpec, WavWriter};
+use std::alloc::Global;
+use std::fs;
+use std::path::Path;
+use std::time::Instant;
+
+/// What one run of a case gave.
+#[derive(Clone, Copy)]
+pub struct Measured {
+    /// The bytes that were written or read.
+    pub bytes: u64,
+    /// The time of the workload alone.
+    pub nanoseconds: u128,
+    /// The sum of the samples that were read, or of the bytes that were written.
+    pub check: i64,
+}
+
+/// Runs a case with so many samples; the path is that of its file on disk, where it has one.
+pub fn measure(rt: &HostRuntime, case: Case, count: u32, path: Path<'_>) -> Result<Measured> {
+    match case {
+        Case::WriteMemory(bits) => match bits {
+            Bits::Sixteen => write_memory::<Sixteen>(rt, count),
+            Bits::TwentyFour => write_memory::<TwentyFour>(rt, count),
+            Bits::ThirtyTwo => write_memory::<ThirtyTwo>(rt, count),
+        },
+        Case::WriteGrowing => write_growing(rt, count),
+        Case::WriteFile(bits) => match bits {
+            Bits::Sixteen => write_file::<Sixteen>(rt, count, path),
+            Bits::TwentyFour => write_file::<TwentyFour>(rt, count, path),
+            Bits::ThirtyTwo => write_file::<ThirtyTwo>(rt, count, path),
+        },
+        Case::BatchMemory => batch_memory(rt, count),
+        Case::BatchFile => batch_file(rt, count, path),
+        Case::ReadMemory(bits) => match bits {
+            Bits::Sixteen => read_memory::<Sixteen>(rt, count),
+            Bits::TwentyFour => read_memory::<TwentyFour>(rt, count),
+            Bits::ThirtyTwo => read_memory::<ThirtyTwo>(rt, count),
+        },
+        Case::ReadFile(bits) => match bits {
+            Bits::Sixteen => read_file::<Sixteen>(rt, count, path),
+            Bits::TwentyFour => read_file::<TwentyFour>(rt, count, path),
+            Bits::ThirtyTwo => read_file::<ThirtyTwo>(rt, count, path),
+        },
+        Case::FlushMemory => flush_memory(rt, count),
+        Case::OpenMemory => open_memory(rt, count),
+    }
+}
+
+// A tape of zeros, as long as the file of so many samples will be.
+fn full_tape(alloc: Global, spec: WavSpec, count: u32) -> Result<Tape>
+    ensures { IfOk result (λ t. (⟦<Tape as Placed>⟧.seen t).place ≡ 0) }
+{
+    let header = spec.into_header_for_infinite_file(alloc)?;
+    let width = spec.bits_per_sample.div_ceil(8) as usize;
+    let mut bytes = Vec::new(alloc);
+    bytes
+        .resize(header.len() + count as usize * width, 0)
+        .map_err(|_| Error::OutOfMemory)?;
+    Ok(Tape::new(bytes))
+}
+
+// The file of so many samples.
+fn file_of<P: Pattern>(alloc: Global, count: u32) -> Result<Vec<u8>> {
+    let mut tape = Tape::new(Vec::new(alloc));
+    let writer = WavWriter::new(&mut tape, P::spec())?;
+    write_all::<P, _>(writer, count)?;
+    Ok(tape.into_bytes())
+}
+
+// What a run gave that wrote these bytes.
+fn written(file: &[u8], nanoseconds: u128) -> Measured {
+    let mut check = 0i64;
+    for byte in file {
+        check = check.wrapping_add(*byte as i64);
+    }
+    Measured {
+        bytes: file.len() as u64,
+        nanoseconds,
+        check,
+    }
+}
+
+fn write_memory<P: Pattern>(rt: &HostRuntime, count: u32) -> Result<Measured> {
+    let mut tape = full_tape(rt.alloc(), P::spec(), count)?;
+    let start = Instant::now(rt)?;
+    write_all::<P, _>(WavWriter::new(&mut tape, P::spec())?, count)?;
+    let time = start.elapsed(rt)?;
+    Ok(written(tape.bytes(), time.as_nanos()))
+}
+
+fn write_growing(rt: &HostRuntime, count: u32) -> Result<Measured> {
+    let mut tape = Tape::new(Vec::new(rt.alloc()));
+    let start = Instant::now(rt)?;
+    write_all::<Sixteen, _>(WavWriter::new(&mut tape, Sixteen::spec())?, count)?;
+    let time = start.elapsed(rt)?;
+    Ok(written(tape.bytes(), time.as_nanos()))
+}
+
+fn write_file<P: Pattern>(rt: &HostRuntime, count: u32, path: Path<'_>) -> Result<Measured> {
+    let start = Instant::now(rt)?;
+    let writer = WavWriter::create(rt, rt.alloc(), path, P::spec())?;
+    write_all::<P, _>(writer, count)?;
+    let time = start.elapsed(rt)?;
+    Ok(written(&fs::read(rt, path)?, time.as_nanos()))
+}
+
+fn batch_memory(rt: &HostRuntime, count: u32) -> Result<Measured> {
+    let mut tape = full_tape(rt.alloc(), Sixteen::spec(), count)?;
+    let start = Instant::now(rt)?;
+    let writer = WavWriter::new(&mut tape, spec_of(16))?;
+    write_batches(writer, rt.alloc(), count)?;
+    let time = start.elapsed(rt)?;
+    Ok(written(tape.bytes(), time.as_nanos()))
+}
+
+fn batch_file(rt: &HostRuntime, count: u32, path: Path<'_>) -> Result<Measured> {
+    let start = Instant::now(rt)?;
+    let writer = WavWriter::create(rt, rt.alloc(), path, spec_of(16))?;
+    write_batches(writer, rt.alloc(), count)?;
+    let time = start.elapsed(rt)?;
+    Ok(written(&fs::read(rt, path)?, time.as_nanos()))
+}
+
+fn read_memory<P: Pattern>(rt: &HostRuntime, count: u32) -> Result<Measured> {
+    let file = file_of::<P>(rt.alloc(), count)?;
+    let bytes = file.as_slice();
+    let start = Instant::now(rt)?;
+    let check = read_all::<P, _>(WavReader::new(bytes)?)?;
+    let time = start.elapsed(rt)?;
+    Ok(Measured {
+        bytes: bytes.len() as u64,
+        nanoseconds: time.as_nanos(),
+        check,
+    })
+}
+
+fn read_file<P: Pattern>(rt: &HostRuntime, count: u32, path: Path<'_>) -> Result<Measured> {
+    let file = file_of::<P>(rt.alloc(), count)?;
+    fs::write(rt, path, file.as_slice())?;
+    let start = Instant::now(rt)?;
+    let check = read_all::<P, _>(WavReader::open(rt, rt.alloc(), path)?)?;
+    let time = start.elapsed(rt)?;
+    Ok(Measured {
+        bytes: file.len() as u64,
+        nanoseconds: time.as_nanos(),
+        check,
+    })
+}
+
+fn flush_memory(rt: &HostRuntime, count: u32) -> Result<Measured> {
+    let mut tape = full_tape(rt.alloc(), Sixteen::spec(), count)?;
+    let start = Instant::now(rt)?;
+    write_flushing::<Sixteen, _>(WavWriter::new(&mut tape, Sixteen::spec())?, count)?;
+    let time = start.elapsed(rt)?;
+    Ok(written(tape.bytes(), time.as_nanos()))
+}
+
+// The small file has sixteen samples.
+fn open_memory(rt: &HostRuntime, count: u32) -> Result<Measured> {
+    let file = file_of::<Sixteen>(rt.alloc(), 16)?;
+    let start = Instant::now(rt)?;
+    let check = open_often(&file, count)?;
+    let time = start.elapsed(rt)?;
+    Ok(Measured {
+        bytes: (file.len() as u64).saturating_mul(count as u64),
+        nanoseconds: time.as_nanos(),
+        check,
+    })
+}

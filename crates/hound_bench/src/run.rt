@@ -1,0 +1,99 @@
+// What the program does.
+ghost use Rattle.std.specs.Prelude.{◌≡◌, ◌≤◌};
+
+use crate::case::Case;
+use crate::measure::{Measured, measure};
+use std::io;
+use std::path::Path;
+
+const USAGE: &str = "usage: hound_bench CASE N FILE [untimed]";
+
+// What the words ask for.
+#[derive(Clone, Copy)]
+struct Request<'a> {
+    name: &'a str,
+    case: Case,
+    count: u32,
+    file: &'a str,
+    is_timed: bool,
+}
+
+/// Carries out the words `CASE N FILE`, and answers the status: 0 for success, 1 where it failed, 2
+/// for words that it doesn't know.
+///
+/// FILE is `-` where the case has no file on disk. The output is one line: the case, the samples, the
+/// bytes that were written or read, the nanoseconds that the workload took, and a sum over what was
+/// read or written. With the word `untimed` behind the others the nanoseconds are left out, so the
+/// line is the same at each run. A failure has one line on `errors`; a fault while that is written
+/// isn't told.
+pub fn run<O: io::Write, E: io::Write>(
+    rt: &HostRuntime,
+    words: &[&str],
+    output: &mut O,
+    errors: &mut E,
+) -> u8
+    ensures { result ≤ 2 }
+{
+    let Some(request) = request_of(words, errors) else {
+        return 2;
+    };
+    let measured = match measure(rt, request.case, request.count, Path::new(request.file)) {
+        Ok(measured) => measured,
+        Err(error) => {
+            let _ = writeln!(errors, "{error}");
+            return 1;
+        }
+    };
+    match print(request, measured, output) {
+        Ok(()) => 0,
+        Err(error) => {
+            let _ = writeln!(errors, "{error}");
+            1
+        }
+    }
+}
+
+// What the words ask for; where it is nothing, a line says why.
+fn request_of<'a, E: io::Write>(words: &[&'a str], errors: &mut E) -> Option<Request<'a>> {
+    let (name, count, file, is_timed) = match words {
+        [name, count, file] => (*name, *count, *file, true),
+        [name, count, file, "untimed"] => (*name, *count, *file, false),
+        _ => {
+            let _ = writeln!(errors, "{USAGE}");
+            return None;
+        }
+    };
+    let Some(case) = Case::named(name) else {
+        let _ = writeln!(errors, "unknown case: {name}");
+        return None;
+    };
+    let Ok(count) = count.parse::<u32>() else {
+        let _ = writeln!(errors, "bad number: {count}");
+        return None;
+    };
+    if case.needs_file() && file == "-" {
+        let _ = writeln!(errors, "{name} needs a file");
+        return None;
+    }
+    Some(Request {
+        name,
+        case,
+        count,
+        file,
+        is_timed,
+    })
+}
+
+fn print<O: io::Write>(request: Request<'_>, measured: Measured, output: &mut O) -> io::Result<()> {
+    let name = request.name;
+    let count = request.count;
+    let bytes = measured.bytes;
+    let nanoseconds = measured.nanoseconds;
+    let check = measured.check;
+    if request.is_timed {
+        writeln!(output, "{name} {count} {bytes} {nanoseconds} {check}")?;
+    } else {
+        writeln!(output, "{name} {count} {bytes} {check}")?;
+    }
+    output.flush()
+}

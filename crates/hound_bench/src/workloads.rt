@@ -1,0 +1,48 @@
+// What is timed, over any medium and any reader.
+use crate::pattern::Pattern;
+use hound::{Medium, Result, WavReader, WavWriter};
+use std::io;
+
+/// How many samples are written between two flushes.
+const CHECKPOINT: u32 = 4800;
+
+/// Writes so many samples, one at a time, and closes the file.
+pub fn write_all<P: Pattern, W: Medium>(writer: WavWriter<W>, count: u32) -> Result<()> {
+    let mut writer = writer;
+    for index in 0..count {
+        writer.write_sample(P::sample(index))?;
+    }
+    writer.finalize()
+}
+
+/// The same, with a flush after each 4800 samples.
+pub fn write_flushing<P: Pattern, W: Medium>(writer: WavWriter<W>, count: u32) -> Result<()> {
+    let mut writer = writer;
+    for index in 0..count {
+        writer.write_sample(P::sample(index))?;
+        if index % CHECKPOINT == CHECKPOINT - 1 {
+            writer.flush()?;
+        }
+    }
+    writer.finalize()
+}
+
+/// The sum of all samples.
+pub fn read_all<P: Pattern, R: io::Read + Drop>(reader: WavReader<R>) -> Result<i64> {
+    let mut reader = reader;
+    let mut sum = 0i64;
+    for sample in reader.samples::<P::Sample>() {
+        sum = sum.wrapping_add(P::value(sample?));
+    }
+    Ok(sum)
+}
+
+/// Opens a file in memory so often: the sum of the samples that it has.
+pub fn open_often(file: &[u8], count: u32) -> Result<i64> {
+    let mut sum = 0i64;
+    for _ in 0..count {
+        let reader = WavReader::new(file)?;
+        sum = sum.wrapping_add(reader.len() as i64);
+    }
+    Ok(sum)
+}
