@@ -1,5 +1,5 @@
 -- Sessions one after the other.
-use Rattle.std.proofs.Common.{◌≡◌, ℕ, zero, suc, ◌+◌, ◌-◌, ◌*◌, ◌/◌, ◌%◌, ◌<◌, ◌≤◌, max, Bool, true, false, get_or, Bor, nat_le, List, [], ◌∷◌, ◌++◌, length, take, drop, replicate, map, Some, None, Result, Ok, Err, OnOk, IfErr, refl, sym, ◌∙◌, ap, subst, arith, inl, inr, length-append, length-drop, append_assoc, take-append-drop, le-ltb, eq-eqb}
+use Rattle.std.proofs.Common.{◌≡◌, ℕ, zero, suc, ◌+◌, ◌-◌, ◌*◌, ◌/◌, ◌%◌, ◌<◌, ◌≤◌, max, Bool, true, false, IsTrue, get_or, Bor, nat_le, List, [], ◌∷◌, ◌++◌, length, take, drop, replicate, map, Some, None, Result, Ok, Err, OnOk, IfErr, refl, sym, ◌∙◌, ap, subst, arith, inl, inr, length-append, length-drop, append_assoc, take-append-drop, le-ltb, eq-eqb, lt-ltb, ltb-true}
 use Rattle.std.proofs.lemmas.List.{append-nil, take_all, take_more, length-take-le}
 use Rattle.std.proofs.lemmas.Nat.{div-add-mod'}
 use Rattle.std.proofs.Math.Nat.{div-mul-le_self}
@@ -28,7 +28,7 @@ use Rattle.hound_medium.proofs.Torn.{number_at_small}
 use Rattle.hound_writer.proofs.Accepting.{length_overlay_max}
 use Rattle.hound_session.specs.declared.session.Step.{Step}
 use Rattle.hound_session.specs.declared.session.Step.TheVariants.{Whole, Bits, Batch, Flush}
-use Rattle.hound_session.specs.Steps.{mark_of, accepted_by, accepted_by_all, step_containers, FitAnswer, AcceptAnswer, StepAnswer}
+use Rattle.hound_session.specs.Steps.{mark_of, accepted_by, accepted_by_all, step_containers, wants_memory, FitAnswer, AcceptAnswer, StepAnswer}
 use Rattle.hound_session.specs.Run.{Takes, Begins, BeginsFile, IsNotBegun, NoFault, IsStrictRun, StopsIn}
 use Rattle.hound_session.specs.Sessions.{Event, taken, finished, session_events, events, containers_of, writer_of, EventAnswer, StopsAt, FaultsGrow, HoldsFile, IsReady, LeadsOn}
 use Rattle.hound_session.specs.declared.session.Begin.{Begin}
@@ -205,11 +205,31 @@ accept_same : {M N : Type 0} (memory : Bool) (asked : Result (List (List ℕ)) R
 accept_same memory (Err refusal) answer v w start size here = here
 accept_same memory (Ok list) answer v w start size here = subst (λ b. FitAnswer b memory answer) (λ i. nat_le (riff_size (start i) (size i + length (concat list))) 4294967295) here
 
-step_same : {M N : Type 0} (step : Step) (answer : Result (Unit {0}) Error) (v : Written M) (w : Written N) → v.spec_ex ≡ w.spec_ex → v.data_start ≡ w.data_start → v.data_length ≡ w.data_length → StepAnswer step v answer → StepAnswer step w answer
-step_same (Whole value) answer v w spec start size here = subst (λ t. AcceptAnswer false (step_containers t (Whole value)) w answer) spec (accept_same false (step_containers v.spec_ex (Whole value)) answer v w start size here)
-step_same (Bits bits) answer v w spec start size here = subst (λ t. AcceptAnswer false (step_containers t (Bits bits)) w answer) spec (accept_same false (step_containers v.spec_ex (Bits bits)) answer v w start size here)
-step_same (Batch values) answer v w spec start size here = subst (λ t. AcceptAnswer true (step_containers t (Batch values)) w answer) spec (accept_same true (step_containers v.spec_ex (Batch values)) answer v w start size here)
-step_same Flush answer v w spec start size here = publishing_same answer v w spec size here
+-- an answer that wants memory stays one where more memory is wanted
+accept_more : {N : Type 0} (a b : Bool) (asked : Result (List (List ℕ)) Refusal) (answer : Result (Unit {0}) Error) (w : Written N) → (IsTrue a → IsTrue b) → AcceptAnswer a asked w answer → AcceptAnswer b asked w answer
+accept_more a b (Err refusal) answer w more here = here
+accept_more a b (Ok list) answer w more here = go (nat_le (riff_size w.data_start (w.data_length + length (concat list))) 4294967295) answer here
+  where
+    go : (fit : Bool) (answer : Result (Unit {0}) Error) → FitAnswer fit a answer → FitAnswer fit b answer
+    go false answer here = here
+    go true (Ok x) here = tt
+    go true (Err (IoError e)) here = tt
+    go true (Err OutOfMemory) here = more here
+    go true (Err (FormatError x)) here = absurd here
+    go true (Err TooWide) here = absurd here
+    go true (Err UnfinishedSample) here = absurd here
+    go true (Err Unsupported) here = absurd here
+    go true (Err InvalidSampleFormat) here = absurd here
+    go true (Err TooLong) here = absurd here
+
+step_same : {M N : Type 0} (step : Step) (answer : Result (Unit {0}) Error) (v : Written M) (w : Written N) → length w.buffer ≤ length v.buffer → v.spec_ex ≡ w.spec_ex → v.data_start ≡ w.data_start → v.data_length ≡ w.data_length → StepAnswer step v answer → StepAnswer step w answer
+step_same (Whole value) answer v w less spec start size here = subst (λ t. AcceptAnswer false (step_containers t (Whole value)) w answer) spec (accept_same false (step_containers v.spec_ex (Whole value)) answer v w start size here)
+step_same (Bits bits) answer v w less spec start size here = subst (λ t. AcceptAnswer false (step_containers t (Bits bits)) w answer) spec (accept_same false (step_containers v.spec_ex (Bits bits)) answer v w start size here)
+step_same (Batch values) answer v w less spec start size here =
+    let more : IsTrue (wants_memory values.now v) → IsTrue (wants_memory values.now w) = λ b. lt-ltb (length w.buffer) (2 * length values.now) (omega (arith, less, ltb-true (length v.buffer) (2 * length values.now) b)) in
+    accept_more (wants_memory values.now v) (wants_memory values.now w) (step_containers w.spec_ex (Batch values)) answer w more
+    (subst (λ t. AcceptAnswer (wants_memory values.now v) (step_containers t (Batch values)) w answer) spec (accept_same (wants_memory values.now v) (step_containers v.spec_ex (Batch values)) answer v w start size here))
+step_same Flush answer v w less spec start size here = publishing_same answer v w spec size here
 
 -- a sample or a batch is never unfinished
 not_unfinished : {M : Type 0} (memory : Bool) (asked : Result (List (List ℕ)) Refusal) (w : Written M) → AcceptAnswer memory asked w (Err UnfinishedSample) → ⊥
@@ -225,7 +245,7 @@ not_unfinished memory (Ok list) w here = go (nat_le (riff_size w.data_start (w.d
 error_accepts_none : {M : Type 0} (s : WavSpecEx) (step : Step) (w : Written M) (e : Error) → StepAnswer step w (Err e) → accepted_by s step (mark_of (Err e)) ≡ []
 error_accepts_none s (Whole value) w UnfinishedSample here = absurd (not_unfinished false (step_containers w.spec_ex (Whole value)) w here)
 error_accepts_none s (Bits bits) w UnfinishedSample here = absurd (not_unfinished false (step_containers w.spec_ex (Bits bits)) w here)
-error_accepts_none s (Batch values) w UnfinishedSample here = absurd (not_unfinished true (step_containers w.spec_ex (Batch values)) w here)
+error_accepts_none s (Batch values) w UnfinishedSample here = absurd (not_unfinished (wants_memory values.now w) (step_containers w.spec_ex (Batch values)) w here)
 error_accepts_none s Flush w UnfinishedSample here = refl
 error_accepts_none s step w (IoError x) here = refl
 error_accepts_none s step w (FormatError x) here = refl
@@ -313,7 +333,7 @@ module _ {M : Type 0} (seen : M → Seen) (s : WavSpecEx) (list : List (List ℕ
           event = taken st.step;
           after = map taken st.after ++ finished ∷ [];
           whole = ap (λ l. map taken l ++ finished ∷ []) st.whole ∙ ap (λ l. l ++ finished ∷ []) (map-append taken st.before (st.step ∷ st.after)) ∙ append_assoc (map taken st.before) (taken st.step ∷ map taken st.after) (finished ∷ []);
-          answer = step_same st.step (Err e) st.last (writer_of s (list ++ containers_of s (map taken st.before))) before.spec before.at before.size st.takes.answers;
+          answer = step_same st.step (Err e) st.last (writer_of s (list ++ containers_of s (map taken st.before))) (omega arith) before.spec before.at before.size st.takes.answers;
           file = file_there seen s (list ++ containers_of s (map taken st.before)) start new after medium dropped (no_fault_then start (seen new.medium) (seen medium) after.faults grows clean) is p;
         };
       }

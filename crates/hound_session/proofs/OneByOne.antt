@@ -51,9 +51,9 @@ one_by_one seen (v ∷ values) s old new sixteen same (mid, t, runs) =
     λ i. here i ++ one_by_one seen values s mid new sixteen (t.spec_ex ∙ same) runs i
 
 -- an Ok batch is of sixteen bits
-pub batch_is_sixteen : {M : Type 0} (w : Written M) (s : WavSpecEx) (values : List ℤ) → AcceptAnswer true (batch_containers s values) w (Ok tt) → is_sixteen s.spec ≡ true
-batch_is_sixteen w s values answers = go (is_sixteen s.spec) answers
+pub batch_is_sixteen : {M : Type 0} (memory : Bool) (w : Written M) (s : WavSpecEx) (values : List ℤ) → AcceptAnswer memory (batch_containers s values) w (Ok tt) → is_sixteen s.spec ≡ true
+batch_is_sixteen memory w s values answers = go (is_sixteen s.spec) answers
   where
-    go : (b : Bool) → AcceptAnswer true (cond b (Ok (map (signed_bytes_of 2) values)) (Err unsupported)) w (Ok tt) → b ≡ true
+    go : (b : Bool) → AcceptAnswer memory (cond b (Ok (map (signed_bytes_of 2) values)) (Err unsupported)) w (Ok tt) → b ≡ true
     go true answers = refl
     go false answers = cc

@@ -1,5 +1,5 @@
 -- What a step does, from the contract of its call.
-use Rattle.std.proofs.Common.{◌≡◌, ℕ, ◌+◌, ◌-◌, ◌/◌, ◌≤◌, max, Bool, true, false, nat_le, List, [], ◌∷◌, ◌++◌, length, take, Result, Ok, Err, IfSome, IfNone, IfErr, OnOk, MatchResult, refl, sym, ◌∙◌, ap, subst, arith, inl, inr}
+use Rattle.std.proofs.Common.{◌≡◌, ℕ, ◌+◌, ◌-◌, ◌*◌, ◌/◌, ◌≤◌, max, Bool, true, false, nat_le, List, [], ◌∷◌, ◌++◌, length, take, Result, Ok, Err, IfSome, IfNone, IfErr, OnOk, MatchResult, refl, sym, ◌∙◌, ap, subst, arith, inl, inr}
 use Rattle.std.proofs.lemmas.Bool.{cases_Bool}
 use Rattle.std.proofs.lemmas.List.{append-nil}
 use Rattle.std.specs.List.{concat}
@@ -15,7 +15,7 @@ use Rattle.hound_writer.specs.Parts.{field}
 use Rattle.hound_writer.specs.Writer.{Written, IsWhole, IsBegun, IsCounted, IsIoError, AcceptsSample, HasHeader, accepted, sample_refusal, faults_told, IsPublishing, Publishes}
 use Rattle.hound_writer.specs.Counts.{Counts}
 use Rattle.hound_session.specs.declared.session.Step.TheVariants.{Whole, Bits, Batch, Flush}
-use Rattle.hound_session.specs.Steps.{one, mark_of, if_marked, step_containers, AcceptAnswer, FitAnswer}
+use Rattle.hound_session.specs.Steps.{one, mark_of, if_marked, step_containers, wants_memory, AcceptAnswer, FitAnswer}
 use Rattle.hound_session.specs.Run.{AcceptsAs, Takes, UnlessFailed}
 
 -- a refusal by type, size or memory, after which all is as it was
@@ -29,6 +29,7 @@ refused_as seen memory asked e old new mark faults answers same =
       spec_ex = ap (λ w. w.spec_ex) same;
       data_start = ap (λ w. w.data_start) same;
       data_length = omega (arith, ap (λ w. w.data_length) same, ap (λ l. length (concat l)) none);
+      kept = omega (arith, ap (λ w. length w.buffer) same);
       front = ap (λ w. take old.data_start (seen w.medium).contents) same;
       reach = unless e (omega (arith, ap (λ w. length (seen w.medium).contents) same));
       whole = λ whole. subst (IsWhole seen) (sym same) whole;
@@ -52,7 +53,7 @@ concat-one container width size = ap length (append-nil container) ∙ size
 
 -- what `write_sample` says of its answer
 module _ {M : Type 0} (seen : M → Seen) (old new : Written M)
-    (spec_stays : new.spec_ex ≡ old.spec_ex) (start_stays : new.data_start ≡ old.data_start)
+    (spec_stays : new.spec_ex ≡ old.spec_ex) (start_stays : new.data_start ≡ old.data_start) (buffer_stays : new.buffer ≡ old.buffer)
     (whole : IsWhole seen old → IsWhole seen new) (counts : IsWhole seen old → IsCounted seen new) (front : take old.data_start (seen new.medium).contents ≡ take old.data_start (seen old.medium).contents) where
   abbrev width : ℕ
   width = old.spec_ex.bytes_per_sample
@@ -70,6 +71,7 @@ module _ {M : Type 0} (seen : M → Seen) (old new : Written M)
         spec_ex = spec_stays;
         data_start = start_stays;
         data_length = omega (arith, more, n);
+        kept = omega (arith, ap length buffer_stays);
         front = front;
         reach = omega (arith, reach, start_stays);
         whole = whole;
@@ -84,6 +86,7 @@ module _ {M : Type 0} (seen : M → Seen) (old new : Written M)
         spec_ex = spec_stays;
         data_start = start_stays;
         data_length = omega (arith, same);
+        kept = omega (arith, ap length buffer_stays);
         front = front;
         reach = tt;
         whole = whole;
@@ -138,6 +141,8 @@ module _ {M : Type 0} (seen : M → Seen) (answer : Result (Unit {0}) Error) (ol
     spec_ex = a.spec_ex;
     data_start = a.data_start;
     data_length = a.data_length;
+    kept = a.kept;
+    memory = tt;
     front = a.front;
     reach = a.reach;
     field = λ behind. field_front old.data_start _ _ behind a.front;
@@ -154,6 +159,8 @@ module _ {M : Type 0} (seen : M → Seen) (answer : Result (Unit {0}) Error) (ol
     spec_ex = a.spec_ex;
     data_start = a.data_start;
     data_length = a.data_length;
+    kept = a.kept;
+    memory = tt;
     front = a.front;
     reach = a.reach;
     field = λ behind. field_front old.data_start _ _ behind a.front;
@@ -163,13 +170,15 @@ module _ {M : Type 0} (seen : M → Seen) (answer : Result (Unit {0}) Error) (ol
     counts = a.counts;
   }
 
-  pub batch_takes : (values : _) → AcceptsAs seen true (step_containers old.spec_ex (Batch values)) answer old new → Takes seen (Batch values) answer old new
-  batch_takes values a = record {
+  pub batch_takes : (values : _) → AcceptsAs seen (wants_memory values.now old) (step_containers old.spec_ex (Batch values)) answer old new → OnOk answer (2 * length values.now ≤ length new.buffer) → Takes seen (Batch values) answer old new
+  batch_takes values a memory = record {
     answers = a.answers;
     faults = a.faults;
     spec_ex = a.spec_ex;
     data_start = a.data_start;
     data_length = a.data_length;
+    kept = a.kept;
+    memory = memory;
     front = a.front;
     reach = a.reach;
     field = λ behind. field_front old.data_start _ _ behind a.front;
@@ -191,6 +200,8 @@ flush_takes seen answer old medium answers p =
       spec_ex = refl;
       data_start = refl;
       data_length = omega (arith, ap (λ l. length (concat l)) none);
+      kept = omega arith;
+      memory = tt;
       front = p.front;
       reach = unless answer (omega (arith, p.long));
       field = λ _. p.data_length;

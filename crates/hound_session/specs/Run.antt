@@ -1,5 +1,5 @@
 -- A run of a writer: how it begins, its steps, and how it ends.
-use Rattle.std.specs.Prelude.{◌≡◌, ℕ, ◌+◌, ◌-◌, ◌<◌, ◌≤◌, ◌⊎◌, max, replicate, ⊤, Bool, false, List, [], ◌∷◌, ◌++◌, length, take, map, Result, Ok, Err}
+use Rattle.std.specs.Prelude.{◌≡◌, ℕ, ◌+◌, ◌*◌, ◌-◌, ◌<◌, ◌≤◌, ◌⊎◌, OnOk, max, replicate, ⊤, Bool, false, List, [], ◌∷◌, ◌++◌, length, take, map, Result, Ok, Err}
 use Rattle.std.specs.List.{concat}
 use Rattle.hound_spec.specs.declared.error.Error.{Error}
 use Rattle.hound_spec.specs.declared.error.Error.TheVariants.{IoError, Unsupported}
@@ -41,6 +41,13 @@ FrontAfter (Whole value) start old new = take start new ≡ take start old
 FrontAfter (Bits bits) start old new = take start new ≡ take start old
 FrontAfter (Batch values) start old new = take start new ≡ take start old
 
+-- the memory of a batch that was accepted is kept
+abbrev pub KeepsMemory : {M : Type 0} → Step → Result (Unit {0}) Error → Written M → Type 0
+KeepsMemory (Batch values) answer new = OnOk answer (2 * length values.now ≤ length new.buffer)
+KeepsMemory (Whole value) answer new = ⊤
+KeepsMemory (Bits bits) answer new = ⊤
+KeepsMemory Flush answer new = ⊤
+
 -- A sample or a batch with these containers, by the answer: all of them are accepted or none, and a fault is counted exactly at an `IoError`.
 -- What stands before the data stays; where all accepted samples stood they stand after it, and are counted.
 pub record AcceptsAs {M : Type 0} (seen : M → Seen) (memory : Bool) (asked : Result (List (List ℕ)) Refusal) (answer : Result (Unit {0}) Error) (old new : Written M) : Type 0 where
@@ -49,6 +56,7 @@ pub record AcceptsAs {M : Type 0} (seen : M → Seen) (memory : Bool) (asked : R
   pub spec_ex : new.spec_ex ≡ old.spec_ex
   pub data_start : new.data_start ≡ old.data_start
   pub data_length : new.data_length ≡ old.data_length + length (concat (if_marked (mark_of answer) asked))
+  pub kept : length old.buffer ≤ length new.buffer
   pub front : take old.data_start (seen new.medium).contents ≡ take old.data_start (seen old.medium).contents
   pub reach : UnlessFailed answer (length (seen new.medium).contents ≤ max (length (seen old.medium).contents) (old.data_start + new.data_length))
   pub whole : IsWhole seen old → IsWhole seen new
@@ -63,6 +71,8 @@ pub record Takes {M : Type 0} (seen : M → Seen) (step : Step) (answer : Result
   pub spec_ex : new.spec_ex ≡ old.spec_ex
   pub data_start : new.data_start ≡ old.data_start
   pub data_length : new.data_length ≡ old.data_length + length (concat (accepted_by old.spec_ex step (mark_of answer)))
+  pub kept : length old.buffer ≤ length new.buffer
+  pub memory : KeepsMemory step answer new
   pub front : FrontAfter step old.data_start (seen old.medium).contents (seen new.medium).contents
   pub reach : UnlessFailed answer (length (seen new.medium).contents ≤ max (length (seen old.medium).contents) (old.data_start + new.data_length))
   pub field : 4 ≤ old.data_start → FieldAfter step answer seen old new

@@ -1,5 +1,5 @@
 -- The steps of a session, and what each accepts.
-use Rattle.std.specs.Prelude.{◌≡◌, ℕ, ℤ, ◌+◌, ◌&&◌, ◌==◌, ⊤, nat_le, Bool, true, false, IsTrue, if◌then◌else◌, List, [], ◌∷◌, ◌++◌, length, map, Result, Ok, Err}
+use Rattle.std.specs.Prelude.{◌≡◌, ℕ, ℤ, ◌+◌, ◌*◌, ◌&&◌, ◌==◌, ⊤, nat_le, nat_lt, Bool, true, false, IsTrue, if◌then◌else◌, List, [], ◌∷◌, ◌++◌, length, map, Result, Ok, Err}
 use Rattle.std.specs.List.{concat}
 use Rattle.hound_number.specs.Number.{signed_bytes_of}
 use Rattle.hound_spec.specs.declared.error.Error.{Error}
@@ -31,6 +31,10 @@ is_sixteen spec = is_int spec.sample_format && spec.bits_per_sample == 16
 -- the containers of a batch of these values, or why it has none
 abbrev pub batch_containers : WavSpecEx → List ℤ → Result (List (List ℕ)) Refusal
 batch_containers s values = if is_sixteen s.spec then Ok (map (signed_bytes_of 2) values) else Err unsupported
+
+-- whether a batch of these values wants more memory than the writer keeps, two bytes for each
+abbrev pub wants_memory : {M : Type 0} → List ℤ → Written M → Bool
+wants_memory values w = nat_lt (length w.buffer) (2 * length values)
 
 -- the containers that a step asks to be accepted, one for each value of a batch, or why it has none
 abbrev pub step_containers : WavSpecEx → Step → Result (List (List ℕ)) Refusal
@@ -78,5 +82,5 @@ AcceptAnswer memory (Ok list) w answer = FitAnswer (nat_le (riff_size w.data_sta
 abbrev pub StepAnswer : {M : Type 0} → Step → Written M → Result (Unit {0}) Error → Type 0
 StepAnswer (Whole value) w answer = AcceptAnswer false (step_containers w.spec_ex (Whole value)) w answer
 StepAnswer (Bits bits) w answer = AcceptAnswer false (step_containers w.spec_ex (Bits bits)) w answer
-StepAnswer (Batch values) w answer = AcceptAnswer true (step_containers w.spec_ex (Batch values)) w answer
+StepAnswer (Batch values) w answer = AcceptAnswer (wants_memory values.now w) (step_containers w.spec_ex (Batch values)) w answer
 StepAnswer Flush w answer = IsPublishing answer w

@@ -1,9 +1,9 @@
 // Steps taken with a writer.
-ghost use Rattle.std.specs.Prelude.{◌≡◌, true, IsTrue};
+ghost use Rattle.std.specs.Prelude.{◌≡◌, ◌*◌, ◌≤◌, true, IsTrue, OnOk, length};
 ghost use Rattle.hound_writer.specs.Moments.{AcceptsAtEach};
 ghost use Rattle.hound_session.specs.AtEach.{StepAtEach};
 ghost use Rattle.hound_session.specs.Run.{AcceptsAs, Takes};
-ghost use Rattle.hound_session.specs.Steps.{is_sixteen, batch_containers};
+ghost use Rattle.hound_session.specs.Steps.{is_sixteen, batch_containers, wants_memory};
 
 use crate::session::Step;
 use hound_medium::Medium;
@@ -20,7 +20,8 @@ fn is_sixteen(spec: WavSpec) -> bool
 
 // Writes a batch, of samples of sixteen bits only.
 fn write_batch<M: Medium>(alloc: Global, writer: &mut WavWriter<M>, values: &[i16]) -> Result<()>
-    ensures accepts { IsTrue M.tells → AcceptsAs M.seen true (batch_containers writer.old.spec_ex values.now) result writer.old writer.new }
+    ensures accepts { IsTrue M.tells → AcceptsAs M.seen (wants_memory values.now writer.old) (batch_containers writer.old.spec_ex values.now) result writer.old writer.new }
+    ensures memory { OnOk result (2 * length values.now ≤ length writer.new.buffer) }
     ensures moments { IsTrue M.tells → IsTrue M.keeps → AcceptsAtEach M.seen writer.old (M.seen writer.new.medium) }
 {
     if !is_sixteen(writer.spec()) {

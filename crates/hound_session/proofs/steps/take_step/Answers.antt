@@ -19,7 +19,7 @@ returns-in-Whole-clause-takes g c tells =
     subst (λ step. Takes seen step c.write_sample.result old new) (sym c.in-Whole.is)
     (whole_takes seen c.write_sample.result old new value
     (subst (λ v. AcceptsAs seen _ (step_containers old.spec_ex (Whole v)) c.write_sample.result old new) back
-    (sample_accepts seen old new e.spec_stays e.start_stays (e.whole tells) (e.counts tells) (e.front tells) _ _ c.write_sample.result
+    (sample_accepts seen old new e.spec_stays e.start_stays e.buffer_stays (e.whole tells) (e.counts tells) (e.front tells) _ _ c.write_sample.result
     (λ container is. (int_container-in_width _ _ _ container is).0) e.refused e.failed (e.faults tells) e.bytes e.count (e.accepted tells) (e.reach tells))))
 
 pub returns-in-Bits-clause-takes : goal.returns-in-Bits-clause-takes
@@ -30,14 +30,14 @@ returns-in-Bits-clause-takes g c tells =
     let old = c.args.writer.now in
     subst (λ step. Takes seen step write.result old write.new.self) (sym c.in-Bits.is)
     (bits_takes seen write.result old write.new.self c.in-Bits.bits
-    (sample_accepts seen old write.new.self e.spec_stays e.start_stays (e.whole tells) (e.counts tells) (e.front tells) _ _ write.result
+    (sample_accepts seen old write.new.self e.spec_stays e.start_stays e.buffer_stays (e.whole tells) (e.counts tells) (e.front tells) _ _ write.result
     (λ container is. (pattern_container-in_width _ _ _ container is).0) e.refused e.failed (e.faults tells) e.bytes e.count (e.accepted tells) (e.reach tells)))
 
 pub returns-in-Batch-clause-takes : goal.returns-in-Batch-clause-takes
 returns-in-Batch-clause-takes g c tells =
     let seen = g.M.Placed.seen in
     subst (λ step. Takes seen step c.write_batch.result c.args.writer.now c.write_batch.new.writer) (sym c.in-Batch.is)
-    (batch_takes seen c.write_batch.result c.args.writer.now c.write_batch.new.writer c.in-Batch.values (c.write_batch.ensures.accepts tells))
+    (batch_takes seen c.write_batch.result c.args.writer.now c.write_batch.new.writer c.in-Batch.values (c.write_batch.ensures.accepts tells) c.write_batch.ensures.memory)
 
 pub returns-in-Flush-clause-takes : goal.returns-in-Flush-clause-takes
 returns-in-Flush-clause-takes g c tells =
