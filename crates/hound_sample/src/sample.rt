@@ -98,7 +98,7 @@ impl Sample for i8 {
     ghost as_short = { low_short };
 
     #[inline(always)]
-    fn read<R: io::Read>(reader: &mut R, fmt: SampleFormat, bytes: u16, bits: u16) -> Result<i8> {
+    fn read<R: io::Read>(reader: &mut R, fmt: SampleFormat, bytes: u16, bits: u16) -> Result<Self> {
         match fmt {
             SampleFormat::Float => Err(Error::InvalidSampleFormat),
             SampleFormat::Int => {
@@ -138,7 +138,7 @@ impl Sample for i16 {
     ghost as_short = { low_short };
 
     #[inline(always)]
-    fn read<R: io::Read>(reader: &mut R, fmt: SampleFormat, bytes: u16, bits: u16) -> Result<i16> {
+    fn read<R: io::Read>(reader: &mut R, fmt: SampleFormat, bytes: u16, bits: u16) -> Result<Self> {
         match fmt {
             SampleFormat::Float => Err(Error::InvalidSampleFormat),
             SampleFormat::Int => {
@@ -181,7 +181,7 @@ impl Sample for i32 {
     ghost as_short = { low_short };
 
     #[inline(always)]
-    fn read<R: io::Read>(reader: &mut R, fmt: SampleFormat, bytes: u16, bits: u16) -> Result<i32> {
+    fn read<R: io::Read>(reader: &mut R, fmt: SampleFormat, bytes: u16, bits: u16) -> Result<Self> {
         match fmt {
             SampleFormat::Float => Err(Error::InvalidSampleFormat),
             SampleFormat::Int => {
