@@ -6,10 +6,10 @@ pub use Rattle.hound_sample.specs.Encoding
 pub use Rattle.hound_sample.specs.Meaning
 pub use Rattle.hound_sample.specs.Reads
 pub use Rattle.hound_medium.specs.Bytes
-pub use Rattle.hound_medium.specs.Seen
+pub use Rattle.hound_medium.specs.State
 pub use Rattle.hound_reader.specs.Chunks
 pub use Rattle.hound_reader.specs.Refusals
-pub use Rattle.hound_reader.specs.Reading
+pub use Rattle.hound_reader.specs.Reader
 pub use Rattle.hound_reader.specs.Seeking
 pub use Rattle.hound_writer.specs.Writer
 pub use Rattle.hound_writer.specs.Counts

@@ -55,7 +55,7 @@ pub fn measure(rt: &HostRuntime, case: Case, count: u32, path: Path<'_>) -> Resu
 
 // A tape of zeros, as long as the file of so many samples will be.
 fn full_tape(alloc: Global, spec: WavSpec, count: u32) -> Result<Tape>
-    ensures { IfOk result (λ t. (⟦<Tape as Placed>⟧.seen t).place ≡ 0) }
+    ensures { IfOk result (λ t. (⟦<Tape as Placed>⟧.state t).place ≡ 0) }
 {
     let header = spec.into_header_for_infinite_file(alloc)?;
     let width = spec.bits_per_sample.div_ceil(8) as usize;

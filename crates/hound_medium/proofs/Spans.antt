@@ -4,8 +4,8 @@ use Rattle.std.proofs.lemmas.Bool.{cases_lt}
 use Rattle.std.proofs.lemmas.List.{append-nil, take-append-le, take_all}
 use Rattle.std.proofs.Math.Seq.{take-append-add}
 use Rattle.hound_medium.specs.Bytes.{placed, overlay, moment}
-use Rattle.hound_medium.specs.Seen.{Seen, Stays}
-use Rattle.hound_medium.specs.Moments.{Span, AtEach}
+use Rattle.hound_medium.specs.State.{MediumState, Stays}
+use Rattle.hound_medium.specs.Spans.{Span, AtEach}
 use Rattle.hound_medium.proofs.Overlays.{overlay-append, length-placed, take-placed}
 
 -- a moment of a past stays what it was, however the past goes on
@@ -17,12 +17,12 @@ pub moment_after : (start : List ℕ) (past added : List (ℕ × ℕ)) (k : ℕ)
 moment_after start past added k = ap (overlay start) (take-append-add past added k) ∙ overlay-append start past (take k added)
 
 -- the last moment is the contents
-pub moment_last : (s : Seen) → s.contents ≡ overlay s.start s.past → moment s.start s.past (length s.past) ≡ s.contents
+pub moment_last : (s : MediumState) → s.contents ≡ overlay s.start s.past → moment s.start s.past (length s.past) ≡ s.contents
 moment_last s replays = ap (overlay s.start) (take_all (length s.past) s.past (omega arith)) ∙ sym replays
 
 module _ (At : ℕ → List ℕ → Type 0) (split : ℕ) where
   -- bytes are put at a place, all at once or by several calls: at its level is what the first k of them leave
-  pub span_puts : (old new : Seen) (at : ℕ) (bytes : List ℕ) → old.contents ≡ overlay old.start old.past → new.start ≡ old.start → new.past ≡ old.past ++ placed at bytes
+  pub span_puts : (old new : MediumState) (at : ℕ) (bytes : List ℕ) → old.contents ≡ overlay old.start old.past → new.start ≡ old.start → new.past ≡ old.past ++ placed at bytes
       → ((k : ℕ) → k ≤ length bytes → At (length old.past + k - split) (overlay old.contents (placed at (take k bytes))))
       → Span At split old new
   span_puts old new at bytes replays start past each =
@@ -43,14 +43,14 @@ module _ (At : ℕ → List ℕ → Type 0) (split : ℕ) where
       }
 
   -- nothing is put
-  pub span_still : (old new : Seen) → old.contents ≡ overlay old.start old.past → new.start ≡ old.start → new.past ≡ old.past → At (length old.past - split) old.contents → Span At split old new
+  pub span_still : (old new : MediumState) → old.contents ≡ overlay old.start old.past → new.start ≡ old.start → new.past ≡ old.past → At (length old.past - split) old.contents → Span At split old new
   span_still old new replays start past at =
       span_puts old new 0 [] replays start (past ∙ sym (append-nil old.past))
       (λ k within. let none : length old.past ≡ length old.past + k = omega (arith, within) in
       subst (λ l. At (length old.past + k - split) (overlay old.contents (placed 0 l))) (sym (take_all k [] (omega arith))) (subst (λ m. At (m - split) old.contents) none at))
 
   -- one span and then another
-  pub join : (a b c : Seen) → Span At split a b → Span At split b c → Span At split a c
+  pub join : (a b c : MediumState) → Span At split a b → Span At split b c → Span At split a c
   join a b c first then = record {
     start = then.start ∙ first.start;
     added = first.added ++ then.added;
@@ -65,24 +65,24 @@ module _ (At : ℕ → List ℕ → Type 0) (split : ℕ) where
   }
 
   -- what holds at the end
-  pub span_end : (old new : Seen) → new.contents ≡ overlay new.start new.past → Span At split old new → At (length new.past - split) new.contents
+  pub span_end : (old new : MediumState) → new.contents ≡ overlay new.start new.past → Span At split old new → At (length new.past - split) new.contents
   span_end old new replays span =
       let n = length new.past in
       let longer : n ≡ length old.past + length span.added = ap length span.past ∙ length-append old.past span.added in
       subst (At (n - split)) (moment_last new replays) (span.each n (omega (arith, longer)) (omega arith))
 
   -- a span, and then a call that puts nothing
-  pub and_still : (a b c : Seen) → Span At split a b → b.contents ≡ overlay b.start b.past → Stays b c → Span At split a c
+  pub and_still : (a b c : MediumState) → Span At split a b → b.contents ≡ overlay b.start b.past → Stays b c → Span At split a c
   and_still a b c span replays stays = join a b c span (span_still b c replays stays.start stays.past (span_end a b replays span))
 
 -- what holds at the end of a span that is at level 0 throughout
-pub span_end_zero : (At : ℕ → List ℕ → Type 0) (old new : Seen) → new.contents ≡ overlay new.start new.past → Span At (length new.past) old new → At 0 new.contents
+pub span_end_zero : (At : ℕ → List ℕ → Type 0) (old new : MediumState) → new.contents ≡ overlay new.start new.past → Span At (length new.past) old new → At 0 new.contents
 span_end_zero At old new replays span =
     let none : length new.past - length new.past ≡ 0 = omega arith in
     subst (λ j. At j new.contents) none (span_end At (length new.past) old new replays span)
 
 -- what follows at each level
-pub span_weaker : (At Bt : ℕ → List ℕ → Type 0) (split : ℕ) (old new : Seen) → ((j : ℕ) (c : List ℕ) → At j c → Bt j c) → Span At split old new → Span Bt split old new
+pub span_weaker : (At Bt : ℕ → List ℕ → Type 0) (split : ℕ) (old new : MediumState) → ((j : ℕ) (c : List ℕ) → At j c → Bt j c) → Span At split old new → Span Bt split old new
 span_weaker At Bt split old new weaker span = record {
   start = span.start;
   added = span.added;
@@ -91,5 +91,5 @@ span_weaker At Bt split old new weaker span = record {
 }
 
 -- a span whose levels say the same holds at each moment
-pub at_each : (P : List ℕ → Type 0) (split : ℕ) (old new : Seen) → Span (λ _. P) split old new → AtEach P old new
+pub at_each : (P : List ℕ → Type 0) (split : ℕ) (old new : MediumState) → Span (λ _. P) split old new → AtEach P old new
 at_each P split old new span = span.each

@@ -3,11 +3,11 @@ use Rattle.std.proofs.Common.{◌≡◌, ℕ, ◌+◌, ◌≤◌, Bool, List, �
 use Rattle.std.proofs.lemmas.List.{append-nil, length-take-le}
 use Rattle.std.proofs.Math.Seq.{take-add}
 use Rattle.hound_medium.specs.Bytes.{placed, overlay}
-use Rattle.hound_medium.specs.Seen.{Seen, Takes}
+use Rattle.hound_medium.specs.State.{MediumState, PutsFirst}
 use Rattle.hound_medium.proofs.Overlays.{placed-append, overlay-append}
 
 -- no byte put, nothing changed
-pub takes_none : (keeps : Bool) (bytes : List ℕ) (s : Seen) → Takes keeps bytes 0 s s
+pub takes_none : (keeps : Bool) (bytes : List ℕ) (s : MediumState) → PutsFirst keeps bytes 0 s s
 takes_none keeps bytes s = record {
   contents = refl;
   place = omega arith;
@@ -17,7 +17,7 @@ takes_none keeps bytes s = record {
 }
 
 -- a first bytes, and then n of those that are left
-pub takes_more : (keeps : Bool) (bytes : List ℕ) (a n : ℕ) (old mid new : Seen) → a ≤ length bytes → Takes keeps bytes a old mid → Takes keeps (drop a bytes) n mid new → Takes keeps bytes (a + n) old new
+pub takes_more : (keeps : Bool) (bytes : List ℕ) (a n : ℕ) (old mid new : MediumState) → a ≤ length bytes → PutsFirst keeps bytes a old mid → PutsFirst keeps (drop a bytes) n mid new → PutsFirst keeps bytes (a + n) old new
 takes_more keeps bytes a n old mid new within so_far more =
     let size : length (take a bytes) ≡ a = length-take-le a bytes within in
     let all : placed old.place (take (a + n) bytes) ≡ placed old.place (take a bytes) ++ placed mid.place (take n (drop a bytes)) =

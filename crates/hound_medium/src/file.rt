@@ -1,7 +1,7 @@
 // Buffered files, of whose bytes contracts know nothing.
 ghost use Rattle.std.specs.Prelude.{false};
 ghost use Rattle.std.proofs.lemmas.Bool.{false≢true};
-ghost use Rattle.hound_medium.specs.Seen.{unknown};
+ghost use Rattle.hound_medium.specs.State.{unknown};
 
 use crate::{Medium, Placed, Source};
 use std::io::{BufReader, BufWriter, Error, ErrorKind, Read, Seek, SeekFrom, Write};
@@ -10,7 +10,7 @@ use std::{fs, io};
 impl Placed for BufWriter<fs::File> {
     ghost tells = { false };
 
-    ghost seen = { λ _. unknown };
+    ghost state = { λ _. unknown };
 
     ghost bytes = { λ _ tells. Prim.absurd (false≢true tells) };
 
@@ -45,7 +45,7 @@ impl Medium for BufWriter<fs::File> {
 impl Placed for BufReader<fs::File> {
     ghost tells = { false };
 
-    ghost seen = { λ _. unknown };
+    ghost state = { λ _. unknown };
 
     ghost bytes = { λ _ tells. Prim.absurd (false≢true tells) };
 

@@ -4,7 +4,7 @@ ghost use Rattle.std.specs.Io.{ReadsAtMost};
 ghost use Rattle.std.specs.Io.KnownBytes.{ReadConsumes};
 ghost use Rattle.hound_number.specs.Number.{AreBytes};
 ghost use Rattle.hound_medium.specs.Bytes.{overlay, moment};
-ghost use Rattle.hound_medium.specs.Seen.{Goes, Shifts, Gets, Puts, Flushes, one_more, faults_after};
+ghost use Rattle.hound_medium.specs.State.{Goes, Shifts, Gets, Puts, Flushes, one_more, faults_after};
 
 use crate::bytes::copy_from;
 use crate::past::{put_and_keep, replay};
@@ -46,12 +46,12 @@ impl Journal {
     /// A journal of these bytes, at place 0, with nothing taken yet. It keeps a copy of them to
     /// begin with, so it is an `Err` where there is no memory for that.
     pub fn new(alloc: Global, bytes: Vec<u8>) -> Result<Journal>
-        ensures contents { IfOk result (λ j. (⟦<Journal as Placed>⟧.seen j).contents ≡ bytes.items) }
-        ensures place { IfOk result (λ j. (⟦<Journal as Placed>⟧.seen j).place ≡ 0) }
-        ensures faults { IfOk result (λ j. (⟦<Journal as Placed>⟧.seen j).faults ≡ 0) }
-        ensures start { IfOk result (λ j. (⟦<Journal as Placed>⟧.seen j).start ≡ bytes.items) }
-        ensures past { IfOk result (λ j. (⟦<Journal as Placed>⟧.seen j).past ≡ []) }
-        ensures flushed { IfOk result (λ j. (⟦<Journal as Placed>⟧.seen j).flushed ≡ 0) }
+        ensures contents { IfOk result (λ j. (⟦<Journal as Placed>⟧.state j).contents ≡ bytes.items) }
+        ensures place { IfOk result (λ j. (⟦<Journal as Placed>⟧.state j).place ≡ 0) }
+        ensures faults { IfOk result (λ j. (⟦<Journal as Placed>⟧.state j).faults ≡ 0) }
+        ensures start { IfOk result (λ j. (⟦<Journal as Placed>⟧.state j).start ≡ bytes.items) }
+        ensures past { IfOk result (λ j. (⟦<Journal as Placed>⟧.state j).past ≡ []) }
+        ensures flushed { IfOk result (λ j. (⟦<Journal as Placed>⟧.state j).flushed ≡ 0) }
         ensures err { IfErr result (λ e. e ≡ Error.OutOfMemory) }
     {
         let Ok(start) = bytes.to_vec(alloc) else {
@@ -75,7 +75,7 @@ impl Journal {
     /// new journal has no such limit; a later one replaces an earlier one.
     pub fn most(&mut self, n: usize)
         requires { 1 ≤ n }
-        ensures { ⟦<Journal as Placed>⟧.seen self.new ≡ ⟦<Journal as Placed>⟧.seen self.old }
+        ensures { ⟦<Journal as Placed>⟧.state self.new ≡ ⟦<Journal as Placed>⟧.state self.old }
     {
         self.most = n;
     }
@@ -87,7 +87,7 @@ impl Journal {
     /// call that fails is an `Err` of kind `Other`, takes and gives nothing and doesn't move, and
     /// counts a fault. No call of a new journal fails so; a later `fail` replaces an earlier one.
     pub fn fail(&mut self, from: u64, to: u64)
-        ensures { ⟦<Journal as Placed>⟧.seen self.new ≡ ⟦<Journal as Placed>⟧.seen self.old }
+        ensures { ⟦<Journal as Placed>⟧.state self.new ≡ ⟦<Journal as Placed>⟧.state self.old }
     {
         self.fail_from = from;
         self.fail_to = to;
@@ -95,14 +95,14 @@ impl Journal {
 
     /// How many bytes have been put in all. One that was put over another counts too.
     pub fn taken(&self) -> usize
-        ensures { result ≡ length (⟦<Journal as Placed>⟧.seen self.now).past }
+        ensures { result ≡ length (⟦<Journal as Placed>⟧.state self.now).past }
     {
         self.past.len()
     }
 
     /// How many bytes had been put at the last `flush` that was Ok; 0 before the first.
     pub fn flushed(&self) -> usize
-        ensures { result ≡ (⟦<Journal as Placed>⟧.seen self.now).flushed }
+        ensures { result ≡ (⟦<Journal as Placed>⟧.state self.now).flushed }
     {
         self.flushed
     }
@@ -111,9 +111,9 @@ impl Journal {
     /// the journal began with, for [`Journal::taken`] those of now. It is an `Err` where there is
     /// no memory for them.
     pub fn bytes_after(&self, alloc: Global, k: usize) -> Result<Vec<u8>>
-        requires { k ≤ length (⟦<Journal as Placed>⟧.seen self.now).past }
-        ensures moment { let seen = ⟦<Journal as Placed>⟧.seen self.now in
-            IfOk result (λ bytes. bytes.items ≡ moment seen.start seen.past k) }
+        requires { k ≤ length (⟦<Journal as Placed>⟧.state self.now).past }
+        ensures moment { let state = ⟦<Journal as Placed>⟧.state self.now in
+            IfOk result (λ bytes. bytes.items ≡ moment state.start state.past k) }
         ensures err { IfErr result (λ e. e ≡ Error.OutOfMemory) }
     {
         let Ok(mut bytes) = self.start.to_vec(alloc) else {
@@ -147,7 +147,7 @@ impl Placed for Journal {
 
     ghost keeps = { true };
 
-    ghost seen = { λ j. record {
+    ghost state = { λ j. record {
       contents = j.bytes.items;
       place = j.place;
       faults = j.faults;
@@ -159,7 +159,7 @@ impl Placed for Journal {
     ghost bytes = { λ j _. j.are_bytes };
 
     fn go(&mut self, to: u64) -> io::Result<()>
-        ensures goes { let seen = ⟦<Journal as Placed>⟧.seen in Goes to result (seen self.old) (seen self.new) }
+        ensures goes { let state = ⟦<Journal as Placed>⟧.state in Goes to result (state self.old) (state self.new) }
     {
         self.call()?;
         self.place = to;
@@ -167,7 +167,7 @@ impl Placed for Journal {
     }
 
     fn shift(&mut self, by: i64) -> io::Result<()>
-        ensures shifts { let seen = ⟦<Journal as Placed>⟧.seen in Shifts by result (seen self.old) (seen self.new) }
+        ensures shifts { let state = ⟦<Journal as Placed>⟧.state in Shifts by result (state self.old) (state self.new) }
     {
         self.call()?;
         match self.place.checked_add_signed(by) {
@@ -190,8 +190,8 @@ impl Medium for Journal {
     fn put(&mut self, bytes: &[u8]) -> io::Result<usize>
         requires { 0 < length bytes.now }
         ensures bound { IfOk result (λ n. (1 ≤ n) × (n ≤ length bytes.now)) }
-        ensures puts { let seen = ⟦<Journal as Placed>⟧.seen in
-            Puts true bytes.now result (seen self.old) (seen self.new) }
+        ensures puts { let state = ⟦<Journal as Placed>⟧.state in
+            Puts true bytes.now result (state self.old) (state self.new) }
     {
         self.call()?;
         let n = bytes.len().min(self.most);
@@ -208,7 +208,7 @@ impl Medium for Journal {
     }
 
     fn flush(&mut self) -> io::Result<()>
-        ensures flushes { let seen = ⟦<Journal as Placed>⟧.seen in Flushes result (seen self.old) (seen self.new) }
+        ensures flushes { let state = ⟦<Journal as Placed>⟧.state in Flushes result (state self.old) (state self.new) }
     {
         self.call()?;
         self.flushed = self.taken();
@@ -224,8 +224,8 @@ impl io::Read for Journal {
         ensures bound { ReadsAtMost result buf.new }
         ensures bytes { ReadConsumes (⟦<Journal as io::Read>⟧.remaining self.old)
             (⟦<Journal as io::Read>⟧.remaining self.new) result buf.new }
-        ensures gets { let seen = ⟦<Journal as Placed>⟧.seen in
-            Gets buf.new result (seen self.old) (seen self.new) }
+        ensures gets { let state = ⟦<Journal as Placed>⟧.state in
+            Gets buf.new result (state self.old) (state self.new) }
     {
         self.get(buf)
     }
@@ -237,8 +237,8 @@ impl Source for Journal {
     #[inline]
     fn get(&mut self, buf: &mut [u8]) -> io::Result<usize>
         ensures bound { IfOk result (λ n. n ≤ length buf.new) }
-        ensures gets { let seen = ⟦<Journal as Placed>⟧.seen in
-            Gets buf.new result (seen self.old) (seen self.new) }
+        ensures gets { let state = ⟦<Journal as Placed>⟧.state in
+            Gets buf.new result (state self.old) (state self.new) }
     {
         self.call()?;
         let room = buf.len().min(self.most);

@@ -2,7 +2,7 @@
 ghost use Rattle.std.specs.Prelude.{◌≡◌, ◌+◌, ◌<◌, ◌≤◌, Bool, IsTrue, false, length, drop, Some, IfOk};
 ghost use Rattle.hound_number.specs.Number.{AreBytes};
 ghost use Rattle.hound_medium.specs.Bytes.{overlay};
-ghost use Rattle.hound_medium.specs.Seen.{Seen, Goes, Shifts, Gets, Puts, Flushes};
+ghost use Rattle.hound_medium.specs.State.{MediumState, Goes, Shifts, Gets, Puts, Flushes, WhereTells, WhereKeeps};
 
 use std::io;
 
@@ -18,18 +18,18 @@ pub trait Placed: Drop {
     ghost keeps: { Bool } = { false };
 
     /// The bytes, the place, the count of faults, and what is kept of the past.
-    ghost seen: { Self → Seen };
+    ghost state: { Self → MediumState };
 
     /// Goes to a place, counted from the beginning. One behind the end is allowed.
     fn go(&mut self, to: u64) -> io::Result<()>
-        ensures { IsTrue tells → Goes to result (seen self.old) (seen self.new) };
+        ensures { WhereTells tells (Goes to result (state self.old) (state self.new)) };
 
     /// Moves the place. It is an error where the new one would be below 0 or above `u64::MAX`.
     fn shift(&mut self, by: i64) -> io::Result<()>
-        ensures { IsTrue tells → Shifts by result (seen self.old) (seen self.new) };
+        ensures { WhereTells tells (Shifts by result (state self.old) (state self.new)) };
 
     /// Each of the known bytes is below 256.
-    ghost bytes: { (m : Self) → IsTrue tells → AreBytes (seen m).contents };
+    ghost bytes: { (m : Self) → WhereTells tells (AreBytes (state m).contents) };
 }
 
 /// A place that bytes are put at.
@@ -39,16 +39,15 @@ pub trait Medium: Placed {
     fn put(&mut self, bytes: &[u8]) -> io::Result<usize>
         requires { 0 < length bytes.now }
         ensures bound { IfOk result (λ n. (1 ≤ n) × (n ≤ length bytes.now)) }
-        ensures puts { IsTrue Self.tells →
-            Puts Self.keeps bytes.now result (Self.seen self.old) (Self.seen self.new) };
+        ensures puts { WhereTells Self.tells (Puts Self.keeps bytes.now result (Self.state self.old) (Self.state self.new)) };
 
     /// Hands all that has been put to what lies behind the medium.
     fn flush(&mut self) -> io::Result<()>
-        ensures { IsTrue Self.tells → Flushes result (Self.seen self.old) (Self.seen self.new) };
+        ensures { WhereTells Self.tells (Flushes result (Self.state self.old) (Self.state self.new)) };
 
     /// What has been put leads from the first contents to those of now.
-    ghost replays: { (m : Self) → IsTrue Self.tells → IsTrue Self.keeps →
-        (Self.seen m).contents ≡ overlay (Self.seen m).start (Self.seen m).past };
+    ghost replays: { (m : Self) → WhereKeeps Self.tells Self.keeps
+        ((Self.state m).contents ≡ overlay (Self.state m).start (Self.state m).past) };
 }
 
 /// A place that bytes are read from.
@@ -57,12 +56,10 @@ pub trait Source: io::Read + Placed {
     /// `read`, its contract says what becomes of the place and of the count of faults.
     fn get(&mut self, buf: &mut [u8]) -> io::Result<usize>
         ensures bound { IfOk result (λ n. n ≤ length buf.new) }
-        ensures gets { IsTrue Self.tells →
-            Gets buf.new result (Self.seen self.old) (Self.seen self.new) };
+        ensures gets { WhereTells Self.tells (Gets buf.new result (Self.state self.old) (Self.state self.new)) };
 
     /// What is left to be read is the contents from the place on.
-    ghost left: { (s : Self) → IsTrue Self.tells →
-        Self.remaining s ≡ Some (drop (Self.seen s).place (Self.seen s).contents) };
+    ghost left: { (s : Self) → WhereTells Self.tells (Self.remaining s ≡ Some (drop (Self.state s).place (Self.state s).contents)) };
 }
 
 impl<P: Placed> Placed for &mut P {
@@ -70,7 +67,7 @@ impl<P: Placed> Placed for &mut P {
 
     ghost keeps = { P.keeps };
 
-    ghost seen = { λ m. P.seen m.now };
+    ghost state = { λ m. P.state m.now };
 
     ghost bytes = { λ m. P.bytes m.now };
 

@@ -1,6 +1,6 @@
 // The loop over `put`.
 ghost use Rattle.std.specs.Prelude.{IsTrue};
-ghost use Rattle.hound_medium.specs.Seen.{PutsAll};
+ghost use Rattle.hound_medium.specs.State.{PutsAll, WhereTells};
 
 use crate::Medium;
 use std::io;
@@ -10,8 +10,7 @@ use std::io;
 /// At an `Err` a beginning of the bytes may have been put. No bytes: no call of `put`.
 #[inline(always)]
 pub fn put_all<M: Medium>(medium: &mut M, bytes: &[u8]) -> io::Result<()>
-    ensures { IsTrue M.tells →
-        PutsAll M.keeps bytes.now result (M.seen medium.old) (M.seen medium.new) }
+    ensures { WhereTells M.tells (PutsAll M.keeps bytes.now result (M.state medium.old) (M.state medium.new)) }
 {
     let mut at = 0;
     while at < bytes.len() {

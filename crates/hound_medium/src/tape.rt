@@ -6,7 +6,7 @@ ghost use Rattle.std.specs.Io.KnownBytes.{ReadConsumes};
 ghost use Rattle.std.specs.IoError.{error_kind};
 ghost use Rattle.std.proofs.lemmas.Bool.{false≢true};
 ghost use Rattle.hound_number.specs.Number.{AreBytes};
-ghost use Rattle.hound_medium.specs.Seen.{Goes, Shifts, Gets, Puts, Flushes};
+ghost use Rattle.hound_medium.specs.State.{Goes, Shifts, Gets, Puts, Flushes};
 
 use crate::bytes::{copy_from, put_at};
 use crate::{Medium, Placed, Source};
@@ -31,10 +31,10 @@ pub struct Tape {
 impl Tape {
     /// A tape of these bytes, at place 0.
     pub fn new(bytes: Vec<u8>) -> Tape
-        ensures contents { (⟦<Tape as Placed>⟧.seen result).contents ≡ bytes.items }
-        ensures place { (⟦<Tape as Placed>⟧.seen result).place ≡ 0 }
-        ensures faults { (⟦<Tape as Placed>⟧.seen result).faults ≡ 0 }
-        ensures flushed { (⟦<Tape as Placed>⟧.seen result).flushed ≡ 0 }
+        ensures contents { (⟦<Tape as Placed>⟧.state result).contents ≡ bytes.items }
+        ensures place { (⟦<Tape as Placed>⟧.state result).place ≡ 0 }
+        ensures faults { (⟦<Tape as Placed>⟧.state result).faults ≡ 0 }
+        ensures flushed { (⟦<Tape as Placed>⟧.state result).flushed ≡ 0 }
     {
         Tape {
             bytes,
@@ -45,14 +45,14 @@ impl Tape {
 
     /// All of its bytes, wherever the place is.
     pub fn bytes(&self) -> &[u8]
-        ensures { result.now ≡ (⟦<Tape as Placed>⟧.seen self.now).contents }
+        ensures { result.now ≡ (⟦<Tape as Placed>⟧.state self.now).contents }
     {
         self.bytes.as_slice()
     }
 
     /// All of its bytes, wherever the place is, with the memory that they take.
     pub fn into_bytes(self) -> Vec<u8>
-        ensures { result.items ≡ (⟦<Tape as Placed>⟧.seen self).contents }
+        ensures { result.items ≡ (⟦<Tape as Placed>⟧.state self).contents }
     {
         let Tape { bytes, .. } = self;
         bytes
@@ -62,7 +62,7 @@ impl Tape {
 impl Placed for Tape {
     ghost tells = { true };
 
-    ghost seen = { λ t. record {
+    ghost state = { λ t. record {
       contents = t.bytes.items;
       place = t.place;
       faults = t.faults;
@@ -74,7 +74,7 @@ impl Placed for Tape {
     ghost bytes = { λ t _. t.are_bytes };
 
     fn go(&mut self, to: u64) -> io::Result<()>
-        ensures goes { let seen = ⟦<Tape as Placed>⟧.seen in Goes to result (seen self.old) (seen self.new) }
+        ensures goes { let state = ⟦<Tape as Placed>⟧.state in Goes to result (state self.old) (state self.new) }
         ensures ok { IsOk result }
     {
         self.place = to;
@@ -82,8 +82,8 @@ impl Placed for Tape {
     }
 
     fn shift(&mut self, by: i64) -> io::Result<()>
-        ensures shifts { let seen = ⟦<Tape as Placed>⟧.seen in Shifts by result (seen self.old) (seen self.new) }
-        ensures ok { IsOk result ↔ FitsUnsigned w64 (pos (⟦<Tape as Placed>⟧.seen self.old).place +ℤ by) }
+        ensures shifts { let state = ⟦<Tape as Placed>⟧.state in Shifts by result (state self.old) (state self.new) }
+        ensures ok { IsOk result ↔ FitsUnsigned w64 (pos (⟦<Tape as Placed>⟧.state self.old).place +ℤ by) }
         ensures kind { IfErr result (λ e. error_kind e ≡ ErrorKind.InvalidInput) }
     {
         match self.place.checked_add_signed(by) {
@@ -105,10 +105,10 @@ impl Medium for Tape {
     #[inline(always)]
     fn put(&mut self, bytes: &[u8]) -> io::Result<usize>
         requires { 0 < length bytes.now }
-        ensures puts { let seen = ⟦<Tape as Placed>⟧.seen in
-            Puts false bytes.now result (seen self.old) (seen self.new) }
+        ensures puts { let state = ⟦<Tape as Placed>⟧.state in
+            Puts false bytes.now result (state self.old) (state self.new) }
         ensures whole { IfOk result (λ n. n ≡ length bytes.now) }
-        ensures fits { OnOk result ((⟦<Tape as Placed>⟧.seen self.old).place + length bytes.now < 2 ^ 64) }
+        ensures fits { OnOk result ((⟦<Tape as Placed>⟧.state self.old).place + length bytes.now < 2 ^ 64) }
         ensures kind { IfErr result (λ e. error_kind e ≡ ErrorKind.OutOfMemory) }
     {
         match put_at(&mut self.bytes, self.place, bytes) {
@@ -124,7 +124,7 @@ impl Medium for Tape {
     }
 
     fn flush(&mut self) -> io::Result<()>
-        ensures flushes { let seen = ⟦<Tape as Placed>⟧.seen in Flushes result (seen self.old) (seen self.new) }
+        ensures flushes { let state = ⟦<Tape as Placed>⟧.state in Flushes result (state self.old) (state self.new) }
         ensures ok { IsOk result }
     {
         // Nothing lies behind the memory.
@@ -140,10 +140,10 @@ impl io::Read for Tape {
         ensures bound { ReadsAtMost result buf.new }
         ensures bytes { ReadConsumes (⟦<Tape as io::Read>⟧.remaining self.old)
             (⟦<Tape as io::Read>⟧.remaining self.new) result buf.new }
-        ensures gets { let seen = ⟦<Tape as Placed>⟧.seen in
-            Gets buf.new result (seen self.old) (seen self.new) }
-        ensures all { let seen = ⟦<Tape as Placed>⟧.seen self.old in
-            result ≡ Ok (min (length (drop seen.place seen.contents)) (length buf.old)) }
+        ensures gets { let state = ⟦<Tape as Placed>⟧.state in
+            Gets buf.new result (state self.old) (state self.new) }
+        ensures all { let state = ⟦<Tape as Placed>⟧.state self.old in
+            result ≡ Ok (min (length (drop state.place state.contents)) (length buf.old)) }
     {
         self.get(buf)
     }
@@ -155,10 +155,10 @@ impl Source for Tape {
     #[inline]
     fn get(&mut self, buf: &mut [u8]) -> io::Result<usize>
         ensures bound { IfOk result (λ n. n ≤ length buf.new) }
-        ensures gets { let seen = ⟦<Tape as Placed>⟧.seen in
-            Gets buf.new result (seen self.old) (seen self.new) }
-        ensures all { let seen = ⟦<Tape as Placed>⟧.seen self.old in
-            result ≡ Ok (min (length (drop seen.place seen.contents)) (length buf.old)) }
+        ensures gets { let state = ⟦<Tape as Placed>⟧.state in
+            Gets buf.new result (state self.old) (state self.new) }
+        ensures all { let state = ⟦<Tape as Placed>⟧.state self.old in
+            result ≡ Ok (min (length (drop state.place state.contents)) (length buf.old)) }
     {
         let n = copy_from(&self.bytes, self.place, buf);
         self.place += n as u64;

@@ -7,7 +7,7 @@ use Rattle.hound_spec.specs.declared.spec.SampleFormat.{SampleFormat}
 use Rattle.hound_spec.specs.declared.spec.WavSpecEx.{WavSpecEx}
 use Rattle.hound_sample.specs.Meaning.{ReadRefusal}
 use Rattle.hound_sample.specs.Reads.{Reads}
-use Rattle.hound_reader.specs.Reading.{Reading, IsNext, refusal_at, meaning_at, samples_left}
+use Rattle.hound_reader.specs.Reader.{ReaderState, IsNext, refusal_at, meaning_at, samples_left}
 use Rattle.hound_reader.specs.Items.{AreItems, GivesItems}
 
 no_bytes : {A : Type 0} (left : Option (List ℕ)) (refusal : Option ReadRefusal) (meaning : List ℕ → A) (width : ℕ) → IfSome left (λ bytes. AreItems refusal meaning width bytes [])
@@ -32,32 +32,32 @@ item_more None meaning width (Some bytes) new (Err OutOfMemory) items read rest 
 
 module _ {R A : Type 0} (left : R → Option (List ℕ)) (refusal : SampleFormat → ℕ → ℕ → Option ReadRefusal) (meaning : ℕ → ℕ → List ℕ → A) where
   -- a run gives the items of the bytes that were left
-  pub items_given : (items : List (Result A Error)) (old new : Reading R) → GivesItems left refusal meaning items old new → IfSome (left old.reader) (λ bytes. AreItems (refusal_at refusal old.spec_ex) (meaning_at meaning old.spec_ex) old.spec_ex.bytes_per_sample bytes items)
+  pub items_given : (items : List (Result A Error)) (old new : ReaderState R) → GivesItems left refusal meaning items old new → IfSome (left old.reader) (λ bytes. AreItems (refusal_at refusal old.spec_ex) (meaning_at meaning old.spec_ex) old.spec_ex.bytes_per_sample bytes items)
   items_given [] old new run = no_bytes (left old.reader) (refusal_at refusal old.spec_ex) (meaning_at meaning old.spec_ex) old.spec_ex.bytes_per_sample
   items_given (item ∷ items) old new (mid, step, run) =
       let P : WavSpecEx → Type 0 = λ s. IfSome (left mid.reader) (λ bytes. AreItems (refusal_at refusal s) (meaning_at meaning s) s.bytes_per_sample bytes items) in
       item_more (refusal_at refusal old.spec_ex) (meaning_at meaning old.spec_ex) old.spec_ex.bytes_per_sample (left old.reader) (left mid.reader) item items step.read (subst P step.spec_ex (items_given items mid new run))
 
   -- and counts each of them
-  pub items_counted : (items : List (Result A Error)) (old new : Reading R) → GivesItems left refusal meaning items old new → (new.samples_read ≡ old.samples_read + length items) × (length items ≤ samples_left old)
-  items_counted [] old new run = (ap (λ (r : Reading R). r.samples_read) run ∙ omega arith, omega arith)
+  pub items_counted : (items : List (Result A Error)) (old new : ReaderState R) → GivesItems left refusal meaning items old new → (new.samples_read ≡ old.samples_read + length items) × (length items ≤ samples_left old)
+  items_counted [] old new run = (ap (λ (r : ReaderState R). r.samples_read) run ∙ omega arith, omega arith)
   items_counted (item ∷ items) old new (mid, step, run) =
       let rest = items_counted items mid new run in
       (omega (arith, rest.0, step.counted), omega (arith, rest.1, step.counted, step.inside, step.num_samples))
 
   -- a run leaves the number of samples of the file
-  run_keeps : (items : List (Result A Error)) (old new : Reading R) → GivesItems left refusal meaning items old new → new.num_samples ≡ old.num_samples
-  run_keeps [] old new run = ap (λ (r : Reading R). r.num_samples) run
+  run_keeps : (items : List (Result A Error)) (old new : ReaderState R) → GivesItems left refusal meaning items old new → new.num_samples ≡ old.num_samples
+  run_keeps [] old new run = ap (λ (r : ReaderState R). r.num_samples) run
   run_keeps (item ∷ items) old new (mid, step, run) = run_keeps items mid new run ∙ step.num_samples
 
   -- where none comes behind a run, it gave all that were left
-  pub items_all : (items : List (Result A Error)) (old new end : Reading R) → GivesItems left refusal meaning items old new → IsNext {A = A} left refusal meaning None new end → length items ≡ samples_left old
+  pub items_all : (items : List (Result A Error)) (old new end : ReaderState R) → GivesItems left refusal meaning items old new → IsNext {A = A} left refusal meaning None new end → length items ≡ samples_left old
   items_all items old new end run none =
       let counted = items_counted items old new run in
       omega (arith, counted.0, counted.1, none.0, run_keeps items old new run)
 
   -- and where it gave all that were left, none comes
-  pub none_behind : (items : List (Result A Error)) (next : Option (Result A Error)) (old new end : Reading R) → GivesItems left refusal meaning items old new → length items ≡ samples_left old → IsNext left refusal meaning next new end → next ≡ None
+  pub none_behind : (items : List (Result A Error)) (next : Option (Result A Error)) (old new end : ReaderState R) → GivesItems left refusal meaning items old new → length items ≡ samples_left old → IsNext left refusal meaning next new end → next ≡ None
   none_behind items None old new end run all step = refl
   none_behind items (Some item) old new end run all step =
       let counted = items_counted items old new run in

@@ -8,8 +8,8 @@ use Rattle.hound_spec.specs.declared.error.Error.TheVariants.{IoError, FormatErr
 use Rattle.hound_spec.specs.declared.spec.SampleFormat.{SampleFormat}
 use Rattle.hound_sample.specs.Meaning.{ReadRefusal}
 use Rattle.hound_sample.specs.Reads.{Reads}
-use Rattle.hound_medium.specs.Seen.{Seen, Shifts, IsMoved}
-use Rattle.hound_reader.specs.Reading.{Reading, IsNext, refusal_at, meaning_at}
+use Rattle.hound_medium.specs.State.{MediumState, Shifts, IsMoved}
+use Rattle.hound_reader.specs.Reader.{ReaderState, IsNext, refusal_at, meaning_at}
 use Rattle.hound_reader.specs.Seeking.{HasSought, IsMeaningOf, container_at, samples_before, bytes_before}
 use Rattle.hound_reader.specs.Sources.{unread}
 
@@ -26,7 +26,7 @@ counted_small samples bytes channels width s b f =
     omega (arith, p, b, f, mul_assoc 4294967295 channels width)
 
 -- the same shift, by what its number and its answer are
-pub shifts_so : {T E : Type 0} (by way : ℤ) (result : Result T E) (x : T) (old new : Seen) → by ≡ way → result ≡ Ok x → Shifts by result old new → Shifts {E = E} way (Ok x) old new
+pub shifts_so : {T E : Type 0} (by way : ℤ) (result : Result T E) (x : T) (old new : MediumState) → by ≡ way → result ≡ Ok x → Shifts by result old new → Shifts {E = E} way (Ok x) old new
 shifts_so {T} {E} by way result x old new b r s = subst (λ z. Shifts {E = E} z (Ok x) old new) b (subst (λ y. Shifts by y old new) r s)
 
 -- a shift as an equation of signed numbers
@@ -47,25 +47,25 @@ frame_inside time (suc channels) samples t =
     let p : suc time * suc channels ≤ samples / suc channels * suc channels = mul-le-mul_right (suc channels) t in
     omega (arith, p, div-mul-le_self samples (suc channels))
 
-module _ {R : Type 0} (seen : R → Seen) (start time : ℕ) (old new : Reading R) (sought : HasSought seen start time old new) where
+module _ {R : Type 0} (state : R → MediumState) (start time : ℕ) (old new : ReaderState R) (sought : HasSought state start time old new) where
   -- where the source stands behind a seek
-  pub sought_place : (seen new.reader).place ≡ start + bytes_before time old.spec_ex
-  sought_place = arrives start old.bytes_read (bytes_before time old.spec_ex) (seen old.reader).place (seen new.reader).place sought.stood sought.source.place
+  pub sought_place : (state new.reader).place ≡ start + bytes_before time old.spec_ex
+  sought_place = arrives start old.bytes_read (bytes_before time old.spec_ex) (state old.reader).place (state new.reader).place sought.stood sought.source.place
 
   -- which the reader counts
-  pub sought_counted : (seen new.reader).place ≡ start + new.bytes_read
+  pub sought_counted : (state new.reader).place ≡ start + new.bytes_read
   sought_counted = omega (arith, sought_place, sought.counts.bytes)
 
   -- what is left there
-  pub sought_unread : unread (seen new.reader) ≡ drop (start + bytes_before time old.spec_ex) (seen old.reader).contents
-  sought_unread = ap (λ n. drop n (seen new.reader).contents) sought_place ∙ ap (drop (start + bytes_before time old.spec_ex)) sought.source.stays.contents
+  pub sought_unread : unread (state new.reader) ≡ drop (start + bytes_before time old.spec_ex) (state old.reader).contents
+  sought_unread = ap (λ n. drop n (state new.reader).contents) sought_place ∙ ap (drop (start + bytes_before time old.spec_ex)) sought.source.stays.contents
 
   -- and it has the whole container, where the data have all of theirs
-  pub sought_there : time < old.num_samples / old.spec_ex.spec.channels → start + old.num_samples * old.spec_ex.bytes_per_sample ≤ length (seen old.reader).contents → old.spec_ex.bytes_per_sample ≤ length (unread (seen new.reader))
+  pub sought_there : time < old.num_samples / old.spec_ex.spec.channels → start + old.num_samples * old.spec_ex.bytes_per_sample ≤ length (state old.reader).contents → old.spec_ex.bytes_per_sample ≤ length (unread (state new.reader))
   sought_there t whole =
       let width = old.spec_ex.bytes_per_sample in
       let p : suc (time * old.spec_ex.spec.channels) * width ≤ old.num_samples * width = mul-le-mul_right width (frame_inside time old.spec_ex.spec.channels old.num_samples t) in
-      let l : length (unread (seen new.reader)) ≡ length (seen old.reader).contents - (start + bytes_before time old.spec_ex) = ap length sought_unread ∙ length-drop (start + bytes_before time old.spec_ex) (seen old.reader).contents in
+      let l : length (unread (state new.reader)) ≡ length (state old.reader).contents - (start + bytes_before time old.spec_ex) = ap length sought_unread ∙ length-drop (start + bytes_before time old.spec_ex) (state old.reader).contents in
       omega (arith, p, l, whole)
 
 -- what a type that reads the samples takes is the first container
@@ -81,17 +81,17 @@ reads_first meaning width bytes new (Err InvalidSampleFormat) read = read
 reads_first meaning width bytes new (Err TooLong) read = read
 reads_first meaning width bytes new (Err OutOfMemory) read = read
 
-module _ {R A : Type 0} (seen : R → Seen) (left : R → Option (List ℕ)) (refusal : SampleFormat → ℕ → ℕ → Option ReadRefusal) (meaning : ℕ → ℕ → List ℕ → A) where
+module _ {R A : Type 0} (state : R → MediumState) (left : R → Option (List ℕ)) (refusal : SampleFormat → ℕ → ℕ → Option ReadRefusal) (meaning : ℕ → ℕ → List ℕ → A) where
   -- the item behind a seek
-  pub sought_item : (start time : ℕ) (old mid new : Reading R) (next : Option (Result A Error)) → left mid.reader ≡ Some (unread (seen mid.reader)) → HasSought seen start time old mid → time < old.num_samples / old.spec_ex.spec.channels → refusal_at refusal old.spec_ex ≡ None
-      → IsNext left refusal meaning next mid new → IsMeaningOf (meaning_at meaning old.spec_ex) (container_at old.spec_ex.bytes_per_sample (samples_before time old.spec_ex) (drop start (seen old.reader).contents)) next
+  pub sought_item : (start time : ℕ) (old mid new : ReaderState R) (next : Option (Result A Error)) → left mid.reader ≡ Some (unread (state mid.reader)) → HasSought state start time old mid → time < old.num_samples / old.spec_ex.spec.channels → refusal_at refusal old.spec_ex ≡ None
+      → IsNext left refusal meaning next mid new → IsMeaningOf (meaning_at meaning old.spec_ex) (container_at old.spec_ex.bytes_per_sample (samples_before time old.spec_ex) (drop start (state old.reader).contents)) next
   sought_item start time old mid new None known sought t taken step =
       let inside = frame_inside time old.spec_ex.spec.channels old.num_samples t in
       absurd (omega (arith, inside, step.0, sought.counts.samples, sought.counts.num_samples))
   sought_item start time old mid new (Some item) known sought t taken step =
       let width = old.spec_ex.bytes_per_sample in
-      let there = known ∙ ap Some (sought_unread seen start time old mid sought ∙ sym (drop-drop (bytes_before time old.spec_ex) start (seen old.reader).contents)) in
+      let there = known ∙ ap Some (sought_unread state start time old mid sought ∙ sym (drop-drop (bytes_before time old.spec_ex) start (state old.reader).contents)) in
       let read = subst (λ s. Reads (refusal_at refusal s) (meaning_at meaning s) s.bytes_per_sample (left mid.reader) (left new.reader) item) sought.counts.spec_ex step.read in
       let known_read = subst (λ o. Reads (refusal_at refusal old.spec_ex) (meaning_at meaning old.spec_ex) width o (left new.reader) item) there read in
-      reads_first (meaning_at meaning old.spec_ex) width (drop (bytes_before time old.spec_ex) (drop start (seen old.reader).contents)) (left new.reader) item
-      (subst (λ o. Reads o (meaning_at meaning old.spec_ex) width (Some (drop (bytes_before time old.spec_ex) (drop start (seen old.reader).contents))) (left new.reader) item) taken known_read)
+      reads_first (meaning_at meaning old.spec_ex) width (drop (bytes_before time old.spec_ex) (drop start (state old.reader).contents)) (left new.reader) item
+      (subst (λ o. Reads o (meaning_at meaning old.spec_ex) width (Some (drop (bytes_before time old.spec_ex) (drop start (state old.reader).contents))) (left new.reader) item) taken known_read)

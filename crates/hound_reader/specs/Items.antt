@@ -5,7 +5,7 @@ use Rattle.hound_spec.specs.declared.error.Error.TheVariants.{IoError}
 use Rattle.hound_spec.specs.declared.spec.SampleFormat.{SampleFormat}
 use Rattle.hound_sample.specs.Meaning.{ReadRefusal}
 use Rattle.hound_sample.specs.Reads.{error_of_read}
-use Rattle.hound_reader.specs.Reading.{Reading, IsNext}
+use Rattle.hound_reader.specs.Reader.{ReaderState, IsNext}
 
 -- The first items of data with containers of this width: each is the refusal of the type, or each is the meaning of its own
 -- container, which is all there. Behind the first `IoError` nothing is said.
@@ -17,6 +17,6 @@ AreItems None meaning width bytes (Err (IoError e) ∷ items) = ⊤
 AreItems None meaning width bytes (Err _ ∷ items) = ⊥
 
 -- these items were given one after the other
-abbrev pub GivesItems : {R A : Type 0} → (R → Option (List ℕ)) → (SampleFormat → ℕ → ℕ → Option ReadRefusal) → (ℕ → ℕ → List ℕ → A) → List (Result A Error) → Reading R → Reading R → Type 0
+abbrev pub GivesItems : {R A : Type 0} → (R → Option (List ℕ)) → (SampleFormat → ℕ → ℕ → Option ReadRefusal) → (ℕ → ℕ → List ℕ → A) → List (Result A Error) → ReaderState R → ReaderState R → Type 0
 GivesItems left refusal meaning [] old new = new ≡ old
-GivesItems {R} left refusal meaning (item ∷ items) old new = (mid : Reading R) × IsNext left refusal meaning (Some item) old mid × GivesItems left refusal meaning items mid new
+GivesItems {R} left refusal meaning (item ∷ items) old new = (mid : ReaderState R) × IsNext left refusal meaning (Some item) old mid × GivesItems left refusal meaning items mid new

@@ -4,7 +4,7 @@ pub mod Outcome
 pub mod Walk
 pub mod Answer
 pub mod Refusals
-pub mod Reading
+pub mod Reader
 pub mod Samples
 pub mod Sources
 pub mod Containers

@@ -5,7 +5,7 @@ use Rattle.hound_spec.specs.declared.spec.WavSpecEx.{WavSpecEx}
 use Rattle.hound_spec.specs.Header.{riff_tag, wave_tag, fmt_tag, data_tag}
 use Rattle.hound_sample.specs.Meaning.{int_meaning}
 use Rattle.hound_sample.specs.Container.{containers}
-use Rattle.hound_reader.specs.Reading.{Reading}
+use Rattle.hound_reader.specs.Reader.{ReaderState}
 
 -- the content of a fmt chunk: mono, 44100 Hz, 16 bits
 abbrev pub mono_fmt : List ℕ
@@ -19,7 +19,7 @@ abbrev pub stereo_24 : WavSpecEx
 stereo_24 = record { spec = record { channels = 2; sample_rate = 48000; bits_per_sample = 24; sample_format = Int }; bytes_per_sample = 4 }
 
 -- a reader of four samples that counts so many as asked for, and so many bytes as taken
-abbrev pub counted : WavSpecEx → ℕ → ℕ → Reading (List ℕ)
+abbrev pub counted : WavSpecEx → ℕ → ℕ → ReaderState (List ℕ)
 counted s samples bytes = record { reader = []; spec_ex = s; num_samples = 4; samples_read = samples; bytes_read = bytes }
 
 -- the header of four mono samples, up to the data

@@ -4,13 +4,13 @@ use Rattle.std.specs.Borrow.{GName}
 use Rattle.hound_spec.specs.declared.error.Error.{Error}
 use Rattle.hound_spec.specs.declared.spec.SampleFormat.{SampleFormat}
 use Rattle.hound_sample.specs.Meaning.{ReadRefusal}
-use Rattle.hound_reader.specs.Reading.{Reading, IsNext}
+use Rattle.hound_reader.specs.Reader.{ReaderState, IsNext}
 use Rattle.hound_reader.specs.declared.samples.WavSamples.{WavSamples}
 use Rattle.hound_reader.specs.declared.samples.WavIntoSamples.{WavIntoSamples}
 
 module _ {R S : Type 0} where
   -- the reader whose samples are read, as it is now
-  abbrev pub lent_reader : WavSamples R S → Reading R
+  abbrev pub lent_reader : WavSamples R S → ReaderState R
   lent_reader samples = samples.reader.now
 
   -- the ghost name of the reference to it
@@ -22,7 +22,7 @@ module _ {R S : Type 0} where
   LendsNext left refusal meaning old item new = (lender new ≡ lender old) × IsNext left refusal meaning item (lent_reader old) (lent_reader new)
 
   -- the reader that was taken, as it is now
-  abbrev pub taken_reader : WavIntoSamples R S → Reading R
+  abbrev pub taken_reader : WavIntoSamples R S → ReaderState R
   taken_reader samples = samples.reader
 
   -- `next`: the next sample of the reader that was taken

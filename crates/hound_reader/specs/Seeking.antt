@@ -4,8 +4,8 @@ use Rattle.hound_spec.specs.declared.error.Error.{Error}
 use Rattle.hound_spec.specs.declared.error.Error.TheVariants.{IoError}
 use Rattle.hound_spec.specs.declared.spec.WavSpecEx.{WavSpecEx}
 use Rattle.std.specs.declared.io.Error.{Error as IoFault}
-use Rattle.hound_medium.specs.Seen.{Seen, Shifts}
-use Rattle.hound_reader.specs.Reading.{Reading}
+use Rattle.hound_medium.specs.State.{MediumState, Shifts}
+use Rattle.hound_reader.specs.Reader.{ReaderState}
 
 -- how many samples stand before a frame
 abbrev pub samples_before : ℕ → WavSpecEx → ℕ
@@ -16,7 +16,7 @@ abbrev pub bytes_before : ℕ → WavSpecEx → ℕ
 bytes_before time s = samples_before time s * s.bytes_per_sample
 
 -- the way to a frame in bytes, from where the reader counts itself to be
-abbrev pub way_to : {R : Type 0} → ℕ → Reading R → ℤ
+abbrev pub way_to : {R : Type 0} → ℕ → ReaderState R → ℤ
 way_to time reading = pos (bytes_before time reading.spec_ex) -ℤ pos reading.bytes_read
 
 -- a count after a call: an Err leaves the old one
@@ -25,17 +25,17 @@ count_after (Ok x) count old = count
 count_after (Err e) count old = old
 
 -- The counts after `seek`: all that stands before the frame counts as read, and an Err leaves them.
-pub record Recounts {R T E : Type 0} (time : ℕ) (result : Result T E) (old new : Reading R) : Type 0 where
+pub record Recounts {R T E : Type 0} (time : ℕ) (result : Result T E) (old new : ReaderState R) : Type 0 where
   pub samples : new.samples_read ≡ count_after result (samples_before time old.spec_ex) old.samples_read
   pub bytes : new.bytes_read ≡ count_after result (bytes_before time old.spec_ex) old.bytes_read
   pub spec_ex : new.spec_ex ≡ old.spec_ex
   pub num_samples : new.num_samples ≡ old.num_samples
 
 -- `seek` was Ok, over a source that tells and stood where the reader counts itself to be: the data begin at `start`.
-pub record HasSought {R : Type 0} (seen : R → Seen) (start time : ℕ) (old new : Reading R) : Type 0 where
-  pub stood : (seen old.reader).place ≡ start + old.bytes_read
+pub record HasSought {R : Type 0} (state : R → MediumState) (start time : ℕ) (old new : ReaderState R) : Type 0 where
+  pub stood : (state old.reader).place ≡ start + old.bytes_read
   pub counts : Recounts {T = Unit {0}} {E = IoFault} time (Ok tt) old new
-  pub source : Shifts {T = Unit {0}} {E = IoFault} (way_to time old) (Ok tt) (seen old.reader) (seen new.reader)
+  pub source : Shifts {T = Unit {0}} {E = IoFault} (way_to time old) (Ok tt) (state old.reader) (state new.reader)
 
 -- the container with this number, from 0 on, of data with containers of this width
 abbrev pub container_at : ℕ → ℕ → List ℕ → List ℕ

@@ -1,18 +1,18 @@
 -- A source as an input.
 use Rattle.std.specs.Prelude.{◌≡◌, ℕ, List, drop, ⊤, Result, Ok, Err}
 use Rattle.hound_number.specs.Input.{Account}
-use Rattle.hound_medium.specs.Seen.{Seen, one_more}
+use Rattle.hound_medium.specs.State.{MediumState, one_more}
 use Rattle.hound_reader.specs.Chunks.{Head, Refused as Refused'}
 use Rattle.hound_reader.specs.declared.chunks.FileHead.{FileHead}
 use Rattle.hound_reader.specs.declared.fault.HeadError.{HeadError}
 use Rattle.hound_reader.specs.declared.fault.HeadError.TheVariants.{Failed, Refused}
 
 -- the bytes from the place on
-abbrev pub unread : Seen → List ℕ
+abbrev pub unread : MediumState → List ℕ
 unread s = drop s.place s.contents
 
 -- the faults, and what no read changes
-abbrev pub account_of : Seen → Account
+abbrev pub account_of : MediumState → Account
 account_of s = record { failures = s.faults; contents = s.contents; start = s.start; past = s.past; flushed = s.flushed }
 
 -- the faults after a walk: a read that failed counts one, a cause none
@@ -28,7 +28,7 @@ AnswersBytes (Err (Failed e)) bytes rest = ⊤
 AnswersBytes (Err (Refused c)) bytes rest = Refused' bytes c
 
 -- what a walk over a source does: it answers the bytes from the place on, and moves the place alone
-pub record FindsData (result : Result FileHead HeadError) (old new : Seen) : Type 0 where
+pub record FindsData (result : Result FileHead HeadError) (old new : MediumState) : Type 0 where
   pub answer : AnswersBytes result (unread old) (unread new)
   pub faults : new.faults ≡ faults_after_walk result old.faults
   pub contents : new.contents ≡ old.contents

@@ -1,4 +1,5 @@
 // The walk over chunks to the data.
+ghost use Rattle.hound_medium.specs.State.{WhereTells};
 ghost use Rattle.std.specs.Prelude.{◌≡◌, ℕ, ◌+◌, ◌++◌, ◌<◌, ◌≤◌, List, length, drop, Some, IsTrue, OnOk, IfOk, IfErr};
 ghost use Rattle.std.specs.Io.KnownBytes.{Consumes};
 ghost use Rattle.hound_number.specs.Input.{Known};
@@ -224,7 +225,7 @@ pub fn read_until_data<R: Input>(reader: &mut R) -> Result<FileHead, HeadError>
 pub fn find_data<S: Source>(source: S) -> (S, Result<FileHead, HeadError>)
     ensures sound { IfOk result.1 (λ r. IsSound r.spec_ex) }
     ensures start { IfOk result.1 (λ r. (20 ≤ r.data_start) × (r.data_start ≤ 4294967315)) }
-    ensures finds { IsTrue S.tells → FindsData result.1 (S.seen source) (S.seen result.0) }
+    ensures finds { WhereTells S.tells (FindsData result.1 (S.state source) (S.state result.0)) }
 {
     let mut input = Counted { source };
     let answer = read_until_data(&mut input);

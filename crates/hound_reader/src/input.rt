@@ -18,9 +18,9 @@ pub struct Counted<S> {
 }
 
 impl<S: Source> Input for Counted<S> {
-    ghost left = { λ c. if S.tells then Some (unread (S.seen c.source)) else None };
+    ghost left = { λ c. if S.tells then Some (unread (S.state c.source)) else None };
 
-    ghost account = { λ c. if S.tells then Some (account_of (S.seen c.source)) else None };
+    ghost account = { λ c. if S.tells then Some (account_of (S.state c.source)) else None };
 
     fn read_some(&mut self, buf: &mut [u8]) -> io::Result<usize> {
         self.source.get(buf)

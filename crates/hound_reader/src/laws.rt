@@ -1,4 +1,5 @@
 // What holds of all bytes, of all files that are written, and of all readers.
+ghost use Rattle.hound_medium.specs.State.{WhereTells};
 ghost use Rattle.std.specs.Prelude.{◌≡◌, ℕ, ◌+◌, ◌*◌, ◌/◌, List, length, drop, ◌++◌, ◌<◌, ◌≤◌, IsTrue, Option, None, Result, IfSome};
 ghost use Rattle.hound_spec.specs.Writable.{IsWritable};
 ghost use Rattle.hound_spec.specs.Header.{header, data_start, canonical};
@@ -8,7 +9,7 @@ ghost use Rattle.hound_reader.specs.Chunks.{Head, Readable};
 ghost use Rattle.hound_sample.specs.Container.{containers};
 ghost use Rattle.hound_reader.specs.Containers.{AreContainers};
 ghost use Rattle.hound_reader.specs.Items.{AreItems, GivesItems};
-ghost use Rattle.hound_reader.specs.Reading.{Reading, IsNext, refusal_at, meaning_at, samples_left};
+ghost use Rattle.hound_reader.specs.Reader.{ReaderState, IsNext, refusal_at, meaning_at, samples_left};
 ghost use Rattle.hound_reader.specs.Seeking.{HasSought, IsMeaningOf, container_at, samples_before};
 ghost use Rattle.hound_reader.specs.Sources.{unread};
 ghost use Rattle.hound_spec.specs.declared.error.Error.{Error};
@@ -39,19 +40,19 @@ pub fn written_is_read()
 /// The items that a reader gives of one type are those of the file, from where the reader stands,
 /// and each counts.
 pub fn items_are_of_the_file<R: io::Read, S: Sample>()
-    ensures items { (items : List (Result S Error)) (old new : Reading R) → GivesItems R.remaining S.refusal S.meaning items old new →
+    ensures items { (items : List (Result S Error)) (old new : ReaderState R) → GivesItems R.remaining S.refusal S.meaning items old new →
         IfSome (R.remaining old.reader) (λ bytes.
         AreItems (refusal_at S.refusal old.spec_ex) (meaning_at S.meaning old.spec_ex) old.spec_ex.bytes_per_sample bytes items) }
-    ensures counted { (items : List (Result S Error)) (old new : Reading R) → GivesItems R.remaining S.refusal S.meaning items old new →
+    ensures counted { (items : List (Result S Error)) (old new : ReaderState R) → GivesItems R.remaining S.refusal S.meaning items old new →
         (new.samples_read ≡ old.samples_read + length items) × (length items ≤ samples_left old) }
 {}
 
 /// An iterator gives exactly as many items as are left where it begins, and then none: so many as
 /// its `size_hint` says.
 pub fn an_iterator_gives_what_it_hints<R: io::Read, S: Sample>()
-    ensures behind { (items : List (Result S Error)) (old new end : Reading R) → GivesItems R.remaining S.refusal S.meaning items old new →
+    ensures behind { (items : List (Result S Error)) (old new end : ReaderState R) → GivesItems R.remaining S.refusal S.meaning items old new →
         IsNext {A = S} R.remaining S.refusal S.meaning None new end → length items ≡ samples_left old }
-    ensures inside { (items : List (Result S Error)) (next : Option (Result S Error)) (old new end : Reading R) → GivesItems R.remaining S.refusal S.meaning items old new →
+    ensures inside { (items : List (Result S Error)) (next : Option (Result S Error)) (old new end : ReaderState R) → GivesItems R.remaining S.refusal S.meaning items old new →
         length items ≡ samples_left old → IsNext R.remaining S.refusal S.meaning next new end → next ≡ None }
 {}
 
@@ -60,13 +61,13 @@ pub fn an_iterator_gives_what_it_hints<R: io::Read, S: Sample>()
 /// item is then the meaning of the frame's first container, unless it is an `IoError`, and that
 /// container is all there where the data chunk is.
 pub fn a_seek_leads_to_its_frame<R: Source, S: Sample>()
-    ensures place { (start time : ℕ) (old new : Reading R) → HasSought R.seen start time old new →
-        (R.seen new.reader).place ≡ start + new.bytes_read }
-    ensures item { (start time : ℕ) (old mid new : Reading R) (next : Option (Result S Error)) → IsTrue R.tells → HasSought R.seen start time old mid →
+    ensures place { (start time : ℕ) (old new : ReaderState R) → HasSought R.state start time old new →
+        (R.state new.reader).place ≡ start + new.bytes_read }
+    ensures item { (start time : ℕ) (old mid new : ReaderState R) (next : Option (Result S Error)) → WhereTells R.tells (HasSought R.state start time old mid →
         time < old.num_samples / old.spec_ex.spec.channels → refusal_at S.refusal old.spec_ex ≡ None → IsNext R.remaining S.refusal S.meaning next mid new →
         IsMeaningOf (meaning_at S.meaning old.spec_ex)
-        (container_at old.spec_ex.bytes_per_sample (samples_before time old.spec_ex) (drop start (R.seen old.reader).contents)) next }
-    ensures there { (start time : ℕ) (old mid : Reading R) → HasSought R.seen start time old mid →
-        time < old.num_samples / old.spec_ex.spec.channels → start + old.num_samples * old.spec_ex.bytes_per_sample ≤ length (R.seen old.reader).contents →
-        old.spec_ex.bytes_per_sample ≤ length (unread (R.seen mid.reader)) }
+        (container_at old.spec_ex.bytes_per_sample (samples_before time old.spec_ex) (drop start (R.state old.reader).contents)) next) }
+    ensures there { (start time : ℕ) (old mid : ReaderState R) → HasSought R.state start time old mid →
+        time < old.num_samples / old.spec_ex.spec.channels → start + old.num_samples * old.spec_ex.bytes_per_sample ≤ length (R.state old.reader).contents →
+        old.spec_ex.bytes_per_sample ≤ length (unread (R.state mid.reader)) }
 {}

@@ -9,8 +9,8 @@ ghost use Rattle.hound_reader.specs.Fmt.{IsSound};
 ghost use Rattle.hound_reader.specs.Chunks.{Readable, Unreadable, front_fault};
 ghost use Rattle.hound_reader.specs.declared.fault.Cause.{Cause};
 ghost use Rattle.hound_reader.specs.Refusals.{IsRefusal, OpensAs, FailsAs};
-ghost use Rattle.hound_medium.specs.Seen.{Shifts};
-ghost use Rattle.hound_reader.specs.Reading.{IsNext, samples_left};
+ghost use Rattle.hound_medium.specs.State.{Shifts, WhereTells};
+ghost use Rattle.hound_reader.specs.Reader.{IsNext, samples_left};
 ghost use Rattle.hound_reader.specs.Seeking.{Recounts, way_to};
 ghost use Rattle.hound_reader.specs.Samples.{lent_reader, lender, taken_reader};
 
@@ -77,9 +77,9 @@ pub struct WavReader<R> {
 }
 
 impl<R> Model for WavReader<R> {
-    ghost use Rattle.hound_reader.specs.Reading.{Reading, IsCounted};
+    ghost use Rattle.hound_reader.specs.Reader.{ReaderState, IsCounted};
 
-    ghost Value = { Reading R };
+    ghost Value = { ReaderState R };
 
     ghost view = { λ r. record { reader = r.reader.reader; spec_ex = r.spec_ex; num_samples = r.num_samples; samples_read = r.samples_read; bytes_read = r.bytes_read } };
 
@@ -168,7 +168,7 @@ impl<R: io::Read + Drop> WavReader<R> {
     where
         R: Source,
         ensures counts { Recounts time result self.old self.new }
-        ensures source { IsTrue R.tells → Shifts (way_to time self.old) result (R.seen self.old.reader) (R.seen self.new.reader) }
+        ensures source { WhereTells R.tells (Shifts (way_to time self.old) result (R.state self.old.reader) (R.state self.new.reader)) }
     {
         let samples = time as u64 * self.spec_ex.spec.channels as u64;
         let bytes = samples * self.spec_ex.bytes_per_sample as u64;

@@ -2,7 +2,7 @@
 ghost use Rattle.std.specs.Prelude.{◌≡◌, IfSome};
 ghost use Rattle.std.specs.Iterator.{at_most, UpTo};
 ghost use Rattle.std.specs.Iterator.SizeHint.{IsWithinCount};
-ghost use Rattle.hound_reader.specs.Reading.{samples_left};
+ghost use Rattle.hound_reader.specs.Reader.{samples_left};
 ghost use Rattle.hound_reader.specs.Samples.{lent_reader, lender, taken_reader, LendsNext, TakesNext};
 
 use crate::reader::WavReader;

@@ -16,13 +16,13 @@ use Rattle.hound_spec.specs.Writable.{IsWritable, IsPair}
 use Rattle.hound_spec.specs.Header.{header, data_start, canonical, riff_size}
 use Rattle.hound_spec.proofs.HeaderLemmas.{length-header, data_start_least}
 use Rattle.hound_sample.specs.Container.{Refusal, too_wide, unsupported, containers}
-use Rattle.hound_medium.specs.Seen.{Seen, one_more}
+use Rattle.hound_medium.specs.State.{MediumState, one_more}
 use Rattle.hound_medium.specs.Bytes.{placed, overlay}
 use Rattle.hound_reader.specs.Chunks.{Head}
 use Rattle.hound_reader.proofs.WrittenLemmas.{header_head}
 use Rattle.hound_reader.proofs.Unique.{heads_agree, head_no_fault}
 use Rattle.hound_writer.specs.Parts.{field}
-use Rattle.hound_writer.specs.Writer.{Written, HasHeader, IsWhole, IsBegun, IsPublishing, Publishes, accepted, faults_told}
+use Rattle.hound_writer.specs.Writer.{WriterState, HasHeader, IsWhole, IsBegun, IsPublishing, Publishes, accepted, faults_told}
 use Rattle.hound_writer.specs.Appending.{GoesOn, IsNotAppended, IsAppendFault, AppendFault, head_fault, is_written_pair}
 use Rattle.hound_medium.proofs.Torn.{number_at_small}
 use Rattle.hound_writer.proofs.Accepting.{length_overlay_max}
@@ -38,20 +38,20 @@ use Rattle.hound_session.proofs.Running.{parted}
 use Rattle.hound_session.proofs.Whole.{all_published, length-canonical}
 
 -- faults that grow, and then grow again
-pub grow_then : (a b c : Seen) → FaultsGrow a b → FaultsGrow b c → FaultsGrow a c
+pub grow_then : (a b c : MediumState) → FaultsGrow a b → FaultsGrow b c → FaultsGrow a c
 grow_then a b c first then small =
     let one = first small in
     let two = then one.1 in
     (omega (arith, one.0, two.0), two.1)
 
 -- no fault in the whole is none in either part
-pub no_fault_first : (a b c : Seen) → FaultsGrow a b → FaultsGrow b c → NoFault a c → NoFault a b
+pub no_fault_first : (a b c : MediumState) → FaultsGrow a b → FaultsGrow b c → NoFault a c → NoFault a b
 no_fault_first a b c first then (same, small) =
     let one = first (omega (arith, small)) in
     let two = then one.1 in
     (omega (arith, one.0, two.0, same), small)
 
-pub no_fault_then : (a b c : Seen) → FaultsGrow a b → FaultsGrow b c → NoFault a c → NoFault b c
+pub no_fault_then : (a b c : MediumState) → FaultsGrow a b → FaultsGrow b c → NoFault a c → NoFault b c
 no_fault_then a b c first then none =
     let one = no_fault_first a b c first then none in
     (omega (arith, one.0, none.0), omega (arith, one.0, none.1))
@@ -78,26 +78,26 @@ longer : (last first start file more at n m k : ℕ) → first ≤ max start fil
 longer last first start file more at n m k one two grown short long = omega (arith, one, two, grown, short, long)
 
 -- a writer of a file of these containers, whose medium began as `start`
-pub record OnFile {M : Type 0} (seen : M → Seen) (s : WavSpecEx) (list : List (List ℕ)) (start : Seen) (w : Written M) : Type 0 where
+pub record OnFile {M : Type 0} (state : M → MediumState) (s : WavSpecEx) (list : List (List ℕ)) (start : MediumState) (w : WriterState M) : Type 0 where
   pub writable : IsWritable s
   pub spec : w.spec_ex ≡ s
   pub at : w.data_start ≡ data_start s
   pub size : w.data_length ≡ length (concat list)
-  pub whole : IsWhole seen w
-  pub begun : IsBegun seen w
-  pub holds : accepted seen w ≡ list
-  pub faults : FaultsGrow start (seen w.medium)
-  pub reach : NoFault start (seen w.medium) → length (seen w.medium).contents ≤ max (length start.contents) (length (canonical s list))
+  pub whole : IsWhole state w
+  pub begun : IsBegun state w
+  pub holds : accepted state w ≡ list
+  pub faults : FaultsGrow start (state w.medium)
+  pub reach : NoFault start (state w.medium) → length (state w.medium).contents ≤ max (length start.contents) (length (canonical s list))
 
 -- after steps that were all accepted
-module _ {M : Type 0} (seen : M → Seen) (s : WavSpecEx) (list : List (List ℕ)) (start : Seen) (steps : List Step) (first last : Written M) (on : OnFile seen s list start first) (runs : IsStrictRun seen steps first last) where
-  lead : Leads seen steps (map mark_of (replicate (length steps) (Ok tt))) first last
-  lead = leads seen steps (replicate (length steps) (Ok tt)) first last (omega (arith, on.at, data_start_least s)) runs
+module _ {M : Type 0} (state : M → MediumState) (s : WavSpecEx) (list : List (List ℕ)) (start : MediumState) (steps : List Step) (first last : WriterState M) (on : OnFile state s list start first) (runs : IsStrictRun state steps first last) where
+  lead : Leads state steps (map mark_of (replicate (length steps) (Ok tt))) first last
+  lead = leads state steps (replicate (length steps) (Ok tt)) first last (omega (arith, on.at, data_start_least s)) runs
 
   added : accepted_by_all first.spec_ex steps (map mark_of (replicate (length steps) (Ok tt))) ≡ containers_of s (map taken steps)
   added = ap (λ t. accepted_by_all t steps (map mark_of (replicate (length steps) (Ok tt)))) on.spec ∙ all_accepted s steps
 
-  pub on_file_then : OnFile seen s (list ++ containers_of s (map taken steps)) start last
+  pub on_file_then : OnFile state s (list ++ containers_of s (map taken steps)) start last
   on_file_then =
       let more = containers_of s (map taken steps) in
       let size : last.data_length ≡ length (concat (list ++ more)) =
@@ -110,11 +110,11 @@ module _ {M : Type 0} (seen : M → Seen) (s : WavSpecEx) (list : List (List ℕ
         whole = lead.whole on.whole;
         begun = lead.begun on.begun;
         holds = lead.accepted on.whole ∙ (λ i. on.holds i ++ added i);
-        faults = grow_then start (seen first.medium) (seen last.medium) on.faults lead.faults;
+        faults = grow_then start (state first.medium) (state last.medium) on.faults lead.faults;
         reach = λ none.
-            let one = no_fault_first start (seen first.medium) (seen last.medium) on.faults lead.faults none in
-            let two = no_fault_then start (seen first.medium) (seen last.medium) on.faults lead.faults none in
-            longer (length (seen last.medium).contents) (length (seen first.medium).contents) (length start.contents) (length (canonical s list)) (length (canonical s (list ++ more))) first.data_start last.data_length first.data_length _
+            let one = no_fault_first start (state first.medium) (state last.medium) on.faults lead.faults none in
+            let two = no_fault_then start (state first.medium) (state last.medium) on.faults lead.faults none in
+            longer (length (state last.medium).contents) (length (state first.medium).contents) (length start.contents) (length (canonical s list)) (length (canonical s (list ++ more))) first.data_start last.data_length first.data_length _
             (on.reach one) (lead.reach two.0 two.1) lead.data_length (length-canonical s list ∙ ap (λ n. n + length (concat list)) (sym on.at) ∙ ap (λ n. first.data_start + n) (sym on.size))
             (length-canonical s (list ++ more) ∙ ap (λ n. n + length (concat (list ++ more))) (sym on.at) ∙ ap (λ n. first.data_start + n) (sym size));
       }
@@ -143,20 +143,20 @@ abbrev pub ok : Result (Unit {0}) Error
 ok = Ok tt
 
 -- what a finished file is
-module _ {M : Type 0} (seen : M → Seen) (s : WavSpecEx) (list : List (List ℕ)) (start : Seen) (last : Written M) (on : OnFile seen s list start last) (medium : M) where
+module _ {M : Type 0} (state : M → MediumState) (s : WavSpecEx) (list : List (List ℕ)) (start : MediumState) (last : WriterState M) (on : OnFile state s list start last) (medium : M) where
   -- after a call that published all
-  pub file_there : (answer : Result (Unit {0}) Error) → NoFault (seen last.medium) (seen medium) → IsPublishing answer last → Publishes seen last answer medium → StartsWith (seen medium).contents (canonical s list)
+  pub file_there : (answer : Result (Unit {0}) Error) → NoFault (state last.medium) (state medium) → IsPublishing answer last → Publishes state last answer medium → StartsWith (state medium).contents (canonical s list)
   file_there answer (same, small) is p =
-      let told = told_grows answer (seen last.medium).faults (omega (arith, small)) in
-      let none : faults_told answer (seen last.medium).faults ≡ (seen last.medium).faults = omega (arith, p.faults, same) in
-      let file = all_published answer last (seen last.medium).faults small none is (p.canonical on.whole on.begun) in
-      subst (λ (x : WavSpecEx × List (List ℕ)). StartsWith (seen medium).contents (canonical x.0 x.1)) (λ i. (on.spec i, on.holds i)) file
+      let told = told_grows answer (state last.medium).faults (omega (arith, small)) in
+      let none : faults_told answer (state last.medium).faults ≡ (state last.medium).faults = omega (arith, p.faults, same) in
+      let file = all_published answer last (state last.medium).faults small none is (p.canonical on.whole on.begun) in
+      subst (λ (x : WavSpecEx × List (List ℕ)). StartsWith (state medium).contents (canonical x.0 x.1)) (λ i. (on.spec i, on.holds i)) file
 
   -- an Ok end leaves a file that can be gone on with
-  pub holds_file : AreBytes (seen medium).contents → IsPublishing ok last → Publishes seen last ok medium → HoldsFile s list start (seen medium)
+  pub holds_file : AreBytes (state medium).contents → IsPublishing ok last → Publishes state last ok medium → HoldsFile s list start (state medium)
   holds_file small frames p =
       let n = length (concat list) in
-      let c = (seen medium).contents in
+      let c = (state medium).contents in
       let h = data_start s in
       let file : StartsWith c (canonical s list) = subst (λ (x : WavSpecEx × List (List ℕ)). StartsWith c (canonical x.0 x.1)) (λ i. (on.spec i, on.holds i)) (p.canonical on.whole on.begun) in
       let rest = drop (length (canonical s list)) c in
@@ -183,14 +183,14 @@ module _ {M : Type 0} (seen : M → Seen) (s : WavSpecEx) (list : List (List ℕ
         whole = inside;
         samples = samples_same;
         file = file;
-        faults = grow_then start (seen last.medium) (seen medium) on.faults (λ fine. let told = told_grows ok (seen last.medium).faults fine in (omega (arith, told.0, p.faults), omega (arith, told.1, p.faults)));
+        faults = grow_then start (state last.medium) (state medium) on.faults (λ fine. let told = told_grows ok (state last.medium).faults fine in (omega (arith, told.0, p.faults), omega (arith, told.1, p.faults)));
         reach = λ none.
-            let one = no_fault_first start (seen last.medium) (seen medium) on.faults (λ fine. let told = told_grows ok (seen last.medium).faults fine in (omega (arith, told.0, p.faults), omega (arith, told.1, p.faults))) none in
+            let one = no_fault_first start (state last.medium) (state medium) on.faults (λ fine. let told = told_grows ok (state last.medium).faults fine in (omega (arith, told.0, p.faults), omega (arith, told.1, p.faults))) none in
             omega (arith, on.reach one, p.long);
       }
 
 -- an answer depends on no more of a writer than its file
-publishing_same : {M N : Type 0} (answer : Result (Unit {0}) Error) (v : Written M) (w : Written N) → v.spec_ex ≡ w.spec_ex → v.data_length ≡ w.data_length → IsPublishing answer v → IsPublishing answer w
+publishing_same : {M N : Type 0} (answer : Result (Unit {0}) Error) (v : WriterState M) (w : WriterState N) → v.spec_ex ≡ w.spec_ex → v.data_length ≡ w.data_length → IsPublishing answer v → IsPublishing answer w
 publishing_same (Ok x) v w spec size here = (λ i. sym size i / (sym spec i).bytes_per_sample % (sym spec i).spec.channels) ∙ here
 publishing_same (Err (IoError e)) v w spec size here = tt
 publishing_same (Err UnfinishedSample) v w spec size here = λ frames. here ((λ i. size i / (spec i).bytes_per_sample % (spec i).spec.channels) ∙ frames)
@@ -201,12 +201,12 @@ publishing_same (Err InvalidSampleFormat) v w spec size here = absurd here
 publishing_same (Err TooLong) v w spec size here = absurd here
 publishing_same (Err OutOfMemory) v w spec size here = absurd here
 
-accept_same : {M N : Type 0} (memory : Bool) (asked : Result (List (List ℕ)) Refusal) (answer : Result (Unit {0}) Error) (v : Written M) (w : Written N) → v.data_start ≡ w.data_start → v.data_length ≡ w.data_length → AcceptAnswer memory asked v answer → AcceptAnswer memory asked w answer
+accept_same : {M N : Type 0} (memory : Bool) (asked : Result (List (List ℕ)) Refusal) (answer : Result (Unit {0}) Error) (v : WriterState M) (w : WriterState N) → v.data_start ≡ w.data_start → v.data_length ≡ w.data_length → AcceptAnswer memory asked v answer → AcceptAnswer memory asked w answer
 accept_same memory (Err refusal) answer v w start size here = here
 accept_same memory (Ok list) answer v w start size here = subst (λ b. FitAnswer b memory answer) (λ i. nat_le (riff_size (start i) (size i + length (concat list))) 4294967295) here
 
 -- an answer that wants memory stays one where more memory is wanted
-accept_more : {N : Type 0} (a b : Bool) (asked : Result (List (List ℕ)) Refusal) (answer : Result (Unit {0}) Error) (w : Written N) → (IsTrue a → IsTrue b) → AcceptAnswer a asked w answer → AcceptAnswer b asked w answer
+accept_more : {N : Type 0} (a b : Bool) (asked : Result (List (List ℕ)) Refusal) (answer : Result (Unit {0}) Error) (w : WriterState N) → (IsTrue a → IsTrue b) → AcceptAnswer a asked w answer → AcceptAnswer b asked w answer
 accept_more a b (Err refusal) answer w more here = here
 accept_more a b (Ok list) answer w more here = go (nat_le (riff_size w.data_start (w.data_length + length (concat list))) 4294967295) answer here
   where
@@ -222,7 +222,7 @@ accept_more a b (Ok list) answer w more here = go (nat_le (riff_size w.data_star
     go true (Err InvalidSampleFormat) here = absurd here
     go true (Err TooLong) here = absurd here
 
-step_same : {M N : Type 0} (step : Step) (answer : Result (Unit {0}) Error) (v : Written M) (w : Written N) → length w.buffer ≤ length v.buffer → v.spec_ex ≡ w.spec_ex → v.data_start ≡ w.data_start → v.data_length ≡ w.data_length → StepAnswer step v answer → StepAnswer step w answer
+step_same : {M N : Type 0} (step : Step) (answer : Result (Unit {0}) Error) (v : WriterState M) (w : WriterState N) → length w.buffer ≤ length v.buffer → v.spec_ex ≡ w.spec_ex → v.data_start ≡ w.data_start → v.data_length ≡ w.data_length → StepAnswer step v answer → StepAnswer step w answer
 step_same (Whole value) answer v w less spec start size here = subst (λ t. AcceptAnswer false (step_containers t (Whole value)) w answer) spec (accept_same false (step_containers v.spec_ex (Whole value)) answer v w start size here)
 step_same (Bits bits) answer v w less spec start size here = subst (λ t. AcceptAnswer false (step_containers t (Bits bits)) w answer) spec (accept_same false (step_containers v.spec_ex (Bits bits)) answer v w start size here)
 step_same (Batch values) answer v w less spec start size here =
@@ -232,7 +232,7 @@ step_same (Batch values) answer v w less spec start size here =
 step_same Flush answer v w less spec start size here = publishing_same answer v w spec size here
 
 -- a sample or a batch is never unfinished
-not_unfinished : {M : Type 0} (memory : Bool) (asked : Result (List (List ℕ)) Refusal) (w : Written M) → AcceptAnswer memory asked w (Err UnfinishedSample) → ⊥
+not_unfinished : {M : Type 0} (memory : Bool) (asked : Result (List (List ℕ)) Refusal) (w : WriterState M) → AcceptAnswer memory asked w (Err UnfinishedSample) → ⊥
 not_unfinished memory (Err too_wide) w here = cc
 not_unfinished memory (Err unsupported) w here = cc
 not_unfinished memory (Ok list) w here = go (nat_le (riff_size w.data_start (w.data_length + length (concat list))) 4294967295) here
@@ -242,7 +242,7 @@ not_unfinished memory (Ok list) w here = go (nat_le (riff_size w.data_start (w.d
     go false here = cc
 
 -- a step that is an error accepts nothing
-error_accepts_none : {M : Type 0} (s : WavSpecEx) (step : Step) (w : Written M) (e : Error) → StepAnswer step w (Err e) → accepted_by s step (mark_of (Err e)) ≡ []
+error_accepts_none : {M : Type 0} (s : WavSpecEx) (step : Step) (w : WriterState M) (e : Error) → StepAnswer step w (Err e) → accepted_by s step (mark_of (Err e)) ≡ []
 error_accepts_none s (Whole value) w UnfinishedSample here = absurd (not_unfinished false (step_containers w.spec_ex (Whole value)) w here)
 error_accepts_none s (Bits bits) w UnfinishedSample here = absurd (not_unfinished false (step_containers w.spec_ex (Bits bits)) w here)
 error_accepts_none s (Batch values) w UnfinishedSample here = absurd (not_unfinished (wants_memory values.now w) (step_containers w.spec_ex (Batch values)) w here)
@@ -256,10 +256,10 @@ error_accepts_none s step w TooLong here = refl
 error_accepts_none s step w OutOfMemory here = refl
 
 -- a writer after such a step
-on_file_still : {M : Type 0} (seen : M → Seen) (s : WavSpecEx) (list : List (List ℕ)) (start : Seen) (step : Step) (e : Error) (old new : Written M) → OnFile seen s list start old → Takes seen step (Err e) old new → OnFile seen s list start new
-on_file_still seen s list start step e old new on t =
+on_file_still : {M : Type 0} (state : M → MediumState) (s : WavSpecEx) (list : List (List ℕ)) (start : MediumState) (step : Step) (e : Error) (old new : WriterState M) → OnFile state s list start old → Takes state step (Err e) old new → OnFile state s list start new
+on_file_still state s list start step e old new on t =
     let none = error_accepts_none old.spec_ex step old e t.answers in
-    let grows : FaultsGrow (seen old.medium) (seen new.medium) = λ small. let told = told_grows (Err e) (seen old.medium).faults small in (omega (arith, told.0, t.faults), omega (arith, told.1, t.faults)) in
+    let grows : FaultsGrow (state old.medium) (state new.medium) = λ small. let told = told_grows (Err e) (state old.medium).faults small in (omega (arith, told.0, t.faults), omega (arith, told.1, t.faults)) in
     record {
       writable = on.writable;
       spec = t.spec_ex ∙ on.spec;
@@ -267,66 +267,66 @@ on_file_still seen s list start step e old new on t =
       size = omega (arith, t.data_length, on.size, ap (λ l. length (concat l)) none);
       whole = t.whole on.whole;
       begun = t.begun on.begun;
-      holds = t.accepted on.whole ∙ ap (λ l. accepted seen old ++ l) none ∙ append-nil (accepted seen old) ∙ on.holds;
-      faults = grow_then start (seen old.medium) (seen new.medium) on.faults grows;
+      holds = t.accepted on.whole ∙ ap (λ l. accepted state old ++ l) none ∙ append-nil (accepted state old) ∙ on.holds;
+      faults = grow_then start (state old.medium) (state new.medium) on.faults grows;
       reach = λ clean.
-          let one = no_fault_first start (seen old.medium) (seen new.medium) on.faults grows clean in
-          let two = no_fault_then start (seen old.medium) (seen new.medium) on.faults grows clean in
-          let far = unless_told (Err e) (seen old.medium).faults two.1 (sym t.faults ∙ two.0) t.reach in
+          let one = no_fault_first start (state old.medium) (state new.medium) on.faults grows clean in
+          let two = no_fault_then start (state old.medium) (state new.medium) on.faults grows clean in
+          let far = unless_told (Err e) (state old.medium).faults two.1 (sym t.faults ∙ two.0) t.reach in
           let n : new.data_length ≡ old.data_length = omega (arith, t.data_length, ap (λ l. length (concat l)) none) in
-          longer (length (seen new.medium).contents) (length (seen old.medium).contents) (length start.contents) (length (canonical s list)) (length (canonical s list)) old.data_start new.data_length old.data_length 0
+          longer (length (state new.medium).contents) (length (state old.medium).contents) (length start.contents) (length (canonical s list)) (length (canonical s list)) old.data_start new.data_length old.data_length 0
           (on.reach one) far (omega (arith, n)) (length-canonical s list ∙ ap (λ k. k + length (concat list)) (sym on.at) ∙ ap (λ k. old.data_start + k) (sym on.size))
           (length-canonical s list ∙ ap (λ k. k + length (concat list)) (sym on.at) ∙ ap (λ k. old.data_start + k) (sym on.size ∙ sym n));
     }
 
 -- the faults of a call that publishes
-publish_grows : {M : Type 0} (seen : M → Seen) (last : Written M) (answer : Result (Unit {0}) Error) (medium : M) → Publishes seen last answer medium → FaultsGrow (seen last.medium) (seen medium)
-publish_grows seen last answer medium p small =
-    let told = told_grows answer (seen last.medium).faults small in
+publish_grows : {M : Type 0} (state : M → MediumState) (last : WriterState M) (answer : Result (Unit {0}) Error) (medium : M) → Publishes state last answer medium → FaultsGrow (state last.medium) (state medium)
+publish_grows state last answer medium p small =
+    let told = told_grows answer (state last.medium).faults small in
     (omega (arith, told.0, p.faults), omega (arith, told.1, p.faults))
 
 -- how a session ends
-module _ {M : Type 0} (seen : M → Seen) (s : WavSpecEx) (list : List (List ℕ)) (start : Seen) (steps : List Step) (first : Written M) (on : OnFile seen s list start first) where
+module _ {M : Type 0} (state : M → MediumState) (s : WavSpecEx) (list : List (List ℕ)) (start : MediumState) (steps : List Step) (first : WriterState M) (on : OnFile state s list start first) where
   -- all steps were Ok
-  pub finishes : (last : Written M) (medium : M) (answer : Result (Unit {0}) Error) → IsStrictRun seen steps first last → AreBytes (seen medium).contents → IsPublishing answer last → Publishes seen last answer medium
-      → LeadsOn s list (session_events steps) start (seen medium) answer
+  pub finishes : (last : WriterState M) (medium : M) (answer : Result (Unit {0}) Error) → IsStrictRun state steps first last → AreBytes (state medium).contents → IsPublishing answer last → Publishes state last answer medium
+      → LeadsOn s list (session_events steps) start (state medium) answer
   finishes last medium answer runs small is p =
-      let then = on_file_then seen s list start steps first last on runs in
-      let grows = publish_grows seen last answer medium p in
+      let then = on_file_then state s list start steps first last on runs in
+      let grows = publish_grows state last answer medium p in
       record {
-        faults = grow_then start (seen last.medium) (seen medium) then.faults grows;
+        faults = grow_then start (state last.medium) (state medium) then.faults grows;
         done = go answer is p;
-        stopped = λ clean. stop answer is p (no_fault_then start (seen last.medium) (seen medium) then.faults grows clean);
+        stopped = λ clean. stop answer is p (no_fault_then start (state last.medium) (state medium) then.faults grows clean);
       }
     where
-      go : (answer : Result (Unit {0}) Error) → IsPublishing answer last → Publishes seen last answer medium → OnOk answer (HoldsFile s (list ++ containers_of s (session_events steps)) start (seen medium))
+      go : (answer : Result (Unit {0}) Error) → IsPublishing answer last → Publishes state last answer medium → OnOk answer (HoldsFile s (list ++ containers_of s (session_events steps)) start (state medium))
       go (Ok x) is p =
-          subst (λ l. HoldsFile s (list ++ l) start (seen medium)) (sym (session_containers s steps))
-          (holds_file seen s (list ++ containers_of s (map taken steps)) start last (on_file_then seen s list start steps first last on runs) medium small is p)
+          subst (λ l. HoldsFile s (list ++ l) start (state medium)) (sym (session_containers s steps))
+          (holds_file state s (list ++ containers_of s (map taken steps)) start last (on_file_then state s list start steps first last on runs) medium small is p)
       go (Err e) is p = tt
 
-      stop : (answer : Result (Unit {0}) Error) → IsPublishing answer last → Publishes seen last answer medium → NoFault (seen last.medium) (seen medium) → IfErr answer (λ e. StopsAt s list (session_events steps) e (seen medium).contents)
+      stop : (answer : Result (Unit {0}) Error) → IsPublishing answer last → Publishes state last answer medium → NoFault (state last.medium) (state medium) → IfErr answer (λ e. StopsAt s list (session_events steps) e (state medium).contents)
       stop (Ok x) is p clean = tt
       stop (Err e) is p clean =
-          let then = on_file_then seen s list start steps first last on runs in
+          let then = on_file_then state s list start steps first last on runs in
           record {
             before = map taken steps;
             event = finished;
             after = [];
             whole = refl;
             answer = publishing_same (Err e) last (writer_of s (list ++ containers_of s (map taken steps))) then.spec then.size is;
-            file = file_there seen s (list ++ containers_of s (map taken steps)) start last then medium (Err e) clean is p;
+            file = file_there state s (list ++ containers_of s (map taken steps)) start last then medium (Err e) clean is p;
           }
 
   -- a step was an error, and the writer was dropped
-  pub stops_short : (new : Written M) (medium : M) (e : Error) (dropped : Result (Unit {0}) Error) → StopsIn seen steps e first new → IsPublishing dropped new → Publishes seen new dropped medium
-      → LeadsOn s list (session_events steps) start (seen medium) (Err e)
+  pub stops_short : (new : WriterState M) (medium : M) (e : Error) (dropped : Result (Unit {0}) Error) → StopsIn state steps e first new → IsPublishing dropped new → Publishes state new dropped medium
+      → LeadsOn s list (session_events steps) start (state medium) (Err e)
   stops_short new medium e dropped st is p =
-      let before = on_file_then seen s list start st.before first st.last on st.runs in
-      let after = on_file_still seen s (list ++ containers_of s (map taken st.before)) start st.step e st.last new before st.takes in
-      let grows = publish_grows seen new dropped medium p in
+      let before = on_file_then state s list start st.before first st.last on st.runs in
+      let after = on_file_still state s (list ++ containers_of s (map taken st.before)) start st.step e st.last new before st.takes in
+      let grows = publish_grows state new dropped medium p in
       record {
-        faults = grow_then start (seen new.medium) (seen medium) after.faults grows;
+        faults = grow_then start (state new.medium) (state medium) after.faults grows;
         done = tt;
         stopped = λ clean. record {
           before = map taken st.before;
@@ -334,12 +334,12 @@ module _ {M : Type 0} (seen : M → Seen) (s : WavSpecEx) (list : List (List ℕ
           after = map taken st.after ++ finished ∷ [];
           whole = ap (λ l. map taken l ++ finished ∷ []) st.whole ∙ ap (λ l. l ++ finished ∷ []) (map-append taken st.before (st.step ∷ st.after)) ∙ append_assoc (map taken st.before) (taken st.step ∷ map taken st.after) (finished ∷ []);
           answer = step_same st.step (Err e) st.last (writer_of s (list ++ containers_of s (map taken st.before))) (omega arith) before.spec before.at before.size st.takes.answers;
-          file = file_there seen s (list ++ containers_of s (map taken st.before)) start new after medium dropped (no_fault_then start (seen new.medium) (seen medium) after.faults grows clean) is p;
+          file = file_there state s (list ++ containers_of s (map taken st.before)) start new after medium dropped (no_fault_then start (state new.medium) (state medium) after.faults grows clean) is p;
         };
       }
 
 -- a session that didn't begin, since the medium failed
-pub not_begun : (s : WavSpecEx) (list : List (List ℕ)) (all : List Event) (start now new : Seen) (e : Error) → FaultsGrow start now → new.faults ≡ one_more now.faults → LeadsOn s list all start new (Err e)
+pub not_begun : (s : WavSpecEx) (list : List (List ℕ)) (all : List Event) (start now new : MediumState) (e : Error) → FaultsGrow start now → new.faults ≡ one_more now.faults → LeadsOn s list all start new (Err e)
 not_begun s list all start now new e grows faults = record {
   faults = λ small. let g = grows small in (omega (arith, g.0, g.1, faults), omega (arith, g.1, faults));
   done = tt;
@@ -347,10 +347,10 @@ not_begun s list all start now new e grows faults = record {
 }
 
 -- the writer of a new file
-pub on_new : {M : Type 0} (keeps : Bool) (seen : M → Seen) (s : WavSpecEx) (start : Seen) (w : Written M) → IsWritable s → start.place ≡ 0 → BeginsFile keeps seen s start w → OnFile seen s [] start w
-on_new keeps seen s start w writable begins b =
+pub on_new : {M : Type 0} (keeps : Bool) (state : M → MediumState) (s : WavSpecEx) (start : MediumState) (w : WriterState M) → IsWritable s → start.place ≡ 0 → BeginsFile keeps state s start w → OnFile state s [] start w
+on_new keeps state s start w writable begins b =
     let h = header s 0 0 in
-    let put : (seen w.medium).contents ≡ overlay start.contents (placed 0 h) = b.puts.takes.contents ∙ (λ i. overlay start.contents (placed (begins i) (take_all (length h) h (omega arith) i))) in
+    let put : (state w.medium).contents ≡ overlay start.contents (placed 0 h) = b.puts.takes.contents ∙ (λ i. overlay start.contents (placed (begins i) (take_all (length h) h (omega arith) i))) in
     record {
       writable = writable;
       spec = b.begun.spec;
@@ -359,8 +359,8 @@ on_new keeps seen s start w writable begins b =
       whole = b.whole;
       begun = (b.header, b.begun.start ∙ ap data_start (sym b.begun.spec));
       holds =
-          (λ i. containers w.spec_ex.bytes_per_sample (b.begun.empty i / w.spec_ex.bytes_per_sample) (drop w.data_start (seen w.medium).contents))
-          ∙ ap (λ n. containers w.spec_ex.bytes_per_sample n (drop w.data_start (seen w.medium).contents)) (zero_div w.spec_ex.bytes_per_sample);
+          (λ i. containers w.spec_ex.bytes_per_sample (b.begun.empty i / w.spec_ex.bytes_per_sample) (drop w.data_start (state w.medium).contents))
+          ∙ ap (λ n. containers w.spec_ex.bytes_per_sample n (drop w.data_start (state w.medium).contents)) (zero_div w.spec_ex.bytes_per_sample);
       faults = λ small. (omega (arith, b.puts.faults), omega (arith, small, b.puts.faults));
       reach = λ _. omega (arith, ap length put, length_overlay_max h 0 start.contents, length-header s 0 0, length-canonical s []);
     }
@@ -370,8 +370,8 @@ on_new keeps seen s start w writable begins b =
     zero_div (suc w) = omega arith
 
 -- the writer that goes on with a file
-pub on_append : {M : Type 0} (seen : M → Seen) (s : WavSpecEx) (list : List (List ℕ)) (start now : Seen) (w : Written M) → IsWritable s → HoldsFile s list start now → GoesOn now seen w → OnFile seen s list start w
-on_append seen s list start now w writable file goes =
+pub on_append : {M : Type 0} (state : M → MediumState) (s : WavSpecEx) (list : List (List ℕ)) (start now : MediumState) (w : WriterState M) → IsWritable s → HoldsFile s list start now → GoesOn now state w → OnFile state s list start w
+on_append state s list start now w writable file goes =
     let agree = heads_agree now.contents s w.spec_ex file.length_is w.data_length (data_start s) w.data_start file.head goes.head in
     let same = goes.puts.stays.contents in
     record {
@@ -387,7 +387,7 @@ on_append seen s list start now w writable file goes =
     }
 
 -- such a file is gone on with, unless the medium fails
-pub append_failed : (s : WavSpecEx) (list : List (List ℕ)) (start now new : Seen) (e : Error) → HoldsFile s list start now → IsNotAppended now new e → new.faults ≡ one_more now.faults
+pub append_failed : (s : WavSpecEx) (list : List (List ℕ)) (start now new : MediumState) (e : Error) → HoldsFile s list start now → IsNotAppended now new e → new.faults ≡ one_more now.faults
 append_failed s list start now new e file refused = elim refused.why [
   | inl (fault, is, names, same) ↦ absurd (never fault is)
   | inr (io, faults) ↦ faults
@@ -403,7 +403,7 @@ append_failed s list start now new e file refused = elim refused.why [
         some_none fault (sym is ∙ (λ i. head_fault (sym agree.0 i) (sym agree.1 i) (sym agree.2 i)) ∙ file.sound)
 
 -- a call that puts nothing leaves the file
-pub holds_still : (s : WavSpecEx) (list : List (List ℕ)) (start old new : Seen) → new.contents ≡ old.contents → new.faults ≡ old.faults → HoldsFile s list start old → HoldsFile s list start new
+pub holds_still : (s : WavSpecEx) (list : List (List ℕ)) (start old new : MediumState) → new.contents ≡ old.contents → new.faults ≡ old.faults → HoldsFile s list start old → HoldsFile s list start new
 holds_still s list start old new same faults file = record {
   length_is = file.length_is;
   size = file.size;
@@ -418,7 +418,7 @@ holds_still s list start old new same faults file = record {
 }
 
 -- events, and then more
-pub leads_then : (s : WavSpecEx) (list : List (List ℕ)) (first then : List Event) (start now : Seen) (answer : Result (Unit {0}) Error) → LeadsOn s (list ++ containers_of s first) then start now answer → LeadsOn s list (first ++ then) start now answer
+pub leads_then : (s : WavSpecEx) (list : List (List ℕ)) (first then : List Event) (start now : MediumState) (answer : Result (Unit {0}) Error) → LeadsOn s (list ++ containers_of s first) then start now answer → LeadsOn s list (first ++ then) start now answer
 leads_then s list first then start now answer on =
     let both : (es : List Event) → (list ++ containers_of s first) ++ containers_of s es ≡ list ++ containers_of s (first ++ es) =
     λ es. append_assoc list (containers_of s first) (containers_of s es) ∙ ap (λ l. list ++ l) (sym (containers_of-append s first es)) in
@@ -442,7 +442,7 @@ leads_then s list first then start now answer on =
     }
 
 -- an error, whatever would have come behind it
-pub stops_before : (s : WavSpecEx) (list : List (List ℕ)) (first then : List Event) (start now : Seen) (e : Error) → LeadsOn s list first start now (Err e) → LeadsOn s list (first ++ then) start now (Err e)
+pub stops_before : (s : WavSpecEx) (list : List (List ℕ)) (first then : List Event) (start now : MediumState) (e : Error) → LeadsOn s list first start now (Err e) → LeadsOn s list (first ++ then) start now (Err e)
 stops_before s list first then start now e on = record {
   faults = on.faults;
   done = tt;
@@ -457,17 +457,17 @@ stops_before s list first then start now e on = record {
 }
 
 -- the first writer of a session
-pub first_on : {M : Type 0} (keeps : Bool) (seen : M → Seen) (begin : Begin) (s : WavSpecEx) (list : List (List ℕ)) (start now : Seen) (w : Written M) → IsReady begin s list start now → now.place ≡ 0 → Begins keeps seen begin now w → OnFile seen s list start w
-first_on keeps seen (New spec_ex) s list start now w (writable, same, empty, is_start) begins b =
-    subst (λ l. OnFile seen s l start w) (sym empty)
-    (on_new keeps seen s start w writable (ap (λ (t : Seen). t.place) (sym is_start) ∙ begins) (subst (λ (x : WavSpecEx × Seen). BeginsFile keeps seen x.0 x.1 w) (λ i. (same i, is_start i)) b))
-first_on keeps seen Append s list start now w (writable, file) begins (goes, counts) = on_append seen s list start now w writable file goes
+pub first_on : {M : Type 0} (keeps : Bool) (state : M → MediumState) (begin : Begin) (s : WavSpecEx) (list : List (List ℕ)) (start now : MediumState) (w : WriterState M) → IsReady begin s list start now → now.place ≡ 0 → Begins keeps state begin now w → OnFile state s list start w
+first_on keeps state (New spec_ex) s list start now w (writable, same, empty, is_start) begins b =
+    subst (λ l. OnFile state s l start w) (sym empty)
+    (on_new keeps state s start w writable (ap (λ (t : MediumState). t.place) (sym is_start) ∙ begins) (subst (λ (x : WavSpecEx × MediumState). BeginsFile keeps state x.0 x.1 w) (λ i. (same i, is_start i)) b))
+first_on keeps state Append s list start now w (writable, file) begins (goes, counts) = on_append state s list start now w writable file goes
 
 -- a session that didn't begin
-pub first_failed : (begin : Begin) (s : WavSpecEx) (list : List (List ℕ)) (all : List Event) (start now new : Seen) (e : Error) → IsReady begin s list start now → IsNotBegun begin now new e → LeadsOn s list all start new (Err e)
+pub first_failed : (begin : Begin) (s : WavSpecEx) (list : List (List ℕ)) (all : List Event) (start now new : MediumState) (e : Error) → IsReady begin s list start now → IsNotBegun begin now new e → LeadsOn s list all start new (Err e)
 first_failed (New spec_ex) s list all start now new e (writable, same, empty, is_start) (inl (unwritable, told, still)) = absurd (unwritable (subst IsWritable (sym same) writable))
 first_failed (New spec_ex) s list all start now new e (writable, same, empty, is_start) (inr (io, faults)) =
-    let one : now.faults ≡ start.faults = ap (λ (t : Seen). t.faults) is_start in
+    let one : now.faults ≡ start.faults = ap (λ (t : MediumState). t.faults) is_start in
     not_begun s list all start now new e (λ small. (omega (arith, one), omega (arith, small, one))) faults
 first_failed Append s list all start now new e (writable, file) refused = not_begun s list all start now new e file.faults (append_failed s list start now new e file refused)
 
@@ -479,7 +479,7 @@ events-one : (x : Bor (List Step)) → events (x ∷ []) ≡ session_events x.no
 events-one x = append-nil (session_events x.now)
 
 -- the file after some sessions, and one more that was Ok
-pub one_more_session : (s : WavSpecEx) (list : List (List ℕ)) (start now : Seen) (sessions : List (Bor (List Step))) (i : ℕ) (d : Bor (List Step)) (answer : Result (Unit {0}) Error) → i < length sessions → ((e : Error) → answer ≡ Err e → ⊥)
+pub one_more_session : (s : WavSpecEx) (list : List (List ℕ)) (start now : MediumState) (sessions : List (Bor (List Step))) (i : ℕ) (d : Bor (List Step)) (answer : Result (Unit {0}) Error) → i < length sessions → ((e : Error) → answer ≡ Err e → ⊥)
     → LeadsOn s (list ++ containers_of s (events (take i sessions))) (session_events (get_or sessions i d).now) start now answer → HoldsFile s (list ++ containers_of s (events (take (i + 1) sessions))) start now
 one_more_session s list start now sessions i d (Err e) inside fine on = absurd (fine e refl)
 one_more_session s list start now sessions i d (Ok x) inside fine on =
@@ -490,7 +490,7 @@ one_more_session s list start now sessions i d (Ok x) inside fine on =
     ∙ ap (λ l. list ++ l) (sym (containers_of-append s (events (take i sessions)) (session_events step.now)) ∙ ap (containers_of s) (sym more))) on.done
 
 -- the same, and one that wasn't
-pub session_failed : (s : WavSpecEx) (list : List (List ℕ)) (start now : Seen) (sessions : List (Bor (List Step))) (i : ℕ) (d : Bor (List Step)) (answer : Result (Unit {0}) Error) (e : Error) → i < length sessions → answer ≡ Err e
+pub session_failed : (s : WavSpecEx) (list : List (List ℕ)) (start now : MediumState) (sessions : List (Bor (List Step))) (i : ℕ) (d : Bor (List Step)) (answer : Result (Unit {0}) Error) (e : Error) → i < length sessions → answer ≡ Err e
     → LeadsOn s (list ++ containers_of s (events (take i sessions))) (session_events (get_or sessions i d).now) start now answer → LeadsOn s list (events sessions) start now (Err e)
 session_failed s list start now sessions i d answer e inside is on =
     let step = get_or sessions i d in
@@ -503,7 +503,7 @@ session_failed s list start now sessions i d answer e inside is on =
     (leads_then s list (events (take i sessions)) (session_events step.now) start now (Err e) (subst (LeadsOn s (list ++ containers_of s (events (take i sessions))) (session_events step.now) start now) is on)))
 
 -- all of them were Ok
-pub all_done : (s : WavSpecEx) (list : List (List ℕ)) (start now : Seen) (sessions : List (Bor (List Step))) (i : ℕ) → length sessions ≤ i → HoldsFile s (list ++ containers_of s (events (take i sessions))) start now → LeadsOn s list (events sessions) start now (Ok tt)
+pub all_done : (s : WavSpecEx) (list : List (List ℕ)) (start now : MediumState) (sessions : List (Bor (List Step))) (i : ℕ) → length sessions ≤ i → HoldsFile s (list ++ containers_of s (events (take i sessions))) start now → LeadsOn s list (events sessions) start now (Ok tt)
 all_done s list start now sessions i all file = record {
   faults = file.faults;
   done = subst (λ l. HoldsFile s (list ++ containers_of s (events l)) start now) (take_all i sessions all) file;
@@ -511,15 +511,15 @@ all_done s list start now sessions i all file = record {
 }
 
 -- no sessions so far
-pub none_done : (s : WavSpecEx) (list : List (List ℕ)) (start now : Seen) → HoldsFile s list start now → HoldsFile s (list ++ containers_of s (events [])) start now
+pub none_done : (s : WavSpecEx) (list : List (List ℕ)) (start now : MediumState) → HoldsFile s list start now → HoldsFile s (list ++ containers_of s (events [])) start now
 none_done s list start now file = subst (λ l. HoldsFile s l start now) (sym (append-nil list)) file
 
 -- what a file of these containers is, by the answer of what led to it
-pub leads_file : (s : WavSpecEx) (all : List Event) (start now : Seen) (answer : Result (Unit {0}) Error) → LeadsOn s [] all start now answer → OnOk answer (StartsWith now.contents (canonical s (containers_of s all)))
+pub leads_file : (s : WavSpecEx) (all : List Event) (start now : MediumState) (answer : Result (Unit {0}) Error) → LeadsOn s [] all start now answer → OnOk answer (StartsWith now.contents (canonical s (containers_of s all)))
 leads_file s all start now (Ok x) on = on.done.file
 leads_file s all start now (Err e) on = tt
 
-pub leads_exactly : (s : WavSpecEx) (all : List Event) (start now : Seen) (answer : Result (Unit {0}) Error) → start.contents ≡ [] → NoFault start now → LeadsOn s [] all start now answer → OnOk answer (now.contents ≡ canonical s (containers_of s all))
+pub leads_exactly : (s : WavSpecEx) (all : List Event) (start now : MediumState) (answer : Result (Unit {0}) Error) → start.contents ≡ [] → NoFault start now → LeadsOn s [] all start now answer → OnOk answer (now.contents ≡ canonical s (containers_of s all))
 leads_exactly s all start now (Ok x) empty clean on =
     let c = canonical s (containers_of s all) in
     let none : length start.contents ≡ 0 = ap length empty in
@@ -530,7 +530,7 @@ leads_exactly s all start now (Ok x) empty clean on =
 leads_exactly s all start now (Err e) empty clean on = tt
 
 -- the first session, and then the others
-pub first_then : (s : WavSpecEx) (first : Bor (List Step)) (others : List (Bor (List Step))) (start mid now : Seen) (answer then : Result (Unit {0}) Error) → ((e : Error) → answer ≡ Err e → ⊥) → LeadsOn s [] (session_events first.now) start mid answer
+pub first_then : (s : WavSpecEx) (first : Bor (List Step)) (others : List (Bor (List Step))) (start mid now : MediumState) (answer then : Result (Unit {0}) Error) → ((e : Error) → answer ≡ Err e → ⊥) → LeadsOn s [] (session_events first.now) start mid answer
     → ((list : List (List ℕ)) → HoldsFile s list start mid → LeadsOn s list (events others) start now then) → LeadsOn s [] (events (first ∷ others)) start now then
 first_then s first others start mid now (Err e) then fine on more = absurd (fine e refl)
 first_then s first others start mid now (Ok x) then fine on more = leads_then s [] (session_events first.now) (events others) start now then (more (containers_of s (session_events first.now)) on.done)

@@ -4,8 +4,8 @@ use Rattle.std.proofs.lemmas.List.{append-nil, take-take}
 use Rattle.std.specs.List.{concat}
 use Rattle.hound_spec.specs.declared.error.Error.{Error}
 use Rattle.hound_spec.specs.declared.error.Error.TheVariants.{IoError, FormatError, TooWide, UnfinishedSample, Unsupported, InvalidSampleFormat, TooLong, OutOfMemory}
-use Rattle.hound_medium.specs.Seen.{Seen}
-use Rattle.hound_writer.specs.Writer.{Written, IsWhole, IsBegun, IsCounted, ChangesSizesOnly, accepted, faults_told}
+use Rattle.hound_medium.specs.State.{MediumState}
+use Rattle.hound_writer.specs.Writer.{WriterState, IsWhole, IsBegun, IsCounted, ChangesSizesOnly, accepted, faults_told}
 use Rattle.hound_session.specs.declared.session.Step.{Step}
 use Rattle.hound_session.specs.declared.session.Step.TheVariants.{Whole, Bits, Batch, Flush}
 use Rattle.hound_session.specs.Steps.{mark_of, accepted_by, accepted_by_all}
@@ -62,38 +62,38 @@ concat-append [] ys = refl
 concat-append (x ∷ xs) ys = ap (λ l. x ++ l) (concat-append xs ys) ∙ sym (append_assoc x (concat xs) (concat ys))
 
 -- what steps with these answers lead to
-pub record Leads {M : Type 0} (seen : M → Seen) (steps : List Step) (marks : List Bool) (old new : Written M) : Type 0 where
+pub record Leads {M : Type 0} (state : M → MediumState) (steps : List Step) (marks : List Bool) (old new : WriterState M) : Type 0 where
   pub spec_ex : new.spec_ex ≡ old.spec_ex
   pub data_start : new.data_start ≡ old.data_start
   pub data_length : new.data_length ≡ old.data_length + length (concat (accepted_by_all old.spec_ex steps marks))
-  pub front : ChangesSizesOnly old.data_start (seen old.medium).contents (seen new.medium).contents
-  pub begun : IsBegun seen old → IsBegun seen new
-  pub whole : IsWhole seen old → IsWhole seen new
-  pub accepted : IsWhole seen old → accepted seen new ≡ accepted seen old ++ accepted_by_all old.spec_ex steps marks
-  pub counts : IsWhole seen old → IsCounted seen old → IsCounted seen new
-  pub faults : (seen old.medium).faults ≤ 18446744073709551615 → ((seen old.medium).faults ≤ (seen new.medium).faults) × ((seen new.medium).faults ≤ 18446744073709551615)
-  pub reach : (seen new.medium).faults ≡ (seen old.medium).faults → (seen old.medium).faults < 18446744073709551615 → length (seen new.medium).contents ≤ max (length (seen old.medium).contents) (old.data_start + new.data_length)
+  pub front : ChangesSizesOnly old.data_start (state old.medium).contents (state new.medium).contents
+  pub begun : IsBegun state old → IsBegun state new
+  pub whole : IsWhole state old → IsWhole state new
+  pub accepted : IsWhole state old → accepted state new ≡ accepted state old ++ accepted_by_all old.spec_ex steps marks
+  pub counts : IsWhole state old → IsCounted state old → IsCounted state new
+  pub faults : (state old.medium).faults ≤ 18446744073709551615 → ((state old.medium).faults ≤ (state new.medium).faults) × ((state new.medium).faults ≤ 18446744073709551615)
+  pub reach : (state new.medium).faults ≡ (state old.medium).faults → (state old.medium).faults < 18446744073709551615 → length (state new.medium).contents ≤ max (length (state old.medium).contents) (old.data_start + new.data_length)
 
-leads_still : {M : Type 0} (seen : M → Seen) (w : Written M) → Leads seen [] [] w w
-leads_still seen w = record {
+leads_still : {M : Type 0} (state : M → MediumState) (w : WriterState M) → Leads state [] [] w w
+leads_still state w = record {
   spec_ex = refl;
   data_start = refl;
   data_length = omega arith;
-  front = sizes_still w.data_start (seen w.medium).contents;
+  front = sizes_still w.data_start (state w.medium).contents;
   begun = λ begun. begun;
   whole = λ whole. whole;
-  accepted = λ _. sym (append-nil (accepted seen w));
+  accepted = λ _. sym (append-nil (accepted state w));
   counts = λ _ counted. counted;
   faults = λ small. (omega arith, small);
   reach = λ _ _. omega arith;
 }
 
-pub leads : {M : Type 0} (seen : M → Seen) (steps : List Step) (answers : List (Result (Unit {0}) Error)) (old new : Written M) → 4 ≤ old.data_start → Runs seen steps answers old new → Leads seen steps (map mark_of answers) old new
-leads seen [] [] old new behind same = subst (Leads seen [] [] old) (sym same) (leads_still seen old)
-leads seen [] (answer ∷ answers) old new behind runs = absurd runs
-leads seen (step ∷ steps) [] old new behind runs = absurd runs
-leads seen (step ∷ steps) (answer ∷ answers) old new behind (mid, t, runs) =
-    let rest = leads seen steps answers mid new (omega (arith, behind, t.data_start)) runs in
+pub leads : {M : Type 0} (state : M → MediumState) (steps : List Step) (answers : List (Result (Unit {0}) Error)) (old new : WriterState M) → 4 ≤ old.data_start → Runs state steps answers old new → Leads state steps (map mark_of answers) old new
+leads state [] [] old new behind same = subst (Leads state [] [] old) (sym same) (leads_still state old)
+leads state [] (answer ∷ answers) old new behind runs = absurd runs
+leads state (step ∷ steps) [] old new behind runs = absurd runs
+leads state (step ∷ steps) (answer ∷ answers) old new behind (mid, t, runs) =
+    let rest = leads state steps answers mid new (omega (arith, behind, t.data_start)) runs in
     let marks = map mark_of answers in
     let here = accepted_by old.spec_ex step (mark_of answer) in
     let then : accepted_by_all mid.spec_ex steps marks ≡ accepted_by_all old.spec_ex steps marks = ap (λ s. accepted_by_all s steps marks) t.spec_ex in
@@ -101,22 +101,22 @@ leads seen (step ∷ steps) (answer ∷ answers) old new behind (mid, t, runs) =
       spec_ex = rest.spec_ex ∙ t.spec_ex;
       data_start = rest.data_start ∙ t.data_start;
       data_length = omega (arith, rest.data_length, t.data_length, ap (λ l. length (concat l)) then, ap length (concat-append here (accepted_by_all old.spec_ex steps marks)), length-append (concat here) (concat (accepted_by_all old.spec_ex steps marks)));
-      front = sizes_then old.data_start (seen old.medium).contents (seen mid.medium).contents (seen new.medium).contents
-          (step_sizes step old.data_start (seen old.medium).contents (seen mid.medium).contents behind t.front)
-          (subst (λ n. ChangesSizesOnly n (seen mid.medium).contents (seen new.medium).contents) t.data_start rest.front);
+      front = sizes_then old.data_start (state old.medium).contents (state mid.medium).contents (state new.medium).contents
+          (step_sizes step old.data_start (state old.medium).contents (state mid.medium).contents behind t.front)
+          (subst (λ n. ChangesSizesOnly n (state mid.medium).contents (state new.medium).contents) t.data_start rest.front);
       begun = λ begun. rest.begun (t.begun begun);
       whole = λ whole. rest.whole (t.whole whole);
-      accepted = λ whole. rest.accepted (t.whole whole) ∙ (λ i. t.accepted whole i ++ then i) ∙ append_assoc (accepted seen old) here (accepted_by_all old.spec_ex steps marks);
+      accepted = λ whole. rest.accepted (t.whole whole) ∙ (λ i. t.accepted whole i ++ then i) ∙ append_assoc (accepted state old) here (accepted_by_all old.spec_ex steps marks);
       counts = λ whole counted. rest.counts (t.whole whole) (t.counts whole counted);
       faults = λ small.
-          let first = told_grows answer (seen old.medium).faults small in
+          let first = told_grows answer (state old.medium).faults small in
           let later = rest.faults (omega (arith, first.1, t.faults)) in
           (omega (arith, first.0, later.0, t.faults), later.1);
       reach = λ same small.
-          let first = told_grows answer (seen old.medium).faults (omega (arith, small)) in
+          let first = told_grows answer (state old.medium).faults (omega (arith, small)) in
           let later = rest.faults (omega (arith, first.1, t.faults)) in
-          let none : faults_told answer (seen old.medium).faults ≡ (seen old.medium).faults = omega (arith, first.0, later.0, same, t.faults) in
-          let one = unless_told answer (seen old.medium).faults small none t.reach in
+          let none : faults_told answer (state old.medium).faults ≡ (state old.medium).faults = omega (arith, first.0, later.0, same, t.faults) in
+          let one = unless_told answer (state old.medium).faults small none t.reach in
           let more = rest.reach (omega (arith, same, none, t.faults)) (omega (arith, small, none, t.faults)) in
           omega (arith, one, more, t.data_start, rest.data_length);
     }

@@ -4,14 +4,14 @@ use Rattle.std.proofs.lemmas.Bool.{cases_Bool, and_parts, eqb-true}
 use Rattle.hound_number.specs.Number.{signed_bytes_of}
 use Rattle.hound_spec.specs.declared.spec.WavSpecEx.{WavSpecEx}
 use Rattle.hound_sample.specs.Container.{Refusal, unsupported, too_wide, fits, int_container}
-use Rattle.hound_medium.specs.Seen.{Seen}
-use Rattle.hound_writer.specs.Writer.{Written}
+use Rattle.hound_medium.specs.State.{MediumState}
+use Rattle.hound_writer.specs.Writer.{WriterState}
 use Rattle.hound_session.specs.declared.session.Step.TheVariants.{Whole}
 use Rattle.hound_session.specs.Steps.{one, is_int, is_sixteen, batch_containers, step_containers, mark_of, if_marked, accepted_by_all, AcceptAnswer}
 use Rattle.hound_session.specs.Run.{Runs}
 
 -- what an Ok accepts of these containers
-taken_whole : {M : Type 0} (memory : Bool) (w : Written M) (asked : Result (List (List ℕ)) Refusal) (list : List (List ℕ)) → AcceptAnswer memory asked w (Ok tt)
+taken_whole : {M : Type 0} (memory : Bool) (w : WriterState M) (asked : Result (List (List ℕ)) Refusal) (list : List (List ℕ)) → AcceptAnswer memory asked w (Ok tt)
     → ((l : List (List ℕ)) → asked ≡ Ok l → l ≡ list) → if_marked true asked ≡ list
 taken_whole memory w (Ok l) list answers same = same l refl
 taken_whole memory w (Err refusal) list answers same = cc
@@ -33,7 +33,7 @@ one_short (Ok c) v same l is = let e : l ≡ c ∷ [] = cc in e ∙ ap (λ (x : 
 one_short (Err refusal) v same l is = cc
 
 -- an Ok step with a value accepts its two bytes
-pub short_taken : {M : Type 0} (w : Written M) (s : WavSpecEx) (v : ℤ) → is_sixteen s.spec ≡ true → AcceptAnswer false (step_containers s (Whole v)) w (Ok tt)
+pub short_taken : {M : Type 0} (w : WriterState M) (s : WavSpecEx) (v : ℤ) → is_sixteen s.spec ≡ true → AcceptAnswer false (step_containers s (Whole v)) w (Ok tt)
     → if_marked true (step_containers s (Whole v)) ≡ signed_bytes_of 2 v ∷ []
 short_taken w s v sixteen answers =
     let bits : s.spec.bits_per_sample ≡ 16 = eqb-true s.spec.bits_per_sample 16 (and_parts (is_int s.spec.sample_format) (eqb s.spec.bits_per_sample 16) sixteen).1 in
@@ -41,17 +41,17 @@ short_taken w s v sixteen answers =
     (one_short (int_container v s.spec.bits_per_sample s.bytes_per_sample) v (λ c is. short_container v s.bytes_per_sample c (ap (λ b. int_container v b s.bytes_per_sample) (sym bits) ∙ is)))
 
 -- values that were all Ok one by one were accepted as the containers of their batch
-pub one_by_one : {M : Type 0} (seen : M → Seen) (values : List ℤ) (s : WavSpecEx) (old new : Written M) → is_sixteen s.spec ≡ true → old.spec_ex ≡ s
-    → Runs seen (map (λ v. Whole v) values) (replicate (length values) (Ok tt)) old new
+pub one_by_one : {M : Type 0} (state : M → MediumState) (values : List ℤ) (s : WavSpecEx) (old new : WriterState M) → is_sixteen s.spec ≡ true → old.spec_ex ≡ s
+    → Runs state (map (λ v. Whole v) values) (replicate (length values) (Ok tt)) old new
     → accepted_by_all s (map (λ v. Whole v) values) (map mark_of (replicate (length values) (Ok tt))) ≡ map (signed_bytes_of 2) values
-one_by_one seen [] s old new sixteen same runs = refl
-one_by_one seen (v ∷ values) s old new sixteen same (mid, t, runs) =
+one_by_one state [] s old new sixteen same runs = refl
+one_by_one state (v ∷ values) s old new sixteen same (mid, t, runs) =
     let here : if_marked true (step_containers s (Whole v)) ≡ signed_bytes_of 2 v ∷ [] =
     short_taken old s v sixteen (subst (λ x. AcceptAnswer false (step_containers x (Whole v)) old (Ok tt)) same t.answers) in
-    λ i. here i ++ one_by_one seen values s mid new sixteen (t.spec_ex ∙ same) runs i
+    λ i. here i ++ one_by_one state values s mid new sixteen (t.spec_ex ∙ same) runs i
 
 -- an Ok batch is of sixteen bits
-pub batch_is_sixteen : {M : Type 0} (memory : Bool) (w : Written M) (s : WavSpecEx) (values : List ℤ) → AcceptAnswer memory (batch_containers s values) w (Ok tt) → is_sixteen s.spec ≡ true
+pub batch_is_sixteen : {M : Type 0} (memory : Bool) (w : WriterState M) (s : WavSpecEx) (values : List ℤ) → AcceptAnswer memory (batch_containers s values) w (Ok tt) → is_sixteen s.spec ≡ true
 batch_is_sixteen memory w s values answers = go (is_sixteen s.spec) answers
   where
     go : (b : Bool) → AcceptAnswer memory (cond b (Ok (map (signed_bytes_of 2) values)) (Err unsupported)) w (Ok tt) → b ≡ true

@@ -9,32 +9,32 @@ use Rattle.hound_spec.specs.declared.error.Error.TheVariants.{IoError, FormatErr
 use Rattle.hound_spec.specs.Header.{header, data_start, riff_size}
 use Rattle.hound_spec.proofs.HeaderLemmas.{length-header}
 use Rattle.hound_sample.specs.Container.{Refusal, too_wide, unsupported, containers}
-use Rattle.hound_medium.specs.Seen.{Seen}
+use Rattle.hound_medium.specs.State.{MediumState}
 use Rattle.hound_medium.proofs.Overlays.{front_part}
 use Rattle.hound_writer.specs.Parts.{field}
-use Rattle.hound_writer.specs.Writer.{Written, IsWhole, IsBegun, IsCounted, IsIoError, AcceptsSample, HasHeader, accepted, sample_refusal, faults_told, IsPublishing, Publishes}
+use Rattle.hound_writer.specs.Writer.{WriterState, IsWhole, IsBegun, IsCounted, IsIoError, AcceptsSample, HasHeader, accepted, sample_refusal, faults_told, IsPublishing, Publishes}
 use Rattle.hound_writer.specs.Counts.{Counts}
 use Rattle.hound_session.specs.declared.session.Step.TheVariants.{Whole, Bits, Batch, Flush}
 use Rattle.hound_session.specs.Steps.{one, mark_of, if_marked, step_containers, wants_memory, AcceptAnswer, FitAnswer}
 use Rattle.hound_session.specs.Run.{AcceptsAs, Takes, UnlessFailed}
 
 -- a refusal by type, size or memory, after which all is as it was
-pub refused_as : {M : Type 0} (seen : M → Seen) (memory : Bool) (asked : Result (List (List ℕ)) Refusal) (e : Error) (old new : Written M) → mark_of (Err e) ≡ false → faults_told {T = Unit {0}} (Err e) (seen old.medium).faults ≡ (seen old.medium).faults
-    → AcceptAnswer memory asked old (Err e) → new ≡ old → AcceptsAs seen memory asked (Err e) old new
-refused_as seen memory asked e old new mark faults answers same =
+pub refused_as : {M : Type 0} (state : M → MediumState) (memory : Bool) (asked : Result (List (List ℕ)) Refusal) (e : Error) (old new : WriterState M) → mark_of (Err e) ≡ false → faults_told {T = Unit {0}} (Err e) (state old.medium).faults ≡ (state old.medium).faults
+    → AcceptAnswer memory asked old (Err e) → new ≡ old → AcceptsAs state memory asked (Err e) old new
+refused_as state memory asked e old new mark faults answers same =
     let none : if_marked (mark_of (Err e)) asked ≡ [] = ap (λ m. if_marked m asked) mark in
     record {
       answers = answers;
-      faults = ap (λ w. (seen w.medium).faults) same ∙ sym faults;
+      faults = ap (λ w. (state w.medium).faults) same ∙ sym faults;
       spec_ex = ap (λ w. w.spec_ex) same;
       data_start = ap (λ w. w.data_start) same;
       data_length = omega (arith, ap (λ w. w.data_length) same, ap (λ l. length (concat l)) none);
       kept = omega (arith, ap (λ w. length w.buffer) same);
-      front = ap (λ w. take old.data_start (seen w.medium).contents) same;
-      reach = unless e (omega (arith, ap (λ w. length (seen w.medium).contents) same));
-      whole = λ whole. subst (IsWhole seen) (sym same) whole;
-      accepted = λ _. ap (accepted seen) same ∙ sym (append-nil (accepted seen old)) ∙ ap (λ l. accepted seen old ++ l) (sym none);
-      counts = λ _ counted. subst (IsCounted seen) (sym same) counted;
+      front = ap (λ w. take old.data_start (state w.medium).contents) same;
+      reach = unless e (omega (arith, ap (λ w. length (state w.medium).contents) same));
+      whole = λ whole. subst (IsWhole state) (sym same) whole;
+      accepted = λ _. ap (accepted state) same ∙ sym (append-nil (accepted state old)) ∙ ap (λ l. accepted state old ++ l) (sym none);
+      counts = λ _ counted. subst (IsCounted state) (sym same) counted;
     }
   where
     unless : {P : Type 0} (e : Error) → P → UnlessFailed (Err e) P
@@ -52,17 +52,17 @@ concat-one : (container : List ℕ) (width : ℕ) → length container ≡ width
 concat-one container width size = ap length (append-nil container) ∙ size
 
 -- what `write_sample` says of its answer
-module _ {M : Type 0} (seen : M → Seen) (old new : Written M)
+module _ {M : Type 0} (state : M → MediumState) (old new : WriterState M)
     (spec_stays : new.spec_ex ≡ old.spec_ex) (start_stays : new.data_start ≡ old.data_start) (buffer_stays : new.buffer ≡ old.buffer)
-    (whole : IsWhole seen old → IsWhole seen new) (counts : IsWhole seen old → IsCounted seen new) (front : take old.data_start (seen new.medium).contents ≡ take old.data_start (seen old.medium).contents) where
+    (whole : IsWhole state old → IsWhole state new) (counts : IsWhole state old → IsCounted state new) (front : take old.data_start (state new.medium).contents ≡ take old.data_start (state old.medium).contents) where
   abbrev width : ℕ
   width = old.spec_ex.bytes_per_sample
 
   -- a sample for which there is room
   fits_as : (P : Type 0) (container : List ℕ) (result : Result (Unit {0}) Error) → length container ≡ width → nat_le (riff_size old.data_start (old.data_length + width)) 4294967295 ≡ true → IfErr result IsIoError
-      → (seen new.medium).faults ≡ faults_told result (seen old.medium).faults → OnOk result (new.data_length ≡ old.data_length + width) → MatchResult result (λ _. P) (λ _. new.data_length ≡ old.data_length)
-      → (IsWhole seen old → AcceptsSample result (Ok container) (accepted seen old) (accepted seen new)) → OnOk result (length (seen new.medium).contents ≤ max (length (seen old.medium).contents) (new.data_start + new.data_length))
-      → AcceptsAs seen false (Ok (container ∷ [])) result old new
+      → (state new.medium).faults ≡ faults_told result (state old.medium).faults → OnOk result (new.data_length ≡ old.data_length + width) → MatchResult result (λ _. P) (λ _. new.data_length ≡ old.data_length)
+      → (IsWhole state old → AcceptsSample result (Ok container) (accepted state old) (accepted state new)) → OnOk result (length (state new.medium).contents ≤ max (length (state old.medium).contents) (new.data_start + new.data_length))
+      → AcceptsAs state false (Ok (container ∷ [])) result old new
   fits_as P container (Ok x) size room failed faults more same accepts reach =
       let n = concat-one container width size in
       record {
@@ -90,7 +90,7 @@ module _ {M : Type 0} (seen : M → Seen) (old new : Written M)
         front = front;
         reach = tt;
         whole = whole;
-        accepted = λ w. accepts w ∙ sym (append-nil (accepted seen old));
+        accepted = λ w. accepts w ∙ sym (append-nil (accepted state old));
         counts = λ w _. counts w;
       }
   fits_as P container (Err (FormatError x)) size room failed faults more same accepts reach = absurd failed
@@ -103,38 +103,38 @@ module _ {M : Type 0} (seen : M → Seen) (old new : Written M)
 
   pub sample_accepts : (P : Type 0) (sample : Result (List ℕ) Refusal) (result : Result (Unit {0}) Error) → ((container : List ℕ) → sample ≡ Ok container → length container ≡ width)
       → IfSome (sample_refusal sample old) (λ e. (result ≡ Err e) × (new ≡ old)) → IfNone (sample_refusal sample old) (IfErr result IsIoError)
-      → (seen new.medium).faults ≡ faults_told result (seen old.medium).faults → OnOk result (new.data_length ≡ old.data_length + width) → MatchResult result (λ _. P) (λ _. new.data_length ≡ old.data_length)
-      → (IsWhole seen old → AcceptsSample result sample (accepted seen old) (accepted seen new)) → OnOk result (length (seen new.medium).contents ≤ max (length (seen old.medium).contents) (new.data_start + new.data_length))
-      → AcceptsAs seen false (one sample) result old new
+      → (state new.medium).faults ≡ faults_told result (state old.medium).faults → OnOk result (new.data_length ≡ old.data_length + width) → MatchResult result (λ _. P) (λ _. new.data_length ≡ old.data_length)
+      → (IsWhole state old → AcceptsSample result sample (accepted state old) (accepted state new)) → OnOk result (length (state new.medium).contents ≤ max (length (state old.medium).contents) (new.data_start + new.data_length))
+      → AcceptsAs state false (one sample) result old new
   sample_accepts P (Err too_wide) result size refused failed faults more same accepts reach =
-      subst (λ (r : Result (Unit {0}) Error). AcceptsAs seen false (Err too_wide) r old new) (sym refused.0) (refused_as seen false (Err too_wide) TooWide old new refl refl refl refused.1)
+      subst (λ (r : Result (Unit {0}) Error). AcceptsAs state false (Err too_wide) r old new) (sym refused.0) (refused_as state false (Err too_wide) TooWide old new refl refl refl refused.1)
   sample_accepts P (Err unsupported) result size refused failed faults more same accepts reach =
-      subst (λ (r : Result (Unit {0}) Error). AcceptsAs seen false (Err unsupported) r old new) (sym refused.0) (refused_as seen false (Err unsupported) Unsupported old new refl refl refl refused.1)
+      subst (λ (r : Result (Unit {0}) Error). AcceptsAs state false (Err unsupported) r old new) (sym refused.0) (refused_as state false (Err unsupported) Unsupported old new refl refl refl refused.1)
   sample_accepts P (Ok container) result size refused failed faults more same accepts reach = elim (cases_Bool (nat_le (riff_size old.data_start (old.data_length + width)) 4294967295)) [
     | inl room ↦ fits_as P container result (size container refl) room (rw room at failed) faults more same accepts reach
     | inr room ↦
         let is = rw room at refused in
         let n = concat-one container width (size container refl) in
         let long = ap (λ k. nat_le (riff_size old.data_start (old.data_length + k)) 4294967295) n ∙ room in
-        subst (λ (r : Result (Unit {0}) Error). AcceptsAs seen false (Ok (container ∷ [])) r old new) (sym is.0)
-        (refused_as seen false (Ok (container ∷ [])) TooLong old new refl refl (subst (λ b. FitAnswer b false (Err TooLong)) (sym long) refl) is.1)
+        subst (λ (r : Result (Unit {0}) Error). AcceptsAs state false (Ok (container ∷ [])) r old new) (sym is.0)
+        (refused_as state false (Ok (container ∷ [])) TooLong old new refl refl (subst (λ b. FitAnswer b false (Err TooLong)) (sym long) refl) is.1)
   ]
 
 -- what stands before the data stays, so the header does
-begun_front : {M : Type 0} (seen : M → Seen) (old new : Written M) → new.spec_ex ≡ old.spec_ex → new.data_start ≡ old.data_start → take old.data_start (seen new.medium).contents ≡ take old.data_start (seen old.medium).contents
-    → IsBegun seen old → IsBegun seen new
-begun_front seen old new spec start front ((size, len, begins), at) =
+begun_front : {M : Type 0} (state : M → MediumState) (old new : WriterState M) → new.spec_ex ≡ old.spec_ex → new.data_start ≡ old.data_start → take old.data_start (state new.medium).contents ≡ take old.data_start (state old.medium).contents
+    → IsBegun state old → IsBegun state new
+begun_front state old new spec start front ((size, len, begins), at) =
     let long : length (header old.spec_ex size len) ≡ old.data_start = length-header old.spec_ex size len ∙ sym at in
-    let c = (seen new.medium).contents in
-    let here : take (length (header old.spec_ex size len)) c ≡ header old.spec_ex size len = (λ i. take (long i) c) ∙ front ∙ (λ i. take (sym long i) (seen old.medium).contents) ∙ begins in
+    let c = (state new.medium).contents in
+    let here : take (length (header old.spec_ex size len)) c ≡ header old.spec_ex size len = (λ i. take (long i) c) ∙ front ∙ (λ i. take (sym long i) (state old.medium).contents) ∙ begins in
     (subst (λ s. HasHeader s c) (sym spec) (size, len, here), start ∙ at ∙ ap data_start (sym spec))
 
 field_front : (start : ℕ) (old new : List ℕ) → 4 ≤ start → take start new ≡ take start old → field (start - 4) new ≡ field (start - 4) old
 field_front start old new behind same = ap number (front_part start (start - 4) 4 new old (omega (arith, behind)) same)
 
 -- a step that asks for containers
-module _ {M : Type 0} (seen : M → Seen) (answer : Result (Unit {0}) Error) (old new : Written M) where
-  pub whole_takes : (value : _) → AcceptsAs seen false (step_containers old.spec_ex (Whole value)) answer old new → Takes seen (Whole value) answer old new
+module _ {M : Type 0} (state : M → MediumState) (answer : Result (Unit {0}) Error) (old new : WriterState M) where
+  pub whole_takes : (value : _) → AcceptsAs state false (step_containers old.spec_ex (Whole value)) answer old new → Takes state (Whole value) answer old new
   whole_takes value a = record {
     answers = a.answers;
     faults = a.faults;
@@ -146,13 +146,13 @@ module _ {M : Type 0} (seen : M → Seen) (answer : Result (Unit {0}) Error) (ol
     front = a.front;
     reach = a.reach;
     field = λ behind. field_front old.data_start _ _ behind a.front;
-    begun = begun_front seen old new a.spec_ex a.data_start a.front;
+    begun = begun_front state old new a.spec_ex a.data_start a.front;
     whole = a.whole;
     accepted = a.accepted;
     counts = a.counts;
   }
 
-  pub bits_takes : (bits : _) → AcceptsAs seen false (step_containers old.spec_ex (Bits bits)) answer old new → Takes seen (Bits bits) answer old new
+  pub bits_takes : (bits : _) → AcceptsAs state false (step_containers old.spec_ex (Bits bits)) answer old new → Takes state (Bits bits) answer old new
   bits_takes bits a = record {
     answers = a.answers;
     faults = a.faults;
@@ -164,13 +164,13 @@ module _ {M : Type 0} (seen : M → Seen) (answer : Result (Unit {0}) Error) (ol
     front = a.front;
     reach = a.reach;
     field = λ behind. field_front old.data_start _ _ behind a.front;
-    begun = begun_front seen old new a.spec_ex a.data_start a.front;
+    begun = begun_front state old new a.spec_ex a.data_start a.front;
     whole = a.whole;
     accepted = a.accepted;
     counts = a.counts;
   }
 
-  pub batch_takes : (values : _) → AcceptsAs seen (wants_memory values.now old) (step_containers old.spec_ex (Batch values)) answer old new → OnOk answer (2 * length values.now ≤ length new.buffer) → Takes seen (Batch values) answer old new
+  pub batch_takes : (values : _) → AcceptsAs state (wants_memory values.now old) (step_containers old.spec_ex (Batch values)) answer old new → OnOk answer (2 * length values.now ≤ length new.buffer) → Takes state (Batch values) answer old new
   batch_takes values a memory = record {
     answers = a.answers;
     faults = a.faults;
@@ -182,17 +182,17 @@ module _ {M : Type 0} (seen : M → Seen) (answer : Result (Unit {0}) Error) (ol
     front = a.front;
     reach = a.reach;
     field = λ behind. field_front old.data_start _ _ behind a.front;
-    begun = begun_front seen old new a.spec_ex a.data_start a.front;
+    begun = begun_front state old new a.spec_ex a.data_start a.front;
     whole = a.whole;
     accepted = a.accepted;
     counts = a.counts;
   }
 
 -- a flush
-pub flush_takes : {M : Type 0} (seen : M → Seen) (answer : Result (Unit {0}) Error) (old : Written M) (medium : M) → IsPublishing answer old → Publishes seen old answer medium → Takes seen Flush answer old (record old { medium = medium })
-flush_takes seen answer old medium answers p =
+pub flush_takes : {M : Type 0} (state : M → MediumState) (answer : Result (Unit {0}) Error) (old : WriterState M) (medium : M) → IsPublishing answer old → Publishes state old answer medium → Takes state Flush answer old (record old { medium = medium })
+flush_takes state answer old medium answers p =
     let new = record old { medium = medium } in
-    let same : accepted seen new ≡ accepted seen old = ap (containers old.spec_ex.bytes_per_sample (old.data_length / old.spec_ex.bytes_per_sample)) p.samples in
+    let same : accepted state new ≡ accepted state old = ap (containers old.spec_ex.bytes_per_sample (old.data_length / old.spec_ex.bytes_per_sample)) p.samples in
     let none : if_marked (mark_of answer) (Ok []) ≡ [] = nothing (mark_of answer) in
     record {
       answers = answers;
@@ -207,8 +207,8 @@ flush_takes seen answer old medium answers p =
       field = λ _. p.data_length;
       begun = λ begun. (p.begun begun, begun.1);
       whole = λ whole. omega (arith, whole, p.long);
-      accepted = λ _. same ∙ sym (append-nil (accepted seen old)) ∙ ap (λ l. accepted seen old ++ l) (sym none);
-      counts = λ whole _. subst (λ l. Counts old.spec_ex old.data_start l (seen medium).contents) (sym same) (p.counts whole);
+      accepted = λ _. same ∙ sym (append-nil (accepted state old)) ∙ ap (λ l. accepted state old ++ l) (sym none);
+      counts = λ whole _. subst (λ l. Counts old.spec_ex old.data_start l (state medium).contents) (sym same) (p.counts whole);
     }
   where
     nothing : (mark : Bool) → if_marked mark (Ok []) ≡ []

@@ -11,7 +11,7 @@ use Rattle.hound_spec.specs.declared.spec.WavSpecEx.{WavSpecEx}
 use Rattle.hound_spec.specs.Header.{riff_size}
 use Rattle.hound_sample.specs.Container.{Refusal, unsupported, int_container, pattern_container}
 use Rattle.hound_sample.specs.Encoding.{error_of}
-use Rattle.hound_writer.specs.Writer.{Written, IsPublishing}
+use Rattle.hound_writer.specs.Writer.{WriterState, IsPublishing}
 use Rattle.hound_session.specs.declared.session.Step.{Step}
 use Rattle.hound_session.specs.declared.session.Step.TheVariants.{Whole, Bits, Batch, Flush}
 
@@ -33,7 +33,7 @@ abbrev pub batch_containers : WavSpecEx → List ℤ → Result (List (List ℕ)
 batch_containers s values = if is_sixteen s.spec then Ok (map (signed_bytes_of 2) values) else Err unsupported
 
 -- whether a batch of these values wants more memory than the writer keeps, two bytes for each
-abbrev pub wants_memory : {M : Type 0} → List ℤ → Written M → Bool
+abbrev pub wants_memory : {M : Type 0} → List ℤ → WriterState M → Bool
 wants_memory values w = nat_lt (length w.buffer) (2 * length values)
 
 -- the containers that a step asks to be accepted, one for each value of a batch, or why it has none
@@ -74,12 +74,12 @@ FitAnswer true memory (Err OutOfMemory) = IsTrue memory
 FitAnswer true memory (Err _) = ⊥
 
 -- what a call answers to a sample or a batch: its refusal, or that the file would be too long, or as above
-abbrev pub AcceptAnswer : {M : Type 0} → Bool → Result (List (List ℕ)) Refusal → Written M → Result (Unit {0}) Error → Type 0
+abbrev pub AcceptAnswer : {M : Type 0} → Bool → Result (List (List ℕ)) Refusal → WriterState M → Result (Unit {0}) Error → Type 0
 AcceptAnswer memory (Err refusal) w answer = answer ≡ Err (error_of refusal)
 AcceptAnswer memory (Ok list) w answer = FitAnswer (nat_le (riff_size w.data_start (w.data_length + length (concat list))) 4294967295) memory answer
 
 -- what a step answers
-abbrev pub StepAnswer : {M : Type 0} → Step → Written M → Result (Unit {0}) Error → Type 0
+abbrev pub StepAnswer : {M : Type 0} → Step → WriterState M → Result (Unit {0}) Error → Type 0
 StepAnswer (Whole value) w answer = AcceptAnswer false (step_containers w.spec_ex (Whole value)) w answer
 StepAnswer (Bits bits) w answer = AcceptAnswer false (step_containers w.spec_ex (Bits bits)) w answer
 StepAnswer (Batch values) w answer = AcceptAnswer (wants_memory values.now w) (step_containers w.spec_ex (Batch values)) w answer

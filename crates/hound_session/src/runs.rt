@@ -1,4 +1,5 @@
 // Whole runs.
+ghost use Rattle.hound_medium.specs.State.{WhereKeeps, WhereTells};
 ghost use Rattle.std.specs.Prelude.{◌≡◌, IsTrue, Err, OnOk, [], length, MatchResult};
 ghost use Rattle.std.specs.Io.{StartsWith};
 ghost use Rattle.hound_spec.specs.declared.spec.WavSpecEx.{WavSpecEx};
@@ -34,9 +35,9 @@ pub(crate) fn begin_writer<M: Source + Medium>(
     medium: M,
     begin: Begin,
 ) -> result::Result<WavWriter<M>, (M, Error)>
-    requires { IsTrue M.tells → (M.seen medium).place ≡ 0 }
+    requires { WhereTells M.tells ((M.state medium).place ≡ 0) }
     ensures unwritable { (s : WavSpecEx) → begin ≡ New s → (IsWritable s → ⊥) → result ≡ Err (medium, Unsupported) }
-    ensures begins { IsTrue M.tells → MatchResult result (Begins M.keeps M.seen begin (M.seen medium)) (λ refused. IsNotBegun begin (M.seen medium) (M.seen refused.0) refused.1) }
+    ensures begins { WhereTells M.tells (MatchResult result (Begins M.keeps M.state begin (M.state medium)) (λ refused. IsNotBegun begin (M.state medium) (M.state refused.0) refused.1)) }
 {
     match begin {
         Begin::New(spec_ex) => WavWriter::try_new(medium, spec_ex),
@@ -53,8 +54,8 @@ fn take_steps<M: Medium>(
 )
     requires { length steps.now ≡ length marks.old }
     ensures size { length marks.new ≡ length marks.old }
-    ensures runs { IsTrue M.tells → IsMarkedRun M.seen steps.now marks.new writer.old writer.new }
-    ensures moments { IsTrue M.tells → IsTrue M.keeps → IsMarkedRunAtEach M.seen steps.now marks.new writer.old writer.new }
+    ensures runs { WhereTells M.tells (IsMarkedRun M.state steps.now marks.new writer.old writer.new) }
+    ensures moments { WhereKeeps M.tells M.keeps (IsMarkedRunAtEach M.state steps.now marks.new writer.old writer.new) }
 {
     for i in 0..steps.len() {
         let answer = take_step(alloc, writer, steps[i]);
@@ -64,8 +65,8 @@ fn take_steps<M: Medium>(
 
 // Ends a run, and hands the medium back.
 fn end_writer<M: Medium>(writer: WavWriter<M>, end: End) -> (M, Result<()>)
-    ensures ends { IsTrue M.tells → Ends M.seen end writer result.1 result.0 }
-    ensures moments { IsTrue M.tells → IsTrue M.keeps → EndsAtEach M.seen end writer result.1 result.0 }
+    ensures ends { WhereTells M.tells (Ends M.state end writer result.1 result.0) }
+    ensures moments { WhereKeeps M.tells M.keeps (EndsAtEach M.state end writer result.1 result.0) }
 {
     match end {
         End::Finalize => writer.finalize_into(),
@@ -88,22 +89,22 @@ pub fn run_session<M: Source + Medium>(
     marks: &mut [bool],
     end: End,
 ) -> (M, Result<()>)
-    requires place { IsTrue M.tells → (M.seen medium).place ≡ 0 }
+    requires place { WhereTells M.tells ((M.state medium).place ≡ 0) }
     requires size { length steps.now ≡ length marks.old }
     ensures size { length marks.new ≡ length marks.old }
     ensures unwritable { (spec_ex : WavSpecEx) → begin ≡ New spec_ex → (IsWritable spec_ex → ⊥) → result ≡ (medium, Err Unsupported) }
-    ensures session { IsTrue M.tells → IsSession M.keeps M.seen begin steps.now marks.new end (M.seen medium) result.1 result.0 }
+    ensures session { WhereTells M.tells (IsSession M.keeps M.state begin steps.now marks.new end (M.state medium) result.1 result.0) }
 
     // At each moment of a medium that keeps its past, whatever byte was put last.
-    ensures moments { IsTrue M.tells → IsTrue M.keeps → IsSessionAtEach M.keeps M.seen begin steps.now marks.new end (M.seen medium) result.1 result.0 }
+    ensures moments { WhereKeeps M.tells M.keeps (IsSessionAtEach M.keeps M.state begin steps.now marks.new end (M.state medium) result.1 result.0) }
 
     // A new file that was finalized is the canonical one of what was accepted.
-    ensures canonical { IsTrue M.tells → (spec_ex : WavSpecEx) → begin ≡ New spec_ex → end ≡ Finalize →
-        OnOk result.1 (StartsWith (M.seen result.0).contents (canonical spec_ex (accepted_by_all spec_ex steps.now marks.new))) }
+    ensures canonical { WhereTells M.tells ((spec_ex : WavSpecEx) → begin ≡ New spec_ex → end ≡ Finalize →
+        OnOk result.1 (StartsWith (M.state result.0).contents (canonical spec_ex (accepted_by_all spec_ex steps.now marks.new)))) }
 
     // Where the medium was empty and no call of it failed, it is exactly that, also at a drop.
-    ensures exact { IsTrue M.tells → (spec_ex : WavSpecEx) → begin ≡ New spec_ex → IsWritable spec_ex → (M.seen medium).contents ≡ [] → NoFault (M.seen medium) (M.seen result.0) →
-        (M.seen result.0).contents ≡ canonical spec_ex (accepted_by_all spec_ex steps.now marks.new) }
+    ensures exact { WhereTells M.tells ((spec_ex : WavSpecEx) → begin ≡ New spec_ex → IsWritable spec_ex → (M.state medium).contents ≡ [] → NoFault (M.state medium) (M.state result.0) →
+        (M.state result.0).contents ≡ canonical spec_ex (accepted_by_all spec_ex steps.now marks.new)) }
 {
     marks.fill(false);
     let mut writer = match begin_writer(medium, begin) {

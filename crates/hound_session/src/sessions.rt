@@ -8,7 +8,7 @@ ghost use Rattle.hound_session.specs.Run.{NoFault, IsStrictRun, StopsIn};
 ghost use Rattle.hound_session.specs.Sessions.{events, session_events, containers_of, StopsAt, HoldsFile, IsReady, LeadsOn};
 ghost use Rattle.hound_spec.specs.declared.spec.WavSpecEx.{WavSpecEx};
 ghost use Rattle.hound_session.specs.declared.session.Begin.TheVariants.{New};
-ghost use Rattle.hound_medium.specs.Seen.{Seen};
+ghost use Rattle.hound_medium.specs.State.{MediumState, WhereTells};
 
 use crate::runs::begin_writer;
 use crate::session::{Begin, Step};
@@ -24,7 +24,7 @@ fn take_until_error<M: Medium>(
     writer: &mut WavWriter<M>,
     steps: &[Step],
 ) -> Result<()>
-    ensures { IsTrue M.tells → MatchResult result (λ _. IsStrictRun M.seen steps.now writer.old writer.new) (λ e. StopsIn M.seen steps.now e writer.old writer.new) }
+    ensures { WhereTells M.tells (MatchResult result (λ _. IsStrictRun M.state steps.now writer.old writer.new) (λ e. StopsIn M.state steps.now e writer.old writer.new)) }
 {
     for i in 0..steps.len() {
         match take_step(alloc, writer, steps[i]) {
@@ -42,10 +42,10 @@ fn run_until_error<M: Source + Medium>(
     begin: Begin,
     steps: &[Step],
 ) -> (M, Result<()>)
-    requires { IsTrue M.tells → (M.seen medium).place ≡ 0 }
-    ensures unwritable { IsTrue M.tells → (s : WavSpecEx) → begin ≡ New s → (IsWritable s → ⊥) → (result.1 ≡ Err Unsupported) × (M.seen result.0 ≡ M.seen medium) }
-    ensures only_writable { IsTrue M.tells → (s : WavSpecEx) → begin ≡ New s → OnOk result.1 (IsWritable s) }
-    ensures leads { IsTrue M.tells → (s : WavSpecEx) (list : List (List ℕ)) (start : Seen) → IsReady begin s list start (M.seen medium) → LeadsOn s list (session_events steps.now) start (M.seen result.0) result.1 }
+    requires { WhereTells M.tells ((M.state medium).place ≡ 0) }
+    ensures unwritable { WhereTells M.tells ((s : WavSpecEx) → begin ≡ New s → (IsWritable s → ⊥) → (result.1 ≡ Err Unsupported) × (M.state result.0 ≡ M.state medium)) }
+    ensures only_writable { WhereTells M.tells ((s : WavSpecEx) → begin ≡ New s → OnOk result.1 (IsWritable s)) }
+    ensures leads { WhereTells M.tells ((s : WavSpecEx) (list : List (List ℕ)) (start : MediumState) → IsReady begin s list start (M.state medium) → LeadsOn s list (session_events steps.now) start (M.state result.0) result.1) }
 {
     let mut writer = match begin_writer(medium, begin) {
         Ok(writer) => writer,
@@ -59,7 +59,7 @@ fn run_until_error<M: Source + Medium>(
 
 // Goes on with the file in a medium by one more session.
 fn append_session<M: Source + Medium>(alloc: Global, medium: M, steps: &[Step]) -> (M, Result<()>)
-    ensures { IsTrue M.tells → (s : WavSpecEx) (list : List (List ℕ)) (start : Seen) → IsWritable s → HoldsFile s list start (M.seen medium) → LeadsOn s list (session_events steps.now) start (M.seen result.0) result.1 }
+    ensures { WhereTells M.tells ((s : WavSpecEx) (list : List (List ℕ)) (start : MediumState) → IsWritable s → HoldsFile s list start (M.state medium) → LeadsOn s list (session_events steps.now) start (M.state result.0) result.1) }
 {
     let mut medium = medium;
     if let Err(error) = medium.go(0) {
@@ -74,7 +74,7 @@ fn append_sessions<M: Source + Medium>(
     medium: M,
     sessions: &[&[Step<'_>]],
 ) -> (M, Result<()>)
-    ensures { IsTrue M.tells → (s : WavSpecEx) (list : List (List ℕ)) (start : Seen) → IsWritable s → HoldsFile s list start (M.seen medium) → LeadsOn s list (events sessions.now) start (M.seen result.0) result.1 }
+    ensures { WhereTells M.tells ((s : WavSpecEx) (list : List (List ℕ)) (start : MediumState) → IsWritable s → HoldsFile s list start (M.state medium) → LeadsOn s list (events sessions.now) start (M.state result.0) result.1) }
 {
     let mut medium = medium;
     for i in 0..sessions.len() {
@@ -101,20 +101,20 @@ pub fn run_sessions<'a, M: Source + Medium>(
     spec_ex: WavSpecEx,
     sessions: &'a [&'a [Step<'a>]],
 ) -> (M, Result<()>)
-    requires { IsTrue M.tells → (M.seen medium).place ≡ 0 }
+    requires { WhereTells M.tells ((M.state medium).place ≡ 0) }
     ensures none { length sessions.now ≡ 0 → result ≡ (medium, Ok tt) }
-    ensures unwritable { IsTrue M.tells → 0 < length sessions.now → (IsWritable spec_ex → ⊥) → (result.1 ≡ Err Unsupported) × (M.seen result.0 ≡ M.seen medium) }
+    ensures unwritable { WhereTells M.tells (0 < length sessions.now → (IsWritable spec_ex → ⊥) → (result.1 ≡ Err Unsupported) × (M.state result.0 ≡ M.state medium)) }
 
     // Over a spec that can be written: all sessions are there in one file, or an event of one was an
     // error that its own contract allows, or the medium failed.
-    ensures leads { IsTrue M.tells → 0 < length sessions.now → IsWritable spec_ex →
-        LeadsOn spec_ex [] (events sessions.now) (M.seen medium) (M.seen result.0) result.1 }
+    ensures leads { WhereTells M.tells (0 < length sessions.now → IsWritable spec_ex →
+        LeadsOn spec_ex [] (events sessions.now) (M.state medium) (M.state result.0) result.1) }
 
     // The bytes of one session over all containers.
-    ensures canonical { IsTrue M.tells → 0 < length sessions.now →
-        OnOk result.1 (StartsWith (M.seen result.0).contents (canonical spec_ex (containers_of spec_ex (events sessions.now)))) }
-    ensures exact { IsTrue M.tells → 0 < length sessions.now → (M.seen medium).contents ≡ [] → NoFault (M.seen medium) (M.seen result.0) →
-        OnOk result.1 ((M.seen result.0).contents ≡ canonical spec_ex (containers_of spec_ex (events sessions.now))) }
+    ensures canonical { WhereTells M.tells (0 < length sessions.now →
+        OnOk result.1 (StartsWith (M.state result.0).contents (canonical spec_ex (containers_of spec_ex (events sessions.now))))) }
+    ensures exact { WhereTells M.tells (0 < length sessions.now → (M.state medium).contents ≡ [] → NoFault (M.state medium) (M.state result.0) →
+        OnOk result.1 ((M.state result.0).contents ≡ canonical spec_ex (containers_of spec_ex (events sessions.now)))) }
 {
     let Some((first, others)) = sessions.split_first() else {
         return (medium, Ok(()));

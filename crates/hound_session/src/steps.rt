@@ -1,4 +1,5 @@
 // Steps taken with a writer.
+ghost use Rattle.hound_medium.specs.State.{WhereKeeps, WhereTells};
 ghost use Rattle.std.specs.Prelude.{◌≡◌, ◌*◌, ◌≤◌, true, IsTrue, OnOk, length};
 ghost use Rattle.hound_writer.specs.Moments.{AcceptsAtEach};
 ghost use Rattle.hound_session.specs.AtEach.{StepAtEach};
@@ -20,9 +21,9 @@ fn is_sixteen(spec: WavSpec) -> bool
 
 // Writes a batch, of samples of sixteen bits only.
 fn write_batch<M: Medium>(alloc: Global, writer: &mut WavWriter<M>, values: &[i16]) -> Result<()>
-    ensures accepts { IsTrue M.tells → AcceptsAs M.seen (wants_memory values.now writer.old) (batch_containers writer.old.spec_ex values.now) result writer.old writer.new }
+    ensures accepts { WhereTells M.tells (AcceptsAs M.state (wants_memory values.now writer.old) (batch_containers writer.old.spec_ex values.now) result writer.old writer.new) }
     ensures memory { OnOk result (2 * length values.now ≤ length writer.new.buffer) }
-    ensures moments { IsTrue M.tells → IsTrue M.keeps → AcceptsAtEach M.seen writer.old (M.seen writer.new.medium) }
+    ensures moments { WhereKeeps M.tells M.keeps (AcceptsAtEach M.state writer.old (M.state writer.new.medium)) }
 {
     if !is_sixteen(writer.spec()) {
         return Err(Error::Unsupported);
@@ -46,8 +47,8 @@ pub(crate) fn take_step<M: Medium>(
     writer: &mut WavWriter<M>,
     step: Step<'_>,
 ) -> Result<()>
-    ensures takes { IsTrue M.tells → Takes M.seen step.entry result writer.old writer.new }
-    ensures moments { IsTrue M.tells → IsTrue M.keeps → StepAtEach M.seen step.entry result writer.old writer.new }
+    ensures takes { WhereTells M.tells (Takes M.state step.entry result writer.old writer.new) }
+    ensures moments { WhereKeeps M.tells M.keeps (StepAtEach M.state step.entry result writer.old writer.new) }
 {
     match step {
         Step::Whole(value) => writer.write_sample(value),

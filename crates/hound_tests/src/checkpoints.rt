@@ -31,7 +31,7 @@ fn a_checkpoint_inside_a_frame(rt: HostRuntime) -> Result<(), Fail> {
 
 // Begins a file, or goes on with the one that is there, writes these samples and drops the writer.
 fn write_and_drop(tape: &mut Tape, samples: &[i16]) -> hound::Result<()>
-    requires { (⟦<Tape as Placed>⟧.seen tape.old).place ≡ 0 }
+    requires { (⟦<Tape as Placed>⟧.state tape.old).place ≡ 0 }
 {
     let mut writer = if Tape::bytes(tape).is_empty() {
         WavWriter::new(tape, spec(2))?

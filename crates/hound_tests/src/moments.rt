@@ -20,7 +20,7 @@ fn mono(bits_per_sample: u16) -> WavSpec {
 
 // An empty journal that takes one byte a call, and fails at the calls with these numbers.
 fn byte_by_byte(alloc: Global, from: u64, to: u64) -> hound::Result<Journal>
-    ensures { IfOk result (λ j. (⟦<Journal as Placed>⟧.seen j).place ≡ 0) }
+    ensures { IfOk result (λ j. (⟦<Journal as Placed>⟧.state j).place ≡ 0) }
 {
     let mut journal = Journal::new(alloc, Vec::new(alloc))?;
     journal.most(1);

@@ -1,7 +1,7 @@
 // Iterators that count, and seeking.
 ghost use Rattle.std.specs.Prelude.{◌≡◌, false};
 ghost use Rattle.std.proofs.lemmas.Bool.{false≢true};
-ghost use Rattle.hound.specs.Seen.{Seen, unknown};
+ghost use Rattle.hound.specs.MediumState.{MediumState, unknown};
 
 use crate::reading::file;
 use crate::widths::FOUR_BYTES;
@@ -131,7 +131,7 @@ impl io::Read for Held {
 impl Placed for Held {
     ghost tells = { false };
 
-    ghost seen = { λ _. unknown };
+    ghost state = { λ _. unknown };
 
     ghost bytes = { λ _ tells. Prim.absurd (false≢true tells) };
 

@@ -1,6 +1,6 @@
 // Whole runs of a writer as one call.
 ghost use Rattle.std.specs.Prelude.{◌≡◌, IfOk};
-ghost use Rattle.hound.specs.Seen.{Seen};
+ghost use Rattle.hound.specs.MediumState.{MediumState};
 
 use crate::widths::{empty_tape, integers, samples_of};
 use hound::{
@@ -14,14 +14,14 @@ fn sixteen(channels: u16) -> WavSpecEx {
 }
 
 fn tape_of(alloc: Global, bytes: &[u8]) -> Result<Tape, Fail>
-    ensures { IfOk result (λ t. (⟦<Tape as Placed>⟧.seen t).place ≡ 0) }
+    ensures { IfOk result (λ t. (⟦<Tape as Placed>⟧.state t).place ≡ 0) }
 {
     Ok(Tape::new(bytes.to_vec(alloc)?))
 }
 
 // An empty journal that fails at the calls with these numbers.
 fn failing(alloc: Global, from: u64, to: u64) -> hound::Result<Journal>
-    ensures { IfOk result (λ j. (⟦<Journal as Placed>⟧.seen j).place ≡ 0) }
+    ensures { IfOk result (λ j. (⟦<Journal as Placed>⟧.state j).place ≡ 0) }
 {
     let mut journal = Journal::new(alloc, Vec::new(alloc))?;
     journal.fail(from, to);

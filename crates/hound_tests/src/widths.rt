@@ -38,7 +38,7 @@ pub(crate) fn floats(sample_rate: u32) -> WavSpecEx {
 }
 
 pub(crate) fn empty_tape(alloc: Global) -> Tape
-    ensures { (⟦<Tape as Placed>⟧.seen result).place ≡ 0 }
+    ensures { (⟦<Tape as Placed>⟧.state result).place ≡ 0 }
 {
     Tape::new(Vec::new(alloc))
 }

@@ -1,7 +1,7 @@
 // Files through the public items, byte by byte.
 ghost use Rattle.std.specs.Prelude.{◌≡◌, false};
 ghost use Rattle.std.proofs.lemmas.Bool.{false≢true};
-ghost use Rattle.hound.specs.Seen.{Seen, unknown};
+ghost use Rattle.hound.specs.MediumState.{MediumState, unknown};
 
 use hound::{Error, Medium, Placed, SampleFormat, Tape, WavSpec, WavSpecEx, WavWriter};
 use std::alloc::Global;
@@ -19,7 +19,7 @@ fn spec(channels: u16) -> WavSpec {
 }
 
 fn empty_tape(alloc: Global) -> Tape
-    ensures { (⟦<Tape as Placed>⟧.seen result).place ≡ 0 }
+    ensures { (⟦<Tape as Placed>⟧.state result).place ≡ 0 }
 {
     Tape::new(Vec::new(alloc))
 }
@@ -63,7 +63,7 @@ fn no_samples_are_44_bytes(rt: HostRuntime) -> Result<(), Fail> {
 }
 
 fn write_four(tape: &mut Tape) -> hound::Result<()>
-    requires { (⟦<Tape as Placed>⟧.seen tape.old).place ≡ 0 }
+    requires { (⟦<Tape as Placed>⟧.state tape.old).place ≡ 0 }
 {
     let mut writer = WavWriter::new(tape, spec(1))?;
     for sample in [2i16, -3, 5, -7] {
@@ -81,7 +81,7 @@ fn finalize_publishes_over_a_lent_medium(rt: HostRuntime) -> Result<(), Fail> {
 }
 
 fn begin(tape: &mut Tape, spec: WavSpec) -> hound::Result<()>
-    requires { (⟦<Tape as Placed>⟧.seen tape.old).place ≡ 0 }
+    requires { (⟦<Tape as Placed>⟧.state tape.old).place ≡ 0 }
 {
     let _writer = WavWriter::new(tape, spec)?;
     Ok(())
@@ -169,7 +169,7 @@ impl Faulty {
 impl Placed for Faulty {
     ghost tells = { false };
 
-    ghost seen = { λ _. unknown };
+    ghost state = { λ _. unknown };
 
     ghost bytes = { λ _ tells. Prim.absurd (false≢true tells) };
 

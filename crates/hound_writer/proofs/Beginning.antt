@@ -3,7 +3,7 @@ use Rattle.std.proofs.Common.{◌≡◌, ℕ, zero, suc, ◌+◌, ◌%◌, ◌�
 use Rattle.std.proofs.lemmas.List.{take_at, take_all, drop_at}
 use Rattle.hound_number.specs.Number.{bytes_of, number}
 use Rattle.hound_medium.specs.Bytes.{placed, overlay}
-use Rattle.hound_medium.specs.Seen.{Seen, Takes, PutsAll}
+use Rattle.hound_medium.specs.State.{MediumState, PutsFirst, PutsAll}
 use Rattle.hound_medium.proofs.Overlays.{overlay_is}
 use Rattle.hound_spec.specs.declared.spec.WavSpecEx.{WavSpecEx}
 use Rattle.hound_spec.specs.Header.{riff_tag, data_start, header}
@@ -52,7 +52,7 @@ sound_begin s start writable is = record {
     zero_mod zero = refl
     zero_mod (suc w) = omega arith
 
-module _ {T E : Type 0} (keeps : Bool) (s : WavSpecEx) (bytes : List ℕ) (result : Result T E) (old new : Seen) (is : bytes ≡ header s 0 0) (begins : old.place ≡ 0) (puts : PutsAll keeps bytes result old new)
+module _ {T E : Type 0} (keeps : Bool) (s : WavSpecEx) (bytes : List ℕ) (result : Result T E) (old new : MediumState) (is : bytes ≡ header s 0 0) (begins : old.place ≡ 0) (puts : PutsAll keeps bytes result old new)
     (all : puts.count ≡ length bytes) where
   -- the header, and what stood behind it before
   contents_begin : new.contents ≡ header s 0 0 ++ drop (length bytes) old.contents
@@ -87,6 +87,6 @@ module _ {T E : Type 0} (keeps : Bool) (s : WavSpecEx) (bytes : List ℕ) (resul
 
   pub header_put : new.faults ≡ old.faults → PutsHeader keeps s old new
   header_put same = record {
-    takes = subst (λ b. Takes keeps b (length b) old new) is (subst (λ n. Takes keeps bytes n old new) all puts.takes);
+    takes = subst (λ b. PutsFirst keeps b (length b) old new) is (subst (λ n. PutsFirst keeps bytes n old new) all puts.takes);
     faults = same;
   }

@@ -6,7 +6,7 @@ use Rattle.hound_spec.specs.declared.spec.SampleFormat.{SampleFormat}
 use Rattle.hound_spec.specs.declared.spec.SampleFormat.TheVariants.{Int, Float}
 use Rattle.hound_spec.specs.declared.spec.WavSpecEx.{WavSpecEx}
 use Rattle.hound_spec.specs.Writable.{IsPair}
-use Rattle.hound_medium.specs.Seen.{Seen, one_more}
+use Rattle.hound_medium.specs.State.{MediumState, one_more}
 use Rattle.hound_reader.specs.declared.chunks.FileHead.{FileHead}
 use Rattle.hound_reader.specs.declared.fault.HeadError.{HeadError}
 use Rattle.hound_reader.specs.declared.fault.HeadError.TheVariants.{Failed, Refused}
@@ -15,7 +15,7 @@ use Rattle.hound_reader.specs.Chunks.{Head, Refused as RefusedFor}
 use Rattle.hound_reader.specs.Refusals.{TellsError}
 use Rattle.hound_reader.specs.Sources.{FindsData}
 use Rattle.hound_writer.specs.Parts.{Stands, field}
-use Rattle.hound_writer.specs.Writer.{Written, IsSound, IsIoError}
+use Rattle.hound_writer.specs.Writer.{WriterState, IsSound, IsIoError}
 use Rattle.hound_writer.specs.Appending.{IsAppendFault, by_bytes, head_fault, is_written_pair, GoesOn, IsNotAppended, PutsNothing}
 use Rattle.hound_writer.proofs.Heads.{head_inside, head_field}
 
@@ -54,7 +54,7 @@ sound_head s len h sound behind none =
     lt_false a b e = grind (arith, nat_tests)
 
 -- the medium of a writer behind the data of a file
-pub stands_on : (s : WavSpecEx) (len h : ℕ) (contents : List ℕ) (new : Seen) → 20 ≤ h → Head contents s len h → new.contents ≡ contents → new.place ≡ h + len → Stands s (h - 4) len false new
+pub stands_on : (s : WavSpecEx) (len h : ℕ) (contents : List ℕ) (new : MediumState) → 20 ≤ h → Head contents s len h → new.contents ≡ contents → new.place ≡ h + len → Stands s (h - 4) len false new
 stands_on s len h contents new behind head same place =
     let start : h ≡ h - 4 + 4 = omega (arith, behind) in
     let says : field (h - 4) new.contents ≡ len = ap (field (h - 4)) same ∙ head_field contents s len h head in
@@ -66,13 +66,13 @@ stands_on s len h contents new behind head same place =
     }
 
 -- a walk changes nothing but the place and the faults
-pub walk_puts_nothing : (result : Result FileHead HeadError) (old new : Seen) → FindsData result old new → PutsNothing old new
+pub walk_puts_nothing : (result : Result FileHead HeadError) (old new : MediumState) → FindsData result old new → PutsNothing old new
 walk_puts_nothing result old new finds = record {
   stays = record { contents = finds.contents; start = finds.start; past = finds.past };
   flushed = finds.flushed;
 }
 
-puts_nothing_then : (a b c : Seen) → PutsNothing a b → PutsNothing b c → PutsNothing a c
+puts_nothing_then : (a b c : MediumState) → PutsNothing a b → PutsNothing b c → PutsNothing a c
 puts_nothing_then a b c first then = record {
   stays = record {
     contents = then.stays.contents ∙ first.stays.contents;
@@ -83,19 +83,19 @@ puts_nothing_then a b c first then = record {
 }
 
 -- a walk to the data that found a head, and then the answer of a call that goes on behind them
-pub after_walk : {W : Type 0} (seen : W → Seen) (head : FileHead) (old mid : Seen) (answer : Result (Written W) (W × Error)) → FindsData (Ok head) old mid
-    → MatchResult answer (GoesOn mid seen) (λ refused. IsNotAppended mid (seen refused.0) refused.1)
-    → MatchResult answer (GoesOn old seen) (λ refused. IsNotAppended old (seen refused.0) refused.1)
-after_walk seen head old mid (Ok w) finds on = record {
+pub after_walk : {W : Type 0} (state : W → MediumState) (head : FileHead) (old mid : MediumState) (answer : Result (WriterState W) (W × Error)) → FindsData (Ok head) old mid
+    → MatchResult answer (GoesOn mid state) (λ refused. IsNotAppended mid (state refused.0) refused.1)
+    → MatchResult answer (GoesOn old state) (λ refused. IsNotAppended old (state refused.0) refused.1)
+after_walk state head old mid (Ok w) finds on = record {
   head = subst (λ l. Head l w.spec_ex w.data_length w.data_start) finds.contents on.head;
   sound = on.sound;
   buffer = on.buffer;
-  puts = puts_nothing_then old mid (seen w.medium) (walk_puts_nothing (Ok head) old mid finds) on.puts;
+  puts = puts_nothing_then old mid (state w.medium) (walk_puts_nothing (Ok head) old mid finds) on.puts;
   place = on.place;
   faults = on.faults ∙ finds.faults;
 }
-after_walk seen head old mid (Err (medium, e)) finds refused = record {
-  puts = puts_nothing_then old mid (seen medium) (walk_puts_nothing (Ok head) old mid finds) refused.puts;
+after_walk state head old mid (Err (medium, e)) finds refused = record {
+  puts = puts_nothing_then old mid (state medium) (walk_puts_nothing (Ok head) old mid finds) refused.puts;
   why = elim refused.why [
     | inl (fault, is, names, faults) ↦ inl (fault, subst (λ l. IsAppendFault l fault) finds.contents is, names, faults ∙ finds.faults)
     | inr (is, faults) ↦ inr (is, faults ∙ ap one_more finds.faults)
@@ -103,7 +103,7 @@ after_walk seen head old mid (Err (medium, e)) finds refused = record {
 }
 
 -- a walk that found none
-pub walk_fails : (error : HeadError) (e : Error) (old new : Seen) → old.place ≡ 0 → TellsError error e → FindsData (Err error) old new → IsNotAppended old new e
+pub walk_fails : (error : HeadError) (e : Error) (old new : MediumState) → old.place ≡ 0 → TellsError error e → FindsData (Err error) old new → IsNotAppended old new e
 walk_fails (Failed x) e old new begins told finds = record {
   puts = walk_puts_nothing (Err (Failed x)) old new finds;
   why = inr (subst IsIoError (sym told) tt, finds.faults);

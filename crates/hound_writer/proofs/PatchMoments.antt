@@ -7,8 +7,8 @@ use Rattle.std.specs.declared.io.Error.{Error as IoFault}
 use Rattle.hound_number.specs.Number.{bytes_of, mix, AreBytes}
 use Rattle.hound_number.proofs.Mixing.{mix_none, mix_all}
 use Rattle.hound_medium.specs.Bytes.{placed, overlay, moment}
-use Rattle.hound_medium.specs.Seen.{Seen, Stays}
-use Rattle.hound_medium.specs.Moments.{Span}
+use Rattle.hound_medium.specs.State.{MediumState, Stays}
+use Rattle.hound_medium.specs.Spans.{Span}
 use Rattle.hound_medium.proofs.Outcomes.{from_ok}
 use Rattle.hound_medium.proofs.Overlays.{length-placed}
 use Rattle.hound_medium.proofs.Spans.{span_puts, join, and_still}
@@ -17,7 +17,7 @@ use Rattle.hound_spec.specs.declared.error.Error.{Error}
 use Rattle.hound_writer.specs.Counts.{Counts}
 use Rattle.hound_writer.specs.Moments.{HasSize, IsPatched, PutsField, PatchesAtEach, IsOldOrNew, PublishesAtEach, place_of}
 use Rattle.hound_writer.specs.Parts.{PutsAt, IsStanding, IsTold, field}
-use Rattle.hound_writer.specs.Writer.{Written, IsSound, accepted}
+use Rattle.hound_writer.specs.Writer.{WriterState, IsSound, accepted}
 use Rattle.hound_writer.proofs.AcceptMoments.{counts_at}
 use Rattle.hound_writer.proofs.Publishing.{published}
 use Rattle.hound_writer.proofs.Sizes.{same_reflexive, same_transitive, same_riff, field_riff, same_length}
@@ -53,7 +53,7 @@ module _ (p new : ℕ) (base c : List ℕ) (has : HasSize p base) (small : AreBy
       }
 
 -- the parts of a patch, all of their bytes or a beginning
-module _ {T E : Type 0} (keeps : Bool) (p new : ℕ) (base : List ℕ) (result : Result T E) (a b : Seen) (kept : IsTrue keeps) (replays : a.contents ≡ overlay a.start a.past) (small : AreBytes a.contents) (has : HasSize p base)
+module _ {T E : Type 0} (keeps : Bool) (p new : ℕ) (base : List ℕ) (result : Result T E) (a b : MediumState) (kept : IsTrue keeps) (replays : a.contents ≡ overlay a.start a.past) (small : AreBytes a.contents) (has : HasSize p base)
     (so_far : IsPatched p base new 0 a.contents) where
   -- the RIFF size is put, which comes before the field
   pub riff_span : (size : ℕ) → PutsAt keeps 4 (bytes_of 4 size) result a b → Span (IsPatched p base new) (length b.past) a b
@@ -83,7 +83,7 @@ first_added old new p [] is longer = absurd (omega (arith, longer, ap length is,
 first_added old new p (b ∷ bytes) is longer = ap (λ l. place_of l (length old)) is ∙ ap (λ (x : ℕ × ℕ). x.0) (get_or_at old (p, b) (placed (suc p) bytes) (0, 0) (length old) refl)
 
 -- a patch that ended before its field
-pub patches_none : {V F : Type 0} (p new : ℕ) (answer : Result V F) (a b : Seen) → Span (IsPatched p a.contents new) (length b.past) a b → OnOk answer (length b.past ≡ length b.past + 4) → PatchesAtEach p new answer a b
+pub patches_none : {V F : Type 0} (p new : ℕ) (answer : Result V F) (a b : MediumState) → Span (IsPatched p a.contents new) (length b.past) a b → OnOk answer (length b.past ≡ length b.past + 4) → PatchesAtEach p new answer a b
 patches_none p new answer a b span all = record {
   split = length b.past;
   puts = record {
@@ -96,7 +96,7 @@ patches_none p new answer a b span all = record {
 }
 
 -- both parts, one after the other
-pub patches_both : {T E V F : Type 0} (keeps : Bool) (p new : ℕ) (result : Result T E) (answer : Result V F) (a b c : Seen) → IsTrue keeps → Span (IsPatched p a.contents new) (length b.past) a b → Span (IsPatched p a.contents new) (length b.past) b c
+pub patches_both : {T E V F : Type 0} (keeps : Bool) (p new : ℕ) (result : Result T E) (answer : Result V F) (a b c : MediumState) → IsTrue keeps → Span (IsPatched p a.contents new) (length b.past) a b → Span (IsPatched p a.contents new) (length b.past) b c
     → PutsAt keeps p (bytes_of 4 new) result b c → OnOk answer (IsOk result) → PatchesAtEach p new answer a c
 patches_both keeps p new result answer a b c kept first second puts all =
     let bytes = take puts.count (bytes_of 4 new) in
@@ -114,7 +114,7 @@ patches_both keeps p new result answer a b c kept first second puts all =
     }
 
 -- a patch, and then a call that puts nothing
-pub patches_still : {T E V F : Type 0} (p new : ℕ) (result : Result T E) (answer : Result V F) (a b c : Seen) → b.contents ≡ overlay b.start b.past → Stays b c → OnOk answer (IsOk result) → PatchesAtEach p new result a b → PatchesAtEach p new answer a c
+pub patches_still : {T E V F : Type 0} (p new : ℕ) (result : Result T E) (answer : Result V F) (a b c : MediumState) → b.contents ≡ overlay b.start b.past → Stays b c → OnOk answer (IsOk result) → PatchesAtEach p new result a b → PatchesAtEach p new answer a c
 patches_still p new result answer a b c replays stays all patches =
     let same : length c.past ≡ length b.past = ap length stays.past in
     record {
@@ -129,7 +129,7 @@ patches_still p new result answer a b c replays stays all patches =
     }
 
 -- where the four bytes of the field went out one after the other, it has the old or the new number at each moment but those between them
-old_or_new : (p new split : ℕ) (a b : Seen) → HasSize p a.contents → new < 2 ^ 32 → PutsField p a.contents new split a b → IsOldOrNew p (field p a.contents) new a b
+old_or_new : (p new split : ℕ) (a b : MediumState) → HasSize p a.contents → new < 2 ^ 32 → PutsField p a.contents new split a b → IsOldOrNew p (field p a.contents) new a b
 old_or_new p new split a b has small puts whole k from to outside =
     let at = puts.span.each k from to in
     let old = field p a.contents in
@@ -145,28 +145,28 @@ old_or_new p new split a b has small puts whole k from to outside =
     ]
 
 -- what a patch of a writer's file is at each moment, by the answer of the call that does it
-pub publishes_at_each : {T W : Type 0} (seen : W → Seen) (w : Written W) → IsSound w.spec_ex w.data_start w.data_length → IsStanding w.spec_ex w.data_start w.data_length (seen w.medium).contents → AreBytes (seen w.medium).contents
-    → (end : W) (patched : Result T IoFault) (are_frames : Bool) (told : Result T Error) → IsTold patched are_frames told → PatchesAtEach (w.data_start - 4) w.data_length patched (seen w.medium) (seen end) → PublishesAtEach seen w told end
-publishes_at_each seen w sound stands small end patched are_frames told is patches =
+pub publishes_at_each : {T W : Type 0} (state : W → MediumState) (w : WriterState W) → IsSound w.spec_ex w.data_start w.data_length → IsStanding w.spec_ex w.data_start w.data_length (state w.medium).contents → AreBytes (state w.medium).contents
+    → (end : W) (patched : Result T IoFault) (are_frames : Bool) (told : Result T Error) → IsTold patched are_frames told → PatchesAtEach (w.data_start - 4) w.data_length patched (state w.medium) (state end) → PublishesAtEach state w told end
+publishes_at_each state w sound stands small end patched are_frames told is patches =
     let p = w.data_start - 4 in
-    let old = (seen w.medium).contents in
+    let old = (state w.medium).contents in
     let split = patches.split in
     let span = patches.puts.span in
     let start : p + 4 ≡ w.data_start = omega (arith, sound.behind) in
     let has : HasSize p old = record { behind = omega (arith, sound.behind); inside = omega (arith, start, inside w.spec_ex w.data_start w.data_length old old stands); small = small } in
-    let counts : (j : ℕ) (c : List ℕ) → IsPatched p old w.data_length j c → Counts w.spec_ex w.data_start (accepted seen w) c =
-    λ j c at. counts_at seen w sound c (stands_patched w.spec_ex w.data_start w.data_length old c stands j at.same at.field)
+    let counts : (j : ℕ) (c : List ℕ) → IsPatched p old w.data_length j c → Counts w.spec_ex w.data_start (accepted state w) c =
+    λ j c at. counts_at state w sound c (stands_patched w.spec_ex w.data_start w.data_length old c stands j at.same at.field)
     (ap (take w.data_length) ((λ i. drop (sym start i) c) ∙ at.same.behind ∙ (λ i. drop (start i) old))) in
     record {
-      counts = λ _. record { start = span.start; added = span.added; past = span.past; each = λ k from to. counts (k - split) (moment (seen end).start (seen end).past k) (span.each k from to) };
+      counts = λ _. record { start = span.start; added = span.added; past = span.past; each = λ k from to. counts (k - split) (moment (state end).start (state end).past k) (span.each k from to) };
       split = split;
       puts = patches.puts;
-      whole = published (length (seen end).past ≡ split + 4) patched are_frames told is patches.whole;
-      old_or_new = old_or_new p w.data_length split (seen w.medium) (seen end) has (omega (arith, sound.fits, sound.behind)) patches.puts;
+      whole = published (length (state end).past ≡ split + 4) patched are_frames told is patches.whole;
+      old_or_new = old_or_new p w.data_length split (state w.medium) (state end) has (omega (arith, sound.fits, sound.behind)) patches.puts;
     }
 
 -- a patch of a writer's fields, as contracts see it
-pub patches_at_each_seen : {W T E : Type 0} (seen : W → Seen) (a b : Written W) (p : ℕ) (result : Result T E) (end : Seen) → a ≡ b → p ≡ a.data_start - 4 → PatchesAtEach p a.data_length result (seen a.medium) end
-    → PatchesAtEach (b.data_start - 4) b.data_length result (seen b.medium) end
-patches_at_each_seen seen a b p result end same at patches =
-    subst (λ w. PatchesAtEach (w.data_start - 4) w.data_length result (seen w.medium) end) same (subst (λ q. PatchesAtEach q a.data_length result (seen a.medium) end) at patches)
+pub patches_at_each_seen : {W T E : Type 0} (state : W → MediumState) (a b : WriterState W) (p : ℕ) (result : Result T E) (end : MediumState) → a ≡ b → p ≡ a.data_start - 4 → PatchesAtEach p a.data_length result (state a.medium) end
+    → PatchesAtEach (b.data_start - 4) b.data_length result (state b.medium) end
+patches_at_each_seen state a b p result end same at patches =
+    subst (λ w. PatchesAtEach (w.data_start - 4) w.data_length result (state w.medium) end) same (subst (λ q. PatchesAtEach q a.data_length result (state a.medium) end) at patches)

@@ -7,7 +7,7 @@ use Rattle.std.proofs.Math.Seq.{take-append-add}
 use Rattle.hound_number.specs.Number.{number, bytes_of, mix, AreBytes}
 use Rattle.hound_number.proofs.Mixing.{mix_none}
 use Rattle.hound_medium.specs.Bytes.{placed, overlay}
-use Rattle.hound_medium.specs.Seen.{Seen, Stays, Flushes, faults_after, one_more}
+use Rattle.hound_medium.specs.State.{MediumState, Stays, Flushes, faults_after, one_more}
 use Rattle.hound_medium.proofs.Overlays.{overlay_is}
 use Rattle.hound_medium.proofs.Inside.{drop_behind, same_size}
 use Rattle.hound_medium.proofs.Torn.{number_at_small, number_at_mix}
@@ -35,7 +35,7 @@ sizes_put p size data_length c behind inside =
     ∙ ap (λ l. take 4 c ++ l) (append_assoc bs (drop 8 (take p c)) (bytes_of 4 data_length ++ drop (p + 4) c))
 
 -- a field that was put, all of it or a beginning, over media
-module _ {T E : Type 0} (keeps : Bool) (p size : ℕ) (r : Result T E) (a b : Seen) (behind : 8 ≤ p) (inside : p + 4 ≤ length a.contents) (first : PutsAt keeps 4 (bytes_of 4 size) r a b) where
+module _ {T E : Type 0} (keeps : Bool) (p size : ℕ) (r : Result T E) (a b : MediumState) (behind : 8 ≤ p) (inside : p + 4 ≤ length a.contents) (first : PutsAt keeps 4 (bytes_of 4 size) r a b) where
   few : length (take first.count (bytes_of 4 size)) ≤ 4
   few = omega (arith, length-take first.count (bytes_of 4 size))
 
@@ -45,7 +45,7 @@ module _ {T E : Type 0} (keeps : Bool) (p size : ℕ) (r : Result T E) (a b : Se
   first_field : field p b.contents ≡ field p a.contents
   first_field = ap (field p) first.contents ∙ field_riff p a.contents behind inside (take first.count (bytes_of 4 size)) few
 
-  module _ {V F : Type 0} (data_length : ℕ) (s : Result V F) (c : Seen) (small : AreBytes b.contents) (second : PutsAt keeps p (bytes_of 4 data_length) s b c) where
+  module _ {V F : Type 0} (data_length : ℕ) (s : Result V F) (c : MediumState) (small : AreBytes b.contents) (second : PutsAt keeps p (bytes_of 4 data_length) s b c) where
     inside_then : p + 4 ≤ length b.contents
     inside_then = omega (arith, inside, first_same.long)
 
@@ -61,27 +61,27 @@ on_ok (Ok x) here = here
 on_ok (Err e) here = tt
 
 -- a patch that a fault ended
-cut : {V F : Type 0} (p size data_length k : ℕ) (answer : Result V F) (a d : Seen) → IsErr answer → SameButSizes p a.contents d.contents → k ≤ 4 → field p d.contents ≡ mix k (field p a.contents) data_length → d.faults ≡ one_more a.faults
+cut : {V F : Type 0} (p size data_length k : ℕ) (answer : Result V F) (a d : MediumState) → IsErr answer → SameButSizes p a.contents d.contents → k ≤ 4 → field p d.contents ≡ mix k (field p a.contents) data_length → d.faults ≡ one_more a.faults
     → Patches p size data_length answer a d
 cut p size data_length k (Ok x) a d err same le torn faults = absurd (false≢true err)
 cut p size data_length k (Err e) a d err same le torn faults = record { contents = tt; same = same; torn = (k, le, torn); flushed = tt; faults = faults }
 
 -- a patch whose RIFF size met a fault
-pub cut_first : {T E V F : Type 0} (keeps : Bool) (p size data_length : ℕ) (r : Result T E) (answer : Result V F) (a b : Seen) → IsErr answer → 8 ≤ p → p + 4 ≤ length a.contents → AreBytes a.contents
+pub cut_first : {T E V F : Type 0} (keeps : Bool) (p size data_length : ℕ) (r : Result T E) (answer : Result V F) (a b : MediumState) → IsErr answer → 8 ≤ p → p + 4 ≤ length a.contents → AreBytes a.contents
     → PutsAt keeps 4 (bytes_of 4 size) r a b → b.faults ≡ one_more a.faults → Patches p size data_length answer a b
 cut_first keeps p size data_length r answer a b err behind inside small first faults =
     cut p size data_length 0 answer a b err (first_same keeps p size r a b behind inside first) (omega arith)
     (first_field keeps p size r a b behind inside first ∙ sym (mix_none (field p a.contents) data_length (number_at_small p a.contents inside small))) faults
 
 -- a patch whose data length met a fault
-pub cut_second : {T E V F X Y : Type 0} (keeps : Bool) (p size data_length : ℕ) (r : Result T E) (s : Result V F) (answer : Result X Y) (a b c : Seen) → IsErr answer → 8 ≤ p → p + 4 ≤ length a.contents → AreBytes b.contents
+pub cut_second : {T E V F X Y : Type 0} (keeps : Bool) (p size data_length : ℕ) (r : Result T E) (s : Result V F) (answer : Result X Y) (a b c : MediumState) → IsErr answer → 8 ≤ p → p + 4 ≤ length a.contents → AreBytes b.contents
     → PutsAt keeps 4 (bytes_of 4 size) r a b → PutsAt keeps p (bytes_of 4 data_length) s b c → c.faults ≡ one_more a.faults → Patches p size data_length answer a c
 cut_second keeps p size data_length r s answer a b c err behind inside small first second faults =
     cut p size data_length second.count answer a c err (then_same keeps p size r a b behind inside first data_length s c small second) (second.within)
     (then_field keeps p size r a b behind inside first data_length s c small second) faults
 
 -- a patch whose puts were Ok
-pub patched : {T E V F X Y : Type 0} (keeps : Bool) (p size data_length : ℕ) (r : Result T E) (s : Result V F) (flush : Result X Y) (a b c d : Seen) → 8 ≤ p → p + 4 ≤ length a.contents → AreBytes b.contents
+pub patched : {T E V F X Y : Type 0} (keeps : Bool) (p size data_length : ℕ) (r : Result T E) (s : Result V F) (flush : Result X Y) (a b c d : MediumState) → 8 ≤ p → p + 4 ≤ length a.contents → AreBytes b.contents
     → (first : PutsAt keeps 4 (bytes_of 4 size) r a b) (second : PutsAt keeps p (bytes_of 4 data_length) s b c) → first.count ≡ 4 → second.count ≡ 4 → c.faults ≡ a.faults → Flushes flush c d
     → Patches p size data_length flush a d
 patched keeps p size data_length r s flush a b c d behind inside small first second all_first all_second faults flushes =
@@ -106,7 +106,7 @@ patched keeps p size data_length r s flush a b c d behind inside small first sec
     is_flushed P Q (Err e) there = tt
 
 -- an Ok patch, and then a call that puts nothing
-pub patched_still : {T E V F : Type 0} (p size data_length : ℕ) (patch : Result T E) (answer : Result V F) (a b c : Seen) → IsOk patch → Stays b c → c.flushed ≡ b.flushed → c.faults ≡ faults_after answer b.faults
+pub patched_still : {T E V F : Type 0} (p size data_length : ℕ) (patch : Result T E) (answer : Result V F) (a b c : MediumState) → IsOk patch → Stays b c → c.flushed ≡ b.flushed → c.faults ≡ faults_after answer b.faults
     → Patches p size data_length patch a b → Patches p size data_length answer a c
 patched_still p size data_length (Err e) answer a b c ok stays flushed faults patches = absurd (false≢true ok)
 patched_still p size data_length (Ok x) answer a b c ok stays flushed faults patches =

@@ -5,7 +5,7 @@ use Rattle.std.specs.declared.io.Error.{Error as IoFault}
 use Rattle.std.specs.Io.{StartsWith}
 use Rattle.std.specs.List.{concat}
 use Rattle.hound_number.specs.Number.{bytes_of, AreBytes}
-use Rattle.hound_medium.specs.Seen.{Seen, faults_after}
+use Rattle.hound_medium.specs.State.{MediumState, faults_after}
 use Rattle.hound_medium.proofs.Torn.{bytes_at}
 use Rattle.hound_spec.specs.declared.error.Error.{Error}
 use Rattle.hound_spec.specs.declared.spec.WavSpecEx.{WavSpecEx}
@@ -14,7 +14,7 @@ use Rattle.hound_spec.proofs.HeaderLemmas.{described, header-parts, length-heade
 use Rattle.hound_sample.specs.Container.{containers}
 use Rattle.hound_writer.specs.Parts.{IsTold, Patches, SameButSizes, IsStanding, with_sizes, field}
 use Rattle.hound_writer.specs.Counts.{Counts}
-use Rattle.hound_writer.specs.Writer.{Written, IsSound, IsWhole, IsBegun, HasHeader, OnPublished, Publishes, accepted, faults_told}
+use Rattle.hound_writer.specs.Writer.{WriterState, IsSound, IsWhole, IsBegun, HasHeader, OnPublished, Publishes, accepted, faults_told}
 use Rattle.hound_writer.proofs.Containers.{concat-containers, count_bytes}
 use Rattle.hound_writer.proofs.Patching.{riff_size_of_sizes, data_length_of_sizes}
 use Rattle.hound_writer.proofs.Heads.{in_parts}
@@ -90,7 +90,7 @@ told_faults {T} (Ok x) true told old new is here = subst (λ (t : Result T Error
 told_faults {T} (Ok x) false told old new is here = subst (λ (t : Result T Error). new ≡ faults_told t old) (sym is) here
 
 -- a writer's file with its sizes
-module _ {W : Type 0} (seen : W → Seen) (w : Written W) (sound : IsSound w.spec_ex w.data_start w.data_length) (stands : IsStanding w.spec_ex w.data_start w.data_length (seen w.medium).contents) (end : W) where
+module _ {W : Type 0} (state : W → MediumState) (w : WriterState W) (sound : IsSound w.spec_ex w.data_start w.data_length) (stands : IsStanding w.spec_ex w.data_start w.data_length (state w.medium).contents) (end : W) where
   abbrev p : ℕ
   p = w.data_start - 4
 
@@ -101,52 +101,52 @@ module _ {W : Type 0} (seen : W → Seen) (w : Written W) (sound : IsSound w.spe
   before = omega (arith, sound.behind)
 
   abbrev old : List ℕ
-  old = (seen w.medium).contents
+  old = (state w.medium).contents
 
   there : p + 4 ≤ length old
-  there = omega (arith, before, inside w.spec_ex w.data_start w.data_length (seen w.medium).contents (seen w.medium).contents stands)
+  there = omega (arith, before, inside w.spec_ex w.data_start w.data_length (state w.medium).contents (state w.medium).contents stands)
 
-  module _ (put : (seen end).contents ≡ with_sizes (w.data_start - 4) (riff_size w.data_start w.data_length) w.data_length (seen w.medium).contents) where
-    riff_size_stands : field 4 (seen end).contents ≡ riff_size w.data_start w.data_length
+  module _ (put : (state end).contents ≡ with_sizes (w.data_start - 4) (riff_size w.data_start w.data_length) w.data_length (state w.medium).contents) where
+    riff_size_stands : field 4 (state end).contents ≡ riff_size w.data_start w.data_length
     riff_size_stands = ap (field 4) put ∙ riff_size_of_sizes p size w.data_length old (omega (arith, sound.behind)) there (omega (arith, sound.fits))
 
-    data_length_stands : field p (seen end).contents ≡ w.data_length
+    data_length_stands : field p (state end).contents ≡ w.data_length
     data_length_stands = ap (field p) put ∙ data_length_of_sizes p size w.data_length old (omega (arith, sound.behind)) there (omega (arith, sound.fits, sound.behind))
 
-    is_canonical : IsWhole seen w → IsBegun seen w → StartsWith (seen end).contents (canonical w.spec_ex (accepted seen w))
+    is_canonical : IsWhole state w → IsBegun state w → StartsWith (state end).contents (canonical w.spec_ex (accepted state w))
     is_canonical whole ((size_before, length_before, begins), at) =
         let long : length (header w.spec_ex size_before length_before) ≡ w.data_start = length-header w.spec_ex size_before length_before ∙ sym at in
         let front : take w.data_start old ≡ header w.spec_ex size_before length_before = ap (λ n. take n old) (sym long) ∙ begins in
-        canonical_begins w.spec_ex (accepted seen w) w.data_length w.data_start (drop w.data_start old) (seen end).contents (sym at)
+        canonical_begins w.spec_ex (accepted state w) w.data_length w.data_start (drop w.data_start old) (state end).contents (sym at)
         (omega (arith, whole, length-drop w.data_start old))
         (concat-containers w.spec_ex.bytes_per_sample (w.data_length / w.spec_ex.bytes_per_sample) (drop w.data_start old) ∙ ap (λ n. take n (drop w.data_start old)) (count_bytes w.data_length w.spec_ex.bytes_per_sample sound.whole))
         (put ∙ header_with w.spec_ex size_before length_before w.data_start p before (sym at) old front size w.data_length)
 
   -- What a patch leaves, and the answer of a call that has done one.
-  pub publishes : {T : Type 0} (patched : Result T IoFault) (are_frames : Bool) (told : Result T Error) → IsTold patched are_frames told → AreBytes (seen end).contents
-      → Patches (w.data_start - 4) (riff_size w.data_start w.data_length) w.data_length patched (seen w.medium) (seen end) → Publishes seen w told end
+  pub publishes : {T : Type 0} (patched : Result T IoFault) (are_frames : Bool) (told : Result T Error) → IsTold patched are_frames told → AreBytes (state end).contents
+      → Patches (w.data_start - 4) (riff_size w.data_start w.data_length) w.data_length patched (state w.medium) (state end) → Publishes state w told end
   publishes patched are_frames told is small patches =
       let same = patches.same in
-      let long : w.data_start ≤ length (seen end).contents = omega (arith, before, there, same.long) in
-      let samples_same : drop w.data_start (seen end).contents ≡ drop w.data_start old = (λ i. drop (sym before i) (seen end).contents) ∙ same.behind ∙ (λ i. drop (before i) old) in
-      let still = stands_patched w.spec_ex w.data_start w.data_length old (seen end).contents stands patches.torn.0 same patches.torn.2 in
-      let accepted_same : accepted seen (record w { medium = end }) ≡ accepted seen w = ap (containers w.spec_ex.bytes_per_sample (w.data_length / w.spec_ex.bytes_per_sample)) samples_same in
+      let long : w.data_start ≤ length (state end).contents = omega (arith, before, there, same.long) in
+      let samples_same : drop w.data_start (state end).contents ≡ drop w.data_start old = (λ i. drop (sym before i) (state end).contents) ∙ same.behind ∙ (λ i. drop (before i) old) in
+      let still = stands_patched w.spec_ex w.data_start w.data_length old (state end).contents stands patches.torn.0 same patches.torn.2 in
+      let accepted_same : accepted state (record w { medium = end }) ≡ accepted state w = ap (containers w.spec_ex.bytes_per_sample (w.data_length / w.spec_ex.bytes_per_sample)) samples_same in
       record {
-        faults = told_faults patched are_frames told (seen w.medium).faults (seen end).faults is patches.faults;
-        flushed = published ((seen end).flushed ≡ length (seen end).past) patched are_frames told is patches.flushed;
-        riff_size = published (field 4 (seen end).contents ≡ riff_size w.data_start w.data_length) patched are_frames told is (on_ok_then patched riff_size_stands patches.contents);
-        data_length = published (field (w.data_start - 4) (seen end).contents ≡ w.data_length) patched are_frames told is (on_ok_then patched data_length_stands patches.contents);
+        faults = told_faults patched are_frames told (state w.medium).faults (state end).faults is patches.faults;
+        flushed = published ((state end).flushed ≡ length (state end).past) patched are_frames told is patches.flushed;
+        riff_size = published (field 4 (state end).contents ≡ riff_size w.data_start w.data_length) patched are_frames told is (on_ok_then patched riff_size_stands patches.contents);
+        data_length = published (field (w.data_start - 4) (state end).contents ≡ w.data_length) patched are_frames told is (on_ok_then patched data_length_stands patches.contents);
         front = record { front = same.front; middle = same.middle };
         samples = samples_same;
         long = same.long;
-        counts = λ _. subst (λ l. Counts w.spec_ex w.data_start l (seen end).contents) accepted_same (counts seen (record w { medium = end }) sound still);
-        begun = λ (header, at). begun_still w.spec_ex w.data_start old (seen end).contents (sym at) sound.behind long small same header;
-        canonical = λ whole begun. published (StartsWith (seen end).contents (canonical w.spec_ex (accepted seen w))) patched are_frames told is (on_ok_then patched (λ put. is_canonical put whole begun) patches.contents);
+        counts = λ _. subst (λ l. Counts w.spec_ex w.data_start l (state end).contents) accepted_same (counts state (record w { medium = end }) sound still);
+        begun = λ (header, at). begun_still w.spec_ex w.data_start old (state end).contents (sym at) sound.behind long small same header;
+        canonical = λ whole begun. published (StartsWith (state end).contents (canonical w.spec_ex (accepted state w))) patched are_frames told is (on_ok_then patched (λ put. is_canonical put whole begun) patches.contents);
       }
 
 -- a patch of a writer's fields, as contracts see it
-pub patches_seen : {W T E : Type 0} (seen : W → Seen) (a b : Written W) (p riff : ℕ) (result : Result T E) (end : Seen) → a ≡ b → p ≡ a.data_start - 4 → riff ≡ riff_size a.data_start a.data_length
-    → Patches p riff a.data_length result (seen a.medium) end → Patches (b.data_start - 4) (riff_size b.data_start b.data_length) b.data_length result (seen b.medium) end
-patches_seen seen a b p riff result end same at counted patches =
-    subst (λ w. Patches (w.data_start - 4) (riff_size w.data_start w.data_length) w.data_length result (seen w.medium) end) same
-    (subst (λ (x : ℕ × ℕ). Patches x.0 x.1 a.data_length result (seen a.medium) end) (λ i. (at i, counted i)) patches)
+pub patches_seen : {W T E : Type 0} (state : W → MediumState) (a b : WriterState W) (p riff : ℕ) (result : Result T E) (end : MediumState) → a ≡ b → p ≡ a.data_start - 4 → riff ≡ riff_size a.data_start a.data_length
+    → Patches p riff a.data_length result (state a.medium) end → Patches (b.data_start - 4) (riff_size b.data_start b.data_length) b.data_length result (state b.medium) end
+patches_seen state a b p riff result end same at counted patches =
+    subst (λ w. Patches (w.data_start - 4) (riff_size w.data_start w.data_length) w.data_length result (state w.medium) end) same
+    (subst (λ (x : ℕ × ℕ). Patches x.0 x.1 a.data_length result (state a.medium) end) (λ i. (at i, counted i)) patches)

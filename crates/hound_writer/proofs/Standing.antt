@@ -4,9 +4,9 @@ use Rattle.hound_number.specs.Number.{number, mix}
 use Rattle.hound_number.proofs.Mixing.{mix_le}
 use Rattle.hound_medium.proofs.Overlays.{front_part}
 use Rattle.hound_spec.specs.declared.spec.WavSpecEx.{WavSpecEx}
-use Rattle.hound_medium.specs.Seen.{Seen}
+use Rattle.hound_medium.specs.State.{MediumState}
 use Rattle.hound_writer.specs.Parts.{SameButSizes, IsStanding, field}
-use Rattle.hound_writer.specs.Writer.{Written, IsSound, IsCounted}
+use Rattle.hound_writer.specs.Writer.{WriterState, IsSound, IsCounted}
 use Rattle.hound_writer.proofs.Heads.{head_with, head_front, head_behind, head_inside}
 use Rattle.hound_writer.proofs.Counted.{counts_standing}
 
@@ -33,5 +33,5 @@ pub stands_more : (s : WavSpecEx) (start n m : ℕ) (contents : List ℕ) → n 
 stands_more s start n m contents le stands = record { head = stands.head; counted = omega (arith, le, stands.counted) }
 
 -- what stands is counted
-pub counts : {W : Type 0} (seen : W → Seen) (w : Written W) → IsSound w.spec_ex w.data_start w.data_length → IsStanding w.spec_ex w.data_start w.data_length (seen w.medium).contents → IsCounted seen w
-counts seen w sound stands = counts_standing w.spec_ex w.data_start w.data_length (seen w.medium).contents sound.width sound.whole stands.head stands.counted
+pub counts : {W : Type 0} (state : W → MediumState) (w : WriterState W) → IsSound w.spec_ex w.data_start w.data_length → IsStanding w.spec_ex w.data_start w.data_length (state w.medium).contents → IsCounted state w
+counts state w sound stands = counts_standing w.spec_ex w.data_start w.data_length (state w.medium).contents sound.width sound.whole stands.head stands.counted

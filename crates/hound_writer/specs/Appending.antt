@@ -7,13 +7,13 @@ use Rattle.hound_spec.specs.declared.spec.SampleFormat.TheVariants.{Int, Float}
 use Rattle.hound_spec.specs.declared.spec.WavSpecEx.{WavSpecEx}
 use Rattle.hound_spec.specs.Header.{riff_size}
 use Rattle.hound_sample.specs.Meaning.{is_int_pair}
-use Rattle.hound_medium.specs.Seen.{Seen, Stays, one_more}
+use Rattle.hound_medium.specs.State.{MediumState, Stays, one_more}
 use Rattle.hound_reader.specs.declared.fault.Cause.{Cause}
 use Rattle.hound_reader.specs.declared.fault.Cause.TheVariants.{Format, Unsupported}
 use Rattle.hound_reader.specs.declared.fault.Reason.TheVariants.{DataLength, FrameLength}
 use Rattle.hound_reader.specs.Chunks.{Head, Refused}
 use Rattle.hound_reader.specs.Refusals.{Names}
-use Rattle.hound_writer.specs.Writer.{Written, IsIoError}
+use Rattle.hound_writer.specs.Writer.{WriterState, IsIoError}
 
 -- why a file isn't gone on with: for a cause that its bytes decide, or since its RIFF size would not fit 32 bits
 pub data AppendFault : Type 0 where
@@ -46,21 +46,21 @@ NamesFault e (by_bytes cause) = Names e cause
 NamesFault e too_long = e ≡ TooLong
 
 -- nothing was put, and nothing but the place and the faults has changed
-pub record PutsNothing (old new : Seen) : Type 0 where
+pub record PutsNothing (old new : MediumState) : Type 0 where
   pub stays : Stays old new
   pub flushed : new.flushed ≡ old.flushed
 
 -- A writer that goes on with a file: its head stands and fails no check, and the data chunk is what was accepted. The next sample goes to its end.
-pub record GoesOn {W : Type 0} (old : Seen) (seen : W → Seen) (w : Written W) : Type 0 where
+pub record GoesOn {W : Type 0} (old : MediumState) (state : W → MediumState) (w : WriterState W) : Type 0 where
   pub head : Head old.contents w.spec_ex w.data_length w.data_start
   pub sound : head_fault w.spec_ex w.data_length w.data_start ≡ None
   pub buffer : w.buffer ≡ []
-  pub puts : PutsNothing old (seen w.medium)
-  pub place : (seen w.medium).place ≡ w.data_start + w.data_length
-  pub faults : (seen w.medium).faults ≡ old.faults
+  pub puts : PutsNothing old (state w.medium)
+  pub place : (state w.medium).place ≡ w.data_start + w.data_length
+  pub faults : (state w.medium).faults ≡ old.faults
 
 -- A file that isn't gone on with, for a fault that its bytes have, or since the medium failed.
-pub record IsNotAppended (old new : Seen) (e : Error) : Type 0 where
+pub record IsNotAppended (old new : MediumState) (e : Error) : Type 0 where
   pub puts : PutsNothing old new
   pub why : ((fault : AppendFault) × IsAppendFault old.contents fault × NamesFault e fault × (new.faults ≡ old.faults))
       ⊎ (IsIoError e × (new.faults ≡ one_more old.faults))

@@ -1,20 +1,20 @@
 -- What contracts see of a batch of samples of sixteen bits.
 use Rattle.std.specs.Prelude.{◌-◌, ◌/◌, ℕ, List, take}
 use Rattle.std.specs.Borrow.{GName}
-use Rattle.hound_writer.specs.Writer.{Written}
+use Rattle.hound_writer.specs.Writer.{WriterState}
 use Rattle.hound_writer.specs.declared.batch.SampleWriter16.{SampleWriter16}
 
 -- the bytes of the samples that were written to a writer's batch
-abbrev pub written : {W : Type 0} → Written W → List ℕ
+abbrev pub written : {W : Type 0} → WriterState W → List ℕ
 written w = take w.batch_written w.buffer
 
 -- how many samples are still to be written to it
-abbrev pub left : {W : Type 0} → Written W → ℕ
+abbrev pub left : {W : Type 0} → WriterState W → ℕ
 left w = (w.batch_length - w.batch_written) / 2
 
 module _ {W : Type 0} where
   -- the writer that a batch goes to, as it is now
-  abbrev pub batch_writer : SampleWriter16 W → Written W
+  abbrev pub batch_writer : SampleWriter16 W → WriterState W
   batch_writer batch = batch.parent.now
 
   -- the ghost name of the reference to it

@@ -6,11 +6,11 @@ use Rattle.hound_spec.specs.declared.error.Error.{Error}
 use Rattle.hound_spec.specs.declared.error.Error.TheVariants.{IoError, UnfinishedSample}
 use Rattle.hound_spec.specs.declared.spec.WavSpecEx.{WavSpecEx}
 use Rattle.hound_medium.specs.Bytes.{placed, overlay}
-use Rattle.hound_medium.specs.Seen.{Seen, faults_after}
+use Rattle.hound_medium.specs.State.{MediumState, faults_after}
 use Rattle.hound_reader.specs.Chunks.{Head}
 
 -- these bytes were put at a place, or at an Err a beginning of them
-pub record PutsAt {T E : Type 0} (keeps : Bool) (at : ℕ) (bytes : List ℕ) (result : Result T E) (old new : Seen) : Type 0 where
+pub record PutsAt {T E : Type 0} (keeps : Bool) (at : ℕ) (bytes : List ℕ) (result : Result T E) (old new : MediumState) : Type 0 where
   pub count : ℕ
   pub within : count ≤ length bytes
   pub whole : OnOk result (count ≡ length bytes)
@@ -38,7 +38,7 @@ pub record SameButSizes (p : ℕ) (old new : List ℕ) : Type 0 where
   pub long : length new ≡ length old
 
 -- A patch: at an Ok both sizes stand, and the medium was flushed. A fault may have cut either size, and nothing else has changed.
-pub record Patches {T E : Type 0} (p size data_length : ℕ) (result : Result T E) (old new : Seen) : Type 0 where
+pub record Patches {T E : Type 0} (p size data_length : ℕ) (result : Result T E) (old new : MediumState) : Type 0 where
   pub contents : OnOk result (new.contents ≡ with_sizes p size data_length old.contents)
   pub same : SameButSizes p old.contents new.contents
   pub torn : (k : ℕ) × (k ≤ 4) × (field p new.contents ≡ mix k (field p old.contents) data_length)
@@ -51,11 +51,11 @@ pub record IsStanding (s : WavSpecEx) (start n : ℕ) (contents : List ℕ) : Ty
   pub counted : field (start - 4) contents ≤ n
 
 -- A writer's medium: the head of the file stands, the data length counts no more than n bytes, and the next sample goes to their end.
-pub record Stands (s : WavSpecEx) (p n : ℕ) (moved : Bool) (seen : Seen) : Type 0 where
-  pub inside : p + 4 ≤ length seen.contents
-  pub counted : field p seen.contents ≤ n
-  pub head : Head seen.contents s (field p seen.contents) (p + 4)
-  pub place : moved ≡ false → seen.place ≡ p + 4 + n
+pub record Stands (s : WavSpecEx) (p n : ℕ) (moved : Bool) (state : MediumState) : Type 0 where
+  pub inside : p + 4 ≤ length state.contents
+  pub counted : field p state.contents ≤ n
+  pub head : Head state.contents s (field p state.contents) (p + 4)
+  pub place : moved ≡ false → state.place ≡ p + 4 + n
 
 -- the answer of a call that has patched the header, or met a fault: Ok exactly for whole frames
 abbrev pub IsTold : {T : Type 0} → Result T IoFault → Bool → Result T Error → Type 0

@@ -3,14 +3,14 @@ use Rattle.std.specs.Prelude.{◌≡◌, ℕ, ◌+◌, ◌%◌, ◌≤◌, ◌�
 use Rattle.hound_spec.specs.Header.{riff_size}
 use Rattle.hound_spec.specs.declared.spec.SampleFormat.TheVariants.{Int}
 use Rattle.hound_spec.specs.declared.spec.WavSpecEx.{WavSpecEx}
-use Rattle.hound_writer.specs.Writer.{Written}
+use Rattle.hound_writer.specs.Writer.{WriterState}
 
 -- samples of sixteen bits, as integers
 abbrev pub IsSixteen : WavSpecEx → Type 0
 IsSixteen s = (s.spec.sample_format ≡ Int) × (s.spec.bits_per_sample ≡ 16)
 
 -- the RIFF size of the file with so many more bytes fits 32 bits
-abbrev pub HasRoom : {W : Type 0} → Written W → ℕ → Type 0
+abbrev pub HasRoom : {W : Type 0} → WriterState W → ℕ → Type 0
 HasRoom w more = riff_size w.data_start (w.data_length + more) ≤ 4294967295
 
 -- a batch of n bytes, of which i are written, in the memory of a writer that has room for it

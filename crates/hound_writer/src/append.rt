@@ -1,4 +1,5 @@
 // Going on with files that are there.
+ghost use Rattle.hound_medium.specs.State.{WhereTells};
 ghost use Rattle.std.specs.Prelude.{◌≡◌, ◌↔◌, ◌≤◌, ◌+◌, IsTrue, IfOk, IfErr, MatchResult};
 ghost use Rattle.hound_reader.specs.Fmt.{IsSound};
 ghost use Rattle.hound_reader.specs.Chunks.{Head};
@@ -51,9 +52,9 @@ pub(crate) fn behind_data<W: Medium>(
 ) -> result::Result<WavWriter<W>, (W, Error)>
     requires sound { IsSound head.spec_ex }
     requires start { (20 ≤ head.data_start) × (head.data_start ≤ 4294967315) }
-    requires head { IsTrue W.tells → Head (W.seen writer).contents head.spec_ex head.data_length head.data_start }
-    ensures appends { IsTrue W.tells → MatchResult result (GoesOn (W.seen writer) W.seen) (λ refused. IsNotAppended (W.seen writer) (W.seen refused.0) refused.1) }
-    ensures counts { IsTrue W.tells → IfOk result (λ w. IsWhole W.seen w → IsCounted W.seen w) }
+    requires head { WhereTells W.tells (Head (W.state writer).contents head.spec_ex head.data_length head.data_start) }
+    ensures appends { WhereTells W.tells (MatchResult result (GoesOn (W.state writer) W.state) (λ refused. IsNotAppended (W.state writer) (W.state refused.0) refused.1)) }
+    ensures counts { WhereTells W.tells (IfOk result (λ w. IsWhole W.state w → IsCounted W.state w)) }
 {
     if let Err(error) = check_head(head) {
         return Err((writer, error));
@@ -81,9 +82,9 @@ impl<W: Source + Medium> WavWriter<W> {
     ///
     /// The errors are those of [`WavWriter::try_append`], which hands the medium back.
     pub fn new_append(writer: W) -> Result<WavWriter<W>>
-        requires { IsTrue W.tells → (W.seen writer).place ≡ 0 }
-        ensures appends { IsTrue W.tells → MatchResult result (GoesOn (W.seen writer) W.seen) (IsAppendRefusal (W.seen writer).contents) }
-        ensures counts { IsTrue W.tells → IfOk result (λ w. IsWhole W.seen w → IsCounted W.seen w) }
+        requires { WhereTells W.tells ((W.state writer).place ≡ 0) }
+        ensures appends { WhereTells W.tells (MatchResult result (GoesOn (W.state writer) W.state) (IsAppendRefusal (W.state writer).contents)) }
+        ensures counts { WhereTells W.tells (IfOk result (λ w. IsWhole W.state w → IsCounted W.state w)) }
     {
         match WavWriter::try_append(writer) {
             Ok(writer) => Ok(writer),
@@ -100,9 +101,9 @@ impl<W: Source + Medium> WavWriter<W> {
     /// frames; `TooLong`, where the RIFF size would pass 4294967295; `IoError`, where the medium
     /// failed. An early end is an `IoError` of kind `Other`.
     pub fn try_append(writer: W) -> result::Result<WavWriter<W>, (W, Error)>
-        requires { IsTrue W.tells → (W.seen writer).place ≡ 0 }
-        ensures appends { IsTrue W.tells → MatchResult result (GoesOn (W.seen writer) W.seen) (λ refused. IsNotAppended (W.seen writer) (W.seen refused.0) refused.1) }
-        ensures counts { IsTrue W.tells → IfOk result (λ w. IsWhole W.seen w → IsCounted W.seen w) }
+        requires { WhereTells W.tells ((W.state writer).place ≡ 0) }
+        ensures appends { WhereTells W.tells (MatchResult result (GoesOn (W.state writer) W.state) (λ refused. IsNotAppended (W.state writer) (W.state refused.0) refused.1)) }
+        ensures counts { WhereTells W.tells (IfOk result (λ w. IsWhole W.state w → IsCounted W.state w)) }
     {
         let (writer, head) = find_data(writer);
         match head {

@@ -1,4 +1,5 @@
 // What is done with batches.
+ghost use Rattle.hound_medium.specs.State.{WhereKeeps, WhereTells};
 ghost use Rattle.std.specs.Prelude.{◌≡◌, ◌+◌, ◌*◌, ◌/◌, ◌%◌, ◌≤◌, ◌<◌, ◌++◌, max, [], length, take, drop, IsTrue, IfOk, IfErr, MatchResult, Ok, Err, OnOk, OnErr};
 ghost use Rattle.std.specs.Borrow.{sem, RestsIfErr};
 ghost use Rattle.hound_number.specs.Number.{signed_bytes_of};
@@ -119,8 +120,8 @@ impl<W: Medium> WavWriter<W> {
         ensures over { (self.new.batch_length ≡ 0) × (self.new.batch_written ≡ 0) }
         ensures count { MatchResult result (λ _. self.new.data_length ≡ self.old.data_length + length bytes.now)
             (λ _. self.new.data_length ≡ self.old.data_length) }
-        ensures accepts { IsTrue W.tells → AcceptsBytes W.seen result bytes.now self.old self.new }
-        ensures moments { IsTrue W.tells → IsTrue W.keeps → AcceptsAtEach W.seen self.old (W.seen self.new.medium) }
+        ensures accepts { WhereTells W.tells (AcceptsBytes W.state result bytes.now self.old self.new) }
+        ensures moments { WhereKeeps W.tells W.keeps (AcceptsAtEach W.state self.old (W.state self.new.medium)) }
     {
         self.accept(bytes)?;
         Ok(())
@@ -133,8 +134,8 @@ impl<W: Medium> WavWriter<W> {
         ensures stays { StaysInPlace self.old self.new }
         ensures count { MatchResult result (λ _. self.new.data_length ≡ self.old.data_length + length (written self.old))
             (λ _. self.new.data_length ≡ self.old.data_length) }
-        ensures accepts { IsTrue W.tells → AcceptsBytes W.seen result (written self.old) self.old self.new }
-        ensures moments { IsTrue W.tells → IsTrue W.keeps → AcceptsAtEach W.seen self.old (W.seen self.new.medium) }
+        ensures accepts { WhereTells W.tells (AcceptsBytes W.state result (written self.old) self.old self.new) }
+        ensures moments { WhereKeeps W.tells W.keeps (AcceptsAtEach W.state self.old (W.state self.new.medium)) }
     {
         let num_bytes = self.num_bytes;
         self.num_bytes = 0; // it is over, whatever becomes of it
@@ -196,8 +197,8 @@ impl<'parent, W: Medium> SampleWriter16<'parent, W> {
         ensures stays { StaysInPlace (batch_writer self.entry) self.exit.0.now }
         ensures count { MatchResult result (λ _. self.exit.0.now.data_length ≡ (batch_writer self.entry).data_length + length (batch_bytes self.entry))
             (λ _. self.exit.0.now.data_length ≡ (batch_writer self.entry).data_length) }
-        ensures accepts { IsTrue W.tells → AcceptsBytes W.seen result (batch_bytes self.entry) (batch_writer self.entry) self.exit.0.now }
-        ensures moments { IsTrue W.tells → IsTrue W.keeps → AcceptsAtEach W.seen (batch_writer self.entry) (W.seen self.exit.0.now.medium) }
+        ensures accepts { WhereTells W.tells (AcceptsBytes W.state result (batch_bytes self.entry) (batch_writer self.entry) self.exit.0.now) }
+        ensures moments { WhereKeeps W.tells W.keeps (AcceptsAtEach W.state (batch_writer self.entry) (W.state self.exit.0.now.medium)) }
     {
         let SampleWriter16 { parent } = self;
         parent.accept_batch()

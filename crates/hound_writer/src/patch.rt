@@ -1,7 +1,8 @@
 // The parts that a writer's calls are put together from.
+ghost use Rattle.hound_medium.specs.State.{WhereKeeps, WhereTells};
 ghost use Rattle.std.specs.Prelude.{◌≡◌, ◌+◌, ◌≤◌, ◌^◌, ◌<◌, ℕ, List, length, false, IsTrue, OnOk};
 ghost use Rattle.hound_number.specs.Number.{bytes_of};
-ghost use Rattle.hound_medium.specs.Moments.{Span};
+ghost use Rattle.hound_medium.specs.Spans.{Span};
 ghost use Rattle.hound_writer.specs.Moments.{HasSize, IsPatched, PatchesAtEach};
 ghost use Rattle.hound_writer.specs.Parts.{PutsAt, Patches};
 
@@ -17,8 +18,8 @@ pub(crate) fn put_at_end<M: Medium>(
     end: u64,
     bytes: &[u8],
 ) -> io::Result<()>
-    requires { IsTrue M.tells → moved ≡ false → (M.seen medium.old).place ≡ end }
-    ensures { IsTrue M.tells → PutsAt M.keeps end bytes.now result (M.seen medium.old) (M.seen medium.new) }
+    requires { WhereTells M.tells (moved ≡ false → (M.state medium.old).place ≡ end) }
+    ensures { WhereTells M.tells (PutsAt M.keeps end bytes.now result (M.state medium.old) (M.state medium.new)) }
 {
     if moved {
         medium.go(end)?;
@@ -28,7 +29,7 @@ pub(crate) fn put_at_end<M: Medium>(
 
 // Puts a size into its field.
 fn put_size<M: Medium>(medium: &mut M, at: u64, size: u32) -> io::Result<()>
-    ensures { IsTrue M.tells → PutsAt M.keeps at (bytes_of 4 size) result (M.seen medium.old) (M.seen medium.new) }
+    ensures { WhereTells M.tells (PutsAt M.keeps at (bytes_of 4 size) result (M.state medium.old) (M.state medium.new)) }
 {
     medium.go(at)?;
     let bytes = le_u32(size);
@@ -37,20 +38,20 @@ fn put_size<M: Medium>(medium: &mut M, at: u64, size: u32) -> io::Result<()>
 
 // Puts the RIFF size.
 fn put_riff_size<M: Medium>(medium: &mut M, riff_size: u32) -> io::Result<()>
-    ensures puts { IsTrue M.tells → PutsAt M.keeps 4 (bytes_of 4 riff_size) result (M.seen medium.old) (M.seen medium.new) }
-    ensures moments { IsTrue M.tells → IsTrue M.keeps → (p data_length : ℕ) (base : List ℕ) →
-        HasSize p base → IsPatched p base data_length 0 (M.seen medium.old).contents →
-        Span (IsPatched p base data_length) (length (M.seen medium.new).past) (M.seen medium.old) (M.seen medium.new) }
+    ensures puts { WhereTells M.tells (PutsAt M.keeps 4 (bytes_of 4 riff_size) result (M.state medium.old) (M.state medium.new)) }
+    ensures moments { WhereKeeps M.tells M.keeps ((p data_length : ℕ) (base : List ℕ) →
+        HasSize p base → IsPatched p base data_length 0 (M.state medium.old).contents →
+        Span (IsPatched p base data_length) (length (M.state medium.new).past) (M.state medium.old) (M.state medium.new)) }
 {
     put_size(medium, 4, riff_size)
 }
 
 // Puts the data length.
 fn put_data_length<M: Medium>(medium: &mut M, at: u64, data_length: u32) -> io::Result<()>
-    ensures puts { IsTrue M.tells → PutsAt M.keeps at (bytes_of 4 data_length) result (M.seen medium.old) (M.seen medium.new) }
-    ensures moments { IsTrue M.tells → IsTrue M.keeps → (base : List ℕ) →
-        HasSize at base → IsPatched at base data_length 0 (M.seen medium.old).contents →
-        Span (IsPatched at base data_length) (length (M.seen medium.old).past) (M.seen medium.old) (M.seen medium.new) }
+    ensures puts { WhereTells M.tells (PutsAt M.keeps at (bytes_of 4 data_length) result (M.state medium.old) (M.state medium.new)) }
+    ensures moments { WhereKeeps M.tells M.keeps ((base : List ℕ) →
+        HasSize at base → IsPatched at base data_length 0 (M.state medium.old).contents →
+        Span (IsPatched at base data_length) (length (M.state medium.old).past) (M.state medium.old) (M.state medium.new)) }
 {
     put_size(medium, at, data_length)
 }
@@ -63,9 +64,9 @@ pub(crate) fn patch<M: Medium>(
     data_length: u32,
 ) -> io::Result<()>
     requires behind { 8 ≤ data_len_offset }
-    requires inside { IsTrue M.tells → data_len_offset + 4 ≤ length (M.seen medium.old).contents }
-    ensures patches { IsTrue M.tells → Patches data_len_offset riff_size data_length result (M.seen medium.old) (M.seen medium.new) }
-    ensures moments { IsTrue M.tells → IsTrue M.keeps → PatchesAtEach data_len_offset data_length result (M.seen medium.old) (M.seen medium.new) }
+    requires inside { WhereTells M.tells (data_len_offset + 4 ≤ length (M.state medium.old).contents) }
+    ensures patches { WhereTells M.tells (Patches data_len_offset riff_size data_length result (M.state medium.old) (M.state medium.new)) }
+    ensures moments { WhereKeeps M.tells M.keeps (PatchesAtEach data_len_offset data_length result (M.state medium.old) (M.state medium.new)) }
 {
     put_riff_size(medium, riff_size)?;
     put_data_length(medium, data_len_offset, data_length)?;
@@ -81,10 +82,10 @@ pub(crate) fn publish<M: Medium>(
     end: u64,
 ) -> io::Result<()>
     requires behind { 8 ≤ data_len_offset }
-    requires inside { IsTrue M.tells → data_len_offset + 4 ≤ length (M.seen medium.old).contents }
-    ensures patches { IsTrue M.tells → Patches data_len_offset riff_size data_length result (M.seen medium.old) (M.seen medium.new) }
-    ensures moments { IsTrue M.tells → IsTrue M.keeps → PatchesAtEach data_len_offset data_length result (M.seen medium.old) (M.seen medium.new) }
-    ensures place { IsTrue M.tells → OnOk result ((M.seen medium.new).place ≡ end) }
+    requires inside { WhereTells M.tells (data_len_offset + 4 ≤ length (M.state medium.old).contents) }
+    ensures patches { WhereTells M.tells (Patches data_len_offset riff_size data_length result (M.state medium.old) (M.state medium.new)) }
+    ensures moments { WhereKeeps M.tells M.keeps (PatchesAtEach data_len_offset data_length result (M.state medium.old) (M.state medium.new)) }
+    ensures place { WhereTells M.tells (OnOk result ((M.state medium.new).place ≡ end)) }
 {
     patch(medium, data_len_offset, riff_size, data_length)?;
     medium.go(end)

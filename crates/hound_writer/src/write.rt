@@ -45,11 +45,11 @@ pub struct WavWriter<W: Medium> {
 
 impl<W: Medium> Model for WavWriter<W> {
     ghost use Rattle.std.specs.Prelude.{◌+◌, IsTrue};
-    ghost use Rattle.hound_writer.specs.Writer.{Written, IsSound};
+    ghost use Rattle.hound_writer.specs.Writer.{WriterState, IsSound};
     ghost use Rattle.hound_writer.specs.Parts.{Stands, bytes_kept};
     ghost use Rattle.hound_writer.specs.Room.{IsRoom};
 
-    ghost Value = { Written W };
+    ghost Value = { WriterState W };
 
     ghost view = { λ w. record {
       medium = w.writer;
@@ -62,7 +62,7 @@ impl<W: Medium> Model for WavWriter<W> {
     } };
 
     ghost invariant = { λ w. IsSound (record { spec = w.spec; bytes_per_sample = w.bytes_per_sample }) (w.data_len_offset + 4) w.data_bytes_written
-        × (IsTrue W.tells → Stands (record { spec = w.spec; bytes_per_sample = w.bytes_per_sample }) w.data_len_offset w.data_bytes_written w.moved (W.seen w.writer))
+        × (IsTrue W.tells → Stands (record { spec = w.spec; bytes_per_sample = w.bytes_per_sample }) w.data_len_offset w.data_bytes_written w.moved (W.state w.writer))
         × IsRoom (record { spec = w.spec; bytes_per_sample = w.bytes_per_sample }) (w.data_len_offset + 4) w.data_bytes_written (bytes_kept (λ buffer. buffer.items) w.buffer) w.num_bytes w.index };
 }
 
@@ -91,7 +91,7 @@ fn told(patched: io::Result<()>, are_frames: bool) -> Result<()>
 impl<W: Medium> WavWriter<W> {
     ghost use Rattle.std.specs.Prelude.{◌≡◌, ◌+◌, ◌-◌, ◌/◌, ◌%◌, ◌≤◌, ◌<◌, ◌↔◌, max, IsTrue, IfErr, IfNone, IfOk, IfSome, Ok, Err, Result, MatchResult, OnOk, length, take};
     ghost use Rattle.hound_spec.specs.declared.error.Error.{Error};
-    ghost use Rattle.hound_medium.specs.Seen.{PutsAll};
+    ghost use Rattle.hound_medium.specs.State.{PutsAll, WhereKeeps, WhereTells};
     ghost use Rattle.hound_spec.specs.declared.error.Error.TheVariants.{Unsupported};
     ghost use Rattle.hound_spec.specs.Header.{header, riff_size};
     ghost use Rattle.hound_spec.specs.Writable.{IsWritable, with_default_width};
@@ -104,15 +104,15 @@ impl<W: Medium> WavWriter<W> {
     /// A sample takes the bytes that its bits need: `(bits_per_sample + 7) / 8`, rounded down. The
     /// errors are those of [`WavWriter::try_new`], which hands the medium back.
     pub fn new(writer: W, spec: WavSpec) -> Result<WavWriter<W>>
-        requires { IsTrue W.tells → (W.seen writer).place ≡ 0 }
+        requires { WhereTells W.tells ((W.state writer).place ≡ 0) }
         ensures unsupported { (IsWritable (with_default_width spec) → ⊥) → result ≡ Err Unsupported }
         ensures only_writable { OnOk result (IsWritable (with_default_width spec)) }
         ensures writable { IsWritable (with_default_width spec) → IsOkOrIoError result }
         ensures begun { IfOk result (λ w. HasBegun (with_default_width spec) w) }
-        ensures puts { IsTrue W.tells → IfOk result (λ w. PutsHeader W.keeps (with_default_width spec) (W.seen writer) (W.seen w.medium)) }
-        ensures header { IsTrue W.tells → IfOk result (λ w. HasHeader w.spec_ex (W.seen w.medium).contents) }
-        ensures whole { IsTrue W.tells → IfOk result (λ w. IsWhole W.seen w) }
-        ensures counts { IsTrue W.tells → IfOk result (λ w. IsCounted W.seen w) }
+        ensures puts { WhereTells W.tells (IfOk result (λ w. PutsHeader W.keeps (with_default_width spec) (W.state writer) (W.state w.medium))) }
+        ensures header { WhereTells W.tells (IfOk result (λ w. HasHeader w.spec_ex (W.state w.medium).contents)) }
+        ensures whole { WhereTells W.tells (IfOk result (λ w. IsWhole W.state w)) }
+        ensures counts { WhereTells W.tells (IfOk result (λ w. IsCounted W.state w)) }
     {
         WavWriter::new_with_spec_ex(writer, with_default_width(spec))
     }
@@ -121,15 +121,15 @@ impl<W: Medium> WavWriter<W> {
     ///
     /// The errors are those of [`WavWriter::try_new`], which hands the medium back.
     pub fn new_with_spec_ex(writer: W, spec_ex: WavSpecEx) -> Result<WavWriter<W>>
-        requires { IsTrue W.tells → (W.seen writer).place ≡ 0 }
+        requires { WhereTells W.tells ((W.state writer).place ≡ 0) }
         ensures unsupported { (IsWritable spec_ex → ⊥) → result ≡ Err Unsupported }
         ensures only_writable { OnOk result (IsWritable spec_ex) }
         ensures writable { IsWritable spec_ex → IsOkOrIoError result }
         ensures begun { IfOk result (λ w. HasBegun spec_ex w) }
-        ensures puts { IsTrue W.tells → IfOk result (λ w. PutsHeader W.keeps spec_ex (W.seen writer) (W.seen w.medium)) }
-        ensures header { IsTrue W.tells → IfOk result (λ w. HasHeader w.spec_ex (W.seen w.medium).contents) }
-        ensures whole { IsTrue W.tells → IfOk result (λ w. IsWhole W.seen w) }
-        ensures counts { IsTrue W.tells → IfOk result (λ w. IsCounted W.seen w) }
+        ensures puts { WhereTells W.tells (IfOk result (λ w. PutsHeader W.keeps spec_ex (W.state writer) (W.state w.medium))) }
+        ensures header { WhereTells W.tells (IfOk result (λ w. HasHeader w.spec_ex (W.state w.medium).contents)) }
+        ensures whole { WhereTells W.tells (IfOk result (λ w. IsWhole W.state w)) }
+        ensures counts { WhereTells W.tells (IfOk result (λ w. IsCounted W.state w)) }
     {
         match WavWriter::try_new(writer, spec_ex) {
             Ok(writer) => Ok(writer),
@@ -144,15 +144,15 @@ impl<W: Medium> WavWriter<W> {
     /// is as it was; `IoError`, where the medium failed, and a beginning of the header may be out.
     /// No error leaves anything behind that would put more.
     pub fn try_new(writer: W, spec_ex: WavSpecEx) -> result::Result<WavWriter<W>, (W, Error)>
-        requires { IsTrue W.tells → (W.seen writer).place ≡ 0 }
+        requires { WhereTells W.tells ((W.state writer).place ≡ 0) }
         ensures unsupported { (IsWritable spec_ex → ⊥) → result ≡ Err (writer, Unsupported) }
         ensures only_writable { OnOk result (IsWritable spec_ex) }
         ensures writable { IsWritable spec_ex → IfErr result (λ refused. IsIoError refused.1) }
         ensures begun { IfOk result (λ w. HasBegun spec_ex w) }
-        ensures puts { IsWritable spec_ex → IsTrue W.tells → PutsAll W.keeps (header spec_ex 0 0) result (W.seen writer) (W.seen (medium_of result)) }
-        ensures header { IsTrue W.tells → IfOk result (λ w. HasHeader w.spec_ex (W.seen w.medium).contents) }
-        ensures whole { IsTrue W.tells → IfOk result (λ w. IsWhole W.seen w) }
-        ensures counts { IsTrue W.tells → IfOk result (λ w. IsCounted W.seen w) }
+        ensures puts { IsWritable spec_ex → WhereTells W.tells (PutsAll W.keeps (header spec_ex 0 0) result (W.state writer) (W.state (medium_of result))) }
+        ensures header { WhereTells W.tells (IfOk result (λ w. HasHeader w.spec_ex (W.state w.medium).contents)) }
+        ensures whole { WhereTells W.tells (IfOk result (λ w. IsWhole W.state w)) }
+        ensures counts { WhereTells W.tells (IfOk result (λ w. IsCounted W.state w)) }
     {
         if !spec_ex.is_writable() {
             return Err((writer, Error::Unsupported));
@@ -200,10 +200,10 @@ impl<W: Medium> WavWriter<W> {
             (λ _. self.new.data_length ≡ self.old.data_length) }
         ensures over { (self.new.batch_length ≡ 0) × (self.new.batch_written ≡ 0) }
         ensures sound_before { IsSound self.old.spec_ex self.old.data_start self.old.data_length }
-        ensures stands { IsTrue W.tells → IsStanding self.old.spec_ex self.old.data_start self.old.data_length (W.seen self.old.medium).contents }
+        ensures stands { WhereTells W.tells (IsStanding self.old.spec_ex self.old.data_start self.old.data_length (W.state self.old.medium).contents) }
         ensures sound { IsSound self.new.spec_ex self.new.data_start self.new.data_length }
-        ensures puts { IsTrue W.tells → PutsAt W.keeps (self.old.data_start + self.old.data_length) bytes.now result
-            (W.seen self.old.medium) (W.seen self.new.medium) }
+        ensures puts { WhereTells W.tells (PutsAt W.keeps (self.old.data_start + self.old.data_length) bytes.now result
+            (W.state self.old.medium) (W.state self.new.medium)) }
     {
         let end = self.data_len_offset + 4 + self.data_bytes_written as u64;
         let moved = self.moved;
@@ -234,7 +234,7 @@ impl<W: Medium> WavWriter<W> {
         // Where nothing refuses the sample it is accepted, or the medium failed.
         ensures failed { IfNone (sample_refusal (S.container sample self.old.spec_ex.spec.bits_per_sample self.old.spec_ex.bytes_per_sample) self.old)
             (IfErr result IsIoError) }
-        ensures faults { IsTrue W.tells → (W.seen self.new.medium).faults ≡ faults_told result (W.seen self.old.medium).faults }
+        ensures faults { WhereTells W.tells ((W.state self.new.medium).faults ≡ faults_told result (W.state self.old.medium).faults) }
 
         ensures spec_stays { self.new.spec_ex ≡ self.old.spec_ex }
         ensures start_stays { self.new.data_start ≡ self.old.data_start }
@@ -244,15 +244,15 @@ impl<W: Medium> WavWriter<W> {
         ensures bytes { OnOk result (self.new.data_length ≡ self.old.data_length + self.old.spec_ex.bytes_per_sample) }
 
         // Over a medium that tells.
-        ensures accepted { IsTrue W.tells → IsWhole W.seen self.old →
-            AcceptsSample result (S.container sample self.old.spec_ex.spec.bits_per_sample self.old.spec_ex.bytes_per_sample) (accepted W.seen self.old) (accepted W.seen self.new) }
-        ensures whole { IsTrue W.tells → IsWhole W.seen self.old → IsWhole W.seen self.new }
-        ensures counts { IsTrue W.tells → IsWhole W.seen self.old → IsCounted W.seen self.new }
-        ensures front { IsTrue W.tells → take self.old.data_start (W.seen self.new.medium).contents ≡ take self.old.data_start (W.seen self.old.medium).contents }
-        ensures reach { IsTrue W.tells → OnOk result (length (W.seen self.new.medium).contents ≤ max (length (W.seen self.old.medium).contents) (self.new.data_start + self.new.data_length)) }
+        ensures accepted { WhereTells W.tells (IsWhole W.state self.old →
+            AcceptsSample result (S.container sample self.old.spec_ex.spec.bits_per_sample self.old.spec_ex.bytes_per_sample) (accepted W.state self.old) (accepted W.state self.new)) }
+        ensures whole { WhereTells W.tells (IsWhole W.state self.old → IsWhole W.state self.new) }
+        ensures counts { WhereTells W.tells (IsWhole W.state self.old → IsCounted W.state self.new) }
+        ensures front { WhereTells W.tells (take self.old.data_start (W.state self.new.medium).contents ≡ take self.old.data_start (W.state self.old.medium).contents) }
+        ensures reach { WhereTells W.tells (OnOk result (length (W.state self.new.medium).contents ≤ max (length (W.state self.old.medium).contents) (self.new.data_start + self.new.data_length))) }
 
         // Over one that also keeps its past, at each moment of the call.
-        ensures moments { IsTrue W.tells → IsTrue W.keeps → AcceptsAtEach W.seen self.old (W.seen self.new.medium) }
+        ensures moments { WhereKeeps W.tells W.keeps (AcceptsAtEach W.state self.old (W.state self.new.medium)) }
     {
         let width = self.bytes_per_sample;
         match sample.encode(self.spec.bits_per_sample, width) {
@@ -280,10 +280,10 @@ impl<W: Medium> WavWriter<W> {
     fn publish(&mut self) -> io::Result<()>
         ensures stays { self.new ≡ record self.old { medium = self.new.medium } }
         ensures sound { IsSound self.old.spec_ex self.old.data_start self.old.data_length }
-        ensures stands { IsTrue W.tells → IsStanding self.old.spec_ex self.old.data_start self.old.data_length (W.seen self.old.medium).contents }
-        ensures patches { IsTrue W.tells → Patches (self.old.data_start - 4) (riff_size self.old.data_start self.old.data_length) self.old.data_length result
-            (W.seen self.old.medium) (W.seen self.new.medium) }
-        ensures moments { IsTrue W.tells → IsTrue W.keeps → PatchesAtEach (self.old.data_start - 4) self.old.data_length result (W.seen self.old.medium) (W.seen self.new.medium) }
+        ensures stands { WhereTells W.tells (IsStanding self.old.spec_ex self.old.data_start self.old.data_length (W.state self.old.medium).contents) }
+        ensures patches { WhereTells W.tells (Patches (self.old.data_start - 4) (riff_size self.old.data_start self.old.data_length) self.old.data_length result
+            (W.state self.old.medium) (W.state self.new.medium)) }
+        ensures moments { WhereKeeps W.tells W.keeps (PatchesAtEach (self.old.data_start - 4) self.old.data_length result (W.state self.old.medium) (W.state self.new.medium)) }
     {
         let end = self.data_len_offset + 4 + self.data_bytes_written as u64;
         let riff_size = (self.data_len_offset - 4 + self.data_bytes_written as u64) as u32;
@@ -308,8 +308,8 @@ impl<W: Medium> WavWriter<W> {
     pub fn flush(&mut self) -> Result<()>
         ensures answer { IsPublishing result self.old }
         ensures stays { self.new ≡ record self.old { medium = self.new.medium } }
-        ensures publishes { IsTrue W.tells → Publishes W.seen self.old result self.new.medium }
-        ensures moments { IsTrue W.tells → IsTrue W.keeps → PublishesAtEach W.seen self.old result self.new.medium }
+        ensures publishes { WhereTells W.tells (Publishes W.state self.old result self.new.medium) }
+        ensures moments { WhereKeeps W.tells W.keeps (PublishesAtEach W.state self.old result self.new.medium) }
     {
         let published = self.publish();
         told(published, self.are_frames())
@@ -333,8 +333,8 @@ impl<W: Medium> WavWriter<W> {
     /// all of them are published and the medium is flushed.
     pub fn finalize_into(self) -> (W, Result<()>)
         ensures answer { IsPublishing result.1 self }
-        ensures publishes { IsTrue W.tells → Publishes W.seen self result.1 result.0 }
-        ensures moments { IsTrue W.tells → IsTrue W.keeps → PublishesAtEach W.seen self result.1 result.0 }
+        ensures publishes { WhereTells W.tells (Publishes W.state self result.1 result.0) }
+        ensures moments { WhereKeeps W.tells W.keeps (PublishesAtEach W.state self result.1 result.0) }
     {
         let WavWriter {
             spec,
@@ -357,8 +357,8 @@ impl<W: Medium> WavWriter<W> {
     /// Does what a drop does, and hands the medium back: it publishes the accepted samples as
     /// [`WavWriter::finalize_into`] does, and a fault goes unseen.
     pub fn drop_into(self) -> W
-        ensures publishes { IsTrue W.tells → (answer : Result Unit Error) × IsPublishing answer self × Publishes W.seen self answer result }
-        ensures moments { IsTrue W.tells → IsTrue W.keeps → (answer : Result Unit Error) × IsPublishing answer self × PublishesAtEach W.seen self answer result }
+        ensures publishes { WhereTells W.tells ((answer : Result Unit Error) × IsPublishing answer self × Publishes W.state self answer result) }
+        ensures moments { WhereKeeps W.tells W.keeps ((answer : Result Unit Error) × IsPublishing answer self × PublishesAtEach W.state self answer result) }
     {
         let (writer, _) = self.finalize_into();
         writer
@@ -367,7 +367,7 @@ impl<W: Medium> WavWriter<W> {
     /// The spec that the file was begun with.
     pub fn spec(&self) -> WavSpec
         ensures spec { result ≡ self.now.spec_ex.spec }
-        ensures counts { IsTrue W.tells → IsWhole W.seen self.now → IsCounted W.seen self.now }
+        ensures counts { WhereTells W.tells (IsWhole W.state self.now → IsCounted W.state self.now) }
     {
         self.spec
     }
@@ -375,7 +375,7 @@ impl<W: Medium> WavWriter<W> {
     /// The number of frames, rounded down: samples for each channel.
     pub fn duration(&self) -> u32
         ensures frames { result ≡ sample_count self.now / self.now.spec_ex.spec.channels }
-        ensures counts { IsTrue W.tells → IsWhole W.seen self.now → IsCounted W.seen self.now }
+        ensures counts { WhereTells W.tells (IsWhole W.state self.now → IsCounted W.state self.now) }
     {
         self.len() / self.spec.channels as u32
     }
@@ -383,7 +383,7 @@ impl<W: Medium> WavWriter<W> {
     /// The number of samples, of all channels together.
     pub fn len(&self) -> u32
         ensures samples { result ≡ sample_count self.now }
-        ensures counts { IsTrue W.tells → IsWhole W.seen self.now → IsCounted W.seen self.now }
+        ensures counts { WhereTells W.tells (IsWhole W.state self.now → IsCounted W.state self.now) }
     {
         self.data_bytes_written / self.bytes_per_sample as u32
     }

@@ -2,10 +2,10 @@ use Rattle.hound_reader.proofs.SeekLemmas.{sought_counted, sought_item, sought_t
 use Rattle.hound_reader.proofs.laws.a_seek_leads_to_its_frame.Goals as goal
 
 pub returns-clause-place : goal.returns-clause-place
-returns-clause-place g c = sought_counted g.R.Placed.seen
+returns-clause-place g c = sought_counted g.R.Placed.state
 
 pub returns-clause-item : goal.returns-clause-item
-returns-clause-item g c start time old mid new next tells = sought_item g.R.Placed.seen g.R.Read.remaining g.S.Sample.refusal g.S.Sample.meaning start time old mid new next (g.met.R.Source.left mid.reader tells)
+returns-clause-item g c start time old mid new next tells = sought_item g.R.Placed.state g.R.Read.remaining g.S.Sample.refusal g.S.Sample.meaning start time old mid new next (g.met.R.Source.left mid.reader tells)
 
 pub returns-clause-there : goal.returns-clause-there
-returns-clause-there g c = sought_there g.R.Placed.seen
+returns-clause-there g c = sought_there g.R.Placed.state

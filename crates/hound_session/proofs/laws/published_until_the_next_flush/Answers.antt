@@ -6,7 +6,7 @@ use Rattle.hound_session.proofs.laws.published_until_the_next_flush.Goals as goa
 
 pub returns : goal.returns
 returns g c tells keeps answer steps answers a b d behind whole (t, at_each) marked none runs k from to =
-    let seen = g.M.Placed.seen in
-    let says : field (b.data_start - 4) (seen b.medium).contents ≡ a.data_length = ap (λ p. field (p - 4) (seen b.medium).contents) t.data_start ∙ flush_says seen answer a b behind marked t in
-    ap (λ p. field (p - 4) (moment (seen d.medium).start (seen d.medium).past k)) (sym t.data_start)
-    ∙ field_until_flush seen steps answers b d a.data_length (λ m. g.met.M.Medium.replays m tells keeps) none (omega (arith, behind, t.data_start)) says (t.whole whole) runs k from to
+    let state = g.M.Placed.state in
+    let says : field (b.data_start - 4) (state b.medium).contents ≡ a.data_length = ap (λ p. field (p - 4) (state b.medium).contents) t.data_start ∙ flush_says state answer a b behind marked t in
+    ap (λ p. field (p - 4) (moment (state d.medium).start (state d.medium).past k)) (sym t.data_start)
+    ∙ field_until_flush state steps answers b d a.data_length (λ m. g.met.M.Medium.replays m tells keeps) none (omega (arith, behind, t.data_start)) says (t.whole whole) runs k from to

@@ -5,7 +5,7 @@ use Rattle.hound_session.proofs.runs.begin_writer.Goals as goal
 
 pub returns-in-New-clause-begins : goal.returns-in-New-clause-begins
 returns-in-New-clause-begins g c tells =
-    let seen = g.M.Placed.seen in
+    let state = g.M.Placed.state in
     let e = c.try_new.ensures in
-    subst (λ b. MatchResult c.try_new.result (Begins g.M.Placed.keeps seen b (seen c.args.medium)) (λ refused. IsNotBegun b (seen c.args.medium) (seen refused.0) refused.1)) (sym c.in-New.is)
-    (begins_new g.M.Placed.keeps seen c.in-New.spec_ex c.args.medium c.try_new.result (c.requires tells) e.unsupported e.only_writable e.writable e.begun (λ w. e.puts w tells) (e.header tells) (e.whole tells) (e.counts tells))
+    subst (λ b. MatchResult c.try_new.result (Begins g.M.Placed.keeps state b (state c.args.medium)) (λ refused. IsNotBegun b (state c.args.medium) (state refused.0) refused.1)) (sym c.in-New.is)
+    (begins_new g.M.Placed.keeps state c.in-New.spec_ex c.args.medium c.try_new.result (c.requires tells) e.unsupported e.only_writable e.writable e.begun (λ w. e.puts w tells) (e.header tells) (e.whole tells) (e.counts tells))

@@ -9,7 +9,7 @@ pub loop-i-preserved : goal.loop-i-preserved
 loop-i-preserved g c =
     let i = c.loop-i.i in
     let loop = c.loop-i.invariant in
-    let seen = g.M.Placed.seen in
+    let state = g.M.Placed.state in
     let first = c.args.writer.now in
     let answer = c.take_step-answer.result in
     let new = c.take_step-answer.new.writer in
@@ -20,9 +20,9 @@ loop-i-preserved g c =
       size = search rules;
       within = omega arith;
       runs = λ tells.
-          fronts_more steps marks i _ _ c.is_marked.result inside (omega (arith, loop.size, c.requires, inside)) c.is_marked.ensures (λ s m. IsMarkedRun seen s m first new)
-          (marked_more seen (take i steps) (take i marks) _ answer first c.loop-i.writer new (loop.runs tells) (c.take_step-answer.ensures.takes tells));
+          fronts_more steps marks i _ _ c.is_marked.result inside (omega (arith, loop.size, c.requires, inside)) c.is_marked.ensures (λ s m. IsMarkedRun state s m first new)
+          (marked_more state (take i steps) (take i marks) _ answer first c.loop-i.writer new (loop.runs tells) (c.take_step-answer.ensures.takes tells));
       moments = λ tells keeps.
-          fronts_more steps marks i _ _ c.is_marked.result inside (omega (arith, loop.size, c.requires, inside)) c.is_marked.ensures (λ s m. IsMarkedRunAtEach seen s m first new)
-          (marked_at_each seen (take i steps) (take i marks) _ answer first c.loop-i.writer new (loop.moments tells keeps) (c.take_step-answer.ensures.takes tells, c.take_step-answer.ensures.moments tells keeps));
+          fronts_more steps marks i _ _ c.is_marked.result inside (omega (arith, loop.size, c.requires, inside)) c.is_marked.ensures (λ s m. IsMarkedRunAtEach state s m first new)
+          (marked_at_each state (take i steps) (take i marks) _ answer first c.loop-i.writer new (loop.moments tells keeps) (c.take_step-answer.ensures.takes tells, c.take_step-answer.ensures.moments tells keeps));
     }

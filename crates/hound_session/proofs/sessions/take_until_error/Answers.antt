@@ -4,11 +4,11 @@ use Rattle.hound_session.proofs.sessions.take_until_error.Goals as goal
 
 pub returns-in-Err : goal.returns-in-Err
 returns-in-Err g c tells =
-    stops_in g.M.Placed.seen c.args.steps.now c.loop-i.i _ c.take_step.result c.in-Err.error c.args.writer.now c.loop-i.writer c.take_step.new.writer c.loop-i-test.true c.in-Err.is (c.loop-i.invariant.runs tells) (c.take_step.ensures.takes tells)
+    stops_in g.M.Placed.state c.args.steps.now c.loop-i.i _ c.take_step.result c.in-Err.error c.args.writer.now c.loop-i.writer c.take_step.new.writer c.loop-i-test.true c.in-Err.is (c.loop-i.invariant.runs tells) (c.take_step.ensures.takes tells)
 
 pub loop-i-preserved : goal.loop-i-preserved
 loop-i-preserved g c = record {
   within = omega arith;
   runs = λ tells.
-      strict_step g.M.Placed.seen c.args.steps.now c.loop-i.i _ c.take_step.result _ c.args.writer.now c.loop-i.writer c.take_step.new.writer c.loop-i-test.true c.in-Ok.is (c.loop-i.invariant.runs tells) (c.take_step.ensures.takes tells);
+      strict_step g.M.Placed.state c.args.steps.now c.loop-i.i _ c.take_step.result _ c.args.writer.now c.loop-i.writer c.take_step.new.writer c.loop-i-test.true c.in-Ok.is (c.loop-i.invariant.runs tells) (c.take_step.ensures.takes tells);
 }

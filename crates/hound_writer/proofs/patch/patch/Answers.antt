@@ -1,5 +1,5 @@
 use Rattle.std.proofs.Common.{rules, ◌∙◌, ap, refl}
-use Rattle.hound_medium.specs.Seen.{one_more}
+use Rattle.hound_medium.specs.State.{one_more}
 use Rattle.hound_medium.proofs.Outcomes.{on_ok, on_ok_self}
 use Rattle.hound_medium.proofs.Spans.{span_end_zero}
 use Rattle.hound_writer.specs.Moments.{HasSize, IsPatched}
@@ -31,30 +31,30 @@ pub returns-in_err-put_riff_size-clause-moments : goal.returns-in_err-put_riff_s
 returns-in_err-put_riff_size-clause-moments g c tells keeps =
     let p = c.args.data_len_offset in
     let n = c.args.data_length in
-    let old = g.M.Placed.seen c.args.medium.now in
+    let old = g.M.Placed.state c.args.medium.now in
     let has : HasSize p old.contents = record { behind = c.requires.behind; inside = c.requires.inside tells; small = g.met.M.Placed.bytes c.args.medium.now tells } in
     let first = c.put_riff_size.ensures.moments tells keeps p n old.contents has (patched_first p n old.contents has) in
-    patches_none p n c.from_residual.result old (g.M.Placed.seen c.put_riff_size.new.medium) first (search rules)
+    patches_none p n c.from_residual.result old (g.M.Placed.state c.put_riff_size.new.medium) first (search rules)
 
 pub returns-in_err-put_data_length-clause-moments : goal.returns-in_err-put_data_length-clause-moments
 returns-in_err-put_data_length-clause-moments g c tells keeps =
     let p = c.args.data_len_offset in
     let n = c.args.data_length in
-    let old = g.M.Placed.seen c.args.medium.now in
-    let mid = g.M.Placed.seen c.put_riff_size.new.medium in
+    let old = g.M.Placed.state c.args.medium.now in
+    let mid = g.M.Placed.state c.put_riff_size.new.medium in
     let has : HasSize p old.contents = record { behind = c.requires.behind; inside = c.requires.inside tells; small = g.met.M.Placed.bytes c.args.medium.now tells } in
     let first = c.put_riff_size.ensures.moments tells keeps p n old.contents has (patched_first p n old.contents has) in
     let so_far = span_end_zero (IsPatched p old.contents n) old mid (g.met.M.Medium.replays c.put_riff_size.new.medium tells keeps) first in
     let second = c.put_data_length.ensures.moments tells keeps old.contents has so_far in
-    patches_both g.M.Placed.keeps p n c.put_data_length.result c.from_residual-in_err-put_data_length.result old mid (g.M.Placed.seen c.put_data_length.new.medium) keeps first second (c.put_data_length.ensures.puts tells) (search rules)
+    patches_both g.M.Placed.keeps p n c.put_data_length.result c.from_residual-in_err-put_data_length.result old mid (g.M.Placed.state c.put_data_length.new.medium) keeps first second (c.put_data_length.ensures.puts tells) (search rules)
 
 pub returns-clause-moments : goal.returns-clause-moments
 returns-clause-moments g c tells keeps =
     let p = c.args.data_len_offset in
     let n = c.args.data_length in
-    let old = g.M.Placed.seen c.args.medium.now in
-    let mid = g.M.Placed.seen c.put_riff_size.new.medium in
-    let done = g.M.Placed.seen c.put_data_length.new.medium in
+    let old = g.M.Placed.state c.args.medium.now in
+    let mid = g.M.Placed.state c.put_riff_size.new.medium in
+    let done = g.M.Placed.state c.put_data_length.new.medium in
     let has : HasSize p old.contents = record { behind = c.requires.behind; inside = c.requires.inside tells; small = g.met.M.Placed.bytes c.args.medium.now tells } in
     let first = c.put_riff_size.ensures.moments tells keeps p n old.contents has (patched_first p n old.contents has) in
     let so_far = span_end_zero (IsPatched p old.contents n) old mid (g.met.M.Medium.replays c.put_riff_size.new.medium tells keeps) first in

@@ -33,20 +33,20 @@ invariant_of-self g c =
 
 pub returns-in-Err-clause-sound_before : goal.returns-in-Err-clause-sound_before
 returns-in-Err-clause-sound_before g c =
-    let w = opened g.W.Placed.tells g.W.Placed.seen _ _ c.self.view_is c.self.invariant.0 (λ t. standing _ _ _ _ _ (c.self.invariant.1 t)) in
+    let w = opened g.W.Placed.tells g.W.Placed.state _ _ c.self.view_is c.self.invariant.0 (λ t. standing _ _ _ _ _ (c.self.invariant.1 t)) in
     w.sound
 
 pub returns-in-Err-clause-stands : goal.returns-in-Err-clause-stands
 returns-in-Err-clause-stands g c tells =
-    let w = opened g.W.Placed.tells g.W.Placed.seen _ _ c.self.view_is c.self.invariant.0 (λ t. standing _ _ _ _ _ (c.self.invariant.1 t)) in
+    let w = opened g.W.Placed.tells g.W.Placed.state _ _ c.self.view_is c.self.invariant.0 (λ t. standing _ _ _ _ _ (c.self.invariant.1 t)) in
     w.stands tells
 
 pub returns-in-Ok-clause-sound_before : goal.returns-in-Ok-clause-sound_before
 returns-in-Ok-clause-sound_before g c =
-    let w = opened g.W.Placed.tells g.W.Placed.seen _ _ c.self.view_is c.self.invariant.0 (λ t. standing _ _ _ _ _ (c.self.invariant.1 t)) in
+    let w = opened g.W.Placed.tells g.W.Placed.state _ _ c.self.view_is c.self.invariant.0 (λ t. standing _ _ _ _ _ (c.self.invariant.1 t)) in
     w.sound
 
 pub returns-in-Ok-clause-stands : goal.returns-in-Ok-clause-stands
 returns-in-Ok-clause-stands g c tells =
-    let w = opened g.W.Placed.tells g.W.Placed.seen _ _ c.self.view_is c.self.invariant.0 (λ t. standing _ _ _ _ _ (c.self.invariant.1 t)) in
+    let w = opened g.W.Placed.tells g.W.Placed.state _ _ c.self.view_is c.self.invariant.0 (λ t. standing _ _ _ _ _ (c.self.invariant.1 t)) in
     w.stands tells

@@ -16,18 +16,18 @@ invariant_of-self g c =
 
 pub returns-clause-sound : goal.returns-clause-sound
 returns-clause-sound g c =
-    let w = opened g.W.Placed.tells g.W.Placed.seen _ _ c.self.view_is c.self.invariant.0 (λ t. standing _ _ _ _ _ (c.self.invariant.1 t)) in
+    let w = opened g.W.Placed.tells g.W.Placed.state _ _ c.self.view_is c.self.invariant.0 (λ t. standing _ _ _ _ _ (c.self.invariant.1 t)) in
     w.sound
 
 pub returns-clause-stands : goal.returns-clause-stands
 returns-clause-stands g c tells =
-    let w = opened g.W.Placed.tells g.W.Placed.seen _ _ c.self.view_is c.self.invariant.0 (λ t. standing _ _ _ _ _ (c.self.invariant.1 t)) in
+    let w = opened g.W.Placed.tells g.W.Placed.state _ _ c.self.view_is c.self.invariant.0 (λ t. standing _ _ _ _ _ (c.self.invariant.1 t)) in
     w.stands tells
 
 pub returns-clause-patches : goal.returns-clause-patches
 returns-clause-patches g c tells =
-    patches_seen g.W.Placed.seen _ c.args.self.now _ _ c.publish-published.result _ c.self.view_is (omega arith) (omega arith) (c.publish-published.ensures.patches tells)
+    patches_seen g.W.Placed.state _ c.args.self.now _ _ c.publish-published.result _ c.self.view_is (omega arith) (omega arith) (c.publish-published.ensures.patches tells)
 
 pub returns-clause-moments : goal.returns-clause-moments
 returns-clause-moments g c tells keeps =
-    patches_at_each_seen g.W.Placed.seen _ c.args.self.now _ c.publish-published.result _ c.self.view_is (omega arith) (c.publish-published.ensures.moments tells keeps)
+    patches_at_each_seen g.W.Placed.state _ c.args.self.now _ c.publish-published.result _ c.self.view_is (omega arith) (c.publish-published.ensures.moments tells keeps)

@@ -50,4 +50,4 @@ returns-in-Ok-clause-counts g c tells =
     let at : length c.as_slice-bytes.result.now - 4 + 4 ≡ data_start s = omega (arith, size, data_start_least s) in
     let writable : IsWritable s = search rules in
     let puts = c.in-Ok.ensures tells in
-    counts g.W.Placed.seen (record { medium = _; spec_ex = s; data_start = _; data_length = 0; buffer = []; batch_length = 0; batch_written = 0 }) (sound_begin s _ writable at) (standing _ _ _ _ _ (stands_begin g.W.Placed.keeps s _ _ _ _ is (c.requires tells) puts puts.whole writable _ at))
+    counts g.W.Placed.state (record { medium = _; spec_ex = s; data_start = _; data_length = 0; buffer = []; batch_length = 0; batch_written = 0 }) (sound_begin s _ writable at) (standing _ _ _ _ _ (stands_begin g.W.Placed.keeps s _ _ _ _ is (c.requires tells) puts puts.whole writable _ at))

@@ -5,7 +5,7 @@ use Rattle.hound_medium.specs.Bytes.{placed, overlay}
 -- A medium as contracts see it: its bytes, the place of the next one to be read or put, and how many calls failed.
 -- Where it keeps its past also the bytes that it began with, each byte put since with its place, and how many of these
 -- had been put at the last `flush` that was Ok.
-pub record Seen : Type 0 where
+pub record MediumState : Type 0 where
   pub contents : List ℕ
   pub place : ℕ
   pub faults : ℕ
@@ -14,7 +14,7 @@ pub record Seen : Type 0 where
   pub flushed : ℕ
 
 -- what stands for a medium whose bytes are not known
-abbrev pub unknown : Seen
+abbrev pub unknown : MediumState
 unknown = record {
   contents = [];
   place = 0;
@@ -23,6 +23,14 @@ unknown = record {
   past = [];
   flushed = 0;
 }
+
+-- P, where the bytes of a medium are known
+abbrev pub WhereTells : Bool → Type 0 → Type 0
+WhereTells tells P = IsTrue tells → P
+
+-- P, where the bytes of a medium are known and each byte that was put is kept with its place
+abbrev pub WhereKeeps : Bool → Bool → Type 0 → Type 0
+WhereKeeps tells keeps P = IsTrue tells → IsTrue keeps → P
 
 -- a count of faults or of calls that has grown by one; the greatest `u64` stays
 abbrev pub one_more : ℕ → ℕ
@@ -49,27 +57,27 @@ count_of (Ok n) = n
 count_of (Err e) = 0
 
 -- the bytes stay, and so does what is kept of the past
-pub record Stays (old new : Seen) : Type 0 where
+pub record Stays (old new : MediumState) : Type 0 where
   pub contents : new.contents ≡ old.contents
   pub start : new.start ≡ old.start
   pub past : new.past ≡ old.past
 
 -- what `go` does
-pub record Goes {T E : Type 0} (to : ℕ) (result : Result T E) (old new : Seen) : Type 0 where
+pub record Goes {T E : Type 0} (to : ℕ) (result : Result T E) (old new : MediumState) : Type 0 where
   pub stays : Stays old new
   pub place : new.place ≡ place_after result to old.place
   pub flushed : new.flushed ≡ old.flushed
   pub faults : new.faults ≡ faults_after result old.faults
 
 -- what `shift` does
-pub record Shifts {T E : Type 0} (by : ℤ) (result : Result T E) (old new : Seen) : Type 0 where
+pub record Shifts {T E : Type 0} (by : ℤ) (result : Result T E) (old new : MediumState) : Type 0 where
   pub stays : Stays old new
   pub place : MatchResult result (λ _. IsMoved old.place by new.place) (λ _. new.place ≡ old.place)
   pub flushed : new.flushed ≡ old.flushed
   pub faults : new.faults ≡ faults_after result old.faults
 
 -- what `get` does, which leaves its bytes at the front of the buffer: it gives none only at the end or to an empty buffer
-pub record Gets {E : Type 0} (buf : List ℕ) (result : Result ℕ E) (old new : Seen) : Type 0 where
+pub record Gets {E : Type 0} (buf : List ℕ) (result : Result ℕ E) (old new : MediumState) : Type 0 where
   pub stays : Stays old new
   pub bytes : take (count_of result) buf ≡ take (count_of result) (drop old.place old.contents)
   pub inside : count_of result ≤ length (drop old.place old.contents)
@@ -79,7 +87,7 @@ pub record Gets {E : Type 0} (buf : List ℕ) (result : Result ℕ E) (old new :
   pub faults : new.faults ≡ faults_after result old.faults
 
 -- the first n of the bytes were put at the place, in order, and the place moved behind them
-pub record Takes (keeps : Bool) (bytes : List ℕ) (n : ℕ) (old new : Seen) : Type 0 where
+pub record PutsFirst (keeps : Bool) (bytes : List ℕ) (n : ℕ) (old new : MediumState) : Type 0 where
   pub contents : new.contents ≡ overlay old.contents (placed old.place (take n bytes))
   pub place : new.place ≡ old.place + n
   pub start : new.start ≡ old.start
@@ -87,22 +95,22 @@ pub record Takes (keeps : Bool) (bytes : List ℕ) (n : ℕ) (old new : Seen) : 
   pub flushed : new.flushed ≡ old.flushed
 
 -- what `put` does: it takes as many bytes as it says, none at an Err
-pub record Puts {E : Type 0} (keeps : Bool) (bytes : List ℕ) (result : Result ℕ E) (old new : Seen) : Type 0 where
-  pub takes : Takes keeps bytes (count_of result) old new
+pub record Puts {E : Type 0} (keeps : Bool) (bytes : List ℕ) (result : Result ℕ E) (old new : MediumState) : Type 0 where
+  pub takes : PutsFirst keeps bytes (count_of result) old new
   pub faults : new.faults ≡ faults_after result old.faults
 
 -- what `flush` does: it marks all that has been put so far
-pub record Flushes {T E : Type 0} (result : Result T E) (old new : Seen) : Type 0 where
+pub record Flushes {T E : Type 0} (result : Result T E) (old new : MediumState) : Type 0 where
   pub stays : Stays old new
   pub place : new.place ≡ old.place
   pub flushed : MatchResult result (λ _. new.flushed ≡ length new.past) (λ _. new.flushed ≡ old.flushed)
   pub faults : new.faults ≡ faults_after result old.faults
 
 -- what a loop over `put` does: it puts `count` bytes, all of them at an Ok and fewer at an Err
-pub record PutsAll {T E : Type 0} (keeps : Bool) (bytes : List ℕ) (result : Result T E) (old new : Seen) : Type 0 where
+pub record PutsAll {T E : Type 0} (keeps : Bool) (bytes : List ℕ) (result : Result T E) (old new : MediumState) : Type 0 where
   pub count : ℕ
   pub within : count ≤ length bytes
   pub whole : OnOk result (count ≡ length bytes)
   pub part : OnErr result (count < length bytes)
-  pub takes : Takes keeps bytes count old new
+  pub takes : PutsFirst keeps bytes count old new
   pub faults : new.faults ≡ faults_after result old.faults

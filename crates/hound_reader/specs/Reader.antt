@@ -10,7 +10,7 @@ use Rattle.hound_reader.specs.Fmt.{IsSound}
 
 -- A reader as contracts see it: what it reads from, the spec with the width of a sample, how many samples the file has,
 -- how many of them were asked for, and how many bytes these took since the data began.
-pub record Reading (R : Type 0) : Type 0 where
+pub record ReaderState (R : Type 0) : Type 0 where
   pub reader : R
   pub spec_ex : WavSpecEx
   pub num_samples : ℕ
@@ -18,7 +18,7 @@ pub record Reading (R : Type 0) : Type 0 where
   pub bytes_read : ℕ
 
 -- how many samples are left: those that were not asked for
-abbrev pub samples_left : {R : Type 0} → Reading R → ℕ
+abbrev pub samples_left : {R : Type 0} → ReaderState R → ℕ
 samples_left reading = reading.num_samples - reading.samples_read
 
 -- the counts of a reader, whatever was read or sought: whole frames, and no more bytes than the samples asked for have
@@ -42,7 +42,7 @@ abbrev pub meaning_at : {A : Type 0} → (ℕ → ℕ → List ℕ → A) → Wa
 meaning_at meaning s = meaning s.bytes_per_sample s.spec.bits_per_sample
 
 -- An item of a type with this refusal and meaning was given: it is what `read` of the type answers, and it counts.
-pub record GivesItem {R A : Type 0} (left : R → Option (List ℕ)) (refusal : Option ReadRefusal) (meaning : List ℕ → A) (item : Result A Error) (old new : Reading R) : Type 0 where
+pub record GivesItem {R A : Type 0} (left : R → Option (List ℕ)) (refusal : Option ReadRefusal) (meaning : List ℕ → A) (item : Result A Error) (old new : ReaderState R) : Type 0 where
   pub inside : old.samples_read < old.num_samples
   pub counted : new.samples_read ≡ old.samples_read + 1
   pub read : Reads refusal meaning old.spec_ex.bytes_per_sample (left old.reader) (left new.reader) item
@@ -52,6 +52,6 @@ pub record GivesItem {R A : Type 0} (left : R → Option (List ℕ)) (refusal : 
   pub num_samples : new.num_samples ≡ old.num_samples
 
 -- `next`: an item while samples are left, then None and nothing changes
-abbrev pub IsNext : {R A : Type 0} → (R → Option (List ℕ)) → (SampleFormat → ℕ → ℕ → Option ReadRefusal) → (ℕ → ℕ → List ℕ → A) → Option (Result A Error) → Reading R → Reading R → Type 0
+abbrev pub IsNext : {R A : Type 0} → (R → Option (List ℕ)) → (SampleFormat → ℕ → ℕ → Option ReadRefusal) → (ℕ → ℕ → List ℕ → A) → Option (Result A Error) → ReaderState R → ReaderState R → Type 0
 IsNext left refusal meaning None old new = (old.num_samples ≤ old.samples_read) × (new ≡ old)
 IsNext left refusal meaning (Some item) old new = GivesItem left (refusal_at refusal old.spec_ex) (meaning_at meaning old.spec_ex) item old new
