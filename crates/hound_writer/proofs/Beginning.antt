@@ -1,20 +1,25 @@
 -- A file that begins: its header is put, and nothing else.
-use Rattle.std.proofs.Common.{◌≡◌, ℕ, zero, suc, ◌+◌, ◌%◌, ◌≤◌, Bool, false, List, ◌++◌, length, take, drop, Result, inl, refl, sym, subst, ◌∙◌, ap, arith, append_assoc, length-append}
+use Rattle.std.proofs.Common.{◌≡◌, ℕ, zero, suc, ◌+◌, ◌-◌, ◌%◌, ◌≤◌, Bool, List, [], ◌++◌, length, take, drop, Result, Ok, Err, inl, refl, sym, subst, ◌∙◌, ap, arith, append_assoc, length-append}
 use Rattle.std.proofs.lemmas.List.{take_at, take_all, drop_at}
 use Rattle.hound_number.specs.Number.{bytes_of, number}
 use Rattle.hound_medium.specs.Bytes.{placed, overlay}
 use Rattle.hound_medium.specs.State.{MediumState, PutsFirst, PutsAll}
 use Rattle.hound_medium.proofs.Overlays.{overlay_is}
 use Rattle.hound_spec.specs.declared.spec.WavSpecEx.{WavSpecEx}
-use Rattle.hound_spec.specs.Header.{riff_tag, data_start, header}
+use Rattle.hound_spec.specs.Header.{riff_tag, riff_size, data_start, header}
 use Rattle.hound_spec.specs.Writable.{IsWritable}
 use Rattle.hound_spec.proofs.HeaderLemmas.{described, header-parts, length-header, length-described, data_start_least, data_start_most}
 use Rattle.hound_spec.proofs.WritableLemmas.{pair_facts}
 use Rattle.hound_reader.specs.Chunks.{Head}
 use Rattle.hound_reader.proofs.WrittenLemmas.{header_head}
-use Rattle.hound_writer.specs.Parts.{Stands, field}
-use Rattle.hound_writer.specs.Room.{IsRoom}
-use Rattle.hound_writer.specs.Writer.{IsSound, HasHeader, PutsHeader}
+use Rattle.std.specs.declared.io.Error.{Error as IoFault}
+use Rattle.hound_spec.specs.declared.error.Error.{Error}
+use Rattle.hound_writer.specs.Beginning.{PutsHeader}
+use Rattle.hound_writer.specs.Parts.{IsStanding, of_fields}
+use Rattle.hound_writer.specs.Room.{HasBatch}
+use Rattle.hound_writer.specs.Sizes.{field}
+use Rattle.hound_writer.specs.Writer.{IsSound, HasHeader}
+use Rattle.hound_writer.proofs.Samples.{counts_at}
 
 -- the data length of a header that says 0
 field-header : (s : WavSpecEx) (p : ℕ) (rest : List ℕ) → p + 4 ≡ data_start s → field p (header s 0 0 ++ rest) ≡ 0
@@ -27,9 +32,9 @@ field-header s p rest at =
     ∙ ap (λ l. number (take 4 l)) (drop_at front (bytes_of 4 0 ++ rest) p long)
 
 -- there is room for a batch of no samples
-pub room_for_none : (s : WavSpecEx) (start n : ℕ) (buffer : List ℕ) → IsSound s start n → IsRoom s start n buffer 0 0
-room_for_none s start n buffer sound = record {
-  room = omega (arith, sound.fits);
+pub batch_none : {W : Type 0} (medium : W) (s : WavSpecEx) (start out : ℕ) (buffer : List ℕ) → riff_size start (out + 0) ≤ 4294967295 → HasBatch (of_fields medium s start out buffer 0 0)
+batch_none medium s start out buffer fits = record {
+  room = omega (arith, fits);
   memory = omega arith;
   written = omega arith;
   samples = refl;
@@ -38,13 +43,13 @@ room_for_none s start n buffer sound = record {
 }
 
 -- a writer of a writable spec that has accepted nothing
-pub sound_begin : (s : WavSpecEx) (start : ℕ) → IsWritable s → start ≡ data_start s → IsSound s start 0
-sound_begin s start writable is = record {
+pub sound_begin : {W : Type 0} (medium : W) (s : WavSpecEx) (start : ℕ) → IsWritable s → start ≡ data_start s → IsSound (of_fields medium s start 0 [] 0 0)
+sound_begin medium s start writable is = record {
   pair = writable.pair;
   channels = writable.channels;
   width = (pair_facts s.spec.sample_format s.spec.bits_per_sample s.bytes_per_sample writable.pair).some;
   whole = zero_mod s.bytes_per_sample;
-  behind = omega (arith, is, data_start_least s);
+  after_head = omega (arith, is, data_start_least s);
   fits = omega (arith, is, data_start_most s);
 }
   where
@@ -66,27 +71,50 @@ module _ {T E : Type 0} (keeps : Bool) (s : WavSpecEx) (bytes : List ℕ) (resul
   size : length bytes ≡ data_start s
   size = ap length is ∙ length-header s 0 0
 
-  -- the medium of a writer that begins
-  pub stands_begin : IsWritable s → (p : ℕ) → p + 4 ≡ data_start s → Stands s p 0 false new
-  stands_begin writable p at =
+  -- its file
+  pub stands_begin : IsWritable s → (start : ℕ) → start ≡ data_start s → IsStanding s start 0 new.contents
+  stands_begin writable start at =
       let rest = drop (length bytes) old.contents in
-      let none : field p new.contents ≡ 0 = ap (field p) contents_begin ∙ field-header s p rest at in
+      let p = start - 4 in
+      let four : p + 4 ≡ data_start s = omega (arith, at, data_start_least s) in
+      let none : field p new.contents ≡ 0 = ap (field p) contents_begin ∙ field-header s p rest four in
       record {
-        inside = omega (arith, at, ap length contents_begin, length-append (header s 0 0) rest, length-header s 0 0);
-        counted = omega (arith, none);
         head = subst (λ (x : List ℕ × (ℕ × ℕ)). Head x.0 s x.1.0 x.1.1) (λ i. (sym contents_begin i, (sym none i, sym at i))) (header_head s 0 0 rest writable (omega arith));
-        place = λ _. omega (arith, puts.takes.place, begins, all, size, at);
+        counted = omega (arith, none);
       }
 
-  pub header_begins : HasHeader s new.contents
+  header_begins : HasHeader s new.contents
   header_begins =
       (0, 0, ap (take (length (header s 0 0))) contents_begin ∙ take_at (header s 0 0) (drop (length bytes) old.contents) (length (header s 0 0)) refl)
 
-  pub whole_begins : data_start s ≤ length new.contents
+  header_put : PutsFirst keeps (header s 0 0) (length (header s 0 0)) old new
+  header_put = subst (λ b. PutsFirst keeps b (length b) old new) is (subst (λ n. PutsFirst keeps bytes n old new) all puts.takes)
+
+  pub place_begins : new.place ≡ length bytes + 0
+  place_begins = omega (arith, puts.takes.place, begins, all)
+
+  whole_begins : data_start s ≤ length new.contents
   whole_begins = omega (arith, ap length contents_begin, length-append (header s 0 0) (drop (length bytes) old.contents), length-header s 0 0)
 
-  pub header_put : new.faults ≡ old.faults → PutsHeader keeps s old new
-  header_put same = record {
-    takes = subst (λ b. PutsFirst keeps b (length b) old new) is (subst (λ n. PutsFirst keeps bytes n old new) all puts.takes);
-    faults = same;
-  }
+-- what a constructor has put
+pub header_file : {W : Type 0} (keeps : Bool) (state : W → MediumState) (s : WavSpecEx) (bytes : List ℕ) (old : MediumState) (medium : W) → bytes ≡ header s 0 0 → old.place ≡ 0 → IsWritable s
+    → PutsAll {T = Unit {0}} {E = IoFault} keeps bytes (Ok tt) old (state medium) → PutsHeader keeps state old (of_fields medium s (length bytes) 0 [] 0 0)
+header_file keeps state s bytes old medium is begins writable puts =
+    let ok : Result (Unit {0}) IoFault = Ok tt in
+    let at : length bytes ≡ data_start s = ap length is ∙ length-header s 0 0 in
+    let w = of_fields medium s (length bytes) 0 [] 0 0 in
+    let stands = stands_begin keeps s bytes ok old (state medium) is begins puts puts.whole writable (length bytes) at in
+    record {
+      puts = header_put keeps s bytes ok old (state medium) is begins puts puts.whole;
+      faults = puts.faults;
+      header = header_begins keeps s bytes ok old (state medium) is begins puts puts.whole;
+      whole = omega (arith, at, whole_begins keeps s bytes ok old (state medium) is begins puts puts.whole);
+      counts = counts_at state w refl (sound_begin medium s (length bytes) writable at) (state medium).contents stands refl;
+    }
+
+-- a beginning of the header, as callers are told of it
+pub header_cut : (keeps : Bool) (bytes all : List ℕ) (x : IoFault) (e : Error) (old new : MediumState) → bytes ≡ all → PutsAll {T = Unit {0}} keeps bytes (Err x) old new → PutsAll {T = Unit {0}} keeps all (Err e) old new
+header_cut keeps bytes all x e old new is puts =
+    let cut : PutsAll {T = Unit {0}} keeps bytes (Err e) old new =
+    record { count = puts.count; within = puts.within; whole = tt; part = puts.part; takes = puts.takes; faults = puts.faults } in
+    subst (λ b. PutsAll {T = Unit {0}} keeps b (Err e) old new) is cut

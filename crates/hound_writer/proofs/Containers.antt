@@ -1,8 +1,8 @@
 -- Data as containers.
-use Rattle.std.proofs.Common.{◌≡◌, ℕ, zero, suc, ◌+◌, ◌*◌, ◌/◌, ◌%◌, ◌≤◌, List, [], ◌∷◌, ◌++◌, take, drop, refl, sym, ◌∙◌, ap, arith}
-use Rattle.std.proofs.lemmas.List.{take-take, drop-take, drop-drop}
+use Rattle.std.proofs.Common.{◌≡◌, ℕ, zero, suc, ◌+◌, ◌*◌, ◌/◌, ◌%◌, ◌≤◌, List, [], ◌∷◌, ◌++◌, length, take, drop, refl, sym, ◌∙◌, ap, arith}
+use Rattle.std.proofs.lemmas.List.{take-take, drop-take, drop-drop, take_all}
 use Rattle.std.proofs.lemmas.Nat.{div-add-mod'}
-use Rattle.std.proofs.Math.Nat.{add-mod, add-div_right}
+use Rattle.std.proofs.Math.Nat.{add-mod, add-div_right, mul-add-div_right}
 use Rattle.std.proofs.Math.Seq.{take-add}
 use Rattle.std.specs.List.{concat}
 use Rattle.hound_sample.specs.Container.{containers}
@@ -49,3 +49,42 @@ whole_more n more width whole then = add-mod n more width ∙ (λ i. (whole i + 
 
 pub count_more : (n width : ℕ) → 1 ≤ width → (n + width) / width ≡ suc (n / width)
 count_more n width some = omega (arith, add-div_right n {k = width} some)
+
+-- more whole containers than one
+pub containers_append : (w few more : ℕ) (bytes : List ℕ) → containers w (few + more) bytes ≡ containers w few bytes ++ containers w more (drop (few * w) bytes)
+containers_append w zero more bytes = λ i. containers w (let e : 0 + more ≡ more = omega arith in e i) (drop (let e : 0 ≡ 0 * w = omega arith in e i) bytes)
+containers_append w (suc few) more bytes =
+    ap (λ n. containers w n bytes) (let e : suc few + more ≡ suc (few + more) = omega arith in e)
+    ∙ ap (λ (l : List (List ℕ)). take w bytes ∷ l)
+    (containers_append w few more (drop w bytes)
+    ∙ ap (λ l. containers w few (drop w bytes) ++ containers w more l) (drop-drop (few * w) w bytes ∙ ap (λ n. drop n bytes) (let e : w + few * w ≡ suc few * w = omega arith in e)))
+
+-- the count of whole containers of two parts
+pub count_append : (n more width : ℕ) → 1 ≤ width → n % width ≡ 0 → (n + more) / width ≡ n / width + more / width
+count_append n more width some whole =
+    ap (λ k. k / width) (let e : n + more ≡ n / width * width + more = omega (arith, count_bytes n width whole) in e) ∙ mul-add-div_right some (n / width) more
+
+pub length-containers : (width count : ℕ) (bytes : List ℕ) → length (containers width count bytes) ≡ count
+length-containers width zero bytes = refl
+length-containers width (suc count) bytes = ap suc (length-containers width count (drop width bytes))
+
+-- fewer containers are the first ones
+pub containers_first : (width few count : ℕ) (bytes : List ℕ) → few ≤ count → containers width few bytes ≡ take few (containers width count bytes)
+containers_first width zero count bytes le = refl
+containers_first width (suc few) zero bytes le = absurd (omega (arith, le))
+containers_first width (suc few) (suc count) bytes le = ap (λ (l : List (List ℕ)). take width bytes ∷ l) (containers_first width few count (drop width bytes) (omega (arith, le)))
+
+-- data that end where the containers do have the same ones
+pub containers_cut : (n width : ℕ) (bytes : List ℕ) → n % width ≡ 0 → containers width (n / width) (take n bytes) ≡ containers width (n / width) bytes
+containers_cut n width bytes whole =
+    containers_front width (n / width) (take n bytes) bytes (take-take (n / width * width) n bytes (omega (arith, count_bytes n width whole)))
+
+-- bytes of one container are that container
+pub container_alone : (width : ℕ) (bytes : List ℕ) → 1 ≤ width → length bytes ≡ width → containers width (length bytes / width) bytes ≡ bytes ∷ []
+container_alone width bytes some is =
+    let one : length bytes / width ≡ 1 = ap (λ n. n / width) (let e : length bytes ≡ 0 + width = omega (arith, is) in e) ∙ count_more 0 width some ∙ ap suc (none width) in
+    (λ i. containers width (one i) bytes) ∙ ap (λ (c : List ℕ). c ∷ []) (take_all width bytes (omega (arith, is)))
+  where
+    none : (n : ℕ) → 0 / n ≡ 0
+    none zero = refl
+    none (suc n) = omega arith

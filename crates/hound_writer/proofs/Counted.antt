@@ -8,19 +8,9 @@ use Rattle.hound_spec.specs.declared.spec.WavSpecEx.{WavSpecEx}
 use Rattle.hound_sample.specs.Container.{containers}
 use Rattle.hound_reader.specs.declared.fault.Cause.{Cause}
 use Rattle.hound_reader.specs.Chunks.{Head, data_fault}
-use Rattle.hound_writer.specs.Parts.{field}
+use Rattle.hound_writer.specs.Sizes.{field}
 use Rattle.hound_writer.specs.Counts.{Counts, ReadsFirst}
-use Rattle.hound_writer.proofs.Containers.{concat-containers, count_bytes}
-
-pub length-containers : (width count : ℕ) (bytes : List ℕ) → length (containers width count bytes) ≡ count
-length-containers width zero bytes = refl
-length-containers width (suc count) bytes = ap suc (length-containers width count (drop width bytes))
-
--- fewer containers are the first ones
-pub containers_first : (width few count : ℕ) (bytes : List ℕ) → few ≤ count → containers width few bytes ≡ take few (containers width count bytes)
-containers_first width zero count bytes le = refl
-containers_first width (suc few) zero bytes le = absurd (omega (arith, le))
-containers_first width (suc few) (suc count) bytes le = ap (λ (l : List (List ℕ)). take width bytes ∷ l) (containers_first width few count (drop width bytes) (omega (arith, le)))
+use Rattle.hound_writer.proofs.Containers.{concat-containers, count_bytes, containers_first, length-containers}
 
 -- no more whole samples than there are in more bytes
 pub samples_le : (m n width : ℕ) → 0 < width → m ≤ n → m / width ≤ n / width

@@ -6,7 +6,7 @@ use Rattle.hound_number.specs.Number.{number}
 use Rattle.hound_spec.specs.declared.spec.WavSpecEx.{WavSpecEx}
 use Rattle.hound_spec.specs.Header.{riff_tag, wave_tag, data_tag}
 use Rattle.hound_reader.specs.Chunks.{Head, joined}
-use Rattle.hound_writer.specs.Parts.{field}
+use Rattle.hound_writer.specs.Sizes.{field}
 
 -- contents as their four bytes at 4 and at p, and what stands before, between and behind these
 pub in_parts : (p : ℕ) (c : List ℕ) → 8 ≤ p → c ≡ take 4 c ++ (take 4 (drop 4 c) ++ (drop 8 (take p c) ++ (take 4 (drop p c) ++ drop (p + 4) c)))

@@ -3,10 +3,12 @@ pub mod Heads
 pub mod Counted
 pub mod Sizes
 pub mod Standing
+pub mod Answers
+pub mod Samples
 pub mod Accepting
 pub mod Patching
+pub mod PatchMoments
 pub mod Publishing
 pub mod Beginning
-pub mod Continuing
-pub mod AcceptMoments
-pub mod PatchMoments
+pub mod Appending
+pub mod Writing

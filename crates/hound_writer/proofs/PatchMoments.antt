@@ -1,13 +1,15 @@
 -- The moments of a patch, part after part, and of a call that publishes.
-use Rattle.std.proofs.Common.{◌≡◌, ℕ, suc, ◌+◌, ◌-◌, ◌<◌, ◌≤◌, ◌^◌, inl, inr, Bool, IsTrue, Result, OnOk, IsOk, List, [], ◌∷◌, ◌++◌, length, take, drop, refl, sym, ◌∙◌, ap, subst, arith, length-append, length-take}
-use Rattle.std.proofs.lemmas.Bool.{cases_lt}
+use Rattle.std.proofs.Common.{◌≡◌, ℕ, suc, ◌+◌, ◌-◌, ◌<◌, ◌≤◌, ◌^◌, inl, inr, Bool, true, false, IsTrue, Result, Ok, Err, OnOk, IsOk, List, [], ◌∷◌, ◌++◌, length, take, drop, refl, sym, ◌∙◌, ap, subst, arith, length-append, length-take}
+use Rattle.std.proofs.lemmas.Bool.{cases_lt, false≢true}
 use Rattle.std.proofs.lemmas.List.{take-take, length-take-le, get_or_at}
 use Rattle.std.proofs.lemmas.Result.{on_ok_weaker}
 use Rattle.std.specs.declared.io.Error.{Error as IoFault}
 use Rattle.hound_number.specs.Number.{bytes_of, mix, AreBytes}
 use Rattle.hound_number.proofs.Mixing.{mix_none, mix_all}
 use Rattle.hound_medium.specs.Bytes.{placed, overlay, moment}
-use Rattle.hound_medium.specs.State.{MediumState, Stays}
+use Rattle.hound_medium.specs.State.{MediumState, Stays, WhereTells, WhereKeeps}
+use Rattle.hound_spec.specs.Header.{riff_size}
+use Rattle.hound_sample.specs.Container.{containers}
 use Rattle.hound_medium.specs.Spans.{Span}
 use Rattle.hound_medium.proofs.Outcomes.{from_ok}
 use Rattle.hound_medium.proofs.Overlays.{length-placed}
@@ -15,11 +17,14 @@ use Rattle.hound_medium.proofs.Spans.{span_puts, join, and_still}
 use Rattle.hound_medium.proofs.Torn.{number_at_small, number_at_mix}
 use Rattle.hound_spec.specs.declared.error.Error.{Error}
 use Rattle.hound_writer.specs.Counts.{Counts}
-use Rattle.hound_writer.specs.Moments.{HasSize, IsPatched, PutsField, PatchesAtEach, IsOldOrNew, PublishesAtEach, place_of}
-use Rattle.hound_writer.specs.Parts.{PutsAt, IsStanding, IsTold, field}
-use Rattle.hound_writer.specs.Writer.{WriterState, IsSound, accepted}
-use Rattle.hound_writer.proofs.AcceptMoments.{counts_at}
-use Rattle.hound_writer.proofs.Publishing.{published}
+use Rattle.hound_writer.specs.Parts.{HasSize, IsPatched, Patches, PatchesAtEach, PutsAt, IsStanding, IsTold}
+use Rattle.hound_writer.specs.Answers.{IsPublishing}
+use Rattle.hound_writer.specs.Publishing.{Checkpoints, Finishes, Publishes, IsHalfPublished, IsOldOrNew, PublishesAtEach, PutsLast, place_of}
+use Rattle.hound_writer.specs.Sizes.{field}
+use Rattle.hound_writer.specs.Writer.{WriterState, AreFrames, IsSound, accepted_samples, data_length, sample_count}
+use Rattle.hound_writer.proofs.Answers.{published}
+use Rattle.hound_writer.proofs.Publishing.{publishes}
+use Rattle.hound_writer.proofs.Samples.{counts_at, length_out}
 use Rattle.hound_writer.proofs.Sizes.{same_reflexive, same_transitive, same_riff, field_riff, same_length}
 use Rattle.hound_writer.proofs.Standing.{inside, stands_patched}
 
@@ -86,9 +91,9 @@ first_added old new p (b ∷ bytes) is longer = ap (λ l. place_of l (length old
 pub patches_none : {V F : Type 0} (p new : ℕ) (answer : Result V F) (a b : MediumState) → Span (IsPatched p a.contents new) (length b.past) a b → OnOk answer (length b.past ≡ length b.past + 4) → PatchesAtEach p new answer a b
 patches_none p new answer a b span all = record {
   split = length b.past;
+  span = span;
   puts = record {
     later = omega (arith, ap length span.past, length-append a.past span.added);
-    span = span;
     within = omega arith;
     first = λ longer. absurd (omega (arith, longer));
   };
@@ -104,9 +109,9 @@ patches_both keeps p new result answer a b c kept first second puts all =
     ap length (puts.past kept) ∙ length-append b.past (placed p bytes) ∙ ap (λ k. length b.past + k) (length-placed p bytes ∙ length-take-le puts.count (bytes_of 4 new) puts.within) in
     record {
       split = length b.past;
+      span = join (IsPatched p a.contents new) (length b.past) a b c first second;
       puts = record {
         later = omega (arith, ap length first.past, length-append a.past first.added);
-        span = join (IsPatched p a.contents new) (length b.past) a b c first second;
         within = omega (arith, long, puts.within);
         first = first_added b.past c.past p bytes (puts.past kept);
       };
@@ -119,9 +124,9 @@ patches_still p new result answer a b c replays stays all patches =
     let same : length c.past ≡ length b.past = ap length stays.past in
     record {
       split = patches.split;
+      span = and_still (IsPatched p a.contents new) patches.split a b c patches.span replays stays;
       puts = record {
         later = patches.puts.later;
-        span = and_still (IsPatched p a.contents new) patches.split a b c patches.puts.span replays stays;
         within = omega (arith, same, patches.puts.within);
         first = λ longer. ap (λ l. place_of l patches.split) stays.past ∙ patches.puts.first (omega (arith, longer, same));
       };
@@ -129,9 +134,9 @@ patches_still p new result answer a b c replays stays all patches =
     }
 
 -- where the four bytes of the field went out one after the other, it has the old or the new number at each moment but those between them
-old_or_new : (p new split : ℕ) (a b : MediumState) → HasSize p a.contents → new < 2 ^ 32 → PutsField p a.contents new split a b → IsOldOrNew p (field p a.contents) new a b
-old_or_new p new split a b has small puts whole k from to outside =
-    let at = puts.span.each k from to in
+old_or_new : (p new split : ℕ) (a b : MediumState) → HasSize p a.contents → new < 2 ^ 32 → Span (IsPatched p a.contents new) split a b → PutsLast p split a b → IsOldOrNew p (field p a.contents) new a b
+old_or_new p new split a b has small span puts whole k from to outside =
+    let at = span.each k from to in
     let old = field p a.contents in
     elim (cases_lt split k) [
       | inl behind ↦
@@ -145,28 +150,77 @@ old_or_new p new split a b has small puts whole k from to outside =
     ]
 
 -- what a patch of a writer's file is at each moment, by the answer of the call that does it
-pub publishes_at_each : {T W : Type 0} (state : W → MediumState) (w : WriterState W) → IsSound w.spec_ex w.data_start w.data_length → IsStanding w.spec_ex w.data_start w.data_length (state w.medium).contents → AreBytes (state w.medium).contents
-    → (end : W) (patched : Result T IoFault) (are_frames : Bool) (told : Result T Error) → IsTold patched are_frames told → PatchesAtEach (w.data_start - 4) w.data_length patched (state w.medium) (state end) → PublishesAtEach state w told end
-publishes_at_each state w sound stands small end patched are_frames told is patches =
+pub publishes_at_each : {W : Type 0} (state : W → MediumState) (w : WriterState W) (none : w.waiting ≡ []) → IsSound w → IsStanding w.spec_ex w.data_start w.out (state w.medium).contents → AreBytes (state w.medium).contents
+    → (end : W) (patched : Result (Unit {0}) IoFault) (are_frames : Bool) (told : Result (Unit {0}) Error) → IsTold patched are_frames told → PatchesAtEach (w.data_start - 4) w.out patched (state w.medium) (state end) → PublishesAtEach state w told end
+publishes_at_each state w none sound stands small end patched are_frames told is patches =
     let p = w.data_start - 4 in
     let old = (state w.medium).contents in
     let split = patches.split in
-    let span = patches.puts.span in
-    let start : p + 4 ≡ w.data_start = omega (arith, sound.behind) in
-    let has : HasSize p old = record { behind = omega (arith, sound.behind); inside = omega (arith, start, inside w.spec_ex w.data_start w.data_length old old stands); small = small } in
-    let counts : (j : ℕ) (c : List ℕ) → IsPatched p old w.data_length j c → Counts w.spec_ex w.data_start (accepted state w) c =
-    λ j c at. counts_at state w sound c (stands_patched w.spec_ex w.data_start w.data_length old c stands j at.same at.field)
-    (ap (take w.data_length) ((λ i. drop (sym start i) c) ∙ at.same.behind ∙ (λ i. drop (start i) old))) in
+    let span = patches.span in
+    let start : p + 4 ≡ w.data_start = omega (arith, sound.after_head) in
+    let all : w.out ≡ data_length w = sym (length_out state w none) in
+    let has : HasSize p old = record { behind = omega (arith, sound.after_head); inside = omega (arith, start, inside w.spec_ex w.data_start w.out old old stands); small = small } in
+    let samples : (c : List ℕ) → drop (p + 4) c ≡ drop (p + 4) old → take w.out (drop w.data_start c) ≡ take w.out (drop w.data_start old) =
+    λ c same. ap (take w.out) ((λ i. drop (sym start i) c) ∙ same ∙ (λ i. drop (start i) old)) in
+    let counts : (j : ℕ) (c : List ℕ) → IsPatched p old w.out j c → Counts w.spec_ex w.data_start (accepted_samples state w) c =
+    λ j c at. counts_at state w none sound c (stands_patched w.spec_ex w.data_start w.out old c stands j at.same at.field) (samples c at.same.behind) in
+    let half : (j : ℕ) (c : List ℕ) → IsPatched p old w.out j c → IsHalfPublished w old j c =
+    λ j c at. record { front = record { front = at.same.front; middle = at.same.middle }; out = samples c at.same.behind; length_is = at.field ∙ ap (mix j (field p old)) all } in
     record {
       counts = λ _. record { start = span.start; added = span.added; past = span.past; each = λ k from to. counts (k - split) (moment (state end).start (state end).past k) (span.each k from to) };
       split = split;
+      half = record { start = span.start; added = span.added; past = span.past; each = λ k from to. half (k - split) (moment (state end).start (state end).past k) (span.each k from to) };
       puts = patches.puts;
       whole = published (length (state end).past ≡ split + 4) patched are_frames told is patches.whole;
-      old_or_new = old_or_new p w.data_length split (state w.medium) (state end) has (omega (arith, sound.fits, sound.behind)) patches.puts;
+      old_or_new = subst (λ n. IsOldOrNew p (field p old) n (state w.medium) (state end)) all
+          (old_or_new p w.out split (state w.medium) (state end) has (omega (arith, sound.fits, sound.after_head, all)) span patches.puts);
     }
 
--- a patch of a writer's fields, as contracts see it
-pub patches_at_each_seen : {W T E : Type 0} (state : W → MediumState) (a b : WriterState W) (p : ℕ) (result : Result T E) (end : MediumState) → a ≡ b → p ≡ a.data_start - 4 → PatchesAtEach p a.data_length result (state a.medium) end
-    → PatchesAtEach (b.data_start - 4) b.data_length result (state b.medium) end
-patches_at_each_seen state a b p result end same at patches =
-    subst (λ w. PatchesAtEach (w.data_start - 4) w.data_length result (state w.medium) end) same (subst (λ q. PatchesAtEach q a.data_length result (state a.medium) end) at patches)
+pub patches_at_each_seen : {W : Type 0} (state : W → MediumState) (a b : WriterState W) (result : Result (Unit {0}) IoFault) (end : MediumState) → a ≡ b
+    → PatchesAtEach (a.data_start - 4) a.out result (state a.medium) end → PatchesAtEach (b.data_start - 4) b.out result (state b.medium) end
+patches_at_each_seen state a b result end same patches = subst (λ w. PatchesAtEach (w.data_start - 4) w.out result (state w.medium) end) same patches
+
+-- a call of a writer that patches, and the answer by its frames
+module _ {W : Type 0} (tells keeps : Bool) (state : W → MediumState) (w : WriterState W) (end : W) (none : w.waiting ≡ []) (sound : IsSound w)
+    (stands : WhereTells tells (IsStanding w.spec_ex w.data_start w.out (state w.medium).contents))
+    (patched : Result (Unit {0}) IoFault) (are_frames : Bool) (told : Result (Unit {0}) Error) (is : IsTold patched are_frames told)
+    (new : WriterState W) (same : new ≡ record w { medium = end }) (of_new : (IsTrue are_frames → AreFrames new) × (AreFrames new → IsTrue are_frames))
+    (before : WhereTells tells (AreBytes (state w.medium).contents)) (after : WhereTells tells (AreBytes (state end).contents))
+    (patches : WhereTells tells (Patches (w.data_start - 4) (riff_size w.data_start w.out) w.out patched (state w.medium) (state end)))
+    (moments : WhereKeeps tells keeps (PatchesAtEach (w.data_start - 4) w.out patched (state w.medium) (state end))) where
+  frames : (IsTrue are_frames → AreFrames w) × (AreFrames w → IsTrue are_frames)
+  frames = subst (λ v. (IsTrue are_frames → AreFrames v) × (AreFrames v → IsTrue are_frames)) same of_new
+
+  answers : IsPublishing told w
+  answers = go patched are_frames told is frames
+    where
+      go : (patched : Result (Unit {0}) IoFault) (are_frames : Bool) (told : Result (Unit {0}) Error) → IsTold patched are_frames told → (IsTrue are_frames → AreFrames w) × (AreFrames w → IsTrue are_frames) → IsPublishing told w
+      go (Err e) are_frames told is frames = subst (λ t. IsPublishing t w) (sym is) tt
+      go (Ok x) true told is frames = subst (λ t. IsPublishing t w) (sym is) (frames.0 refl)
+      go (Ok x) false told is frames = subst (λ t. IsPublishing t w) (sym is) (λ are. absurd (false≢true (frames.1 are)))
+
+  published_all : WhereTells tells (Publishes state w told end)
+  published_all known = publishes state w none sound (stands known) end patched are_frames told is frames.0 (after known) (patches known)
+
+  at_each : WhereKeeps tells keeps (PublishesAtEach state w told end)
+  at_each known kept = publishes_at_each state w none sound (stands known) (before known) end patched are_frames told is (moments known kept)
+
+  -- `flush`
+  pub checkpoints : Checkpoints tells keeps state told w new
+  checkpoints = subst (Checkpoints tells keeps state told w) (sym same) record {
+    answers = answers;
+    samples = record { spec_ex = refl; data_start = refl; data_length = refl; buffer = refl };
+    publishes = published_all;
+    whole = λ known whole. omega (arith, whole, (published_all known).grows);
+    accepted = λ known whole. ap (λ bytes. containers w.spec_ex.bytes_per_sample (sample_count w) (bytes ++ w.waiting)) (published_all known).out;
+    moments = at_each;
+  }
+
+  -- the end of a writer
+  pub finishes : WhereTells tells (OnOk patched ((state end).place ≡ w.data_start)) → Finishes tells keeps state w told end
+  finishes place = record {
+    answers = answers;
+    publishes = published_all;
+    place = λ known. published ((state end).place ≡ w.data_start) patched are_frames told is (place known);
+    moments = at_each;
+  }

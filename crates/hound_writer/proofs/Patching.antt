@@ -11,7 +11,8 @@ use Rattle.hound_medium.specs.State.{MediumState, Stays, Flushes, faults_after, 
 use Rattle.hound_medium.proofs.Overlays.{overlay_is}
 use Rattle.hound_medium.proofs.Inside.{drop_behind, same_size}
 use Rattle.hound_medium.proofs.Torn.{number_at_small, number_at_mix}
-use Rattle.hound_writer.specs.Parts.{PutsAt, Patches, SameButSizes, with_sizes, field}
+use Rattle.hound_writer.specs.Parts.{PutsAt, Patches}
+use Rattle.hound_writer.specs.Sizes.{SameButSizes, with_sizes, field}
 use Rattle.hound_writer.proofs.Sizes.{same_transitive, same_riff, field_riff, same_length}
 
 -- both sizes put, one after the other

@@ -1,34 +1,30 @@
 -- What a file is once its sizes are published.
-use Rattle.std.proofs.Common.{◌≡◌, ℕ, ◌+◌, ◌-◌, ◌/◌, ◌≤◌, Bool, true, false, List, ◌++◌, length, take, drop, Result, Ok, Err, OnOk, refl, sym, ◌∙◌, ap, subst, arith, append_assoc, length-append, length-drop, take-append-drop}
-use Rattle.std.proofs.lemmas.List.{take_at, take-take, length-take-le}
+use Rattle.std.proofs.Common.{◌≡◌, ℕ, ◌+◌, ◌-◌, ◌/◌, ◌%◌, ◌≤◌, Bool, true, false, List, [], ◌++◌, Option, None, eq-eqb, length, take, drop, Result, Ok, Err, OnOk, refl, sym, ◌∙◌, ap, subst, arith, append_assoc, length-append, length-drop, take-append-drop}
+use Rattle.std.proofs.lemmas.List.{take_at, take-take, take_all, drop-drop, length-take-le}
 use Rattle.std.specs.declared.io.Error.{Error as IoFault}
 use Rattle.std.specs.Io.{StartsWith}
 use Rattle.std.specs.List.{concat}
 use Rattle.hound_number.specs.Number.{bytes_of, AreBytes}
-use Rattle.hound_medium.specs.State.{MediumState, faults_after}
+use Rattle.hound_medium.specs.State.{MediumState, WhereTells}
 use Rattle.hound_medium.proofs.Torn.{bytes_at}
 use Rattle.hound_spec.specs.declared.error.Error.{Error}
 use Rattle.hound_spec.specs.declared.spec.WavSpecEx.{WavSpecEx}
 use Rattle.hound_spec.specs.Header.{riff_tag, data_start, header, riff_size, canonical}
 use Rattle.hound_spec.proofs.HeaderLemmas.{described, header-parts, length-header, length-described}
 use Rattle.hound_sample.specs.Container.{containers}
-use Rattle.hound_writer.specs.Parts.{IsTold, Patches, SameButSizes, IsStanding, with_sizes, field}
-use Rattle.hound_writer.specs.Counts.{Counts}
-use Rattle.hound_writer.specs.Writer.{WriterState, IsSound, IsWhole, IsBegun, HasHeader, OnPublished, Publishes, accepted, faults_told}
-use Rattle.hound_writer.proofs.Containers.{concat-containers, count_bytes}
+use Rattle.std.proofs.lemmas.Bool.{true≢false}
+use Rattle.hound_writer.specs.Parts.{IsTold, IsConsistent, Patches, IsStanding}
+use Rattle.hound_writer.specs.Sizes.{SameButSizes, with_sizes, field}
+use Rattle.hound_writer.specs.Counts.{Counts, ReadsFirst}
+use Rattle.hound_writer.specs.Publishing.{Publishes, ReadsAs}
+use Rattle.hound_writer.specs.Writer.{WriterState, AreFrames, IsSound, IsWhole, IsBegun, HasHeader, accepted_samples, data_length, data_end}
+use Rattle.hound_writer.proofs.Answers.{on_ok_then, published, told_faults, told_ok}
+use Rattle.hound_writer.proofs.Samples.{concat-samples, counts_at, length-samples, length_out, whole_out}
+use Rattle.hound_reader.specs.declared.fault.Cause.{Cause}
+use Rattle.hound_reader.specs.Chunks.{Readable, data_fault}
 use Rattle.hound_writer.proofs.Patching.{riff_size_of_sizes, data_length_of_sizes}
 use Rattle.hound_writer.proofs.Heads.{in_parts}
-use Rattle.hound_writer.proofs.Standing.{inside, stands_patched, counts}
-
--- what holds after an Ok patch holds where its caller says that all was published
-pub published : {T : Type 0} (P : Type 0) (patched : Result T IoFault) (are_frames : Bool) (told : Result T Error) → IsTold patched are_frames told → OnOk patched P → OnPublished told P
-published {T} P (Err e) are_frames told is here = subst (λ (t : Result T Error). OnPublished t P) (sym is) tt
-published {T} P (Ok x) true told is here = subst (λ (t : Result T Error). OnPublished t P) (sym is) here
-published {T} P (Ok x) false told is here = subst (λ (t : Result T Error). OnPublished t P) (sym is) here
-
-pub on_ok_then : {T E : Type 0} {P Q : Type 0} (result : Result T E) → (P → Q) → OnOk result P → OnOk result Q
-on_ok_then (Ok x) then here = then here
-on_ok_then (Err e) then here = tt
+use Rattle.hound_writer.proofs.Standing.{inside, stands_patched}
 
 -- a file that begins with the header of a spec, once other sizes are in it
 module _ (s : WavSpecEx) (size length_before : ℕ) (start p : ℕ) (before : p + 4 ≡ start) (is_start : data_start s ≡ start) (c : List ℕ) (begins : take start c ≡ header s size length_before) where
@@ -83,70 +79,104 @@ begun_still s start old new is_start behind inside small same (size, length_befo
     ∙ header_with s size length_before start p (omega (arith, behind)) is_start old front r n in
     (r, n, ap (take (length (header s r n))) whole ∙ take_at (header s r n) (drop start old) (length (header s r n)) refl)
 
--- the faults that an answer tells are those of the patch
-told_faults : {T : Type 0} (patched : Result T IoFault) (are_frames : Bool) (told : Result T Error) (old new : ℕ) → IsTold patched are_frames told → new ≡ faults_after patched old → new ≡ faults_told told old
-told_faults {T} (Err e) are_frames told old new is here = subst (λ (t : Result T Error). new ≡ faults_told t old) (sym is) here
-told_faults {T} (Ok x) true told old new is here = subst (λ (t : Result T Error). new ≡ faults_told t old) (sym is) here
-told_faults {T} (Ok x) false told old new is here = subst (λ (t : Result T Error). new ≡ faults_told t old) (sym is) here
+-- data of whole frames have no fault
+frames_sound : (s : WavSpecEx) (n : ℕ) → n % s.bytes_per_sample ≡ 0 → n / s.bytes_per_sample % s.spec.channels ≡ 0 → data_fault s n ≡ None
+frames_sound s n whole frames = rw (eq-eqb (n % s.bytes_per_sample) 0 whole, eq-eqb (n / s.bytes_per_sample % s.spec.channels) 0 frames) refl
+
+-- where the data length counts all of some samples, which are whole frames, they are read back
+pub reads_all : (s : WavSpecEx) (start n : ℕ) (samples : List (List ℕ)) (contents : List ℕ) → n % s.bytes_per_sample ≡ 0 → n / s.bytes_per_sample % s.spec.channels ≡ 0 → length samples ≡ n / s.bytes_per_sample → field (start - 4) contents ≡ n
+    → Counts s start samples contents → ReadsAs s start samples contents
+reads_all s start n samples contents whole frames size says counts =
+    let count = n / s.bytes_per_sample in
+    let reads : ReadsFirst None s start n samples contents =
+    subst (λ (x : Option Cause × ℕ). ReadsFirst x.0 s start x.1 samples contents) (λ i. ((ap (data_fault s) says ∙ frames_sound s n whole frames) i, says i)) counts.reads in
+    record {
+      readable = subst (λ k. Readable contents s k start) (sym size) reads.0;
+      containers = ap (λ k. containers s.bytes_per_sample k (drop start contents)) size ∙ reads.1 ∙ take_all count samples (omega (arith, size));
+    }
 
 -- a writer's file with its sizes
-module _ {W : Type 0} (state : W → MediumState) (w : WriterState W) (sound : IsSound w.spec_ex w.data_start w.data_length) (stands : IsStanding w.spec_ex w.data_start w.data_length (state w.medium).contents) (end : W) where
+module _ {W : Type 0} (state : W → MediumState) (w : WriterState W) (none : w.waiting ≡ []) (sound : IsSound w) (stands : IsStanding w.spec_ex w.data_start w.out (state w.medium).contents) (end : W) where
   abbrev p : ℕ
   p = w.data_start - 4
 
   abbrev size : ℕ
-  size = riff_size w.data_start w.data_length
+  size = riff_size w.data_start w.out
 
   before : p + 4 ≡ w.data_start
-  before = omega (arith, sound.behind)
+  before = omega (arith, sound.after_head)
+
+  all : w.out ≡ data_length w
+  all = sym (length_out state w none)
 
   abbrev old : List ℕ
   old = (state w.medium).contents
 
   there : p + 4 ≤ length old
-  there = omega (arith, before, inside w.spec_ex w.data_start w.data_length (state w.medium).contents (state w.medium).contents stands)
+  there = omega (arith, before, inside w.spec_ex w.data_start w.out old old stands)
 
-  module _ (put : (state end).contents ≡ with_sizes (w.data_start - 4) (riff_size w.data_start w.data_length) w.data_length (state w.medium).contents) where
-    riff_size_stands : field 4 (state end).contents ≡ riff_size w.data_start w.data_length
-    riff_size_stands = ap (field 4) put ∙ riff_size_of_sizes p size w.data_length old (omega (arith, sound.behind)) there (omega (arith, sound.fits))
+  module _ (put : (state end).contents ≡ with_sizes (w.data_start - 4) (riff_size w.data_start w.out) w.out (state w.medium).contents) where
+    riff_says : field 4 (state end).contents ≡ riff_size w.data_start (data_length w)
+    riff_says = ap (field 4) put ∙ riff_size_of_sizes p size w.out old (omega (arith, sound.after_head)) there (omega (arith, sound.fits, all)) ∙ ap (riff_size w.data_start) all
 
-    data_length_stands : field p (state end).contents ≡ w.data_length
-    data_length_stands = ap (field p) put ∙ data_length_of_sizes p size w.data_length old (omega (arith, sound.behind)) there (omega (arith, sound.fits, sound.behind))
+    length_says : field p (state end).contents ≡ w.out
+    length_says = ap (field p) put ∙ data_length_of_sizes p size w.out old (omega (arith, sound.after_head)) there (omega (arith, sound.fits, sound.after_head, all))
 
-    is_canonical : IsWhole state w → IsBegun state w → StartsWith (state end).contents (canonical w.spec_ex (accepted state w))
+    is_canonical : IsWhole state w → IsBegun state w → StartsWith (state end).contents (canonical w.spec_ex (accepted_samples state w))
     is_canonical whole ((size_before, length_before, begins), at) =
         let long : length (header w.spec_ex size_before length_before) ≡ w.data_start = length-header w.spec_ex size_before length_before ∙ sym at in
         let front : take w.data_start old ≡ header w.spec_ex size_before length_before = ap (λ n. take n old) (sym long) ∙ begins in
-        canonical_begins w.spec_ex (accepted state w) w.data_length w.data_start (drop w.data_start old) (state end).contents (sym at)
-        (omega (arith, whole, length-drop w.data_start old))
-        (concat-containers w.spec_ex.bytes_per_sample (w.data_length / w.spec_ex.bytes_per_sample) (drop w.data_start old) ∙ ap (λ n. take n (drop w.data_start old)) (count_bytes w.data_length w.spec_ex.bytes_per_sample sound.whole))
-        (put ∙ header_with w.spec_ex size_before length_before w.data_start p before (sym at) old front size w.data_length)
+        canonical_begins w.spec_ex (accepted_samples state w) w.out w.data_start (drop w.data_start old) (state end).contents (sym at)
+        (omega (arith, whole, length-drop w.data_start old)) (concat-samples state w none sound)
+        (put ∙ header_with w.spec_ex size_before length_before w.data_start p before (sym at) old front size w.out)
 
   -- What a patch leaves, and the answer of a call that has done one.
-  pub publishes : {T : Type 0} (patched : Result T IoFault) (are_frames : Bool) (told : Result T Error) → IsTold patched are_frames told → AreBytes (state end).contents
-      → Patches (w.data_start - 4) (riff_size w.data_start w.data_length) w.data_length patched (state w.medium) (state end) → Publishes state w told end
-  publishes patched are_frames told is small patches =
+  pub publishes : (patched : Result (Unit {0}) IoFault) (are_frames : Bool) (told : Result (Unit {0}) Error) → IsTold patched are_frames told → (are_frames ≡ true → AreFrames w) → AreBytes (state end).contents
+      → Patches (w.data_start - 4) (riff_size w.data_start w.out) w.out patched (state w.medium) (state end) → Publishes state w told end
+  publishes patched are_frames told is frames small patches =
       let same = patches.same in
       let long : w.data_start ≤ length (state end).contents = omega (arith, before, there, same.long) in
-      let samples_same : drop w.data_start (state end).contents ≡ drop w.data_start old = (λ i. drop (sym before i) (state end).contents) ∙ same.behind ∙ (λ i. drop (before i) old) in
-      let still = stands_patched w.spec_ex w.data_start w.data_length old (state end).contents stands patches.torn.0 same patches.torn.2 in
-      let accepted_same : accepted state (record w { medium = end }) ≡ accepted state w = ap (containers w.spec_ex.bytes_per_sample (w.data_length / w.spec_ex.bytes_per_sample)) samples_same in
+      let samples : drop w.data_start (state end).contents ≡ drop w.data_start old = (λ i. drop (sym before i) (state end).contents) ∙ same.behind ∙ (λ i. drop (before i) old) in
+      let still = stands_patched w.spec_ex w.data_start w.out old (state end).contents stands patches.torn.0 same patches.torn.2 in
+      let counts = counts_at state w none sound (state end).contents still (ap (take w.out) samples) in
+      let data_after : (c : List ℕ) → drop (data_end w) c ≡ drop (data_length w) (drop w.data_start c) = λ c. sym (drop-drop (data_length w) w.data_start c) in
       record {
         faults = told_faults patched are_frames told (state w.medium).faults (state end).faults is patches.faults;
-        flushed = published ((state end).flushed ≡ length (state end).past) patched are_frames told is patches.flushed;
-        riff_size = published (field 4 (state end).contents ≡ riff_size w.data_start w.data_length) patched are_frames told is (on_ok_then patched riff_size_stands patches.contents);
-        data_length = published (field (w.data_start - 4) (state end).contents ≡ w.data_length) patched are_frames told is (on_ok_then patched data_length_stands patches.contents);
         front = record { front = same.front; middle = same.middle };
-        samples = samples_same;
-        long = same.long;
-        counts = λ _. subst (λ l. Counts w.spec_ex w.data_start l (state end).contents) accepted_same (counts state (record w { medium = end }) sound still);
-        begun = λ (header, at). begun_still w.spec_ex w.data_start old (state end).contents (sym at) sound.behind long small same header;
-        canonical = λ whole begun. published (StartsWith (state end).contents (canonical w.spec_ex (accepted state w))) patched are_frames told is (on_ok_then patched (λ put. is_canonical put whole begun) patches.contents);
+        out = ap (take w.out) samples;
+        rest = data_after (state end).contents ∙ ap (drop (data_length w)) samples ∙ sym (data_after old);
+        grows = omega (arith, same.long);
+        reach = omega (arith, same.long);
+        counts = λ _. counts;
+        begun = λ (header, at). begun_still w.spec_ex w.data_start old (state end).contents (sym at) (omega (arith, sound.after_head)) long small same header;
+        flushed = published ((state end).flushed ≡ length (state end).past) patched are_frames told is patches.flushed;
+        riff_says = published (field 4 (state end).contents ≡ riff_size w.data_start (data_length w)) patched are_frames told is (on_ok_then patched riff_says patches.contents);
+        length_says = published (field (w.data_start - 4) (state end).contents ≡ data_length w) patched are_frames told is (on_ok_then patched (λ put. length_says put ∙ all) patches.contents);
+        stand = λ whole. published (take (data_length w) (drop w.data_start (state end).contents) ≡ concat (accepted_samples state w)) patched are_frames told is
+            (on_ok_then patched (λ _. (λ i. take (sym all i) (samples i)) ∙ sym (concat-samples state w none sound)) patches.contents);
+        read = λ whole. told_ok (ReadsAs w.spec_ex w.data_start (accepted_samples state w) (state end).contents) patched are_frames told is
+            (λ yes. on_ok_then patched (λ put. reads_all w.spec_ex w.data_start w.out (accepted_samples state w) (state end).contents (whole_out state w none sound)
+            (ap (λ n. n / w.spec_ex.bytes_per_sample % w.spec_ex.spec.channels) all ∙ frames yes) (length-samples state w none sound) (length_says put) counts) patches.contents);
+        canonical = λ whole begun. published (StartsWith (state end).contents (canonical w.spec_ex (accepted_samples state w))) patched are_frames told is (on_ok_then patched (λ put. is_canonical put whole begun) patches.contents);
       }
 
+-- what a writer keeps after a patch, which a fault may have cut
+pub consistent_patched : {W : Type 0} (tells : Bool) (state : W → MediumState) (w : WriterState W) (end : W) (may_have_moved : Bool) (riff : ℕ) (result : Result (Unit {0}) IoFault) → IsConsistent tells state w may_have_moved
+    → WhereTells tells (Patches (w.data_start - 4) riff w.out result (state w.medium) (state end)) → IsConsistent tells state (record w { medium = end }) true
+consistent_patched tells state w end may_have_moved riff result keeps patches =
+    let s = keeps.sound in
+    let b = keeps.batch in
+    record {
+      sound = record { pair = s.pair; channels = s.channels; width = s.width; whole = s.whole; after_head = s.after_head; fits = s.fits };
+      none_waits = keeps.none_waits;
+      batch = record { room = b.room; memory = b.memory; written = b.written; samples = b.samples; whole = b.whole; width = b.width };
+      stands = λ told. let p = patches told in stands_patched w.spec_ex w.data_start w.out (state w.medium).contents (state end).contents (keeps.stands told) p.torn.0 p.same p.torn.2;
+      place = λ told is. absurd (true≢false is);
+    }
+
 -- a patch of a writer's fields, as contracts see it
-pub patches_seen : {W T E : Type 0} (state : W → MediumState) (a b : WriterState W) (p riff : ℕ) (result : Result T E) (end : MediumState) → a ≡ b → p ≡ a.data_start - 4 → riff ≡ riff_size a.data_start a.data_length
-    → Patches p riff a.data_length result (state a.medium) end → Patches (b.data_start - 4) (riff_size b.data_start b.data_length) b.data_length result (state b.medium) end
-patches_seen state a b p riff result end same at counted patches =
-    subst (λ w. Patches (w.data_start - 4) (riff_size w.data_start w.data_length) w.data_length result (state w.medium) end) same
-    (subst (λ (x : ℕ × ℕ). Patches x.0 x.1 a.data_length result (state a.medium) end) (λ i. (at i, counted i)) patches)
+pub patches_seen : {W : Type 0} (state : W → MediumState) (a b : WriterState W) (riff : ℕ) (result : Result (Unit {0}) IoFault) (end : MediumState) → a ≡ b → riff ≡ riff_size a.data_start a.out
+    → Patches (a.data_start - 4) riff a.out result (state a.medium) end → Patches (b.data_start - 4) (riff_size b.data_start b.out) b.out result (state b.medium) end
+patches_seen state a b riff result end same is patches =
+    subst (λ w. Patches (w.data_start - 4) (riff_size w.data_start w.out) w.out result (state w.medium) end) same
+    (subst (λ n. Patches (a.data_start - 4) n a.out result (state a.medium) end) is patches)

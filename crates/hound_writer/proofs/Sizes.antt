@@ -4,7 +4,7 @@ use Rattle.std.proofs.lemmas.Slice.{between_is}
 use Rattle.hound_number.specs.Number.{number}
 use Rattle.hound_medium.specs.Bytes.{placed, overlay}
 use Rattle.hound_medium.proofs.Inside.{take_before, drop_behind, same_size}
-use Rattle.hound_writer.specs.Parts.{field, SameButSizes}
+use Rattle.hound_writer.specs.Sizes.{field, SameButSizes}
 
 pub same_reflexive : (p : ℕ) (c : List ℕ) → SameButSizes p c c
 same_reflexive p c = record { front = refl; middle = refl; behind = refl; long = refl }

@@ -4,11 +4,9 @@ use Rattle.hound_number.specs.Number.{number, mix}
 use Rattle.hound_number.proofs.Mixing.{mix_le}
 use Rattle.hound_medium.proofs.Overlays.{front_part}
 use Rattle.hound_spec.specs.declared.spec.WavSpecEx.{WavSpecEx}
-use Rattle.hound_medium.specs.State.{MediumState}
-use Rattle.hound_writer.specs.Parts.{SameButSizes, IsStanding, field}
-use Rattle.hound_writer.specs.Writer.{WriterState, IsSound, IsCounted}
+use Rattle.hound_writer.specs.Parts.{IsStanding}
+use Rattle.hound_writer.specs.Sizes.{SameButSizes, field}
 use Rattle.hound_writer.proofs.Heads.{head_with, head_front, head_behind, head_inside}
-use Rattle.hound_writer.proofs.Counted.{counts_standing}
 
 module _ (s : WavSpecEx) (start n : ℕ) (old new : List ℕ) (stands : IsStanding s start n old) where
   pub inside : start ≤ length old
@@ -31,7 +29,3 @@ module _ (s : WavSpecEx) (start n : ℕ) (old new : List ℕ) (stands : IsStandi
 -- more bytes count at least as much
 pub stands_more : (s : WavSpecEx) (start n m : ℕ) (contents : List ℕ) → n ≤ m → IsStanding s start n contents → IsStanding s start m contents
 stands_more s start n m contents le stands = record { head = stands.head; counted = omega (arith, le, stands.counted) }
-
--- what stands is counted
-pub counts : {W : Type 0} (state : W → MediumState) (w : WriterState W) → IsSound w.spec_ex w.data_start w.data_length → IsStanding w.spec_ex w.data_start w.data_length (state w.medium).contents → IsCounted state w
-counts state w sound stands = counts_standing w.spec_ex w.data_start w.data_length (state w.medium).contents sound.width sound.whole stands.head stands.counted

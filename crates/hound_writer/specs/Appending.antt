@@ -1,4 +1,4 @@
--- Going on with a file that is there.
+-- Appending to a file that is there.
 use Rattle.std.specs.Prelude.{◌≡◌, ℕ, ◌+◌, ◌/◌, ◌%◌, ◌==◌, ◌&&◌, ◌⊎◌, not, nat_lt, if◌then◌else◌, Bool, List, [], Option, None, Some, Result, Ok, Err}
 use Rattle.hound_spec.specs.declared.error.Error.{Error}
 use Rattle.hound_spec.specs.declared.error.Error.TheVariants.{TooLong}
@@ -7,15 +7,16 @@ use Rattle.hound_spec.specs.declared.spec.SampleFormat.TheVariants.{Int, Float}
 use Rattle.hound_spec.specs.declared.spec.WavSpecEx.{WavSpecEx}
 use Rattle.hound_spec.specs.Header.{riff_size}
 use Rattle.hound_sample.specs.Meaning.{is_int_pair}
-use Rattle.hound_medium.specs.State.{MediumState, Stays, one_more}
+use Rattle.hound_medium.specs.State.{MediumState, Stays, WhereTells, one_more}
 use Rattle.hound_reader.specs.declared.fault.Cause.{Cause}
 use Rattle.hound_reader.specs.declared.fault.Cause.TheVariants.{Format, Unsupported}
 use Rattle.hound_reader.specs.declared.fault.Reason.TheVariants.{DataLength, FrameLength}
 use Rattle.hound_reader.specs.Chunks.{Head, Refused}
 use Rattle.hound_reader.specs.Refusals.{Names}
-use Rattle.hound_writer.specs.Writer.{WriterState, IsIoError}
+use Rattle.hound_writer.specs.Answers.{IsIoError}
+use Rattle.hound_writer.specs.Writer.{WriterState, IsSound, IsWhole, IsCounted, data_length, data_end}
 
--- why a file isn't gone on with: for a cause that its bytes decide, or since its RIFF size would not fit 32 bits
+-- why a file isn't appended to: for a cause that its bytes decide, or since its RIFF size would not fit 32 bits
 pub data AppendFault : Type 0 where
   by_bytes : Cause → AppendFault
   too_long : AppendFault
@@ -50,24 +51,28 @@ pub record PutsNothing (old new : MediumState) : Type 0 where
   pub stays : Stays old new
   pub flushed : new.flushed ≡ old.flushed
 
--- A writer that goes on with a file: its head stands and fails no check, and the data chunk is what was accepted. The next sample goes to its end.
-pub record GoesOn {W : Type 0} (old : MediumState) (state : W → MediumState) (w : WriterState W) : Type 0 where
-  pub head : Head old.contents w.spec_ex w.data_length w.data_start
-  pub sound : head_fault w.spec_ex w.data_length w.data_start ≡ None
-  pub buffer : w.buffer ≡ []
+-- A writer that appends to a file, over a medium that tells: the file's head stands and fails no check, the data chunk
+-- is what was accepted, and the next sample goes to its end.
+pub record FollowsData {W : Type 0} (old : MediumState) (state : W → MediumState) (w : WriterState W) : Type 0 where
+  pub head : Head old.contents w.spec_ex (data_length w) w.data_start
+  pub check : head_fault w.spec_ex (data_length w) w.data_start ≡ None
   pub puts : PutsNothing old (state w.medium)
-  pub place : (state w.medium).place ≡ w.data_start + w.data_length
+  pub place : (state w.medium).place ≡ data_end w
   pub faults : (state w.medium).faults ≡ old.faults
+  pub counts : IsWhole state w → IsCounted state w
 
--- A file that isn't gone on with, for a fault that its bytes have, or since the medium failed.
+-- A writer that appends to a file.
+pub record Appends {W : Type 0} (tells : Bool) (state : W → MediumState) (old : MediumState) (w : WriterState W) : Type 0 where
+  pub sound : IsSound w
+  pub none_waits : w.waiting ≡ []
+  pub buffer : w.buffer ≡ []
+  pub file : WhereTells tells (FollowsData old state w)
+
+-- A file that isn't appended to, for a fault that its bytes have, or since the medium failed.
 pub record IsNotAppended (old new : MediumState) (e : Error) : Type 0 where
   pub puts : PutsNothing old new
   pub why : ((fault : AppendFault) × IsAppendFault old.contents fault × NamesFault e fault × (new.faults ≡ old.faults))
       ⊎ (IsIoError e × (new.faults ≡ one_more old.faults))
-
--- an `IoError`, or the error of a fault that the bytes have
-abbrev pub IsAppendRefusal : List ℕ → Error → Type 0
-IsAppendRefusal bytes e = ((fault : AppendFault) × IsAppendFault bytes fault × NamesFault e fault) ⊎ IsIoError e
 
 -- what a check answers: Ok where a head has no fault, else the error of its fault
 abbrev pub FailsCheck : {T : Type 0} → Result T Error → Option AppendFault → Type 0

@@ -5,7 +5,7 @@ use Rattle.hound_spec.specs.declared.spec.WavSpecEx.{WavSpecEx}
 use Rattle.hound_sample.specs.Container.{containers}
 use Rattle.hound_reader.specs.declared.fault.Cause.{Cause}
 use Rattle.hound_reader.specs.Chunks.{Readable, Unreadable, data_fault}
-use Rattle.hound_writer.specs.Parts.{field}
+use Rattle.hound_writer.specs.Sizes.{field}
 
 -- what reading gives, by the fault of a data length n: exactly the first n bytes of the accepted samples, or that n is no whole samples or frames
 abbrev pub ReadsFirst : Option Cause → WavSpecEx → ℕ → ℕ → List (List ℕ) → List ℕ → Type 0

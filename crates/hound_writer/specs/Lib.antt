@@ -1,7 +1,11 @@
+pub mod Accepting
+pub mod Answers
 pub mod Appending
 pub mod Batch
+pub mod Beginning
 pub mod Counts
-pub mod Moments
 pub mod Parts
+pub mod Publishing
 pub mod Room
+pub mod Sizes
 pub mod Writer

@@ -1,23 +1,18 @@
 -- The room that a batch of samples of sixteen bits needs.
-use Rattle.std.specs.Prelude.{◌≡◌, ℕ, ◌+◌, ◌%◌, ◌≤◌, ◌⊎◌, List, length}
-use Rattle.hound_spec.specs.Header.{riff_size}
+use Rattle.std.specs.Prelude.{◌≡◌, ℕ, ◌%◌, ◌≤◌, ◌⊎◌, length}
 use Rattle.hound_spec.specs.declared.spec.SampleFormat.TheVariants.{Int}
 use Rattle.hound_spec.specs.declared.spec.WavSpecEx.{WavSpecEx}
-use Rattle.hound_writer.specs.Writer.{WriterState}
+use Rattle.hound_writer.specs.Writer.{WriterState, HasRoom}
 
 -- samples of sixteen bits, as integers
 abbrev pub IsSixteen : WavSpecEx → Type 0
 IsSixteen s = (s.spec.sample_format ≡ Int) × (s.spec.bits_per_sample ≡ 16)
 
--- the RIFF size of the file with so many more bytes fits 32 bits
-abbrev pub HasRoom : {W : Type 0} → WriterState W → ℕ → Type 0
-HasRoom w more = riff_size w.data_start (w.data_length + more) ≤ 4294967295
-
--- a batch of n bytes, of which i are written, in the memory of a writer that has room for it
-pub record IsRoom (s : WavSpecEx) (data_start data_length : ℕ) (buffer : List ℕ) (n i : ℕ) : Type 0 where
-  pub room : riff_size data_start (data_length + n) ≤ 4294967295
-  pub memory : n ≤ length buffer
-  pub written : i ≤ n
-  pub samples : n % 2 ≡ 0
-  pub whole : i % 2 ≡ 0
-  pub width : (n ≡ 0) ⊎ (s.bytes_per_sample ≡ 2)
+-- the batch of a writer: whole samples of it are written, in memory that the writer has, and the file has room for it
+pub record HasBatch {W : Type 0} (w : WriterState W) : Type 0 where
+  pub room : HasRoom w w.batch_length
+  pub memory : w.batch_length ≤ length w.buffer
+  pub written : w.batch_written ≤ w.batch_length
+  pub samples : w.batch_length % 2 ≡ 0
+  pub whole : w.batch_written % 2 ≡ 0
+  pub width : (w.batch_length ≡ 0) ⊎ (w.spec_ex.bytes_per_sample ≡ 2)

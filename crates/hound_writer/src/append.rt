@@ -1,14 +1,13 @@
-// Going on with files that are there.
+// Appending to files that are there.
+ghost use Rattle.std.specs.Prelude.{◌≡◌, ◌≤◌, MatchResult};
 ghost use Rattle.hound_medium.specs.State.{WhereTells};
-ghost use Rattle.std.specs.Prelude.{◌≡◌, ◌↔◌, ◌≤◌, ◌+◌, IsTrue, IfOk, IfErr, MatchResult};
 ghost use Rattle.hound_reader.specs.Fmt.{IsSound};
 ghost use Rattle.hound_reader.specs.Chunks.{Head};
-ghost use Rattle.hound_writer.specs.Appending.{GoesOn, IsNotAppended, IsAppendRefusal, FailsCheck, head_fault};
+ghost use Rattle.hound_writer.specs.Appending.{Appends, IsNotAppended, FailsCheck, head_fault};
 ghost use Rattle.hound_reader.specs.Refusals.{Names};
-ghost use Rattle.hound_writer.specs.Writer.{IsWhole, IsCounted};
 
 use crate::WavWriter;
-use crate::write::riff_fits;
+use crate::write::riff_size;
 use hound_medium::{Medium, Source};
 use hound_reader::{Cause, FileHead, HeadError, Reason, error_of, find_data};
 use hound_spec::{Error, Result, is_pair};
@@ -21,7 +20,7 @@ fn refused(cause: Cause) -> Error
     error_of(HeadError::Refused(cause))
 }
 
-// Looks whether a file with this head can be gone on with.
+// Looks whether a file with this head can be appended to.
 #[tactic(auto, unfolding(crate::specs::Appending::head_fault))]
 fn check_head(head: FileHead) -> Result<()>
     requires sound { IsSound head.spec_ex }
@@ -39,22 +38,22 @@ fn check_head(head: FileHead) -> Result<()>
     if head.data_length / width as u32 % spec.channels as u32 != 0 {
         return Err(refused(Cause::Format(Reason::FrameLength)));
     }
-    if !riff_fits(head.data_start - 4, head.data_length as u64) {
+    if riff_size(head.data_start, head.data_length as u64) > u32::MAX as u64 {
         return Err(Error::TooLong);
     }
     Ok(())
 }
 
-/// A writer behind the data of a file with this head.
-pub(crate) fn behind_data<W: Medium>(
+/// A writer that appends to a file with this head.
+pub(crate) fn append_at<W: Medium>(
     writer: W,
     head: FileHead,
 ) -> result::Result<WavWriter<W>, (W, Error)>
     requires sound { IsSound head.spec_ex }
     requires start { (20 ≤ head.data_start) × (head.data_start ≤ 4294967315) }
     requires head { WhereTells W.tells (Head (W.state writer).contents head.spec_ex head.data_length head.data_start) }
-    ensures appends { WhereTells W.tells (MatchResult result (GoesOn (W.state writer) W.state) (λ refused. IsNotAppended (W.state writer) (W.state refused.0) refused.1)) }
-    ensures counts { WhereTells W.tells (IfOk result (λ w. IsWhole W.state w → IsCounted W.state w)) }
+    ensures { MatchResult result (Appends W.tells W.state (W.state writer))
+        (λ refused. WhereTells W.tells (IsNotAppended (W.state writer) (W.state refused.0) refused.1)) }
 {
     if let Err(error) = check_head(head) {
         return Err((writer, error));
@@ -63,28 +62,18 @@ pub(crate) fn behind_data<W: Medium>(
     if let Err(error) = writer.go(head.data_start + head.data_length as u64) {
         return Err((writer, Error::IoError(error)));
     }
-    Ok(WavWriter {
-        spec: head.spec_ex.spec,
-        bytes_per_sample: head.spec_ex.bytes_per_sample,
-        writer,
-        data_bytes_written: head.data_length,
-        data_len_offset: head.data_start - 4,
-        moved: false,
-        buffer: None,
-        num_bytes: 0,
-        index: 0,
-    })
+    Ok(WavWriter::at_end(writer, head.spec_ex, head.data_start, head.data_length))
 }
 
 impl<W: Source + Medium> WavWriter<W> {
-    /// Goes on with the file in a medium that stands at its beginning: the next sample goes behind
-    /// its data chunk, over what may stand there.
+    /// Appends to the file in a medium that stands at its beginning: the next sample goes after its
+    /// data chunk, over what may stand there.
     ///
     /// The errors are those of [`WavWriter::try_append`], which hands the medium back.
     pub fn new_append(writer: W) -> Result<WavWriter<W>>
         requires { WhereTells W.tells ((W.state writer).place ≡ 0) }
-        ensures appends { WhereTells W.tells (MatchResult result (GoesOn (W.state writer) W.state) (IsAppendRefusal (W.state writer).contents)) }
-        ensures counts { WhereTells W.tells (IfOk result (λ w. IsWhole W.state w → IsCounted W.state w)) }
+        ensures { MatchResult result (Appends W.tells W.state (W.state writer))
+            (λ e. (back : W) × WhereTells W.tells (IsNotAppended (W.state writer) (W.state back) e)) }
     {
         match WavWriter::try_append(writer) {
             Ok(writer) => Ok(writer),
@@ -92,8 +81,8 @@ impl<W: Source + Medium> WavWriter<W> {
         }
     }
 
-    /// Goes on with the file in a medium that stands at its beginning, and hands the medium back
-    /// where it can't. Nothing is put.
+    /// Appends to the file in a medium that stands at its beginning, and hands the medium back where
+    /// it can't. Nothing is put.
     ///
     /// The errors, in their order: those of a reader's walk to the data, by the bytes; a
     /// `FormatError`, for data that are no whole samples; `Unsupported`, for samples that are not
@@ -102,12 +91,12 @@ impl<W: Source + Medium> WavWriter<W> {
     /// failed. An early end is an `IoError` of kind `Other`.
     pub fn try_append(writer: W) -> result::Result<WavWriter<W>, (W, Error)>
         requires { WhereTells W.tells ((W.state writer).place ≡ 0) }
-        ensures appends { WhereTells W.tells (MatchResult result (GoesOn (W.state writer) W.state) (λ refused. IsNotAppended (W.state writer) (W.state refused.0) refused.1)) }
-        ensures counts { WhereTells W.tells (IfOk result (λ w. IsWhole W.state w → IsCounted W.state w)) }
+        ensures { MatchResult result (Appends W.tells W.state (W.state writer))
+            (λ refused. WhereTells W.tells (IsNotAppended (W.state writer) (W.state refused.0) refused.1)) }
     {
         let (writer, head) = find_data(writer);
         match head {
-            Ok(head) => behind_data(writer, head),
+            Ok(head) => append_at(writer, head),
             Err(error) => Err((writer, error_of(error))),
         }
     }

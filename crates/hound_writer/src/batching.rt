@@ -1,17 +1,15 @@
 // What is done with batches.
-ghost use Rattle.hound_medium.specs.State.{WhereKeeps, WhereTells};
-ghost use Rattle.std.specs.Prelude.{◌≡◌, ◌+◌, ◌*◌, ◌/◌, ◌%◌, ◌≤◌, ◌<◌, ◌++◌, max, [], length, take, drop, IsTrue, IfOk, IfErr, MatchResult, Ok, Err, OnOk, OnErr};
+ghost use Rattle.std.specs.Prelude.{◌≡◌, ◌+◌, ◌*◌, ◌/◌, ◌≤◌, ◌<◌, ◌++◌, max, [], length, IfOk, IfErr, OnOk, Ok, Err, false};
 ghost use Rattle.std.specs.Borrow.{sem, RestsIfErr};
 ghost use Rattle.hound_number.specs.Number.{signed_bytes_of};
-ghost use Rattle.hound_spec.specs.Header.{riff_size};
 ghost use Rattle.hound_spec.specs.declared.error.Error.TheVariants.{OutOfMemory, TooLong};
+ghost use Rattle.hound_sample.specs.Container.{containers};
 ghost use Rattle.hound_writer.specs.contracts.write.WavWriter.{the_row};
-ghost use Rattle.hound_writer.specs.Moments.{AcceptsAtEach};
-ghost use Rattle.hound_writer.specs.Writer.{IsIoError, IsSameFile, StaysInPlace, AcceptsBytes};
-ghost use Rattle.hound_writer.specs.Batch.{written, left, batch_writer, batch_lender, batch_bytes, remaining};
-ghost use Rattle.hound_writer.specs.Room.{IsSixteen, HasRoom};
+ghost use Rattle.hound_writer.specs.Accepting.{Accepts};
+ghost use Rattle.hound_writer.specs.Batch.{IsSameFile, written, left, batch_writer, batch_lender, batch_bytes, remaining};
+ghost use Rattle.hound_writer.specs.Room.{IsSixteen};
+ghost use Rattle.hound_writer.specs.Writer.{HasRoom};
 
-use crate::write::riff_fits;
 use crate::{SampleWriter16, WavWriter};
 use hound_medium::Medium;
 use hound_number::le_i16;
@@ -59,8 +57,8 @@ impl<W: Medium> WavWriter<W> {
         ensures written { written self.new ≡ written self.old ++ signed_bytes_of 2 value }
         ensures kept { length self.new.buffer ≡ length self.old.buffer }
     {
-        let index = self.index;
-        self.index = index + 2;
+        let index = self.batch_written;
+        self.batch_written = index + 2;
         if let Some(buffer) = &mut self.buffer {
             buffer[index..index + 2].copy_from_slice(&le_i16(value));
         }
@@ -71,7 +69,7 @@ impl<W: Medium> WavWriter<W> {
     fn left_in_batch(&self) -> u32
         ensures { result ≡ left self.now }
     {
-        ((self.num_bytes - self.index) / 2) as u32
+        ((self.batch_length - self.batch_written) / 2) as u32
     }
 
     /// A batch of so many samples of sixteen bits, which are accepted by one call. They are samples,
@@ -98,54 +96,34 @@ impl<W: Medium> WavWriter<W> {
         ensures kept { IfOk result (λ batch. length (batch_writer batch).buffer ≡ max (length self.old.buffer) (2 * num_samples)) }
     {
         let num_bytes = num_samples as u64 * 2;
-        if !riff_fits(
-            self.data_len_offset,
-            self.data_bytes_written as u64 + num_bytes,
-        ) {
+        if !self.has_room(num_bytes) {
             return Err(Error::TooLong);
         }
-        let num_bytes = num_bytes as usize;
-        self.keep(alloc, num_bytes)?;
-        self.num_bytes = num_bytes;
-        self.index = 0;
+        self.keep(alloc, num_bytes as usize)?;
+        self.batch_length = num_bytes as usize;
+        self.batch_written = 0;
         Ok(SampleWriter16 { parent: self })
-    }
-
-    // Puts whole containers behind the accepted ones, and accepts all of them or none.
-    fn accept_all(&mut self, bytes: &[u8]) -> Result<()>
-        requires room { HasRoom self.old (length bytes.now) }
-        requires whole { length bytes.now % self.old.spec_ex.bytes_per_sample ≡ 0 }
-        ensures failed { IfErr result IsIoError }
-        ensures stays { StaysInPlace self.old self.new }
-        ensures over { (self.new.batch_length ≡ 0) × (self.new.batch_written ≡ 0) }
-        ensures count { MatchResult result (λ _. self.new.data_length ≡ self.old.data_length + length bytes.now)
-            (λ _. self.new.data_length ≡ self.old.data_length) }
-        ensures accepts { WhereTells W.tells (AcceptsBytes W.state result bytes.now self.old self.new) }
-        ensures moments { WhereKeeps W.tells W.keeps (AcceptsAtEach W.state self.old (W.state self.new.medium)) }
-    {
-        self.accept(bytes)?;
-        Ok(())
     }
 
     // Accepts all samples of the batch, or none of them.
     fn accept_batch(&mut self) -> Result<()>
         requires { left self.old ≡ 0 }
-        ensures failed { IfErr result IsIoError }
-        ensures stays { StaysInPlace self.old self.new }
-        ensures count { MatchResult result (λ _. self.new.data_length ≡ self.old.data_length + length (written self.old))
-            (λ _. self.new.data_length ≡ self.old.data_length) }
-        ensures accepts { WhereTells W.tells (AcceptsBytes W.state result (written self.old) self.old self.new) }
-        ensures moments { WhereKeeps W.tells W.keeps (AcceptsAtEach W.state self.old (W.state self.new.medium)) }
+        ensures accepts { Accepts W.tells W.keeps W.state false
+            (Ok (containers self.old.spec_ex.bytes_per_sample (length (written self.old) / self.old.spec_ex.bytes_per_sample) (written self.old)))
+            result self.old self.new }
+        ensures buffer { self.new.buffer ≡ self.old.buffer }
     {
-        let num_bytes = self.num_bytes;
-        self.num_bytes = 0; // it is over, whatever becomes of it
-        self.index = 0;
-        let Some(buffer) = self.buffer.take() else {
-            return Ok(());
-        };
-        let accepted = self.accept_all(&buffer[..num_bytes]);
-        self.buffer = Some(buffer);
-        accepted
+        let num_bytes = self.batch_length;
+        self.batch_length = 0; // it is over, whatever becomes of it
+        self.batch_written = 0;
+        match self.buffer.take() {
+            Some(buffer) => {
+                let accepted = self.accept(&buffer[..num_bytes]);
+                self.buffer = Some(buffer);
+                accepted
+            }
+            None => self.accept(&[]),
+        }
     }
 }
 
@@ -193,12 +171,10 @@ impl<'parent, W: Medium> SampleWriter16<'parent, W> {
     /// writer may go on.
     pub fn flush(self) -> Result<()>
         requires { remaining self ≡ 0 }
-        ensures failed { IfErr result IsIoError }
-        ensures stays { StaysInPlace (batch_writer self.entry) self.exit.0.now }
-        ensures count { MatchResult result (λ _. self.exit.0.now.data_length ≡ (batch_writer self.entry).data_length + length (batch_bytes self.entry))
-            (λ _. self.exit.0.now.data_length ≡ (batch_writer self.entry).data_length) }
-        ensures accepts { WhereTells W.tells (AcceptsBytes W.state result (batch_bytes self.entry) (batch_writer self.entry) self.exit.0.now) }
-        ensures moments { WhereKeeps W.tells W.keeps (AcceptsAtEach W.state (batch_writer self.entry) (W.state self.exit.0.now.medium)) }
+        ensures accepts { let old = batch_writer self.entry in Accepts W.tells W.keeps W.state false
+            (Ok (containers old.spec_ex.bytes_per_sample (length (batch_bytes self.entry) / old.spec_ex.bytes_per_sample) (batch_bytes self.entry)))
+            result old self.exit.0.now }
+        ensures buffer { self.exit.0.now.buffer ≡ (batch_writer self.entry).buffer }
     {
         let SampleWriter16 { parent } = self;
         parent.accept_batch()

@@ -1,11 +1,13 @@
 // Writers of files on disk.
-ghost use Rattle.std.specs.Prelude.{◌≡◌, ◌⊎◌, IfOk, IfErr, OnOk};
+ghost use Rattle.std.specs.Prelude.{◌≡◌, ◌⊎◌, IfOk, IfErr, MatchResult};
 ghost use Rattle.hound_spec.specs.declared.error.Error.TheVariants.{OutOfMemory, Unsupported};
 ghost use Rattle.hound_spec.specs.Writable.{IsWritable, with_default_width};
-ghost use Rattle.hound_writer.specs.Writer.{HasBegun, IsIoError, IsSound};
+ghost use Rattle.hound_writer.specs.Answers.{IsIoError};
+ghost use Rattle.hound_writer.specs.Beginning.{HasBegun};
+ghost use Rattle.hound_writer.specs.Writer.{IsSound};
 
 use crate::WavWriter;
-use crate::append::behind_data;
+use crate::append::append_at;
 use hound_reader::{error_of, read_until_data};
 use hound_spec::{Error, Result, WavSpec};
 use std::alloc::Global;
@@ -36,28 +38,26 @@ impl WavWriter<io::BufWriter<fs::File>> {
         path: Path<'_>,
         spec: WavSpec,
     ) -> Result<WavWriter<io::BufWriter<fs::File>>>
-        ensures only_writable { OnOk result (IsWritable (with_default_width spec)) }
-        ensures writable { IsWritable (with_default_width spec) → IfErr result (λ e. IsIoError e ⊎ (e ≡ OutOfMemory)) }
-        ensures refused { IfErr result (λ e. (IsIoError e ⊎ (e ≡ OutOfMemory)) ⊎ (e ≡ Unsupported)) }
-        ensures begun { IfOk result (λ w. HasBegun (with_default_width spec) w) }
+        ensures { MatchResult result (HasBegun (with_default_width spec))
+            (λ e. (IsIoError e ⊎ (e ≡ OutOfMemory)) ⊎ ((e ≡ Unsupported) × (IsWritable (with_default_width spec) → ⊥))) }
     {
         let file = fs::create(rt, path)?;
         let writer = buffered(alloc, file)?;
         WavWriter::new(writer, spec)
     }
 
-    /// Goes on with a file that is there, which is neither made nor emptied: the next sample goes
-    /// behind its data chunk, over what may stand there.
+    /// Appends to a file that is there, which is neither made nor emptied: the next sample goes after
+    /// its data chunk, over what may stand there.
     ///
     /// A refusal leaves the file as it was. The errors, in their order: `IoError`, where the file
     /// can't be opened for reading and writing; those of a reader's walk to the data; `OutOfMemory`,
-    /// where there is none for the buffer; those of [`WavWriter::try_append`] behind the walk.
+    /// where there is none for the buffer; those of [`WavWriter::try_append`] after the walk.
     pub fn append(
         rt: &impl Files<File = fs::File>,
         alloc: Global,
         path: Path<'_>,
     ) -> Result<WavWriter<io::BufWriter<fs::File>>>
-        ensures sound { IfOk result (λ w. IsSound w.spec_ex w.data_start w.data_length) }
+        ensures sound { IfOk result (λ w. IsSound w) }
     {
         let mut file = fs::OpenOptions::new()
             .read(true)
@@ -68,7 +68,7 @@ impl WavWriter<io::BufWriter<fs::File>> {
             Err(error) => return Err(error_of(error)),
         };
         let writer = buffered(alloc, file)?;
-        match behind_data(writer, head) {
+        match append_at(writer, head) {
             Ok(writer) => Ok(writer),
             Err((_, error)) => Err(error),
         }

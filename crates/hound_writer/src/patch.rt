@@ -3,8 +3,7 @@ ghost use Rattle.hound_medium.specs.State.{WhereKeeps, WhereTells};
 ghost use Rattle.std.specs.Prelude.{◌≡◌, ◌+◌, ◌≤◌, ◌^◌, ◌<◌, ℕ, List, length, false, IsTrue, OnOk};
 ghost use Rattle.hound_number.specs.Number.{bytes_of};
 ghost use Rattle.hound_medium.specs.Spans.{Span};
-ghost use Rattle.hound_writer.specs.Moments.{HasSize, IsPatched, PatchesAtEach};
-ghost use Rattle.hound_writer.specs.Parts.{PutsAt, Patches};
+ghost use Rattle.hound_writer.specs.Parts.{HasSize, IsPatched, PatchesAtEach, PutsAt, Patches};
 
 use hound_medium::{Medium, put_all};
 use hound_number::le_u32;
@@ -14,14 +13,14 @@ use std::io;
 #[inline(always)]
 pub(crate) fn put_at_end<M: Medium>(
     medium: &mut M,
-    moved: bool,
+    may_have_moved: bool,
     end: u64,
     bytes: &[u8],
 ) -> io::Result<()>
-    requires { WhereTells M.tells (moved ≡ false → (M.state medium.old).place ≡ end) }
+    requires { WhereTells M.tells (may_have_moved ≡ false → (M.state medium.old).place ≡ end) }
     ensures { WhereTells M.tells (PutsAt M.keeps end bytes.now result (M.state medium.old) (M.state medium.new)) }
 {
-    if moved {
+    if may_have_moved {
         medium.go(end)?;
     }
     put_all(medium, bytes)
@@ -56,7 +55,8 @@ fn put_data_length<M: Medium>(medium: &mut M, at: u64, data_length: u32) -> io::
     put_size(medium, at, data_length)
 }
 
-/// Puts both sizes, the RIFF size first, and flushes the medium. It ends at the first fault.
+/// Puts both sizes, the RIFF size first, and flushes the medium, which then stands after the data
+/// length. It ends at the first fault.
 pub(crate) fn patch<M: Medium>(
     medium: &mut M,
     data_len_offset: u64,
@@ -66,27 +66,10 @@ pub(crate) fn patch<M: Medium>(
     requires behind { 8 ≤ data_len_offset }
     requires inside { WhereTells M.tells (data_len_offset + 4 ≤ length (M.state medium.old).contents) }
     ensures patches { WhereTells M.tells (Patches data_len_offset riff_size data_length result (M.state medium.old) (M.state medium.new)) }
+    ensures place { WhereTells M.tells (OnOk result ((M.state medium.new).place ≡ data_len_offset + 4)) }
     ensures moments { WhereKeeps M.tells M.keeps (PatchesAtEach data_len_offset data_length result (M.state medium.old) (M.state medium.new)) }
 {
     put_riff_size(medium, riff_size)?;
     put_data_length(medium, data_len_offset, data_length)?;
     medium.flush()
-}
-
-/// Puts both sizes, flushes the medium, and goes to a place. It ends at the first fault.
-pub(crate) fn publish<M: Medium>(
-    medium: &mut M,
-    data_len_offset: u64,
-    riff_size: u32,
-    data_length: u32,
-    end: u64,
-) -> io::Result<()>
-    requires behind { 8 ≤ data_len_offset }
-    requires inside { WhereTells M.tells (data_len_offset + 4 ≤ length (M.state medium.old).contents) }
-    ensures patches { WhereTells M.tells (Patches data_len_offset riff_size data_length result (M.state medium.old) (M.state medium.new)) }
-    ensures moments { WhereKeeps M.tells M.keeps (PatchesAtEach data_len_offset data_length result (M.state medium.old) (M.state medium.new)) }
-    ensures place { WhereTells M.tells (OnOk result ((M.state medium.new).place ≡ end)) }
-{
-    patch(medium, data_len_offset, riff_size, data_length)?;
-    medium.go(end)
 }

@@ -1,9 +1,9 @@
 // The writer of samples.
-ghost use Rattle.std.specs.Prelude.{◌≡◌, ◌+◌, ◌^◌, ◌≤◌, ◌↔◌, IsTrue};
+ghost use Rattle.std.specs.Prelude.{◌≡◌, ◌+◌, ◌^◌, ◌≤◌, IsTrue};
 ghost use Rattle.hound_spec.specs.Header.{riff_size};
 ghost use Rattle.hound_writer.specs.Parts.{IsTold};
 
-use crate::patch::{patch, publish, put_at_end};
+use crate::patch::{patch, put_at_end};
 use hound_medium::{Medium, put_all};
 use hound_sample::Sample;
 use hound_spec::{Error, Result, WavSpec, WavSpecEx, header_of, with_default_width};
@@ -15,66 +15,53 @@ use std::{io, result};
 /// A writer that is dropped publishes what was accepted, as [`WavWriter::finalize`] does, and its
 /// fault goes unseen.
 pub struct WavWriter<W: Medium> {
-    // The properties of the audio data.
-    pub(crate) spec: WavSpec,
-
-    // The bytes of a container.
-    pub(crate) bytes_per_sample: u16,
+    // The properties of the audio data, and the bytes of a container.
+    spec_ex: WavSpecEx,
 
     // The medium that the file goes to.
-    pub(crate) writer: W,
+    writer: W,
+
+    // The place of the first data byte.
+    data_start: u64,
 
     // The bytes of the accepted samples.
-    pub(crate) data_bytes_written: u32,
+    data_bytes_written: u32,
 
-    // The place of the field of the data length, in bytes.
-    pub(crate) data_len_offset: u64,
-
-    // Whether a fault may have left the medium elsewhere than behind the accepted samples.
-    pub(crate) moved: bool,
+    // Whether the medium may stand elsewhere than after the accepted samples.
+    may_have_moved: bool,
 
     // The memory that batches use, which is kept for later ones.
     pub(crate) buffer: Option<Vec<u8>>,
 
     // The bytes of the batch that was begun last.
-    pub(crate) num_bytes: usize,
+    pub(crate) batch_length: usize,
 
     // The bytes of its samples that were written.
-    pub(crate) index: usize,
+    pub(crate) batch_written: usize,
 }
 
 impl<W: Medium> Model for WavWriter<W> {
-    ghost use Rattle.std.specs.Prelude.{◌+◌, IsTrue};
-    ghost use Rattle.hound_writer.specs.Writer.{WriterState, IsSound};
-    ghost use Rattle.hound_writer.specs.Parts.{Stands, bytes_kept};
-    ghost use Rattle.hound_writer.specs.Room.{IsRoom};
+    ghost use Rattle.hound_writer.specs.Writer.{WriterState};
+    ghost use Rattle.hound_writer.specs.Parts.{IsConsistent, of_fields, bytes_kept};
 
     ghost Value = { WriterState W };
 
-    ghost view = { λ w. record {
-      medium = w.writer;
-      spec_ex = record { spec = w.spec; bytes_per_sample = w.bytes_per_sample };
-      data_start = w.data_len_offset + 4;
-      data_length = w.data_bytes_written;
-      buffer = bytes_kept (λ buffer. buffer.items) w.buffer;
-      batch_length = w.num_bytes;
-      batch_written = w.index;
-    } };
+    ghost view = { λ w. of_fields w.writer w.spec_ex w.data_start w.data_bytes_written
+        (bytes_kept (λ buffer. buffer.items) w.buffer) w.batch_length w.batch_written };
 
-    ghost invariant = { λ w. IsSound (record { spec = w.spec; bytes_per_sample = w.bytes_per_sample }) (w.data_len_offset + 4) w.data_bytes_written
-        × (IsTrue W.tells → Stands (record { spec = w.spec; bytes_per_sample = w.bytes_per_sample }) w.data_len_offset w.data_bytes_written w.moved (W.state w.writer))
-        × IsRoom (record { spec = w.spec; bytes_per_sample = w.bytes_per_sample }) (w.data_len_offset + 4) w.data_bytes_written (bytes_kept (λ buffer. buffer.items) w.buffer) w.num_bytes w.index };
+    ghost invariant = { λ w. IsConsistent W.tells W.state (of_fields w.writer w.spec_ex w.data_start w.data_bytes_written
+        (bytes_kept (λ buffer. buffer.items) w.buffer) w.batch_length w.batch_written) w.may_have_moved };
 }
 
-// Whether the RIFF size of so many data bytes behind a field at this place fits 32 bits.
+// The RIFF size of a file whose data begin here and are so many bytes.
 #[inline(always)]
-pub(crate) fn riff_fits(data_len_offset: u64, data_length: u64) -> bool
-    requires behind { 8 ≤ data_len_offset }
-    requires small { data_len_offset ≤ 2 ^ 33 }
+pub(crate) fn riff_size(data_start: u64, data_length: u64) -> u64
+    requires behind { 8 ≤ data_start }
+    requires small { data_start ≤ 2 ^ 33 }
     requires few { data_length ≤ 2 ^ 34 }
-    ensures { IsTrue result ↔ (riff_size (data_len_offset + 4) data_length ≤ 4294967295) }
+    ensures { result ≡ riff_size data_start data_length }
 {
-    data_len_offset - 4 + data_length <= 4_294_967_295
+    data_start - 8 + data_length
 }
 
 // What a call answers that has patched the header, or met a fault.
@@ -89,30 +76,28 @@ fn told(patched: io::Result<()>, are_frames: bool) -> Result<()>
 }
 
 impl<W: Medium> WavWriter<W> {
-    ghost use Rattle.std.specs.Prelude.{◌≡◌, ◌+◌, ◌-◌, ◌/◌, ◌%◌, ◌≤◌, ◌<◌, ◌↔◌, max, IsTrue, IfErr, IfNone, IfOk, IfSome, Ok, Err, Result, MatchResult, OnOk, length, take};
+    ghost use Rattle.std.specs.Prelude.{◌≡◌, ◌+◌, ◌-◌, ◌/◌, ◌%◌, ◌≤◌, ◌^◌, ◌↔◌, [], false, IsTrue, Ok, Err, Result, MatchResult, IfErr, OnOk, length};
     ghost use Rattle.hound_spec.specs.declared.error.Error.{Error};
-    ghost use Rattle.hound_medium.specs.State.{PutsAll, WhereKeeps, WhereTells};
-    ghost use Rattle.hound_spec.specs.declared.error.Error.TheVariants.{Unsupported};
-    ghost use Rattle.hound_spec.specs.Header.{header, riff_size};
-    ghost use Rattle.hound_spec.specs.Writable.{IsWritable, with_default_width};
-    ghost use Rattle.hound_writer.specs.Moments.{AcceptsAtEach, PatchesAtEach, PublishesAtEach};
-    ghost use Rattle.hound_writer.specs.Parts.{PutsAt, Patches, IsStanding};
-    ghost use Rattle.hound_writer.specs.Writer.{IsSound, HasBegun, HasHeader, PutsHeader, medium_of, sample_refusal, AcceptsSample, accepted, IsWhole, IsCounted, AreFrames, IsIoError, IsOkOrIoError, IsPublishing, Publishes, faults_told, sample_count};
+    ghost use Rattle.hound_spec.specs.Header.{riff_size};
+    ghost use Rattle.hound_spec.specs.Writable.{with_default_width};
+    ghost use Rattle.hound_sample.specs.Container.{containers};
+    ghost use Rattle.hound_medium.specs.State.{Goes, WhereTells, WhereKeeps};
+    ghost use Rattle.hound_writer.specs.Accepting.{Accepts};
+    ghost use Rattle.hound_writer.specs.Answers.{IsIoError, one};
+    ghost use Rattle.hound_writer.specs.Beginning.{Begins, IsNotBegun};
+    ghost use Rattle.hound_writer.specs.Parts.{IsStanding, Patches, PatchesAtEach, of_fields};
+    ghost use Rattle.hound_writer.specs.Publishing.{Checkpoints, Finishes};
+    ghost use Rattle.hound_writer.specs.Writer.{AreFrames, HasRoom, IsSound, IsWhole, IsCounted, data_length, sample_count};
 
-    /// Begins a file of this spec in a medium that stands at its beginning, and puts the header.
+    /// Begins a file of this spec in a medium that stands at its beginning, and puts the header with
+    /// both sizes 0. A sample takes the bytes that its bits need: `(bits_per_sample + 7) / 8`,
+    /// rounded down.
     ///
-    /// A sample takes the bytes that its bits need: `(bits_per_sample + 7) / 8`, rounded down. The
-    /// errors are those of [`WavWriter::try_new`], which hands the medium back.
+    /// The errors are those of [`WavWriter::try_new`], which hands the medium back.
     pub fn new(writer: W, spec: WavSpec) -> Result<WavWriter<W>>
         requires { WhereTells W.tells ((W.state writer).place ≡ 0) }
-        ensures unsupported { (IsWritable (with_default_width spec) → ⊥) → result ≡ Err Unsupported }
-        ensures only_writable { OnOk result (IsWritable (with_default_width spec)) }
-        ensures writable { IsWritable (with_default_width spec) → IsOkOrIoError result }
-        ensures begun { IfOk result (λ w. HasBegun (with_default_width spec) w) }
-        ensures puts { WhereTells W.tells (IfOk result (λ w. PutsHeader W.keeps (with_default_width spec) (W.state writer) (W.state w.medium))) }
-        ensures header { WhereTells W.tells (IfOk result (λ w. HasHeader w.spec_ex (W.state w.medium).contents)) }
-        ensures whole { WhereTells W.tells (IfOk result (λ w. IsWhole W.state w)) }
-        ensures counts { WhereTells W.tells (IfOk result (λ w. IsCounted W.state w)) }
+        ensures { MatchResult result (Begins W.tells W.keeps W.state (with_default_width spec) (W.state writer))
+            (λ e. (back : W) × IsNotBegun W.tells W.keeps W.state (with_default_width spec) writer back e) }
     {
         WavWriter::new_with_spec_ex(writer, with_default_width(spec))
     }
@@ -122,14 +107,8 @@ impl<W: Medium> WavWriter<W> {
     /// The errors are those of [`WavWriter::try_new`], which hands the medium back.
     pub fn new_with_spec_ex(writer: W, spec_ex: WavSpecEx) -> Result<WavWriter<W>>
         requires { WhereTells W.tells ((W.state writer).place ≡ 0) }
-        ensures unsupported { (IsWritable spec_ex → ⊥) → result ≡ Err Unsupported }
-        ensures only_writable { OnOk result (IsWritable spec_ex) }
-        ensures writable { IsWritable spec_ex → IsOkOrIoError result }
-        ensures begun { IfOk result (λ w. HasBegun spec_ex w) }
-        ensures puts { WhereTells W.tells (IfOk result (λ w. PutsHeader W.keeps spec_ex (W.state writer) (W.state w.medium))) }
-        ensures header { WhereTells W.tells (IfOk result (λ w. HasHeader w.spec_ex (W.state w.medium).contents)) }
-        ensures whole { WhereTells W.tells (IfOk result (λ w. IsWhole W.state w)) }
-        ensures counts { WhereTells W.tells (IfOk result (λ w. IsCounted W.state w)) }
+        ensures { MatchResult result (Begins W.tells W.keeps W.state spec_ex (W.state writer))
+            (λ e. (back : W) × IsNotBegun W.tells W.keeps W.state spec_ex writer back e) }
     {
         match WavWriter::try_new(writer, spec_ex) {
             Ok(writer) => Ok(writer),
@@ -145,14 +124,8 @@ impl<W: Medium> WavWriter<W> {
     /// No error leaves anything behind that would put more.
     pub fn try_new(writer: W, spec_ex: WavSpecEx) -> result::Result<WavWriter<W>, (W, Error)>
         requires { WhereTells W.tells ((W.state writer).place ≡ 0) }
-        ensures unsupported { (IsWritable spec_ex → ⊥) → result ≡ Err (writer, Unsupported) }
-        ensures only_writable { OnOk result (IsWritable spec_ex) }
-        ensures writable { IsWritable spec_ex → IfErr result (λ refused. IsIoError refused.1) }
-        ensures begun { IfOk result (λ w. HasBegun spec_ex w) }
-        ensures puts { IsWritable spec_ex → WhereTells W.tells (PutsAll W.keeps (header spec_ex 0 0) result (W.state writer) (W.state (medium_of result))) }
-        ensures header { WhereTells W.tells (IfOk result (λ w. HasHeader w.spec_ex (W.state w.medium).contents)) }
-        ensures whole { WhereTells W.tells (IfOk result (λ w. IsWhole W.state w)) }
-        ensures counts { WhereTells W.tells (IfOk result (λ w. IsCounted W.state w)) }
+        ensures { MatchResult result (Begins W.tells W.keeps W.state spec_ex (W.state writer))
+            (λ refused. IsNotBegun W.tells W.keeps W.state spec_ex writer refused.0 refused.1) }
     {
         if !spec_ex.is_writable() {
             return Err((writer, Error::Unsupported));
@@ -160,63 +133,69 @@ impl<W: Medium> WavWriter<W> {
         let mut writer = writer;
         let header = header_of(spec_ex, 0, 0);
         let bytes = header.as_slice();
-        let data_len_offset = bytes.len() as u64 - 4; // the last field of the header
+        let data_start = bytes.len() as u64;
         match put_all(&mut writer, bytes) {
-            Ok(()) => Ok(WavWriter {
-                spec: spec_ex.spec,
-                bytes_per_sample: spec_ex.bytes_per_sample,
-                writer,
-                data_bytes_written: 0,
-                data_len_offset,
-                moved: false,
-                buffer: None,
-                num_bytes: 0,
-                index: 0,
-            }),
+            Ok(()) => Ok(WavWriter::at_end(writer, spec_ex, data_start, 0)),
             Err(error) => Err((writer, Error::IoError(error))),
+        }
+    }
+
+    // A writer of a file whose data begin here and have so many bytes, after which its medium stands.
+    pub(crate) fn at_end(
+        writer: W,
+        spec_ex: WavSpecEx,
+        data_start: u64,
+        data_length: u32,
+    ) -> WavWriter<W>
+        requires sound { IsSound (of_fields writer spec_ex data_start data_length [] 0 0) }
+        requires stands { WhereTells W.tells (IsStanding spec_ex data_start data_length (W.state writer).contents) }
+        requires place { WhereTells W.tells ((W.state writer).place ≡ data_start + data_length) }
+        ensures { result ≡ of_fields writer spec_ex data_start data_length [] 0 0 }
+    {
+        WavWriter {
+            spec_ex,
+            writer,
+            data_start,
+            data_bytes_written: data_length,
+            may_have_moved: false,
+            buffer: None,
+            batch_length: 0,
+            batch_written: 0,
         }
     }
 
     // Whether so many more bytes leave the RIFF size within 32 bits.
     #[inline(always)]
-    fn has_room(&self, more: u32) -> bool
-        ensures { IsTrue result ↔ (riff_size self.now.data_start (self.now.data_length + more) ≤ 4294967295) }
+    pub(crate) fn has_room(&self, more: u64) -> bool
+        requires { more ≤ 2 ^ 33 }
+        ensures { IsTrue result ↔ HasRoom self.now more }
     {
-        riff_fits(
-            self.data_len_offset,
-            self.data_bytes_written as u64 + more as u64,
-        )
+        riff_size(self.data_start, self.data_bytes_written as u64 + more) <= u32::MAX as u64
     }
 
-    // Puts whole containers behind the accepted ones, and accepts them once they are out.
+    // Puts whole containers after the accepted ones, and accepts them once they are out.
     #[inline(always)]
-    pub(crate) fn accept(&mut self, bytes: &[u8]) -> io::Result<()>
-        requires room { riff_size self.old.data_start (self.old.data_length + length bytes.now) ≤ 4294967295 }
+    pub(crate) fn accept(&mut self, bytes: &[u8]) -> Result<()>
+        requires room { HasRoom self.old (length bytes.now) }
         requires whole { length bytes.now % self.old.spec_ex.bytes_per_sample ≡ 0 }
-        ensures spec_stays { self.new.spec_ex ≡ self.old.spec_ex }
-        ensures start_stays { self.new.data_start ≡ self.old.data_start }
-        ensures buffer_stays { self.new.buffer ≡ self.old.buffer }
-        ensures count { MatchResult result (λ _. self.new.data_length ≡ self.old.data_length + length bytes.now)
-            (λ _. self.new.data_length ≡ self.old.data_length) }
+        ensures accepts { Accepts W.tells W.keeps W.state false
+            (Ok (containers self.old.spec_ex.bytes_per_sample (length bytes.now / self.old.spec_ex.bytes_per_sample) bytes.now)) result self.old self.new }
+        ensures failed { IfErr result IsIoError }
+        ensures buffer { self.new.buffer ≡ self.old.buffer }
         ensures over { (self.new.batch_length ≡ 0) × (self.new.batch_written ≡ 0) }
-        ensures sound_before { IsSound self.old.spec_ex self.old.data_start self.old.data_length }
-        ensures stands { WhereTells W.tells (IsStanding self.old.spec_ex self.old.data_start self.old.data_length (W.state self.old.medium).contents) }
-        ensures sound { IsSound self.new.spec_ex self.new.data_start self.new.data_length }
-        ensures puts { WhereTells W.tells (PutsAt W.keeps (self.old.data_start + self.old.data_length) bytes.now result
-            (W.state self.old.medium) (W.state self.new.medium)) }
     {
-        let end = self.data_len_offset + 4 + self.data_bytes_written as u64;
-        let moved = self.moved;
-        self.moved = true; // until the bytes are out
-        self.num_bytes = 0; // a batch is over once something else is accepted
-        self.index = 0;
-        match put_at_end(&mut self.writer, moved, end, bytes) {
+        let end = self.data_start + self.data_bytes_written as u64;
+        let may_have_moved = self.may_have_moved;
+        self.may_have_moved = true; // until the bytes are out
+        self.batch_length = 0; // a batch is over once something else is accepted
+        self.batch_written = 0;
+        match put_at_end(&mut self.writer, may_have_moved, end, bytes) {
             Ok(()) => {
                 self.data_bytes_written += bytes.len() as u32;
-                self.moved = false;
+                self.may_have_moved = false;
                 Ok(())
             }
-            Err(error) => Err(error),
+            Err(error) => Err(Error::IoError(error)),
         }
     }
 
@@ -228,42 +207,17 @@ impl<W: Medium> WavWriter<W> {
     /// accepted, and the writer may go on: the next sample goes where this one should have gone.
     #[inline(always)]
     pub fn write_sample<S: Sample>(&mut self, sample: S) -> Result<()>
-        // A refusal leaves all as it was.
-        ensures refused { IfSome (sample_refusal (S.container sample self.old.spec_ex.spec.bits_per_sample self.old.spec_ex.bytes_per_sample) self.old)
-            (λ e. (result ≡ Err e) × (self.new ≡ self.old)) }
-        // Where nothing refuses the sample it is accepted, or the medium failed.
-        ensures failed { IfNone (sample_refusal (S.container sample self.old.spec_ex.spec.bits_per_sample self.old.spec_ex.bytes_per_sample) self.old)
-            (IfErr result IsIoError) }
-        ensures faults { WhereTells W.tells ((W.state self.new.medium).faults ≡ faults_told result (W.state self.old.medium).faults) }
-
-        ensures spec_stays { self.new.spec_ex ≡ self.old.spec_ex }
-        ensures start_stays { self.new.data_start ≡ self.old.data_start }
-        ensures buffer_stays { self.new.buffer ≡ self.old.buffer }
-        ensures count { MatchResult result (λ _. sample_count self.new ≡ sample_count self.old + 1) (λ _. self.new.data_length ≡ self.old.data_length) }
-
-        ensures bytes { OnOk result (self.new.data_length ≡ self.old.data_length + self.old.spec_ex.bytes_per_sample) }
-
-        // Over a medium that tells.
-        ensures accepted { WhereTells W.tells (IsWhole W.state self.old →
-            AcceptsSample result (S.container sample self.old.spec_ex.spec.bits_per_sample self.old.spec_ex.bytes_per_sample) (accepted W.state self.old) (accepted W.state self.new)) }
-        ensures whole { WhereTells W.tells (IsWhole W.state self.old → IsWhole W.state self.new) }
-        ensures counts { WhereTells W.tells (IsWhole W.state self.old → IsCounted W.state self.new) }
-        ensures front { WhereTells W.tells (take self.old.data_start (W.state self.new.medium).contents ≡ take self.old.data_start (W.state self.old.medium).contents) }
-        ensures reach { WhereTells W.tells (OnOk result (length (W.state self.new.medium).contents ≤ max (length (W.state self.old.medium).contents) (self.new.data_start + self.new.data_length))) }
-
-        // Over one that also keeps its past, at each moment of the call.
-        ensures moments { WhereKeeps W.tells W.keeps (AcceptsAtEach W.state self.old (W.state self.new.medium)) }
+        ensures accepts { Accepts W.tells W.keeps W.state false
+            (one (S.container sample self.old.spec_ex.spec.bits_per_sample self.old.spec_ex.bytes_per_sample)) result self.old self.new }
+        ensures buffer { self.new.buffer ≡ self.old.buffer }
     {
-        let width = self.bytes_per_sample;
-        match sample.encode(self.spec.bits_per_sample, width) {
+        let width = self.spec_ex.bytes_per_sample;
+        match sample.encode(self.spec_ex.spec.bits_per_sample, width) {
             Ok(container) => {
-                if !self.has_room(width as u32) {
+                if !self.has_room(width as u64) {
                     return Err(Error::TooLong);
                 }
-                match self.accept(&container[..width as usize]) {
-                    Ok(()) => Ok(()),
-                    Err(error) => Err(Error::IoError(error)),
-                }
+                self.accept(&container[..width as usize])
             }
             Err(refusal) => Err(refusal),
         }
@@ -273,29 +227,53 @@ impl<W: Medium> WavWriter<W> {
     fn are_frames(&self) -> bool
         ensures { IsTrue result ↔ AreFrames self.now }
     {
-        self.len() % self.spec.channels as u32 == 0
+        self.len() % self.spec_ex.spec.channels as u32 == 0
     }
 
-    // Puts both sizes, flushes the medium and goes back to the end of the accepted samples.
+    // Puts both sizes and flushes the medium, which then stands where the data begin.
     fn publish(&mut self) -> io::Result<()>
         ensures stays { self.new ≡ record self.old { medium = self.new.medium } }
-        ensures sound { IsSound self.old.spec_ex self.old.data_start self.old.data_length }
-        ensures stands { WhereTells W.tells (IsStanding self.old.spec_ex self.old.data_start self.old.data_length (W.state self.old.medium).contents) }
-        ensures patches { WhereTells W.tells (Patches (self.old.data_start - 4) (riff_size self.old.data_start self.old.data_length) self.old.data_length result
+        ensures sound { IsSound self.old }
+        ensures none_waits { self.old.waiting ≡ [] }
+        ensures stands { WhereTells W.tells (IsStanding self.old.spec_ex self.old.data_start self.old.out (W.state self.old.medium).contents) }
+        ensures patches { WhereTells W.tells (Patches (self.old.data_start - 4) (riff_size self.old.data_start self.old.out) self.old.out result
             (W.state self.old.medium) (W.state self.new.medium)) }
-        ensures moments { WhereKeeps W.tells W.keeps (PatchesAtEach (self.old.data_start - 4) self.old.data_length result (W.state self.old.medium) (W.state self.new.medium)) }
+        ensures place { WhereTells W.tells (OnOk result ((W.state self.new.medium).place ≡ self.old.data_start)) }
+        ensures moments { WhereKeeps W.tells W.keeps (PatchesAtEach (self.old.data_start - 4) self.old.out result (W.state self.old.medium) (W.state self.new.medium)) }
     {
-        let end = self.data_len_offset + 4 + self.data_bytes_written as u64;
-        let riff_size = (self.data_len_offset - 4 + self.data_bytes_written as u64) as u32;
-        let published = publish(
+        self.may_have_moved = true;
+        let riff_size = riff_size(self.data_start, self.data_bytes_written as u64) as u32;
+        patch(
             &mut self.writer,
-            self.data_len_offset,
+            self.data_start - 4,
             riff_size,
             self.data_bytes_written,
-            end,
-        );
-        self.moved = published.is_err();
-        published
+        )
+    }
+
+    // Goes to the end of the accepted samples.
+    fn go_to_end(&mut self) -> io::Result<()>
+        ensures stays { self.new ≡ record self.old { medium = self.new.medium } }
+        ensures goes { WhereTells W.tells (Goes (self.old.data_start + self.old.out) result (W.state self.old.medium) (W.state self.new.medium)) }
+    {
+        self.writer
+            .go(self.data_start + self.data_bytes_written as u64)?;
+        self.may_have_moved = false;
+        Ok(())
+    }
+
+    // Publishes, and goes back to the end of the accepted samples.
+    fn publish_and_return(&mut self) -> io::Result<()>
+        ensures stays { self.new ≡ record self.old { medium = self.new.medium } }
+        ensures sound { IsSound self.old }
+        ensures none_waits { self.old.waiting ≡ [] }
+        ensures stands { WhereTells W.tells (IsStanding self.old.spec_ex self.old.data_start self.old.out (W.state self.old.medium).contents) }
+        ensures patches { WhereTells W.tells (Patches (self.old.data_start - 4) (riff_size self.old.data_start self.old.out) self.old.out result
+            (W.state self.old.medium) (W.state self.new.medium)) }
+        ensures moments { WhereKeeps W.tells W.keeps (PatchesAtEach (self.old.data_start - 4) self.old.out result (W.state self.old.medium) (W.state self.new.medium)) }
+    {
+        self.publish()?;
+        self.go_to_end()
     }
 
     /// Publishes the accepted samples: puts both sizes into the header and flushes the medium, so
@@ -306,20 +284,34 @@ impl<W: Medium> WavWriter<W> {
     /// may go on; `UnfinishedSample`, where the samples are no whole number of frames, although all
     /// of them are published and the medium is flushed. A recorder relies on it for checkpoints.
     pub fn flush(&mut self) -> Result<()>
-        ensures answer { IsPublishing result self.old }
-        ensures stays { self.new ≡ record self.old { medium = self.new.medium } }
-        ensures publishes { WhereTells W.tells (Publishes W.state self.old result self.new.medium) }
-        ensures moments { WhereKeeps W.tells W.keeps (PublishesAtEach W.state self.old result self.new.medium) }
+        ensures { Checkpoints W.tells W.keeps W.state result self.old self.new }
     {
-        let published = self.publish();
+        let published = self.publish_and_return();
         told(published, self.are_frames())
+    }
+
+    // The medium, of which nothing more is wanted.
+    fn into_medium(self) -> W
+        ensures { result ≡ self.medium }
+    {
+        let WavWriter {
+            spec_ex: _,
+            writer,
+            data_start: _,
+            data_bytes_written: _,
+            may_have_moved: _,
+            buffer: _,
+            batch_length: _,
+            batch_written: _,
+        } = self;
+        writer
     }
 
     /// Publishes the accepted samples and closes the file.
     ///
     /// The errors are those of [`WavWriter::finalize_into`], which hands the medium back.
     pub fn finalize(self) -> Result<()>
-        ensures { IsPublishing result self }
+        ensures { (end : W) × Finishes W.tells W.keeps W.state self result end }
     {
         let (_, result) = self.finalize_into();
         result
@@ -332,33 +324,18 @@ impl<W: Medium> WavWriter<W> {
     /// is tried again; `UnfinishedSample`, where the samples are no whole number of frames, although
     /// all of them are published and the medium is flushed.
     pub fn finalize_into(self) -> (W, Result<()>)
-        ensures answer { IsPublishing result.1 self }
-        ensures publishes { WhereTells W.tells (Publishes W.state self result.1 result.0) }
-        ensures moments { WhereKeeps W.tells W.keeps (PublishesAtEach W.state self result.1 result.0) }
+        ensures { Finishes W.tells W.keeps W.state self result.1 result.0 }
     {
-        let WavWriter {
-            spec,
-            bytes_per_sample,
-            writer,
-            data_bytes_written,
-            data_len_offset,
-            moved: _,
-            buffer: _,
-            num_bytes: _,
-            index: _,
-        } = self;
-        let mut writer = writer;
-        let riff_size = (data_len_offset - 4 + data_bytes_written as u64) as u32;
-        let samples = data_bytes_written / bytes_per_sample as u32;
-        let patched = patch(&mut writer, data_len_offset, riff_size, data_bytes_written);
-        (writer, told(patched, samples % spec.channels as u32 == 0))
+        let mut last = self;
+        let published = last.publish();
+        let result = told(published, last.are_frames());
+        (last.into_medium(), result)
     }
 
     /// Does what a drop does, and hands the medium back: it publishes the accepted samples as
     /// [`WavWriter::finalize_into`] does, and a fault goes unseen.
     pub fn drop_into(self) -> W
-        ensures publishes { WhereTells W.tells ((answer : Result Unit Error) × IsPublishing answer self × Publishes W.state self answer result) }
-        ensures moments { WhereKeeps W.tells W.keeps ((answer : Result Unit Error) × IsPublishing answer self × PublishesAtEach W.state self answer result) }
+        ensures { (answer : Result Unit Error) × Finishes W.tells W.keeps W.state self answer result }
     {
         let (writer, _) = self.finalize_into();
         writer
@@ -367,25 +344,28 @@ impl<W: Medium> WavWriter<W> {
     /// The spec that the file was begun with.
     pub fn spec(&self) -> WavSpec
         ensures spec { result ≡ self.now.spec_ex.spec }
+        ensures sound { IsSound self.now }
         ensures counts { WhereTells W.tells (IsWhole W.state self.now → IsCounted W.state self.now) }
     {
-        self.spec
+        self.spec_ex.spec
     }
 
     /// The number of frames, rounded down: samples for each channel.
     pub fn duration(&self) -> u32
         ensures frames { result ≡ sample_count self.now / self.now.spec_ex.spec.channels }
+        ensures sound { IsSound self.now }
         ensures counts { WhereTells W.tells (IsWhole W.state self.now → IsCounted W.state self.now) }
     {
-        self.len() / self.spec.channels as u32
+        self.len() / self.spec_ex.spec.channels as u32
     }
 
     /// The number of samples, of all channels together.
     pub fn len(&self) -> u32
         ensures samples { result ≡ sample_count self.now }
+        ensures sound { IsSound self.now }
         ensures counts { WhereTells W.tells (IsWhole W.state self.now → IsCounted W.state self.now) }
     {
-        self.data_bytes_written / self.bytes_per_sample as u32
+        self.data_bytes_written / self.spec_ex.bytes_per_sample as u32
     }
 }
 

@@ -2,7 +2,7 @@ use Rattle.std.proofs.Common.{rules, ◌∙◌, ap, refl}
 use Rattle.hound_medium.specs.State.{one_more}
 use Rattle.hound_medium.proofs.Outcomes.{on_ok, on_ok_self}
 use Rattle.hound_medium.proofs.Spans.{span_end_zero}
-use Rattle.hound_writer.specs.Moments.{HasSize, IsPatched}
+use Rattle.hound_writer.specs.Parts.{HasSize, IsPatched}
 use Rattle.hound_writer.proofs.Patching.{cut_first, cut_second, patched}
 use Rattle.hound_writer.proofs.PatchMoments.{patched_first, patches_none, patches_both, patches_still}
 use Rattle.hound_writer.proofs.patch.patch.Goals as goal

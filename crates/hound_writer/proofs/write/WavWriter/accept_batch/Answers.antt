@@ -1,45 +1,41 @@
-use Rattle.std.proofs.Common.{◌≡◌, [], ℕ, Vec, Global, take, arith, ap, sym, refl, ◌∙◌, Ok}
+use Rattle.std.proofs.Common.{◌≡◌, [], ◌/◌, ℕ, Vec, Global, Ok, length, take, arith, ap, subst, sym, refl, ◌∙◌, false}
 use Rattle.std.proofs.lemmas.List.{take_all}
-use Rattle.hound_writer.specs.Parts.{bytes_kept}
+use Rattle.hound_sample.specs.Container.{containers}
+use Rattle.hound_writer.specs.Accepting.{Accepts}
+use Rattle.hound_writer.specs.Parts.{bytes_kept, of_fields}
 use Rattle.hound_writer.specs.Batch.{written}
-use Rattle.hound_writer.proofs.Accepting.{standing, accepts_nothing, accepts_swapped}
-use Rattle.hound_writer.proofs.AcceptMoments.{accepts_still, accepts_at_each_swapped}
+use Rattle.hound_writer.specs.Writer.{WriterState}
+use Rattle.hound_writer.proofs.Accepting.{accepts_swapped}
 use Rattle.hound_writer.proofs.write.WavWriter.accept_batch.Goals as goal
 
-pub returns-in_default-clause-accepts : goal.returns-in_default-clause-accepts
-returns-in_default-clause-accepts g c tells =
-    let state = g.W.Placed.state in
-    let w = c.args.self.now in
-    let items = bytes_kept (λ (b : Vec ℕ Global). b.items) in
-    let none : w.buffer ≡ [] = ap (λ w. w.buffer) (sym c.self.view_is) ∙ ap items (sym c.take.ensures.value ∙ c.in_default.is) in
-    let nothing : [] ≡ take w.batch_written w.buffer = sym (take_all w.batch_written [] (omega arith)) ∙ ap (take w.batch_written) (sym none) in
-    accepts_swapped state (Ok (tt {0})) [] _ _ w _ _ (items c.self.inside.buffer) (items c.take.new.self) c.self.inside.num_bytes c.self.inside.index 0 0 nothing c.self.view_is refl
-    (accepts_nothing state (tt {0}) _ c.self.invariant.0 (standing _ _ _ _ _ (c.self.invariant.1 tells)))
-
-pub returns-clause-accepts : goal.returns-clause-accepts
-returns-clause-accepts g c tells =
-    let state = g.W.Placed.state in
+pub returns-in-Some-clause-accepts : goal.returns-in-Some-clause-accepts
+returns-in-Some-clause-accepts g c =
+    let W = g.W.Placed in
     let w = c.args.self.now in
     let items = bytes_kept (λ (b : Vec ℕ Global). b.items) in
     let kept : w.buffer ≡ c.in-Some.buffer.items = ap (λ w. w.buffer) (sym c.self.view_is) ∙ ap items (sym c.take.ensures.value ∙ c.in-Some.is) in
-    let room = c.self.invariant.2 in
-    let length_is : w.batch_length ≡ c.self.inside.num_bytes = ap (λ w. w.batch_length) (sym c.self.view_is) in
-    let written_is : w.batch_written ≡ c.self.inside.index = ap (λ w. w.batch_written) (sym c.self.view_is) in
-    let full : c.self.inside.num_bytes ≡ w.batch_written = omega (arith, c.requires, length_is, written_is, room.written, room.samples, room.whole) in
-    let same : take c.self.inside.num_bytes c.deref.result.now ≡ written w = (λ i. take (full i) ((c.deref.ensures.value ∙ sym kept) i)) in
-    accepts_swapped state c.accept_all-accepted.result (take c.self.inside.num_bytes c.deref.result.now) _ _ w _ c.accept_all-accepted.new.self (items c.take.new.self) c.in-Some.buffer.items 0 0 c.self-2.inside.num_bytes c.self-2.inside.index
-    same c.self.view_is c.self-2.view_is (c.accept_all-accepted.ensures.accepts tells)
+    let room = c.self.invariant.batch in
+    let length_is : w.batch_length ≡ c.self.inside.batch_length = ap (λ w. w.batch_length) (sym c.self.view_is) in
+    let written_is : w.batch_written ≡ c.self.inside.batch_written = ap (λ w. w.batch_written) (sym c.self.view_is) in
+    let full : c.self.inside.batch_length ≡ w.batch_written = omega (arith, c.requires, length_is, written_is, room.written, room.samples, room.whole) in
+    let bytes = take c.self.inside.batch_length c.deref.result.now in
+    let same : bytes ≡ written w = (λ i. take (full i) ((c.deref.ensures.value ∙ sym kept) i)) in
+    let accept = c.accept-accepted in
+    let i = c.self-in-Some.inside in
+    let last = of_fields i.writer i.spec_ex i.data_start i.data_bytes_written (items i.buffer) i.batch_length i.batch_written in
+    subst (λ l. Accepts W.tells W.keeps W.state false (Ok (containers w.spec_ex.bytes_per_sample (length l / w.spec_ex.bytes_per_sample) l)) accept.result w (record last { buffer = c.in-Some.buffer.items })) same
+    (accepts_swapped W.tells W.keeps W.state (λ v. Ok (containers v.spec_ex.bytes_per_sample (length bytes / v.spec_ex.bytes_per_sample) bytes)) accept.result _ w last accept.new.self (items c.take.new.self) c.in-Some.buffer.items 0 0 i.batch_length i.batch_written
+    accept.ensures.failed (let e : length w.buffer ≡ length c.in-Some.buffer.items = ap length kept in omega (arith, e)) refl (ap (λ (v : WriterState _). record v { buffer = items c.take.new.self; batch_length = 0; batch_written = 0 }) c.self.view_is) c.self-in-Some.view_is accept.ensures.accepts)
 
-pub returns-in_default-clause-moments : goal.returns-in_default-clause-moments
-returns-in_default-clause-moments g c tells keeps =
-    let state = g.W.Placed.state in
+pub returns-in-None-clause-accepts : goal.returns-in-None-clause-accepts
+returns-in-None-clause-accepts g c =
+    let W = g.W.Placed in
+    let w = c.args.self.now in
     let items = bytes_kept (λ (b : Vec ℕ Global). b.items) in
-    accepts_at_each_swapped state _ c.args.self.now (items c.self.inside.buffer) c.self.inside.num_bytes c.self.inside.index _ _ c.self.view_is refl
-    (accepts_still state _ c.self.invariant.0 (standing _ _ _ _ _ (c.self.invariant.1 tells)) (g.met.W.Medium.replays c.self.inside.writer tells keeps))
-
-pub returns-clause-moments : goal.returns-clause-moments
-returns-clause-moments g c tells keeps =
-    let state = g.W.Placed.state in
-    let items = bytes_kept (λ (b : Vec ℕ Global). b.items) in
-    accepts_at_each_swapped state _ c.args.self.now (items c.take.new.self) 0 0 (state c.accept_all-accepted.new.self.medium) _ c.self.view_is (ap (λ w. state w.medium) (sym c.self-2.view_is))
-    (c.accept_all-accepted.ensures.moments tells keeps)
+    let none : w.buffer ≡ [] = ap (λ w. w.buffer) (sym c.self.view_is) ∙ ap items (sym c.take.ensures.value ∙ c.in-None.is) in
+    let same : [] ≡ written w = sym (take_all w.batch_written [] (omega arith)) ∙ ap (take w.batch_written) (sym none) in
+    let accept = c.accept in
+    let new = accept.new.self in
+    subst (λ l. Accepts W.tells W.keeps W.state false (Ok (containers w.spec_ex.bytes_per_sample (length l / w.spec_ex.bytes_per_sample) l)) accept.result w new) same
+    (accepts_swapped W.tells W.keeps W.state (λ v. Ok (containers v.spec_ex.bytes_per_sample (0 / v.spec_ex.bytes_per_sample) [])) accept.result _ w new new (items c.take.new.self) new.buffer 0 0 new.batch_length new.batch_written
+    accept.ensures.failed (let e : length w.buffer ≡ 0 = ap length none in omega (arith, e)) refl (ap (λ (v : WriterState _). record v { buffer = items c.take.new.self; batch_length = 0; batch_written = 0 }) c.self.view_is) refl accept.ensures.accepts)

@@ -1,0 +1,45 @@
+-- What holds by the answer of a call.
+use Rattle.std.proofs.Common.{◌≡◌, ℕ, Bool, true, false, Result, Ok, Err, OnOk, refl, subst, sym}
+use Rattle.std.specs.declared.io.Error.{Error as IoFault}
+use Rattle.hound_spec.specs.declared.error.Error.{Error}
+use Rattle.hound_spec.specs.declared.error.Error.TheVariants.{IoError, UnfinishedSample}
+use Rattle.hound_medium.specs.State.{faults_after}
+use Rattle.hound_writer.specs.Answers.{OnRefused, OnPublished, UnlessFailed, faults_told}
+use Rattle.hound_writer.specs.Parts.{IsTold}
+
+pub on_refused : {T P : Type 0} (answer : Result T Error) → P → OnRefused answer P
+on_refused (Ok x) here = tt
+on_refused (Err (IoError e)) here = tt
+on_refused (Err e) here = here
+
+pub unless_failed : {T P : Type 0} (answer : Result T Error) → P → UnlessFailed answer P
+unless_failed (Ok x) here = here
+unless_failed (Err (IoError e)) here = tt
+unless_failed (Err e) here = here
+
+pub on_published_then : {T P Q : Type 0} (answer : Result T Error) → (P → Q) → OnPublished answer P → OnPublished answer Q
+on_published_then (Ok x) then here = then here
+on_published_then (Err UnfinishedSample) then here = then here
+on_published_then (Err e) then here = tt
+
+pub on_ok_then : {T E P Q : Type 0} (result : Result T E) → (P → Q) → OnOk result P → OnOk result Q
+on_ok_then (Ok x) then here = then here
+on_ok_then (Err e) then here = tt
+
+-- what holds after an Ok patch holds where its caller says that all was published
+pub published : (P : Type 0) (patched : Result (Unit {0}) IoFault) (are_frames : Bool) (told : Result (Unit {0}) Error) → IsTold patched are_frames told → OnOk patched P → OnPublished told P
+published P (Err e) are_frames told is here = subst (λ t. OnPublished t P) (sym is) tt
+published P (Ok x) true told is here = subst (λ t. OnPublished t P) (sym is) here
+published P (Ok x) false told is here = subst (λ t. OnPublished t P) (sym is) here
+
+-- an Ok is told for whole frames alone
+pub told_ok : (P : Type 0) (patched : Result (Unit {0}) IoFault) (are_frames : Bool) (told : Result (Unit {0}) Error) → IsTold patched are_frames told → (are_frames ≡ true → OnOk patched P) → OnOk told P
+told_ok P (Err e) are_frames told is here = subst (λ t. OnOk t P) (sym is) tt
+told_ok P (Ok x) true told is here = subst (λ t. OnOk t P) (sym is) (here refl)
+told_ok P (Ok x) false told is here = subst (λ t. OnOk t P) (sym is) tt
+
+-- the faults that an answer tells are those of the patch
+pub told_faults : (patched : Result (Unit {0}) IoFault) (are_frames : Bool) (told : Result (Unit {0}) Error) (old new : ℕ) → IsTold patched are_frames told → new ≡ faults_after patched old → new ≡ faults_told told old
+told_faults (Err e) are_frames told old new is here = subst (λ t. new ≡ faults_told t old) (sym is) here
+told_faults (Ok x) true told old new is here = subst (λ t. new ≡ faults_told t old) (sym is) here
+told_faults (Ok x) false told old new is here = subst (λ t. new ≡ faults_told t old) (sym is) here

@@ -1,0 +1,146 @@
+-- Appending to a file that is there.
+use Rattle.std.proofs.Common.{◌≡◌, ℕ, ◌+◌, ◌-◌, ◌%◌, ◌≤◌, Bool, true, false, not, cond, nat_lt, List, [], drop, Option, Some, None, inl, inr, Result, Ok, Err, MatchResult, refl, sym, ◌∙◌, ap, subst, arith, eqb-true}
+use Rattle.std.proofs.lemmas.Bool.Decides.{nat_tests}
+use Rattle.hound_spec.specs.declared.error.Error.{Error}
+use Rattle.hound_spec.specs.declared.spec.SampleFormat.{SampleFormat}
+use Rattle.hound_spec.specs.declared.spec.SampleFormat.TheVariants.{Int, Float}
+use Rattle.hound_spec.specs.declared.spec.WavSpecEx.{WavSpecEx}
+use Rattle.hound_spec.specs.Header.{riff_size}
+use Rattle.hound_spec.specs.Writable.{IsPair}
+use Rattle.hound_medium.specs.State.{MediumState, Goes, WhereTells, one_more}
+use Rattle.hound_reader.specs.declared.chunks.FileHead.{FileHead}
+use Rattle.hound_reader.specs.declared.fault.HeadError.{HeadError}
+use Rattle.hound_reader.specs.declared.fault.HeadError.TheVariants.{Failed, Refused}
+use Rattle.hound_reader.specs.Fmt.{IsSound as IsSoundHead}
+use Rattle.hound_reader.specs.Chunks.{Head, Refused as RefusedFor}
+use Rattle.hound_reader.specs.Refusals.{TellsError}
+use Rattle.hound_reader.specs.Sources.{FindsData}
+use Rattle.std.specs.declared.io.Error.{Error as IoFault}
+use Rattle.hound_writer.specs.Answers.{IsIoError}
+use Rattle.hound_writer.specs.Parts.{IsStanding, of_fields}
+use Rattle.hound_writer.specs.Sizes.{field}
+use Rattle.hound_writer.specs.Writer.{WriterState, IsSound, data_length}
+use Rattle.hound_writer.specs.Appending.{Appends, FollowsData, IsAppendFault, by_bytes, head_fault, is_written_pair, IsNotAppended, PutsNothing}
+use Rattle.hound_writer.proofs.Heads.{head_field}
+use Rattle.hound_writer.proofs.Samples.{counts_at}
+
+-- where a row of a table isn't met, the rows behind it decide
+none_behind : {A : Type 0} (b : Bool) (x : A) (rest : Option A) → cond b (Some x) rest ≡ None → (b ≡ false) × (rest ≡ None)
+none_behind true x rest e = cc
+none_behind false x rest e = (refl, e)
+
+holds : (b : Bool) → not b ≡ false → b ≡ true
+holds true e = refl
+holds false e = cc
+
+-- samples of a pair that is written
+pub pair_of : (format : SampleFormat) (bits width : ℕ) → is_written_pair format bits width ≡ true → IsPair format bits width
+pair_of Int bits width e = grind (arith, nat_tests)
+pair_of Float bits width e = grind (arith, nat_tests)
+
+-- a head with no fault
+pub sound_head : {W : Type 0} (medium : W) (s : WavSpecEx) (len h : ℕ) → IsSoundHead s → 20 ≤ h → head_fault s len h ≡ None → IsSound (of_fields medium s h len [] 0 0)
+unfolding head_fault
+sound_head medium s len h sound after none =
+    let samples = none_behind _ _ _ none in
+    let pair = none_behind _ _ _ samples.1 in
+    let frames = none_behind _ _ _ pair.1 in
+    let fits = none_behind _ _ _ frames.1 in
+    let le : riff_size h len ≤ 4294967295 = lt_false _ _ fits.0 in
+    record {
+      pair = pair_of s.spec.sample_format s.spec.bits_per_sample s.bytes_per_sample (holds _ pair.0);
+      channels = omega (arith, sound.0);
+      width = omega (arith, sound.1);
+      whole = ap (λ n. n % s.bytes_per_sample) (let e : len + 0 ≡ len = omega arith in e) ∙ eqb-true _ _ (holds _ samples.0);
+      after_head = after;
+      fits = omega (arith, le);
+    }
+  where
+    lt_false : (a b : ℕ) → nat_lt a b ≡ false → b ≤ a
+    lt_false a b e = grind (arith, nat_tests)
+
+-- the file of a writer that appends
+pub stands_on : (s : WavSpecEx) (len h : ℕ) (contents new : List ℕ) → Head contents s len h → new ≡ contents → IsStanding s h len new
+stands_on s len h contents new head same =
+    let says : field (h - 4) new ≡ len = ap (field (h - 4)) same ∙ head_field contents s len h head in
+    record {
+      head = subst (λ (x : List ℕ × ℕ). Head x.0 s x.1 h) (λ i. (sym same i, sym says i)) head;
+      counted = omega (arith, says);
+    }
+
+-- a writer that appends, after a `go` to the end of the data
+pub follows : {W : Type 0} (state : W → MediumState) (medium : W) (s : WavSpecEx) (len h : ℕ) (old : MediumState) → IsSoundHead s → 20 ≤ h → Head old.contents s len h → head_fault s len h ≡ None → Goes {T = Unit {0}} {E = IoFault} (h + len) (Ok tt) old (state medium)
+    → FollowsData old state (of_fields medium s h len [] 0 0)
+follows state medium s len h old sound after head check goes =
+    let w = of_fields medium s h len [] 0 0 in
+    let all : len ≡ len + 0 = omega arith in
+    record {
+      head = subst (λ n. Head old.contents s n h) all head;
+      check = ap (λ n. head_fault s n h) (sym all) ∙ check;
+      puts = record { stays = goes.stays; flushed = goes.flushed };
+      place = goes.place ∙ ap (λ n. h + n) all;
+      faults = goes.faults;
+      counts = λ _. counts_at state w refl (sound_head medium s len h sound after check) (state medium).contents (stands_on s len h old.contents (state medium).contents head goes.stays.contents) refl;
+    }
+
+-- a walk changes nothing but the place and the faults
+pub walk_puts_nothing : (result : Result FileHead HeadError) (old new : MediumState) → FindsData result old new → PutsNothing old new
+walk_puts_nothing result old new finds = record {
+  stays = record { contents = finds.contents; start = finds.start; past = finds.past };
+  flushed = finds.flushed;
+}
+
+puts_nothing_then : (a b c : MediumState) → PutsNothing a b → PutsNothing b c → PutsNothing a c
+puts_nothing_then a b c first then = record {
+  stays = record {
+    contents = then.stays.contents ∙ first.stays.contents;
+    start = then.stays.start ∙ first.stays.start;
+    past = then.stays.past ∙ first.stays.past;
+  };
+  flushed = then.flushed ∙ first.flushed;
+}
+
+-- a walk to the data that found a head, and then the answer of a call that appends there
+appends_after : {W : Type 0} (tells : Bool) (state : W → MediumState) (head : FileHead) (old mid : MediumState) (w : WriterState W) → WhereTells tells (FindsData (Ok head) old mid) → Appends tells state mid w → Appends tells state old w
+appends_after tells state head old mid w finds on = record {
+  sound = on.sound;
+  none_waits = on.none_waits;
+  buffer = on.buffer;
+  file = λ told.
+      let walk = finds told in
+      let file = on.file told in
+      record {
+        head = subst (λ l. Head l w.spec_ex (data_length w) w.data_start) walk.contents file.head;
+        check = file.check;
+        puts = puts_nothing_then old mid (state w.medium) (walk_puts_nothing (Ok head) old mid walk) file.puts;
+        place = file.place;
+        faults = file.faults ∙ walk.faults;
+        counts = file.counts;
+      };
+}
+
+refused_after : (head : FileHead) (old mid new : MediumState) (e : Error) → FindsData (Ok head) old mid → IsNotAppended mid new e → IsNotAppended old new e
+refused_after head old mid new e finds refused = record {
+  puts = puts_nothing_then old mid new (walk_puts_nothing (Ok head) old mid finds) refused.puts;
+  why = elim refused.why [
+    | inl (fault, is, names, faults) ↦ inl (fault, subst (λ l. IsAppendFault l fault) finds.contents is, names, faults ∙ finds.faults)
+    | inr (is, faults) ↦ inr (is, faults ∙ ap one_more finds.faults)
+  ];
+}
+
+pub answer_after : {W : Type 0} (tells : Bool) (state : W → MediumState) (head : FileHead) (old mid : MediumState) (answer : Result (WriterState W) (W × Error)) → WhereTells tells (FindsData (Ok head) old mid)
+    → MatchResult answer (Appends tells state mid) (λ refused. WhereTells tells (IsNotAppended mid (state refused.0) refused.1))
+    → MatchResult answer (Appends tells state old) (λ refused. WhereTells tells (IsNotAppended old (state refused.0) refused.1))
+answer_after tells state head old mid (Ok w) finds on = appends_after tells state head old mid w finds on
+answer_after tells state head old mid (Err refused) finds on = λ told. refused_after head old mid (state refused.0) refused.1 (finds told) (on told)
+
+-- a walk that found none
+pub walk_fails : (error : HeadError) (e : Error) (old new : MediumState) → old.place ≡ 0 → TellsError error e → FindsData (Err error) old new → IsNotAppended old new e
+walk_fails (Failed x) e old new begins told finds = record {
+  puts = walk_puts_nothing (Err (Failed x)) old new finds;
+  why = inr (subst IsIoError (sym told) tt, finds.faults);
+}
+walk_fails (Refused cause) e old new begins told finds = record {
+  puts = walk_puts_nothing (Err (Refused cause)) old new finds;
+  why = inl (by_bytes cause, inl (cause, refl, subst (λ n. RefusedFor (drop n old.contents) cause) begins finds.answer), told, finds.faults);
+}
