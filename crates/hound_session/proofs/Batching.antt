@@ -1,20 +1,23 @@
 -- What a batch accepts.
-use Rattle.std.proofs.Common.{◌≡◌, ℕ, ℤ, ◌+◌, ◌*◌, ◌/◌, ◌<◌, ◌≤◌, true, false, nat_le, cond, List, [], ◌∷◌, ◌++◌, length, take, drop, map, Result, Ok, Err, IfErr, MatchResult, refl, sym, ◌∙◌, ap, subst, arith, inl, inr, length-append, le-leb, lt-ltb, max}
+use Rattle.std.proofs.Common.{◌≡◌, ℕ, ℤ, ◌+◌, ◌*◌, ◌/◌, ◌<◌, ◌≤◌, true, false, nat_le, Bool, cond, List, [], ◌∷◌, ◌++◌, length, take, drop, map, Result, Ok, Err, IfErr, IsTrue, OnOk, refl, sym, ◌∙◌, ap, subst, arith, inl, inr, length-append, le-leb, lt-ltb, max}
 use Rattle.std.proofs.lemmas.Bool.{cases_Bool, true≢false}
 use Rattle.std.proofs.lemmas.Bool.Decides.{nat_tests}
 use Rattle.std.proofs.lemmas.List.{take_at, drop_at}
 use Rattle.std.specs.List.{concat, flat_map}
 use Rattle.hound_number.specs.Number.{signed_bytes_of}
 use Rattle.hound_spec.specs.declared.error.Error.{Error}
-use Rattle.hound_spec.specs.declared.error.Error.TheVariants.{IoError, FormatError, TooWide, UnfinishedSample, Unsupported, InvalidSampleFormat, TooLong, OutOfMemory}
+use Rattle.hound_spec.specs.declared.error.Error.TheVariants.{TooLong, OutOfMemory, Unsupported}
 use Rattle.hound_spec.specs.Header.{riff_size}
-use Rattle.hound_sample.specs.Container.{containers, unsupported}
-use Rattle.hound_medium.specs.State.{MediumState, one_more}
-use Rattle.hound_writer.specs.Writer.{WriterState, IsWhole, IsIoError, IsSameFile, StaysInPlace, AcceptsBytes, accepted}
-use Rattle.hound_writer.specs.Room.{HasRoom}
-use Rattle.hound_session.specs.Steps.{is_sixteen, batch_containers, FitAnswer, wants_memory}
-use Rattle.hound_session.specs.Run.{AcceptsAs}
-use Rattle.hound_session.proofs.Taking.{refused_as}
+use Rattle.hound_sample.specs.Container.{Refusal, containers, unsupported}
+use Rattle.hound_medium.specs.Bytes.{overlay}
+use Rattle.hound_medium.specs.State.{MediumState, WhereTells, WhereKeeps}
+use Rattle.hound_writer.specs.Accepting.{Accepts}
+use Rattle.hound_writer.specs.Answers.{AcceptAnswer, FitAnswer, faults_told, mark_of}
+use Rattle.hound_writer.specs.Batch.{IsSameFile}
+use Rattle.hound_writer.specs.Writer.{WriterState, HasRoom, IsWhole, IsCounted, data_length}
+use Rattle.hound_writer.proofs.Accepting.{accepts_refused, accepts_swapped, fit_failed}
+use Rattle.hound_writer.proofs.Writing.{no_room}
+use Rattle.hound_session.specs.Steps.{is_sixteen, batch_containers, wants_memory}
 
 -- the bytes of a batch's values are those of its containers, two to each
 joined : (values : List ℤ) → flat_map (signed_bytes_of 2) values ≡ concat (map (signed_bytes_of 2) values)
@@ -32,100 +35,73 @@ split (v ∷ values) =
     (λ i. take_at (signed_bytes_of 2 v) rest 2 refl i ∷ containers 2 (length values) (drop_at (signed_bytes_of 2 v) rest 2 refl i))
     ∙ ap (λ (l : List (List ℕ)). signed_bytes_of 2 v ∷ l) (split values)
 
-module _ {M : Type 0} (state : M → MediumState) (old : WriterState M) (values : List ℤ) (sixteen : is_sixteen old.spec_ex.spec ≡ true) where
+module _ {M : Type 0} (tells keeps : Bool) (state : M → MediumState) (old : WriterState M) (values : List ℤ)
+    (counts : WhereTells tells (IsWhole state old → IsCounted state old)) (replays : WhereKeeps tells keeps ((state old.medium).contents ≡ overlay (state old.medium).start (state old.medium).past)) where
+  abbrev memory : Bool
+  memory = wants_memory values old
+
   abbrev list : List (List ℕ)
   list = map (signed_bytes_of 2) values
 
-  asked : batch_containers old.spec_ex values ≡ Ok (map (signed_bytes_of 2) values)
-  asked = ap (λ b. cond b (Ok (map (signed_bytes_of 2) values)) (Err unsupported)) sixteen
+  -- samples of other than sixteen bits
+  pub batch_of_others : is_sixteen old.spec_ex.spec ≡ false → Accepts tells keeps state (wants_memory values old) (batch_containers old.spec_ex values) (Err Unsupported) old old
+  batch_of_others other =
+      let asked : batch_containers old.spec_ex values ≡ Err unsupported = ap (λ b. cond b (Ok (map (signed_bytes_of 2) values)) (Err unsupported)) other in
+      subst (λ a. Accepts tells keeps state memory a (Err Unsupported) old old) (sym asked)
+      (accepts_refused tells keeps state old memory (Err unsupported) Unsupported counts replays refl (λ _. refl) refl)
 
-  pub batch_too_long : 4294967295 < 2 * length values → AcceptsAs state (wants_memory values old) (batch_containers old.spec_ex values) (Err TooLong) old old
-  batch_too_long long =
-      subst (λ a. AcceptsAs state (wants_memory values old) a (Err TooLong) old old) (sym asked)
-      (refused_as state (wants_memory values old) (Ok list) TooLong old old refl refl (subst (λ b. FitAnswer b (wants_memory values old) (Err TooLong)) (sym no) refl) refl)
-    where
-      no : nat_le (riff_size old.data_start (old.data_length + length (concat (map (signed_bytes_of 2) values)))) 4294967295 ≡ false
-      no = not_le (riff_size old.data_start (old.data_length + length (concat (map (signed_bytes_of 2) values)))) (omega (arith, long, length-joined values))
-        where
-          not_le : (n : ℕ) → 4294967295 < n → nat_le n 4294967295 ≡ false
-          not_le n h = grind (arith, nat_tests)
+  module _ (sixteen : is_sixteen old.spec_ex.spec ≡ true) where
+    asked : batch_containers old.spec_ex values ≡ Ok (map (signed_bytes_of 2) values)
+    asked = ap (λ b. cond b (Ok (map (signed_bytes_of 2) values)) (Err unsupported)) sixteen
 
-  room_is : HasRoom old (2 * length values) → nat_le (riff_size old.data_start (old.data_length + length (concat (map (signed_bytes_of 2) values)))) 4294967295 ≡ true
-  room_is room = le-leb (riff_size old.data_start (old.data_length + length (concat (map (signed_bytes_of 2) values)))) 4294967295 (omega (arith, room, length-joined values))
+    size : length (concat (map (signed_bytes_of 2) values)) ≡ 2 * length values
+    size = length-joined values
 
-  -- a batch that isn't begun
-  pub batch_not_begun : (e : Error) (new : WriterState M) → ((HasRoom old (2 * length values) → ⊥) → e ≡ TooLong) → (HasRoom old (2 * length values) → (e ≡ OutOfMemory) × (length old.buffer < 2 * length values)) → new ≡ old → AcceptsAs state (wants_memory values old) (batch_containers old.spec_ex values) (Err e) old new
-  batch_not_begun e new long memory same = subst (λ a. AcceptsAs state (wants_memory values old) a (Err e) old new) (sym asked) (elim (cases_Bool (nat_le (riff_size old.data_start (old.data_length + length (concat (map (signed_bytes_of 2) values)))) 4294967295)) [
-    | inl room ↦
-        let here : HasRoom old (2 * length values) = omega (arith, le_of _ room, length-joined values) in
-        subst (λ x. AcceptsAs state (wants_memory values old) (Ok list) (Err x) old new) (sym (memory here).0)
-        (refused_as state (wants_memory values old) (Ok list) OutOfMemory old new refl refl (subst (λ b. FitAnswer b (wants_memory values old) (Err OutOfMemory)) (sym room) (lt-ltb (length old.buffer) (2 * length values) (memory here).1)) same)
-    | inr room ↦
-        subst (λ x. AcceptsAs state (wants_memory values old) (Ok list) (Err x) old new) (sym (long (λ here. true≢false (sym (room_is here) ∙ room))))
-        (refused_as state (wants_memory values old) (Ok list) TooLong old new refl refl (subst (λ b. FitAnswer b (wants_memory values old) (Err TooLong)) (sym room) refl) same)
-  ])
-    where
-      le_of : (n : ℕ) → nat_le n 4294967295 ≡ true → n ≤ 4294967295
-      le_of n h = grind (arith, nat_tests)
+    refused : (e : Error) → AcceptAnswer {T = Unit {0}} memory (Ok (map (signed_bytes_of 2) values)) old (Err e) → mark_of {T = Unit {0}} (Err e) ≡ false → ((faults : ℕ) → faults ≡ faults_told {T = Unit {0}} (Err e) faults)
+        → Accepts tells keeps state (wants_memory values old) (batch_containers old.spec_ex values) (Err e) old old
+    refused e answers mark faults =
+        subst (λ a. Accepts tells keeps state memory a (Err e) old old) (sym asked) (accepts_refused tells keeps state old memory (Ok list) e counts replays mark faults answers)
 
-  -- a batch that is accepted as a whole, or not at all
-  module _ (mid new : WriterState M) (bytes : List ℕ) (room : HasRoom old (2 * length values)) (two : old.spec_ex.bytes_per_sample ≡ 2) (same : IsSameFile old mid) (stays : StaysInPlace mid new) (written : bytes ≡ flat_map (signed_bytes_of 2) values)
-      (kept : length mid.buffer ≡ max (length old.buffer) (2 * length values)) where
-    bytes_are : bytes ≡ concat (map (signed_bytes_of 2) values)
-    bytes_are = written ∙ joined values
+    pub batch_too_long : (HasRoom old (2 * length values) → ⊥) → Accepts tells keeps state (wants_memory values old) (batch_containers old.spec_ex values) (Err TooLong) old old
+    batch_too_long none =
+        let no : nat_le (riff_size old.data_start (data_length old + length (concat list))) 4294967295 ≡ false = no_room old (length (concat list)) (λ room. none (omega (arith, room, size))) in
+        refused TooLong (subst (λ b. FitAnswer {T = Unit {0}} b memory (Err TooLong)) (sym no) refl) refl (λ _. refl)
 
-    size : length bytes ≡ 2 * length values
-    size = ap length bytes_are ∙ length-joined values
+    room_is : HasRoom old (2 * length values) → nat_le (riff_size old.data_start (data_length old + length (concat (map (signed_bytes_of 2) values)))) 4294967295 ≡ true
+    room_is room = le-leb (riff_size old.data_start (data_length old + length (concat list))) 4294967295 (omega (arith, room, size))
 
-    -- the accepted samples of the writer that the batch was written to
-    before : accepted state mid ≡ accepted state old
-    before = (λ i. containers (same.spec_ex i).bytes_per_sample (same.data_length i / (same.spec_ex i).bytes_per_sample) (drop (same.data_start i) (state (same.medium i)).contents))
-
-    all_taken : containers mid.spec_ex.bytes_per_sample (length bytes / mid.spec_ex.bytes_per_sample) bytes ≡ map (signed_bytes_of 2) values
-    all_taken =
-        let w : mid.spec_ex.bytes_per_sample ≡ 2 = ap (λ s. s.bytes_per_sample) same.spec_ex ∙ two in
-        let n : length bytes / 2 ≡ length values = omega (arith, size) in
-        (λ i. containers (w i) (length bytes / w i) bytes) ∙ (λ i. containers 2 (n i) (bytes_are i)) ∙ split values
-
-    pub batch_flushed : (result : Result (Unit {0}) Error) → IfErr result IsIoError → MatchResult result (λ _. new.data_length ≡ mid.data_length + length bytes) (λ _. new.data_length ≡ mid.data_length) → AcceptsBytes state result bytes mid new
-        → AcceptsAs state (wants_memory values old) (batch_containers old.spec_ex values) result old new
-    batch_flushed result failed count accepts = subst (λ a. AcceptsAs state (wants_memory values old) a result old new) (sym asked) (go result failed count accepts)
+    -- a batch that isn't begun
+    pub batch_not_begun : (e : Error) (new : WriterState M) → ((HasRoom old (2 * length values) → ⊥) → e ≡ TooLong) → (HasRoom old (2 * length values) → (e ≡ OutOfMemory) × (length old.buffer < 2 * length values)) → new ≡ old
+        → Accepts tells keeps state (wants_memory values old) (batch_containers old.spec_ex values) (Err e) old new
+    batch_not_begun e new long none same =
+        subst (λ w. Accepts tells keeps state memory (batch_containers old.spec_ex values) (Err e) old w) (sym same)
+        (elim (cases_Bool (nat_le (riff_size old.data_start (data_length old + length (concat list))) 4294967295)) [
+          | inl room ↦
+              let here : HasRoom old (2 * length values) = omega (arith, le_of _ room, size) in
+              subst (λ x. Accepts tells keeps state memory (batch_containers old.spec_ex values) (Err x) old old) (sym (none here).0)
+              (refused OutOfMemory (subst (λ b. FitAnswer {T = Unit {0}} b memory (Err OutOfMemory)) (sym room) (lt-ltb (length old.buffer) (2 * length values) (none here).1)) refl (λ _. refl))
+          | inr room ↦
+              let no : HasRoom old (2 * length values) → ⊥ = λ here. true≢false (sym (room_is here) ∙ room) in
+              subst (λ x. Accepts tells keeps state memory (batch_containers old.spec_ex values) (Err x) old old) (sym (long no)) (batch_too_long no)
+        ])
       where
-        whole_mid : IsWhole state old → IsWhole state mid
-        whole_mid whole = omega (arith, whole, same.data_start, same.data_length, ap (λ m. length (state m).contents) same.medium)
+        le_of : (n : ℕ) → nat_le n 4294967295 ≡ true → n ≤ 4294967295
+        le_of n h = grind (arith, nat_tests)
 
-        go : (result : Result (Unit {0}) Error) → IfErr result IsIoError → MatchResult result (λ _. new.data_length ≡ mid.data_length + length bytes) (λ _. new.data_length ≡ mid.data_length) → AcceptsBytes state result bytes mid new
-            → AcceptsAs state (wants_memory values old) (Ok (map (signed_bytes_of 2) values)) result old new
-        go (Ok x) failed count accepts = record {
-          answers = subst (λ b. FitAnswer b (wants_memory values old) (Ok x)) (sym (room_is room)) tt;
-          faults = accepts.faults ∙ ap (λ m. (state m).faults) same.medium;
-          spec_ex = stays.spec_ex ∙ same.spec_ex;
-          data_start = stays.data_start ∙ same.data_start;
-          data_length = omega (arith, count, same.data_length, size, length-joined values);
-          kept = omega (arith, kept, ap length stays.buffer);
-          front = (λ i. take (sym same.data_start i) (state new.medium).contents) ∙ accepts.front ∙ (λ i. take (same.data_start i) (state (same.medium i)).contents);
-          reach = omega (arith, accepts.reach, stays.data_start, same.data_start, ap (λ m. length (state m).contents) same.medium);
-          whole = λ whole. accepts.whole (whole_mid whole);
-          accepted = λ whole. accepts.accepted (whole_mid whole) ∙ (λ i. before i ++ all_taken i);
-          counts = λ whole _. accepts.counts (whole_mid whole);
-        }
-        go (Err (IoError e)) failed count accepts = record {
-          answers = subst (λ b. FitAnswer b (wants_memory values old) (Err (IoError e))) (sym (room_is room)) tt;
-          faults = accepts.faults ∙ ap (λ m. one_more (state m).faults) same.medium;
-          spec_ex = stays.spec_ex ∙ same.spec_ex;
-          data_start = stays.data_start ∙ same.data_start;
-          data_length = omega (arith, count, same.data_length);
-          kept = omega (arith, kept, ap length stays.buffer);
-          front = (λ i. take (sym same.data_start i) (state new.medium).contents) ∙ accepts.front ∙ (λ i. take (same.data_start i) (state (same.medium i)).contents);
-          reach = tt;
-          whole = λ whole. accepts.whole (whole_mid whole);
-          accepted = λ whole. accepts.accepted (whole_mid whole) ∙ (λ i. before i ++ []);
-          counts = λ whole _. accepts.counts (whole_mid whole);
-        }
-        go (Err (FormatError x)) failed count accepts = absurd failed
-        go (Err TooWide) failed count accepts = absurd failed
-        go (Err UnfinishedSample) failed count accepts = absurd failed
-        go (Err Unsupported) failed count accepts = absurd failed
-        go (Err InvalidSampleFormat) failed count accepts = absurd failed
-        go (Err TooLong) failed count accepts = absurd failed
-        go (Err OutOfMemory) failed count accepts = absurd failed
+    -- a batch that is accepted as a whole, or not at all
+    pub batch_flushed : (mid new : WriterState M) (bytes : List ℕ) (answer : Result (Unit {0}) Error) → HasRoom old (2 * length values) → old.spec_ex.bytes_per_sample ≡ 2 → IsSameFile old mid → bytes ≡ flat_map (signed_bytes_of 2) values → length old.buffer ≤ length new.buffer
+        → Accepts tells keeps state false (Ok (containers mid.spec_ex.bytes_per_sample (length bytes / mid.spec_ex.bytes_per_sample) bytes)) answer mid new → Accepts tells keeps state (wants_memory values old) (batch_containers old.spec_ex values) answer old new
+    batch_flushed mid new bytes answer room two same written kept accepts =
+        let is : bytes ≡ concat list = written ∙ joined values in
+        let count : length bytes / 2 ≡ length values = omega (arith, ap length is, size) in
+        let w : mid.spec_ex.bytes_per_sample ≡ 2 = ap (λ s. s.bytes_per_sample) same.spec_ex ∙ two in
+        let all : containers mid.spec_ex.bytes_per_sample (length bytes / mid.spec_ex.bytes_per_sample) bytes ≡ list =
+        (λ i. containers (w i) (length bytes / w i) bytes) ∙ (λ i. containers 2 (count i) (is i)) ∙ split values in
+        let asks : Accepts tells keeps state false (Ok list) answer mid new = subst (λ (l : List (List ℕ)). Accepts tells keeps state false (Ok l) answer mid new) all accepts in
+        let fits : FitAnswer true false answer =
+        subst (λ b. FitAnswer b false answer) ((λ i. nat_le (riff_size (same.data_start i) (same.out i + length (same.waiting i) + length (concat list))) 4294967295) ∙ room_is room) asks.adds.answers in
+        let old_is : mid ≡ record old { buffer = mid.buffer; batch_length = mid.batch_length; batch_written = mid.batch_written } =
+        (λ i. record { medium = same.medium i; spec_ex = same.spec_ex i; data_start = same.data_start i; out = same.out i; waiting = same.waiting i; buffer = mid.buffer; batch_length = mid.batch_length; batch_written = mid.batch_written }) in
+        subst (λ a. Accepts tells keeps state memory a answer old new) (sym asked)
+        (accepts_swapped tells keeps state memory (λ _. Ok list) answer mid old new new mid.buffer new.buffer mid.batch_length mid.batch_written new.batch_length new.batch_written
+        (fit_failed answer fits) kept refl old_is refl asks)

@@ -1,8 +1,9 @@
-pub mod Taking
-pub mod Batching
+pub mod Stepping
 pub mod Running
 pub mod Leading
-pub mod Whole
-pub mod Chaining
 pub mod Moments
+pub mod Whole
+pub mod Batching
+pub mod Chaining
+pub mod WholeSessions
 pub mod OneByOne

@@ -1,4 +1,4 @@
-pub mod Steps
+pub mod Headline
 pub mod Run
 pub mod Sessions
-pub mod AtEach
+pub mod Steps

@@ -1,84 +1,93 @@
--- Sessions one after the other over one medium.
-use Rattle.std.specs.Prelude.{◌≡◌, ℕ, ◌+◌, ◌≤◌, max, List, [], ◌∷◌, ◌++◌, length, map, drop, ◌/◌, None, Result, Err, OnOk, IfErr, true}
+-- Sessions one after the other over one medium, up to the first error.
+use Rattle.std.specs.Prelude.{◌≡◌, ℕ, ◌⊎◌, Bool, List, [], ◌∷◌, ◌++◌, length, replicate, Result, Ok, Err}
 use Rattle.std.specs.Borrow.{Bor}
-use Rattle.std.specs.List.{concat, flat_map}
+use Rattle.std.specs.List.{flat_map}
 use Rattle.std.specs.Io.{StartsWith}
+use Rattle.std.specs.declared.io.Error.{Error as IoFault}
 use Rattle.hound_spec.specs.declared.error.Error.{Error}
+use Rattle.hound_spec.specs.declared.error.Error.TheVariants.{IoError}
 use Rattle.hound_spec.specs.declared.spec.WavSpecEx.{WavSpecEx}
-use Rattle.hound_spec.specs.Header.{data_start, canonical}
-use Rattle.hound_sample.specs.Container.{containers}
-use Rattle.hound_medium.specs.State.{MediumState}
-use Rattle.hound_reader.specs.Chunks.{Head}
-use Rattle.hound_writer.specs.Writer.{WriterState, HasHeader, IsPublishing}
-use Rattle.hound_writer.specs.Appending.{head_fault}
+use Rattle.hound_spec.specs.Header.{canonical}
+use Rattle.hound_medium.specs.State.{MediumState, Goes, WhereTells}
+use Rattle.hound_writer.specs.Answers.{IsIoError}
+use Rattle.hound_writer.specs.Publishing.{Finishes}
+use Rattle.hound_writer.specs.Writer.{WriterState}
 use Rattle.hound_session.specs.declared.session.Step.{Step}
 use Rattle.hound_session.specs.declared.session.Begin.{Begin}
 use Rattle.hound_session.specs.declared.session.Begin.TheVariants.{New, Append}
-use Rattle.hound_spec.specs.Writable.{IsWritable}
-use Rattle.hound_session.specs.Steps.{StepAnswer, accepted_by}
-use Rattle.hound_session.specs.Run.{NoFault}
+use Rattle.hound_session.specs.Run.{Begins, IsNotBegun, Runs, Takes}
+use Rattle.hound_session.specs.Steps.{containers_of}
 
--- what happens in sessions: a step, or the end of one, which publishes
-pub data Event : Type 0 where
-  taken : Step → Event
-  finished : Event
+-- steps that were all Ok
+abbrev pub RunsOk : {M : Type 0} → Bool → Bool → (M → MediumState) → List Step → WriterState M → WriterState M → Type 0
+RunsOk tells keeps state steps old new = (cuts : List ℕ) × Runs tells keeps state steps (replicate (length steps) (Ok tt)) cuts old new
 
--- one session: its steps, and its end
-abbrev pub session_events : List Step → List Event
-session_events steps = map taken steps ++ finished ∷ []
+-- the first steps were Ok, and then one was this error
+pub record StopsIn {M : Type 0} (tells keeps : Bool) (state : M → MediumState) (steps : List Step) (e : Error) (old new : WriterState M) : Type 0 where
+  pub before : List Step
+  pub step : Step
+  pub after : List Step
+  pub whole : steps ≡ before ++ step ∷ after
+  pub last : WriterState M
+  pub runs : RunsOk tells keeps state before old last
+  pub takes : Takes tells keeps state step (Err e) last new
 
--- all of them, one after the other
-abbrev pub events : List (Bor (List Step)) → List Event
-events sessions = flat_map (λ steps. session_events steps.now) sessions
+-- a session whose steps were all Ok, and which was finalized with this answer
+pub record IsFinished {M : Type 0} (tells keeps : Bool) (state : M → MediumState) (begin : Begin) (steps : List Step)
+    (old : M) (answer : Result (Unit {0}) Error) (medium : M) : Type 0 where
+  pub first : WriterState M
+  pub last : WriterState M
+  pub begins : Begins tells keeps state begin old first
+  pub runs : RunsOk tells keeps state steps first last
+  pub ends : Finishes tells keeps state last answer medium
 
--- the containers that events ask to be accepted
-abbrev pub containers_of : WavSpecEx → List Event → List (List ℕ)
-containers_of s [] = []
-containers_of s (taken step ∷ rest) = accepted_by s step true ++ containers_of s rest
-containers_of s (finished ∷ rest) = containers_of s rest
+-- a session that stopped in a step, whose error is the answer, and whose writer was dropped
+pub record IsStopped {M : Type 0} (tells keeps : Bool) (state : M → MediumState) (begin : Begin) (steps : List Step)
+    (old : M) (answer : Result (Unit {0}) Error) (medium : M) : Type 0 where
+  pub error : Error
+  pub told : answer ≡ Err error
+  pub first : WriterState M
+  pub last : WriterState M
+  pub begins : Begins tells keeps state begin old first
+  pub stops : StopsIn tells keeps state steps error first last
+  pub dropped : Result (Unit {0}) Error
+  pub ends : Finishes tells keeps state last dropped medium
 
--- a writer of a new file of this spec that has accepted these containers
-abbrev pub writer_of : WavSpecEx → List (List ℕ) → WriterState (Unit {0})
-writer_of s list = record { medium = tt; spec_ex = s; data_start = data_start s; data_length = length (concat list); buffer = []; batch_length = 0; batch_written = 0 }
+-- one session, up to its first error: it isn't begun, or it stops in a step, or it is finished
+abbrev pub RunsOnce : {M : Type 0} → Bool → Bool → (M → MediumState) → Begin → List Step → M → Result (Unit {0}) Error → M → Type 0
+RunsOnce tells keeps state begin steps old answer medium =
+    ((e : Error) × (answer ≡ Err e) × IsNotBegun tells keeps state begin old medium e)
+    ⊎ (IsStopped tells keeps state begin steps old answer medium ⊎ IsFinished tells keeps state begin steps old answer medium)
 
--- what an event answers to a writer
-abbrev pub EventAnswer : Event → WriterState (Unit {0}) → Result (Unit {0}) Error → Type 0
-EventAnswer (taken step) w answer = StepAnswer step w answer
-EventAnswer finished w answer = IsPublishing answer w
+-- one more session: the medium goes to its beginning, and the session appends to the file that is there
+abbrev pub RunsAgain : {M : Type 0} → Bool → Bool → (M → MediumState) → List Step → M → Result (Unit {0}) Error → M → Type 0
+RunsAgain {M} tells keeps state steps old answer medium =
+    ((e : IoFault) × (answer ≡ Err (IoError e)) × WhereTells tells (Goes {T = Unit {0}} 0 (Err e) (state old) (state medium)))
+    ⊎ ((mid : M) × WhereTells tells (Goes {T = Unit {0}} {E = IoFault} 0 (Ok tt) (state old) (state mid)) × RunsOnce tells keeps state Append steps mid answer medium)
 
--- Events that stop with an error behind a file of these containers: those before it were Ok, and the canonical file of these is there.
-pub record StopsAt (s : WavSpecEx) (list : List (List ℕ)) (all : List Event) (e : Error) (contents : List ℕ) : Type 0 where
-  pub before : List Event
-  pub event : Event
-  pub after : List Event
-  pub whole : all ≡ before ++ event ∷ after
-  pub answer : EventAnswer event (writer_of s (list ++ containers_of s before)) (Err e)
-  pub file : StartsWith contents (canonical s (list ++ containers_of s before))
+-- further sessions, each of which was Ok but perhaps the last one that was run, whose answer is told
+abbrev pub RunsOn : {M : Type 0} → Bool → Bool → (M → MediumState) → List (Bor (List Step)) → M → Result (Unit {0}) Error → M → Type 0
+RunsOn tells keeps state [] old answer medium = (answer ≡ Ok tt) × (medium ≡ old)
+RunsOn {M} tells keeps state (session ∷ sessions) old answer medium =
+    ((e : Error) × (answer ≡ Err e) × RunsAgain tells keeps state session.now old answer medium)
+    ⊎ ((mid : M) × RunsAgain tells keeps state session.now old (Ok tt) mid × RunsOn tells keeps state sessions mid answer medium)
 
--- the faults of a medium only grow, up to the greatest that can be counted
-abbrev pub FaultsGrow : MediumState → MediumState → Type 0
-FaultsGrow old new = old.faults ≤ 18446744073709551615 → (old.faults ≤ new.faults) × (new.faults ≤ 18446744073709551615)
+-- what `run_sessions` does: nothing where there are no sessions; else the first begins a file, and the others go on with it
+abbrev pub AreSessions : {M : Type 0} → Bool → Bool → (M → MediumState) → WavSpecEx → List (Bor (List Step)) → M → Result (Unit {0}) Error → M → Type 0
+AreSessions tells keeps state s [] old answer medium = (answer ≡ Ok tt) × (medium ≡ old)
+AreSessions {M} tells keeps state s (session ∷ sessions) old answer medium =
+    ((e : Error) × (answer ≡ Err e) × RunsOnce tells keeps state (New s) session.now old answer medium)
+    ⊎ ((mid : M) × RunsOnce tells keeps state (New s) session.now old (Ok tt) mid × RunsOn tells keeps state sessions mid answer medium)
 
--- A medium with the canonical file of these containers in whole frames at its front, which can be gone on with; it has no bytes but those of the file and what was there at the start.
-pub record HoldsFile (s : WavSpecEx) (list : List (List ℕ)) (start now : MediumState) : Type 0 where
-  pub length_is : ℕ
-  pub size : length_is ≡ length (concat list)
-  pub head : Head now.contents s length_is (data_start s)
-  pub sound : head_fault s length_is (data_start s) ≡ None
-  pub header : HasHeader s now.contents
-  pub whole : data_start s + length_is ≤ length now.contents
-  pub samples : containers s.bytes_per_sample (length_is / s.bytes_per_sample) (drop (data_start s) now.contents) ≡ list
-  pub file : StartsWith now.contents (canonical s list)
-  pub faults : FaultsGrow start now
-  pub reach : NoFault start now → length now.contents ≤ max (length start.contents) (length (canonical s list))
+-- all steps of sessions, in order
+abbrev pub all_steps : List (Bor (List Step)) → List Step
+all_steps sessions = flat_map (λ session. session.now) sessions
 
--- What these events lead to behind a file of these containers: that file with theirs behind them; or, unless the medium failed, an error of one of them.
-pub record LeadsOn (s : WavSpecEx) (list : List (List ℕ)) (all : List Event) (start now : MediumState) (answer : Result (Unit {0}) Error) : Type 0 where
-  pub faults : FaultsGrow start now
-  pub done : OnOk answer (HoldsFile s (list ++ containers_of s all) start now)
-  pub stopped : NoFault start now → IfErr answer (λ e. StopsAt s list all e now.contents)
-
--- a medium that a session begins over: a new file of a spec that can be written, or the file of what was accepted so far
-abbrev pub IsReady : Begin → WavSpecEx → List (List ℕ) → MediumState → MediumState → Type 0
-IsReady (New spec_ex) s list start now = IsWritable s × (spec_ex ≡ s) × (list ≡ []) × (now ≡ start)
-IsReady Append s list start now = IsWritable s × HoldsFile s list start now
+-- Sessions that stopped with an error though no call of the medium failed: it is no `IoError`, and the canonical file of
+-- the first steps is there.
+pub record StopsShort (s : WavSpecEx) (steps : List Step) (e : Error) (contents : List ℕ) : Type 0 where
+  pub no_fault : IsIoError e → ⊥
+  pub before : List Step
+  pub after : List Step
+  pub whole : steps ≡ before ++ after
+  pub file : StartsWith contents (canonical s (containers_of s before))

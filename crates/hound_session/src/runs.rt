@@ -1,16 +1,16 @@
 // Whole runs.
-ghost use Rattle.hound_medium.specs.State.{WhereKeeps, WhereTells};
-ghost use Rattle.std.specs.Prelude.{◌≡◌, IsTrue, Err, OnOk, [], length, MatchResult};
+ghost use Rattle.std.specs.Prelude.{◌≡◌, ℕ, Ok, OnOk, List, Result, [], length, map, MatchResult};
 ghost use Rattle.std.specs.Io.{StartsWith};
+ghost use Rattle.hound_spec.specs.declared.error.Error.{Error};
 ghost use Rattle.hound_spec.specs.declared.spec.WavSpecEx.{WavSpecEx};
 ghost use Rattle.hound_spec.specs.Writable.{IsWritable};
 ghost use Rattle.hound_spec.specs.Header.{canonical};
-ghost use Rattle.hound_spec.specs.declared.error.Error.TheVariants.{Unsupported};
+ghost use Rattle.hound_medium.specs.State.{WhereTells};
+ghost use Rattle.hound_writer.specs.Answers.{mark_of};
 ghost use Rattle.hound_session.specs.declared.session.Begin.TheVariants.{New};
 ghost use Rattle.hound_session.specs.declared.session.End.TheVariants.{Finalize};
-ghost use Rattle.hound_session.specs.Steps.{mark_of, accepted_by_all};
-ghost use Rattle.hound_session.specs.AtEach.{IsMarkedRunAtEach, EndsAtEach, IsSessionAtEach};
-ghost use Rattle.hound_session.specs.Run.{IsMarkedRun, Begins, IsNotBegun, Ends, IsSession, NoFault};
+ghost use Rattle.hound_session.specs.Run.{Begins, IsNotBegun, Runs, Ends, IsSession, NoFault};
+ghost use Rattle.hound_session.specs.Steps.{accepted_by_all};
 
 use crate::session::{Begin, End, Step};
 use crate::steps::take_step;
@@ -30,14 +30,14 @@ fn is_marked(answer: &Result<()>) -> bool
     }
 }
 
-// Begins a new file, or goes on with the one that is there.
+// Begins a new file, or appends to the one that is there.
 pub(crate) fn begin_writer<M: Source + Medium>(
     medium: M,
     begin: Begin,
 ) -> result::Result<WavWriter<M>, (M, Error)>
     requires { WhereTells M.tells ((M.state medium).place ≡ 0) }
-    ensures unwritable { (s : WavSpecEx) → begin ≡ New s → (IsWritable s → ⊥) → result ≡ Err (medium, Unsupported) }
-    ensures begins { WhereTells M.tells (MatchResult result (Begins M.keeps M.state begin (M.state medium)) (λ refused. IsNotBegun begin (M.state medium) (M.state refused.0) refused.1)) }
+    ensures { MatchResult result (Begins M.tells M.keeps M.state begin medium)
+        (λ refused. IsNotBegun M.tells M.keeps M.state begin medium refused.0 refused.1) }
 {
     match begin {
         Begin::New(spec_ex) => WavWriter::try_new(medium, spec_ex),
@@ -54,8 +54,8 @@ fn take_steps<M: Medium>(
 )
     requires { length steps.now ≡ length marks.old }
     ensures size { length marks.new ≡ length marks.old }
-    ensures runs { WhereTells M.tells (IsMarkedRun M.state steps.now marks.new writer.old writer.new) }
-    ensures moments { WhereKeeps M.tells M.keeps (IsMarkedRunAtEach M.state steps.now marks.new writer.old writer.new) }
+    ensures runs { (answers : List (Result Unit Error)) × (cuts : List ℕ) × (marks.new ≡ map mark_of answers)
+        × Runs M.tells M.keeps M.state steps.now answers cuts writer.old writer.new }
 {
     for i in 0..steps.len() {
         let answer = take_step(alloc, writer, steps[i]);
@@ -65,8 +65,7 @@ fn take_steps<M: Medium>(
 
 // Ends a run, and hands the medium back.
 fn end_writer<M: Medium>(writer: WavWriter<M>, end: End) -> (M, Result<()>)
-    ensures ends { WhereTells M.tells (Ends M.state end writer result.1 result.0) }
-    ensures moments { WhereKeeps M.tells M.keeps (EndsAtEach M.state end writer result.1 result.0) }
+    ensures { Ends M.tells M.keeps M.state end writer result.1 result.0 }
 {
     match end {
         End::Finalize => writer.finalize_into(),
@@ -76,7 +75,7 @@ fn end_writer<M: Medium>(writer: WavWriter<M>, end: End) -> (M, Result<()>)
 
 /// Runs a whole session of a writer, and hands the medium back.
 ///
-/// It begins a file or goes on with one, takes every step whatever earlier ones answered, and ends.
+/// It begins a file or appends to one, takes every step whatever earlier ones answered, and ends.
 /// A mark is true where a sample or a whole batch was accepted, or a flush published all that was.
 /// The answer is that of the constructor, where it refuses, and all marks are false; else that of
 /// `finalize_into`, or Ok at a drop. There are as many marks as steps, and the medium stands at its
@@ -92,11 +91,7 @@ pub fn run_session<M: Source + Medium>(
     requires place { WhereTells M.tells ((M.state medium).place ≡ 0) }
     requires size { length steps.now ≡ length marks.old }
     ensures size { length marks.new ≡ length marks.old }
-    ensures unwritable { (spec_ex : WavSpecEx) → begin ≡ New spec_ex → (IsWritable spec_ex → ⊥) → result ≡ (medium, Err Unsupported) }
-    ensures session { WhereTells M.tells (IsSession M.keeps M.state begin steps.now marks.new end (M.state medium) result.1 result.0) }
-
-    // At each moment of a medium that keeps its past, whatever byte was put last.
-    ensures moments { WhereKeeps M.tells M.keeps (IsSessionAtEach M.keeps M.state begin steps.now marks.new end (M.state medium) result.1 result.0) }
+    ensures session { IsSession M.tells M.keeps M.state begin steps.now marks.new end medium result.1 result.0 }
 
     // A new file that was finalized is the canonical one of what was accepted.
     ensures canonical { WhereTells M.tells ((spec_ex : WavSpecEx) → begin ≡ New spec_ex → end ≡ Finalize →

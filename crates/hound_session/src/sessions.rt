@@ -1,14 +1,12 @@
 // Sessions one after the other over one medium.
-ghost use Rattle.std.specs.Prelude.{◌≡◌, ℕ, IsTrue, List, [], Ok, Err, OnOk, OnErr, IfErr, IfOk, ◌<◌, length, MatchResult};
+ghost use Rattle.std.specs.Prelude.{◌≡◌, ◌<◌, [], OnOk, IfErr, length, MatchResult};
 ghost use Rattle.std.specs.Io.{StartsWith};
-ghost use Rattle.hound_spec.specs.Writable.{IsWritable};
 ghost use Rattle.hound_spec.specs.Header.{canonical};
-ghost use Rattle.hound_spec.specs.declared.error.Error.TheVariants.{Unsupported};
-ghost use Rattle.hound_session.specs.Run.{NoFault, IsStrictRun, StopsIn};
-ghost use Rattle.hound_session.specs.Sessions.{events, session_events, containers_of, StopsAt, HoldsFile, IsReady, LeadsOn};
-ghost use Rattle.hound_spec.specs.declared.spec.WavSpecEx.{WavSpecEx};
-ghost use Rattle.hound_session.specs.declared.session.Begin.TheVariants.{New};
-ghost use Rattle.hound_medium.specs.State.{MediumState, WhereTells};
+ghost use Rattle.hound_medium.specs.State.{WhereTells};
+ghost use Rattle.hound_spec.specs.Writable.{IsWritable};
+ghost use Rattle.hound_session.specs.Run.{NoFault};
+ghost use Rattle.hound_session.specs.Sessions.{AreSessions, RunsOk, RunsOn, RunsOnce, RunsAgain, StopsIn, StopsShort, all_steps};
+ghost use Rattle.hound_session.specs.Steps.{containers_of};
 
 use crate::runs::begin_writer;
 use crate::session::{Begin, Step};
@@ -24,7 +22,8 @@ fn take_until_error<M: Medium>(
     writer: &mut WavWriter<M>,
     steps: &[Step],
 ) -> Result<()>
-    ensures { WhereTells M.tells (MatchResult result (λ _. IsStrictRun M.state steps.now writer.old writer.new) (λ e. StopsIn M.state steps.now e writer.old writer.new)) }
+    ensures { MatchResult result (λ _. RunsOk M.tells M.keeps M.state steps.now writer.old writer.new)
+        (λ e. StopsIn M.tells M.keeps M.state steps.now e writer.old writer.new) }
 {
     for i in 0..steps.len() {
         match take_step(alloc, writer, steps[i]) {
@@ -43,9 +42,7 @@ fn run_until_error<M: Source + Medium>(
     steps: &[Step],
 ) -> (M, Result<()>)
     requires { WhereTells M.tells ((M.state medium).place ≡ 0) }
-    ensures unwritable { WhereTells M.tells ((s : WavSpecEx) → begin ≡ New s → (IsWritable s → ⊥) → (result.1 ≡ Err Unsupported) × (M.state result.0 ≡ M.state medium)) }
-    ensures only_writable { WhereTells M.tells ((s : WavSpecEx) → begin ≡ New s → OnOk result.1 (IsWritable s)) }
-    ensures leads { WhereTells M.tells ((s : WavSpecEx) (list : List (List ℕ)) (start : MediumState) → IsReady begin s list start (M.state medium) → LeadsOn s list (session_events steps.now) start (M.state result.0) result.1) }
+    ensures { RunsOnce M.tells M.keeps M.state begin steps.now medium result.1 result.0 }
 {
     let mut writer = match begin_writer(medium, begin) {
         Ok(writer) => writer,
@@ -57,9 +54,9 @@ fn run_until_error<M: Source + Medium>(
     }
 }
 
-// Goes on with the file in a medium by one more session.
+// Appends to the file in a medium by one more session.
 fn append_session<M: Source + Medium>(alloc: Global, medium: M, steps: &[Step]) -> (M, Result<()>)
-    ensures { WhereTells M.tells ((s : WavSpecEx) (list : List (List ℕ)) (start : MediumState) → IsWritable s → HoldsFile s list start (M.state medium) → LeadsOn s list (session_events steps.now) start (M.state result.0) result.1) }
+    ensures { RunsAgain M.tells M.keeps M.state steps.now medium result.1 result.0 }
 {
     let mut medium = medium;
     if let Err(error) = medium.go(0) {
@@ -68,13 +65,13 @@ fn append_session<M: Source + Medium>(alloc: Global, medium: M, steps: &[Step]) 
     run_until_error(alloc, medium, Begin::Append, steps)
 }
 
-// Goes on with the file in a medium by further sessions, up to the first error.
+// Appends to the file in a medium by further sessions, up to the first error.
 fn append_sessions<M: Source + Medium>(
     alloc: Global,
     medium: M,
     sessions: &[&[Step<'_>]],
 ) -> (M, Result<()>)
-    ensures { WhereTells M.tells ((s : WavSpecEx) (list : List (List ℕ)) (start : MediumState) → IsWritable s → HoldsFile s list start (M.state medium) → LeadsOn s list (events sessions.now) start (M.state result.0) result.1) }
+    ensures { RunsOn M.tells M.keeps M.state sessions.now medium result.1 result.0 }
 {
     let mut medium = medium;
     for i in 0..sessions.len() {
@@ -87,8 +84,8 @@ fn append_sessions<M: Source + Medium>(
     (medium, Ok(()))
 }
 
-/// Runs sessions over one medium: the first begins a file of this spec, each further one goes on
-/// with it, and each is finalized.
+/// Runs sessions over one medium: the first begins a file of this spec, each further one appends
+/// to it, and each is finalized.
 ///
 /// It ends at the first error of any call, which it answers: `Unsupported`, for a spec that can't be
 /// written or a batch for samples of other than sixteen bits; a refusal of a sample; an
@@ -102,19 +99,17 @@ pub fn run_sessions<'a, M: Source + Medium>(
     sessions: &'a [&'a [Step<'a>]],
 ) -> (M, Result<()>)
     requires { WhereTells M.tells ((M.state medium).place ≡ 0) }
-    ensures none { length sessions.now ≡ 0 → result ≡ (medium, Ok tt) }
-    ensures unwritable { WhereTells M.tells (0 < length sessions.now → (IsWritable spec_ex → ⊥) → (result.1 ≡ Err Unsupported) × (M.state result.0 ≡ M.state medium)) }
-
-    // Over a spec that can be written: all sessions are there in one file, or an event of one was an
-    // error that its own contract allows, or the medium failed.
-    ensures leads { WhereTells M.tells (0 < length sessions.now → IsWritable spec_ex →
-        LeadsOn spec_ex [] (events sessions.now) (M.state medium) (M.state result.0) result.1) }
+    ensures sessions { AreSessions M.tells M.keeps M.state spec_ex sessions.now medium result.1 result.0 }
 
     // The bytes of one session over all containers.
     ensures canonical { WhereTells M.tells (0 < length sessions.now →
-        OnOk result.1 (StartsWith (M.state result.0).contents (canonical spec_ex (containers_of spec_ex (events sessions.now))))) }
+        OnOk result.1 (StartsWith (M.state result.0).contents (canonical spec_ex (containers_of spec_ex (all_steps sessions.now))))) }
     ensures exact { WhereTells M.tells (0 < length sessions.now → (M.state medium).contents ≡ [] → NoFault (M.state medium) (M.state result.0) →
-        OnOk result.1 ((M.state result.0).contents ≡ canonical spec_ex (containers_of spec_ex (events sessions.now)))) }
+        OnOk result.1 ((M.state result.0).contents ≡ canonical spec_ex (containers_of spec_ex (all_steps sessions.now)))) }
+
+    // Where no call of the medium failed, an error is that of a step or an end, and those before it are there.
+    ensures stops { WhereTells M.tells (IsWritable spec_ex → NoFault (M.state medium) (M.state result.0) →
+        IfErr result.1 (λ e. StopsShort spec_ex (all_steps sessions.now) e (M.state result.0).contents)) }
 {
     let Some((first, others)) = sessions.split_first() else {
         return (medium, Ok(()));

@@ -1,9 +1,7 @@
 // Steps taken with a writer.
-ghost use Rattle.hound_medium.specs.State.{WhereKeeps, WhereTells};
-ghost use Rattle.std.specs.Prelude.{◌≡◌, ◌*◌, ◌≤◌, true, IsTrue, OnOk, length};
-ghost use Rattle.hound_writer.specs.Moments.{AcceptsAtEach};
-ghost use Rattle.hound_session.specs.AtEach.{StepAtEach};
-ghost use Rattle.hound_session.specs.Run.{AcceptsAs, Takes};
+ghost use Rattle.std.specs.Prelude.{◌≡◌, ◌*◌, ◌≤◌, OnOk, length};
+ghost use Rattle.hound_writer.specs.Accepting.{Accepts};
+ghost use Rattle.hound_session.specs.Run.{Takes};
 ghost use Rattle.hound_session.specs.Steps.{is_sixteen, batch_containers, wants_memory};
 
 use crate::session::Step;
@@ -21,9 +19,8 @@ fn is_sixteen(spec: WavSpec) -> bool
 
 // Writes a batch, of samples of sixteen bits only.
 fn write_batch<M: Medium>(alloc: Global, writer: &mut WavWriter<M>, values: &[i16]) -> Result<()>
-    ensures accepts { WhereTells M.tells (AcceptsAs M.state (wants_memory values.now writer.old) (batch_containers writer.old.spec_ex values.now) result writer.old writer.new) }
+    ensures accepts { Accepts M.tells M.keeps M.state (wants_memory values.now writer.old) (batch_containers writer.old.spec_ex values.now) result writer.old writer.new }
     ensures memory { OnOk result (2 * length values.now ≤ length writer.new.buffer) }
-    ensures moments { WhereKeeps M.tells M.keeps (AcceptsAtEach M.state writer.old (M.state writer.new.medium)) }
 {
     if !is_sixteen(writer.spec()) {
         return Err(Error::Unsupported);
@@ -47,8 +44,7 @@ pub(crate) fn take_step<M: Medium>(
     writer: &mut WavWriter<M>,
     step: Step<'_>,
 ) -> Result<()>
-    ensures takes { WhereTells M.tells (Takes M.state step.entry result writer.old writer.new) }
-    ensures moments { WhereKeeps M.tells M.keeps (StepAtEach M.state step.entry result writer.old writer.new) }
+    ensures { Takes M.tells M.keeps M.state step.entry result writer.old writer.new }
 {
     match step {
         Step::Whole(value) => writer.write_sample(value),

@@ -1,7 +1,7 @@
 -- What bytes after the accepted ones change.
 use Rattle.std.proofs.Common.{◌≡◌, ℕ, zero, suc, ◌+◌, ◌*◌, ◌-◌, ◌/◌, ◌%◌, ◌≤◌, max, nat_le, Bool, true, false, List, [], ◌∷◌, ◌++◌, length, take, drop, replicate, Result, Ok, Err, IfErr, inl, IsTrue, refl, sym, subst, ◌∙◌, ap, arith, length-append, length-take, le-leb}
 use Rattle.std.proofs.lemmas.List.{take_at, take_all, drop_at, drop-drop, append-nil, length-take-le, take-take}
-use Rattle.std.proofs.lemmas.Bool.{true≢false}
+use Rattle.std.proofs.lemmas.Bool.{true≢false, false≢true}
 use Rattle.std.specs.List.{concat}
 use Rattle.std.specs.declared.io.Error.{Error as IoFault}
 use Rattle.hound_medium.specs.Bytes.{put_at, placed, overlay}
@@ -9,7 +9,7 @@ use Rattle.hound_medium.specs.State.{MediumState, WhereTells, WhereKeeps, faults
 use Rattle.hound_medium.proofs.Overlays.{overlay_is, length-put_at, take_overlay_before, length_overlay_le, front_part}
 use Rattle.hound_medium.proofs.Spans.{span_puts, span_still}
 use Rattle.hound_spec.specs.declared.error.Error.{Error}
-use Rattle.hound_spec.specs.declared.error.Error.TheVariants.{IoError}
+use Rattle.hound_spec.specs.declared.error.Error.TheVariants.{IoError, OutOfMemory}
 use Rattle.hound_spec.specs.Header.{riff_size}
 use Rattle.hound_sample.specs.Container.{Refusal, containers}
 use Rattle.hound_sample.specs.Encoding.{IsEncoded}
@@ -18,7 +18,7 @@ use Rattle.hound_writer.specs.Answers.{AcceptAnswer, FitAnswer, IsIoError, OnRef
 use Rattle.hound_writer.specs.Counts.{Counts}
 use Rattle.hound_writer.specs.Parts.{IsConsistent, PutsAt, IsStanding}
 use Rattle.hound_writer.specs.Room.{HasBatch}
-use Rattle.hound_writer.specs.Writer.{WriterState, HasRoom, IsSound, IsWhole, accepted_samples, data_length}
+use Rattle.hound_writer.specs.Writer.{WriterState, HasRoom, IsCounted, IsSound, IsWhole, accepted_samples, data_length}
 use Rattle.hound_writer.proofs.Answers.{on_refused, unless_failed}
 use Rattle.hound_writer.proofs.Containers.{concat-containers, containers_append, containers_front, count_append, count_bytes, whole_more}
 use Rattle.hound_writer.proofs.Samples.{counts_at, length_out, samples_out, samples_same, whole_out}
@@ -46,6 +46,38 @@ drop_overlay_after [] n p c after = refl
 drop_overlay_after (b ∷ bs) n p c after =
     drop_overlay_after bs n (suc p) (put_at p b c) (omega (arith, after)) ∙ drop_put n p b c (omega (arith, after))
 
+-- a refusal, which leaves all as it was
+pub accepts_refused : {W : Type 0} (tells keeps : Bool) (state : W → MediumState) (w : WriterState W) (memory : Bool) (asked : Result (List (List ℕ)) Refusal) (e : Error)
+    → WhereTells tells (IsWhole state w → IsCounted state w) → WhereKeeps tells keeps ((state w.medium).contents ≡ overlay (state w.medium).start (state w.medium).past)
+    → mark_of {T = Unit {0}} (Err e) ≡ false → ((faults : ℕ) → faults ≡ faults_told {T = Unit {0}} (Err e) faults) → AcceptAnswer {T = Unit {0}} memory asked w (Err e) → Accepts tells keeps state memory asked (Err e) w w
+accepts_refused tells keeps state w memory asked e counts replays mark faults answers =
+    let old = state w.medium in
+    let end = w.data_start + w.out in
+    let nothing : if_marked (mark_of {T = Unit {0}} (Err e)) asked ≡ [] = ap (λ m. if_marked m asked) mark in
+    record {
+      adds = record {
+        answers = answers;
+        refused = on_refused {T = Unit {0}} (Err e) refl;
+        spec_ex = refl;
+        data_start = refl;
+        data_length = omega (arith, ap (λ l. length (concat l)) nothing);
+        kept = omega arith;
+      };
+      file = λ told. record {
+        faults = faults old.faults;
+        front = refl;
+        rest = unless_failed {T = Unit {0}} (Err e) refl;
+        reach = unless_failed {T = Unit {0}} (Err e) (omega arith);
+        whole = λ whole. whole;
+        accepted = λ _. sym (append-nil (accepted_samples state w)) ∙ ap (λ l. accepted_samples state w ++ l) (sym nothing);
+        counts = counts told;
+      };
+      moments = λ told kept. record {
+        counts = λ whole. span_still (λ _. Counts w.spec_ex w.data_start (accepted_samples state w)) 0 old old (replays told kept) refl refl (counts told whole);
+        front = λ whole. span_still (λ _ c. take end c ≡ take end old.contents) 0 old old (replays told kept) refl refl refl;
+      };
+    }
+
 -- a writer in which nothing waits, and a medium with bytes put after its data
 module _ {W : Type 0} (tells keeps : Bool) (state : W → MediumState) (w : WriterState W) (none : w.waiting ≡ []) (sound : IsSound w)
     (stands : WhereTells tells (IsStanding w.spec_ex w.data_start w.out (state w.medium).contents)) where
@@ -66,38 +98,6 @@ module _ {W : Type 0} (tells keeps : Bool) (state : W → MediumState) (w : Writ
       let long : w.data_start ≤ length c = omega (arith, ap length same, length-take end c, length-take-le end old.contents whole) in
       counts_at state w none sound c (stands_front w.spec_ex w.data_start w.out old.contents c (stands told) first long)
       (front_part end w.data_start w.out c old.contents (omega arith) same)
-
-  -- a refusal, which leaves all as it was
-  pub accepts_refused : (memory : Bool) (asked : Result (List (List ℕ)) Refusal) (e : Error) → mark_of {T = Unit {0}} (Err e) ≡ false → (old.faults ≡ faults_told {T = Unit {0}} (Err e) old.faults) → AcceptAnswer {T = Unit {0}} memory asked w (Err e)
-      → WhereKeeps tells keeps ((state w.medium).contents ≡ overlay (state w.medium).start (state w.medium).past) → Accepts tells keeps state memory asked (Err e) w w
-  accepts_refused memory asked e mark faults answers replays =
-      let nothing : if_marked (mark_of {T = Unit {0}} (Err e)) asked ≡ [] = ap (λ m. if_marked m asked) mark in
-      record {
-        adds = record {
-          answers = answers;
-          refused = on_refused {T = Unit {0}} (Err e) refl;
-          spec_ex = refl;
-          data_start = refl;
-          data_length = omega (arith, ap (λ l. length (concat l)) nothing);
-          kept = omega arith;
-        };
-        file = λ told. record {
-          faults = faults;
-          front = refl;
-          rest = unless_failed {T = Unit {0}} (Err e) refl;
-          reach = unless_failed {T = Unit {0}} (Err e) (omega arith);
-          whole = λ whole. whole;
-          accepted = λ _. sym (append-nil (accepted_samples state w)) ∙ ap (λ l. accepted_samples state w ++ l) (sym nothing);
-          counts = λ whole. counts_front told whole old.contents refl;
-        };
-        moments = λ told kept. still told (replays told kept);
-      }
-    where
-      still : IsTrue tells → (state w.medium).contents ≡ overlay (state w.medium).start (state w.medium).past → AddsAtEach state w (state w.medium)
-      still told replays = record {
-        counts = λ whole. span_still (λ _. Counts w.spec_ex w.data_start (accepted_samples state w)) 0 old old replays refl refl (counts_front told whole old.contents refl);
-        front = λ whole. span_still (λ _ c. take end c ≡ take end old.contents) 0 old old replays refl refl refl;
-      }
 
   -- bytes that are put, all or a beginning
   module _ (m : W) (bytes : List ℕ) (result : Result (Unit {0}) IoFault) (told : IsTrue tells) (puts : PutsAt keeps (w.data_start + w.out) bytes result (state w.medium) (state m)) where
@@ -303,10 +303,10 @@ not_refused P (Err (IoError e)) failed = tt
 not_refused P (Err e) failed = absurd failed
 
 -- the same of writers that differ in nothing else than their batches
-pub accepts_swapped : {W : Type 0} (tells keeps : Bool) (state : W → MediumState) (asked : WriterState W → Result (List (List ℕ)) Refusal) (answer : Result (Unit {0}) Error) (a b c d : WriterState W) (before after : List ℕ) (n i m k : ℕ) → IfErr answer IsIoError → length b.buffer ≤ length after
+pub accepts_swapped : {W : Type 0} (tells keeps : Bool) (state : W → MediumState) (memory : Bool) (asked : WriterState W → Result (List (List ℕ)) Refusal) (answer : Result (Unit {0}) Error) (a b c d : WriterState W) (before after : List ℕ) (n i m k : ℕ) → IfErr answer IsIoError → length b.buffer ≤ length after
     → asked (record b { buffer = before; batch_length = n; batch_written = i }) ≡ asked b → a ≡ record b { buffer = before; batch_length = n; batch_written = i } → c ≡ d
-    → Accepts tells keeps state false (asked a) answer a d → Accepts tells keeps state false (asked b) answer b (record c { buffer = after; batch_length = m; batch_written = k })
-accepts_swapped tells keeps state asked answer a b c d before after n i m k failed grown same_asked same_old same_new accepts =
+    → Accepts tells keeps state false (asked a) answer a d → Accepts tells keeps state memory (asked b) answer b (record c { buffer = after; batch_length = m; batch_written = k })
+accepts_swapped tells keeps state memory asked answer a b c d before after n i m k failed grown same_asked same_old same_new accepts =
     let old = record b { buffer = before; batch_length = n; batch_written = i } in
     let inner : Accepts tells keeps state false (asked b) answer old c =
     subst (λ r. Accepts tells keeps state false r answer old c) same_asked
@@ -325,6 +325,20 @@ accepts_swapped tells keeps state asked answer a b c d before after n i m k fail
       moments = λ told kept. let at_each = inner.moments told kept in record { counts = at_each.counts; front = at_each.front };
     }
   where
-    swap_answer : (r : Result (List (List ℕ)) Refusal) (answer : Result (Unit {0}) Error) → AcceptAnswer false r (record b { buffer = before; batch_length = n; batch_written = i }) answer → AcceptAnswer false r b answer
-    swap_answer (Ok list) answer here = here
+    fits : (room : Bool) (answer : Result (Unit {0}) Error) → FitAnswer room false answer → FitAnswer room memory answer
+    fits false answer here = here
+    fits true (Ok x) here = tt
+    fits true (Err (IoError e)) here = tt
+    fits true (Err OutOfMemory) here = absurd (false≢true here)
+    fits true (Err e) here = absurd here
+
+    swap_answer : (r : Result (List (List ℕ)) Refusal) (answer : Result (Unit {0}) Error) → AcceptAnswer false r (record b { buffer = before; batch_length = n; batch_written = i }) answer → AcceptAnswer memory r b answer
+    swap_answer (Ok asked_for) answer here = fits (nat_le (riff_size b.data_start (data_length b + length (concat asked_for))) 4294967295) answer here
     swap_answer (Err refusal) answer here = here
+
+-- an answer to containers for which there is room and no memory is wanted
+pub fit_failed : (answer : Result (Unit {0}) Error) → FitAnswer true false answer → IfErr answer IsIoError
+fit_failed (Ok x) here = tt
+fit_failed (Err (IoError e)) here = tt
+fit_failed (Err OutOfMemory) here = absurd (false≢true here)
+fit_failed (Err e) here = absurd here

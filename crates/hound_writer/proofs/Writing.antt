@@ -13,9 +13,10 @@ use Rattle.hound_sample.specs.Encoding.{IsEncoded, error_of}
 use Rattle.hound_writer.specs.Accepting.{Accepts}
 use Rattle.hound_writer.specs.Answers.{FitAnswer, one}
 use Rattle.hound_writer.specs.Parts.{IsConsistent}
-use Rattle.hound_writer.specs.Writer.{WriterState, HasRoom, data_length}
+use Rattle.hound_writer.specs.Writer.{WriterState, HasRoom, IsCounted, IsWhole, data_length}
 use Rattle.hound_writer.proofs.Accepting.{accepts_refused, opened}
 use Rattle.hound_writer.proofs.Containers.{container_alone}
+use Rattle.hound_writer.proofs.Samples.{counts_at}
 
 -- there is no room: the test of it says so
 pub no_room : {W : Type 0} (w : WriterState W) (n : ℕ) → (HasRoom w n → ⊥) → nat_le (riff_size w.data_start (data_length w + n)) 4294967295 ≡ false
@@ -36,6 +37,9 @@ module _ {W : Type 0} (tells keeps : Bool) (state : W → MediumState) (containe
   kept : IsConsistent tells state w may_have_moved
   kept = opened tells state may_have_moved a w same consistent
 
+  counts : WhereTells tells (IsWhole state w → IsCounted state w)
+  counts told whole = counts_at state w kept.none_waits kept.sound (state w.medium).contents (kept.stands told) refl
+
   module _ (replays : WhereKeeps tells keeps ((state w.medium).contents ≡ overlay (state w.medium).start (state w.medium).past)) where
     -- the type refuses it
     pub sample_refused : (e : Error) → IsEncoded (container a.spec_ex.spec.bits_per_sample a.spec_ex.bytes_per_sample) (Err e)
@@ -47,20 +51,19 @@ module _ {W : Type 0} (tells keeps : Bool) (state : W → MediumState) (containe
         go (Err too_wide) is =
             let e_is : e ≡ TooWide = cc in
             subst (λ x. Accepts tells keeps state false (Err too_wide) (Err x) w w) (sym e_is)
-            (accepts_refused tells keeps state w kept.none_waits kept.sound kept.stands false (Err too_wide) TooWide refl refl refl replays)
+            (accepts_refused tells keeps state w false (Err too_wide) TooWide counts replays refl (λ _. refl) refl)
         go (Err unsupported) is =
             let e_is : e ≡ Unsupported = cc in
             subst (λ x. Accepts tells keeps state false (Err unsupported) (Err x) w w) (sym e_is)
-            (accepts_refused tells keeps state w kept.none_waits kept.sound kept.stands false (Err unsupported) Unsupported refl refl refl replays)
+            (accepts_refused tells keeps state w false (Err unsupported) Unsupported counts replays refl (λ _. refl) refl)
 
     -- the file has no room for it
     pub sample_too_long : (c : List ℕ) → container w.spec_ex.spec.bits_per_sample w.spec_ex.bytes_per_sample ≡ Ok c → length c ≡ w.spec_ex.bytes_per_sample → (HasRoom w w.spec_ex.bytes_per_sample → ⊥)
         → Accepts tells keeps state false (one (container w.spec_ex.spec.bits_per_sample w.spec_ex.bytes_per_sample)) (Err TooLong) w w
     sample_too_long c is size none =
         subst (λ r. Accepts tells keeps state false (one r) (Err TooLong) w w) (sym is)
-        (accepts_refused tells keeps state w kept.none_waits kept.sound kept.stands false (Ok (c ∷ [])) TooLong refl refl
-        (subst (λ b. FitAnswer {T = Unit {0}} b false (Err TooLong)) (sym (ap (λ n. nat_le (riff_size w.data_start (data_length w + n)) 4294967295) (ap length (append-nil c) ∙ size) ∙ no_room w w.spec_ex.bytes_per_sample none)) refl)
-        replays)
+        (accepts_refused tells keeps state w false (Ok (c ∷ [])) TooLong counts replays refl (λ _. refl)
+        (subst (λ b. FitAnswer {T = Unit {0}} b false (Err TooLong)) (sym (ap (λ n. nat_le (riff_size w.data_start (data_length w + n)) 4294967295) (ap length (append-nil c) ∙ size) ∙ no_room w w.spec_ex.bytes_per_sample none)) refl))
 
   -- its container was asked to be accepted
   pub sample_accepts : (c bytes : List ℕ) (answer : Result (Unit {0}) Error) (new : WriterState W) → container w.spec_ex.spec.bits_per_sample w.spec_ex.bytes_per_sample ≡ Ok c → bytes ≡ c → length c ≡ w.spec_ex.bytes_per_sample

@@ -7,7 +7,7 @@ use Rattle.hound_spec.specs.Header.{header, data_start}
 use Rattle.hound_spec.specs.Writable.{IsWritable}
 use Rattle.hound_medium.specs.State.{MediumState, PutsFirst, PutsAll, WhereTells}
 use Rattle.hound_writer.specs.Answers.{IsIoError}
-use Rattle.hound_writer.specs.Writer.{WriterState, HasHeader, IsWhole, IsCounted}
+use Rattle.hound_writer.specs.Writer.{WriterState, HasHeader, IsSound, IsWhole, IsCounted}
 
 -- The whole header was put where the medium stood, with both sizes 0, and nothing else; all that was accepted, which is
 -- nothing, stands and is counted.
@@ -21,6 +21,7 @@ pub record PutsHeader {W : Type 0} (keeps : Bool) (state : W → MediumState) (o
 -- A writer of a new file of this spec, which can be written: nothing is accepted yet.
 pub record HasBegun {W : Type 0} (spec_ex : WavSpecEx) (w : WriterState W) : Type 0 where
   pub writable : IsWritable spec_ex
+  pub sound : IsSound w
   pub spec : w.spec_ex ≡ spec_ex
   pub start : w.data_start ≡ data_start spec_ex
   pub none_out : w.out ≡ 0

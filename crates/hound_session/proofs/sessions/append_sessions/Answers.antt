@@ -1,25 +1,25 @@
-use Rattle.std.proofs.Common.{◌++◌, take, arith}
-use Rattle.hound_session.specs.Sessions.{events, containers_of}
-use Rattle.hound_session.proofs.Chaining.{one_more_session, session_failed, all_done}
+use Rattle.std.proofs.Common.{arith, Ok, subst}
+use Rattle.std.proofs.lemmas.List.{take_all}
+use Rattle.hound_session.specs.Sessions.{RunsAgain, RunsOn}
+use Rattle.hound_session.proofs.Chaining.{is_ok, session_more, session_failed}
 use Rattle.hound_session.proofs.sessions.append_sessions.Goals as goal
 
 pub returns-in-Err : goal.returns-in-Err
-returns-in-Err g c tells s list start writable file =
-    let i = c.loop-i.i in
-    let so_far = c.loop-i.invariant.holds tells s list start writable file in
-    session_failed s list start (g.M.Placed.state c.append_session-back.result.0) c.args.sessions.now i _ c.append_session-back.result.1 c.in-Err.error c.loop-i-test.true c.in-Err.is
-    (c.append_session-back.ensures tells s (list ++ containers_of s (events (take i c.args.sessions.now))) start writable so_far)
+returns-in-Err g c =
+    let W = g.M.Placed in
+    let again = c.append_session-back in
+    session_failed W.tells W.keeps W.state c.args.sessions.now c.loop-i.i _ again.result.1 c.in-Err.error c.args.medium c.loop-i.medium again.result.0 c.loop-i-test.true c.in-Err.is c.loop-i.invariant.runs again.ensures
 
 pub loop-i-preserved : goal.loop-i-preserved
-loop-i-preserved g c = record {
-  within = omega arith;
-  holds = λ tells s list start writable file.
-      let i = c.loop-i.i in
-      let so_far = c.loop-i.invariant.holds tells s list start writable file in
-      one_more_session s list start (g.M.Placed.state c.append_session-back.result.0) c.args.sessions.now i _ c.append_session-back.result.1 c.loop-i-test.true c.in_default.not-Err
-      (c.append_session-back.ensures tells s (list ++ containers_of s (events (take i c.args.sessions.now))) start writable so_far);
-}
+loop-i-preserved g c =
+    let W = g.M.Placed in
+    let again = c.append_session-back in
+    record {
+      within = omega arith;
+      runs = session_more W.tells W.keeps W.state c.args.sessions.now c.loop-i.i _ again.result.1 c.args.medium c.loop-i.medium again.result.0 c.loop-i-test.true (is_ok again.result.1 c.in_default.not-Err) c.loop-i.invariant.runs again.ensures;
+    }
 
 pub returns : goal.returns
-returns g c tells s list start writable file =
-    all_done s list start (g.M.Placed.state c.loop-i.medium) c.args.sessions.now c.loop-i.i c.loop-i-test.false (c.loop-i.invariant.holds tells s list start writable file)
+returns g c =
+    let W = g.M.Placed in
+    subst (λ l. RunsOn W.tells W.keeps W.state l c.args.medium (Ok tt) c.loop-i.medium) (take_all c.loop-i.i c.args.sessions.now c.loop-i-test.false) c.loop-i.invariant.runs

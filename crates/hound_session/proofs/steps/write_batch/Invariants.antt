@@ -1,8 +1,7 @@
 use Rattle.std.proofs.Common.{◌≡◌, ◌+◌, ◌*◌, length, max, take}
 use Rattle.std.specs.List.{flat_map}
 use Rattle.hound_number.specs.Number.{signed_bytes_of}
-use Rattle.hound_writer.specs.Batch.{batch_writer, batch_lender, batch_bytes, remaining}
-use Rattle.hound_writer.specs.Writer.{IsSameFile}
+use Rattle.hound_writer.specs.Batch.{IsSameFile, batch_writer, batch_lender, batch_bytes, remaining}
 use Rattle.hound_session.proofs.steps.write_batch.Given as goal
 
 abbrev pub invariant-loop-value : goal.invariant-loop-value

@@ -24,7 +24,7 @@ returns-in-Some-clause-accepts g c =
     let i = c.self-in-Some.inside in
     let last = of_fields i.writer i.spec_ex i.data_start i.data_bytes_written (items i.buffer) i.batch_length i.batch_written in
     subst (λ l. Accepts W.tells W.keeps W.state false (Ok (containers w.spec_ex.bytes_per_sample (length l / w.spec_ex.bytes_per_sample) l)) accept.result w (record last { buffer = c.in-Some.buffer.items })) same
-    (accepts_swapped W.tells W.keeps W.state (λ v. Ok (containers v.spec_ex.bytes_per_sample (length bytes / v.spec_ex.bytes_per_sample) bytes)) accept.result _ w last accept.new.self (items c.take.new.self) c.in-Some.buffer.items 0 0 i.batch_length i.batch_written
+    (accepts_swapped W.tells W.keeps W.state false (λ v. Ok (containers v.spec_ex.bytes_per_sample (length bytes / v.spec_ex.bytes_per_sample) bytes)) accept.result _ w last accept.new.self (items c.take.new.self) c.in-Some.buffer.items 0 0 i.batch_length i.batch_written
     accept.ensures.failed (let e : length w.buffer ≡ length c.in-Some.buffer.items = ap length kept in omega (arith, e)) refl (ap (λ (v : WriterState _). record v { buffer = items c.take.new.self; batch_length = 0; batch_written = 0 }) c.self.view_is) c.self-in-Some.view_is accept.ensures.accepts)
 
 pub returns-in-None-clause-accepts : goal.returns-in-None-clause-accepts
@@ -37,5 +37,5 @@ returns-in-None-clause-accepts g c =
     let accept = c.accept in
     let new = accept.new.self in
     subst (λ l. Accepts W.tells W.keeps W.state false (Ok (containers w.spec_ex.bytes_per_sample (length l / w.spec_ex.bytes_per_sample) l)) accept.result w new) same
-    (accepts_swapped W.tells W.keeps W.state (λ v. Ok (containers v.spec_ex.bytes_per_sample (0 / v.spec_ex.bytes_per_sample) [])) accept.result _ w new new (items c.take.new.self) new.buffer 0 0 new.batch_length new.batch_written
+    (accepts_swapped W.tells W.keeps W.state false (λ v. Ok (containers v.spec_ex.bytes_per_sample (0 / v.spec_ex.bytes_per_sample) [])) accept.result _ w new new (items c.take.new.self) new.buffer 0 0 new.batch_length new.batch_written
     accept.ensures.failed (let e : length w.buffer ≡ 0 = ap length none in omega (arith, e)) refl (ap (λ (v : WriterState _). record v { buffer = items c.take.new.self; batch_length = 0; batch_written = 0 }) c.self.view_is) refl accept.ensures.accepts)

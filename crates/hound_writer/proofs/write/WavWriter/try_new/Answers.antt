@@ -25,7 +25,7 @@ returns-in-Ok g c =
     let writable : IsWritable s = search rules in
     subst (Begins g.W.Placed.tells g.W.Placed.keeps g.W.Placed.state s (g.W.Placed.state c.args.writer)) (sym c.at_end.ensures)
     record {
-      begun = record { writable = writable; spec = refl; start = ap length is ∙ length-header s 0 0; none_out = refl; none_waits = refl; buffer = refl };
+      begun = record { writable = writable; sound = sound_begin c.put_all.new.medium s _ writable (ap length is ∙ length-header s 0 0); spec = refl; start = ap length is ∙ length-header s 0 0; none_out = refl; none_waits = refl; buffer = refl };
       file = λ tells. header_file g.W.Placed.keeps g.W.Placed.state s _ _ _ is (c.requires tells) writable (c.in-Ok.ensures tells);
     }
 
