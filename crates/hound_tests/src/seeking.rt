@@ -1,7 +1,7 @@
 // Iterators that count, and seeking.
 ghost use Rattle.std.specs.Prelude.{◌≡◌, false};
 ghost use Rattle.std.proofs.lemmas.Bool.{false≢true};
-ghost use Rattle.hound.specs.MediumState.{MediumState, unknown};
+ghost use Rattle.hound.specs.State.{MediumState, unknown};
 
 use crate::reading::file;
 use crate::widths::FOUR_BYTES;

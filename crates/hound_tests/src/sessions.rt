@@ -1,6 +1,6 @@
 // Whole runs of a writer as one call.
 ghost use Rattle.std.specs.Prelude.{◌≡◌, IfOk};
-ghost use Rattle.hound.specs.MediumState.{MediumState};
+ghost use Rattle.hound.specs.State.{MediumState};
 
 use crate::widths::{empty_tape, integers, samples_of};
 use hound::{

@@ -1,7 +1,7 @@
 // Files through the public items, byte by byte.
 ghost use Rattle.std.specs.Prelude.{◌≡◌, false};
 ghost use Rattle.std.proofs.lemmas.Bool.{false≢true};
-ghost use Rattle.hound.specs.MediumState.{MediumState, unknown};
+ghost use Rattle.hound.specs.State.{MediumState, unknown};
 
 use hound::{Error, Medium, Placed, SampleFormat, Tape, WavSpec, WavSpecEx, WavWriter};
 use std::alloc::Global;
