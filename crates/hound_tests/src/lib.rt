@@ -16,6 +16,8 @@ mod checkpoints;
 #[cfg(test)]
 mod files;
 #[cfg(test)]
+mod helpers;
+#[cfg(test)]
 mod memory;
 #[cfg(test)]
 mod moments;
