@@ -32,4 +32,6 @@ mod unknown_length;
 #[cfg(test)]
 mod widths;
 #[cfg(test)]
+mod words;
+#[cfg(test)]
 mod writing;
