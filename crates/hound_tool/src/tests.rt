@@ -322,7 +322,7 @@ fn path_of(rt: &HostRuntime, name: &str) -> Result<PathBuf, Fail> {
 }
 
 // What a run of `append` answers and says, and the file after it.
-fn append_on(rt: &HostRuntime, path: Path<'_>, file: &[u8], input: &[u8]) -> io::Result<Answer> {
+fn append_at(rt: &HostRuntime, path: Path<'_>, file: &[u8], input: &[u8]) -> io::Result<Answer> {
     fs::write(rt, path, file)?;
     let mut errors = Vec::new(rt.alloc());
     let mut bytes = input;
@@ -334,25 +334,24 @@ fn append_on(rt: &HostRuntime, path: Path<'_>, file: &[u8], input: &[u8]) -> io:
     })
 }
 
+// The same at a file that is removed behind the run.
+fn append_on(rt: &HostRuntime, name: &str, file: &[u8], input: &[u8]) -> Result<Answer, Fail> {
+    let path = path_of(rt, name)?;
+    let answer = append_at(rt, path.as_path(), file, input);
+    fs::remove_file(rt, path.as_path())?;
+    Ok(answer?)
+}
+
 #[test]
 fn append_goes_on_with_a_file(rt: HostRuntime) -> Result<(), Fail> {
     let packed = run_on(rt.alloc(), &["pack", "1", "44100", "16"], b"11 13 17");
-    let path = path_of(&rt, "append")?;
-    let answer = append_on(&rt, path.as_path(), &packed.output, b"19 23");
-    fs::remove_file(&rt, path.as_path())?;
-    let Answer {
-        status,
-        output,
-        errors,
-    } = answer?;
-    assert_eq!(rt; status, 0);
-    assert!(rt; errors.is_empty());
-    assert_eq!(rt; output.len(), 54);
+    let answer = append_on(&rt, "append", &packed.output, b"19 23")?;
+    assert_eq!(rt; answer.status, 0);
+    assert!(rt; answer.errors.is_empty());
+    assert_eq!(rt; answer.output.len(), 54);
+    let shown = run_on(rt.alloc(), &["show"], &answer.output);
     let lines: &[u8] = b"channels 1 rate 44100 bits 16 format int samples 5\n11\n13\n17\n19\n23\n";
-    assert_eq!(rt;
-        run_on(rt.alloc(), &["show"], &output).output.as_slice(),
-        lines
-    );
+    assert_eq!(rt; shown.output.as_slice(), lines);
     Ok(())
 }
 
@@ -363,54 +362,31 @@ fn append_of_no_numbers_ends_the_file(rt: HostRuntime) -> Result<(), Fail> {
     for byte in begun.iter_mut().skip(4).take(4) {
         *byte = 0;
     }
-    let path = path_of(&rt, "none")?;
-    let answer = append_on(&rt, path.as_path(), &begun, b" \n");
-    fs::remove_file(&rt, path.as_path())?;
-    let Answer {
-        status,
-        output,
-        errors,
-    } = answer?;
-    assert_eq!(rt; status, 0);
-    assert!(rt; errors.is_empty());
-    assert_eq!(rt; output.as_slice(), FOUR_SAMPLES.as_slice());
+    let answer = append_on(&rt, "none", &begun, b" \n")?;
+    assert_eq!(rt; answer.status, 0);
+    assert!(rt; answer.errors.is_empty());
+    assert_eq!(rt; answer.output.as_slice(), FOUR_SAMPLES.as_slice());
     Ok(())
 }
 
 #[test]
 fn append_tests_its_numbers_before_it_opens_a_file(rt: HostRuntime) -> Result<(), Fail> {
-    let path = path_of(&rt, "numbers")?;
-    let answer = append_on(&rt, path.as_path(), &FOUR_SAMPLES, b"19 x");
-    fs::remove_file(&rt, path.as_path())?;
-    let Answer {
-        status,
-        output,
-        errors,
-    } = answer?;
-    assert_eq!(rt; status, 1);
-    assert_eq!(rt; errors.as_slice(), b"bad number\n".as_slice());
-    assert_eq!(rt; output.as_slice(), FOUR_SAMPLES.as_slice());
+    let answer = append_on(&rt, "numbers", &FOUR_SAMPLES, b"19 x")?;
+    assert_eq!(rt; answer.status, 1);
+    assert_eq!(rt; answer.errors.as_slice(), b"bad number\n".as_slice());
+    assert_eq!(rt; answer.output.as_slice(), FOUR_SAMPLES.as_slice());
     Ok(())
 }
 
 #[test]
 fn append_keeps_what_came_before_a_refusal(rt: HostRuntime) -> Result<(), Fail> {
-    let path = path_of(&rt, "refused")?;
-    let answer = append_on(&rt, path.as_path(), &FOUR_SAMPLES, b"11 32768 13");
-    fs::remove_file(&rt, path.as_path())?;
-    let Answer {
-        status,
-        output,
-        errors,
-    } = answer?;
+    let answer = append_on(&rt, "refused", &FOUR_SAMPLES, b"11 32768 13")?;
     let line: &[u8] = b"The sample has more bits than the destination type.\n";
+    assert_eq!(rt; answer.status, 1);
+    assert_eq!(rt; answer.errors.as_slice(), line);
+    let shown = run_on(rt.alloc(), &["show"], &answer.output);
     let lines: &[u8] = b"channels 1 rate 44100 bits 16 format int samples 5\n2\n-3\n5\n-7\n11\n";
-    assert_eq!(rt; status, 1);
-    assert_eq!(rt; errors.as_slice(), line);
-    assert_eq!(rt;
-        run_on(rt.alloc(), &["show"], &output).output.as_slice(),
-        lines
-    );
+    assert_eq!(rt; shown.output.as_slice(), lines);
     Ok(())
 }
 
