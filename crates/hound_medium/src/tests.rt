@@ -218,21 +218,6 @@ fn a_journal_serves_through_its_bounds(rt: HostRuntime) -> Result<(), Fail> {
     Ok(())
 }
 
-// A file that no other test names.
-fn path_of(rt: &HostRuntime, name: &str) -> Result<PathBuf, Fail> {
-    let id = process::id(rt.process());
-    let name = format!(in rt.alloc(); "hound_medium_{id}_{name}")?;
-    Ok(env::temp_dir(rt)?.join(rt.alloc(), name.as_str())?)
-}
-
-fn make(rt: &HostRuntime, path: Path<'_>) -> io::Result<BufWriter<fs::File>> {
-    BufWriter::new(rt.alloc(), fs::File::create(rt, path)?)
-}
-
-fn open(rt: &HostRuntime, path: Path<'_>) -> io::Result<BufReader<fs::File>> {
-    BufReader::new(rt.alloc(), fs::File::open(rt, path)?)
-}
-
 #[test]
 fn files_serve_through_the_bounds(rt: HostRuntime) -> Result<(), Fail> {
     let path = path_of(&rt, "bounds")?;
@@ -246,6 +231,21 @@ fn files_serve_through_the_bounds(rt: HostRuntime) -> Result<(), Fail> {
     assert_eq!(rt; read?, (*b"ab", 2));
     assert_eq!(rt; bytes.as_slice(), b"\0ababc".as_slice());
     Ok(())
+}
+
+// A file that no other test names.
+fn path_of(rt: &HostRuntime, name: &str) -> Result<PathBuf, Fail> {
+    let id = process::id(rt.process());
+    let name = format!(in rt.alloc(); "hound_medium_{id}_{name}")?;
+    Ok(env::temp_dir(rt)?.join(rt.alloc(), name.as_str())?)
+}
+
+fn make(rt: &HostRuntime, path: Path<'_>) -> io::Result<BufWriter<fs::File>> {
+    BufWriter::new(rt.alloc(), fs::File::create(rt, path)?)
+}
+
+fn open(rt: &HostRuntime, path: Path<'_>) -> io::Result<BufReader<fs::File>> {
+    BufReader::new(rt.alloc(), fs::File::open(rt, path)?)
 }
 
 // The bytes that another handle finds behind each of two flushes, while the writer stands.
