@@ -2,8 +2,15 @@
 #![tactic(auto)]
 
 pub use hound_medium::{Journal, Medium, Placed, Source, Tape};
-pub use hound_reader::{WavIntoSamples, WavReader, WavSamples, read_wave_header};
-pub use hound_sample::{FloatBits, Sample};
-pub use hound_session::{Begin, End, Step, run_session, run_sessions};
+pub use hound_reader::{
+    WavIntoSamples, WavReader, WavSamples, a_seek_leads_to_its_frame,
+    an_iterator_gives_what_it_hints, items_are_of_the_file, one_answer, read_wave_header,
+    written_is_head, written_is_read,
+};
+pub use hound_sample::{FloatBits, Sample, integers_come_back, short_integers_are_kept};
+pub use hound_session::{
+    Begin, End, Step, a_batch_is_its_values, run_session,
+    run_sessions,
+};
 pub use hound_spec::{Error, Result, SampleFormat, WavSpec, WavSpecEx};
 pub use hound_writer::{SampleWriter16, WavWriter};

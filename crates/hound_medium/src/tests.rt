@@ -3,6 +3,7 @@
 use super::*;
 use std::alloc::Global;
 use std::io::{BufReader, BufWriter, ErrorKind, Read};
+use std::path::{Path, PathBuf};
 use std::test::Fail;
 use std::{env, fs, io, process};
 
@@ -219,20 +220,110 @@ fn a_journal_serves_through_its_bounds(rt: HostRuntime) -> Result<(), Fail> {
 
 #[test]
 fn files_serve_through_the_bounds(rt: HostRuntime) -> Result<(), Fail> {
-    let id = process::id(rt.process());
-    let name = format!(in rt.alloc(); "hound_medium_{id}")?;
-    let path = env::temp_dir(&rt)?.join(rt.alloc(), name.as_str())?;
-    let file = fs::File::create(&rt, path.as_str())?;
-    let mut writer = put_letters(BufWriter::new(rt.alloc(), file)?, 1)?;
-    writer.shift(-2)?;
+    let path = path_of(&rt, "bounds")?;
+    let writer = put_letters(make(&rt, path.as_path())?, 1)?;
     let _ = put_letters(writer, 3)?;
-    let file = fs::File::open(&rt, path.as_str())?;
-    let mut reader = BufReader::new(rt.alloc(), file)?;
+    let mut reader = open(&rt, path.as_path())?;
     reader.go(2)?;
     let read = skip_and_get(reader);
-    let bytes = fs::read(&rt, path.as_str())?;
-    fs::remove_file(&rt, path.as_str())?;
+    let bytes = fs::read(&rt, path.as_path())?;
+    fs::remove_file(&rt, path.as_path())?;
     assert_eq!(rt; read?, (*b"ab", 2));
     assert_eq!(rt; bytes.as_slice(), b"\0ababc".as_slice());
+    Ok(())
+}
+
+// A file that no other test names.
+fn path_of(rt: &HostRuntime, name: &str) -> Result<PathBuf, Fail> {
+    let id = process::id(rt.process());
+    let name = format!(in rt.alloc(); "hound_medium_{id}_{name}")?;
+    Ok(env::temp_dir(rt)?.join(rt.alloc(), name.as_str())?)
+}
+
+fn make(rt: &HostRuntime, path: Path<'_>) -> io::Result<BufWriter<fs::File>> {
+    BufWriter::new(rt.alloc(), fs::File::create(rt, path)?)
+}
+
+fn open(rt: &HostRuntime, path: Path<'_>) -> io::Result<BufReader<fs::File>> {
+    BufReader::new(rt.alloc(), fs::File::open(rt, path)?)
+}
+
+// The bytes that another handle finds behind each of two flushes, while the writer stands.
+fn flushed_twice(rt: &HostRuntime, path: Path<'_>) -> io::Result<(Vec<u8>, Vec<u8>)> {
+    let mut writer = make(rt, path)?;
+    put_all(&mut writer, b"wave")?;
+    Medium::flush(&mut writer)?;
+    let first = fs::read(rt, path)?;
+    put_all(&mut writer, b"form")?;
+    Medium::flush(&mut writer)?;
+    let second = fs::read(rt, path)?;
+    Ok((first, second))
+}
+
+#[test]
+fn a_flush_of_a_file_hands_its_bytes_on(rt: HostRuntime) -> Result<(), Fail> {
+    let path = path_of(&rt, "flush")?;
+    let found = flushed_twice(&rt, path.as_path());
+    fs::remove_file(&rt, path.as_path())?;
+    let (first, second) = found?;
+    assert_eq!(rt; first.as_slice(), b"wave".as_slice());
+    assert_eq!(rt; second.as_slice(), b"waveform".as_slice());
+    Ok(())
+}
+
+// Where a shift leads to, told by the letter that is put there, and whether one below 0 is refused.
+fn put_at_shifts(rt: &HostRuntime, path: Path<'_>) -> io::Result<(Vec<u8>, bool)> {
+    let mut writer = make(rt, path)?;
+    put_all(&mut writer, b"waveform")?;
+    writer.shift(-6)?;
+    put_all(&mut writer, b"V")?;
+    writer.shift(3)?;
+    put_all(&mut writer, b"R")?;
+    writer.shift(4)?;
+    put_all(&mut writer, b"!")?;
+    let below = writer.shift(-13).is_err();
+    drop(writer);
+    Ok((fs::read(rt, path)?, below))
+}
+
+// Where a shift leads to, told by the byte that is got there: some within the bytes that are read
+// ahead, some beyond. Each step is a shift and the byte that it leads to, if there is one.
+fn gets_at_shifts(source: BufReader<fs::File>) -> io::Result<bool> {
+    let mut source = source;
+    let mut byte = [0];
+    for (by, want) in [
+        (0, Some(0)),
+        (6, Some(7)),
+        (-8, Some(0)),
+        (40_000, Some(65)),
+        (-39_002, Some(232)),
+        (58_999, None),
+        (-59_996, Some(4)),
+    ] {
+        source.shift(by)?;
+        let n = source.get(&mut byte)?;
+        let got = if n == 1 { Some(byte[0]) } else { None };
+        if got != want {
+            return Ok(false);
+        }
+    }
+    Ok(source.shift(-6).is_err())
+}
+
+#[test]
+fn a_shift_of_a_file_goes_as_far_as_it_says(rt: HostRuntime) -> Result<(), Fail> {
+    let path = path_of(&rt, "shift")?;
+    let put = put_at_shifts(&rt, path.as_path());
+    // The byte at each place is the place's lowest eight bits.
+    let counting: Vec<u8> = (0..60_000u32)
+        .map(|place| (place % 256) as u8)
+        .collect(rt.alloc())?;
+    fs::write(&rt, path.as_path(), counting.as_slice())?;
+    let got = gets_at_shifts(open(&rt, path.as_path())?);
+    fs::remove_file(&rt, path.as_path())?;
+    let (bytes, below) = put?;
+    assert_eq!(rt; bytes.as_slice(), b"waVefoRm\0\0\0!".as_slice());
+    assert!(rt; below);
+    assert!(rt; got?);
     Ok(())
 }

@@ -134,6 +134,4 @@ pub fn write_bytes<W: io::Write>(writer: &mut W, bytes: &[u8]) -> io::Result<()>
 }
 
 #[cfg(test)]
-mod reading_tests;
-#[cfg(test)]
-mod writing_tests;
+mod tests;

@@ -11,6 +11,4 @@ pub use laws::{integers_come_back, short_integers_are_kept};
 pub use sample::Sample;
 
 #[cfg(test)]
-mod reading_tests;
-#[cfg(test)]
-mod writing_tests;
+mod tests;

@@ -208,6 +208,3 @@ impl WavSpec {
         }
     }
 }
-
-#[cfg(test)]
-mod tests;

@@ -1,4 +1,6 @@
 // The texts of errors, which no clause says, and the specs that are writable, from their table.
+mod headers;
+
 use super::*;
 use std::io::ErrorKind;
 use std::test::Fail;

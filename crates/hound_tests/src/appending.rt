@@ -1,9 +1,7 @@
 // Going on with files that are there.
 ghost use Rattle.std.specs.Prelude.{◌≡◌};
 
-use crate::reading::file;
-use crate::widths::{file_of, floats, integers, samples_of};
-use crate::writing::FOUR_SAMPLES;
+use crate::helpers::{FOUR_SAMPLES, file_of, file_with, floats, integers, samples_of, write_all};
 use hound::{Error, FloatBits, Placed, Sample, Tape, WavWriter};
 use std::alloc::Global;
 use std::io::ErrorKind;
@@ -12,9 +10,7 @@ use std::test::Fail;
 // The bytes of a file with these samples behind its own.
 fn appended<S: Sample + Copy>(file: Vec<u8>, samples: &[S]) -> hound::Result<Vec<u8>> {
     let mut writer = WavWriter::new_append(Tape::new(file))?;
-    for sample in samples {
-        writer.write_sample(*sample)?;
-    }
+    write_all(&mut writer, samples)?;
     let (tape, result) = writer.finalize_into();
     result?;
     Ok(tape.into_bytes())
@@ -99,7 +95,7 @@ fn is_refused(alloc: Global, bytes: &[u8], text: &str) -> Result<bool, Fail> {
 
 // A stereo file of one frame a second, whose data chunk says this length.
 fn stereo(alloc: Global, fmt: &[u8], length: [u8; 4]) -> Result<Vec<u8>, Fail> {
-    let mut bytes = file(alloc, fmt, &[0; 4])?;
+    let mut bytes = file_with(alloc, fmt, &[0; 4])?;
     for (slot, byte) in bytes.iter_mut().skip(40).take(4).zip(length) {
         *slot = byte;
     }

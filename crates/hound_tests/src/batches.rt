@@ -1,24 +1,11 @@
 // Batches of samples of sixteen bits.
 ghost use Rattle.std.specs.Prelude.{◌≡◌};
 ghost use Rattle.hound.specs.Room.{IsSixteen};
-ghost use Rattle.hound.specs.declared.SampleFormat.TheVariants.{Int};
 
-use crate::widths::{empty_tape, file_of, integers, samples_of};
-use crate::writing::Faulty;
-use hound::{Error, SampleFormat, Tape, WavSpec, WavWriter};
+use crate::helpers::{Faulty, empty_tape, file_of, integers, samples_of, sixteen};
+use hound::{Error, Tape, WavWriter};
 use std::alloc::Global;
 use std::test::Fail;
-
-pub(crate) fn spec(channels: u16) -> WavSpec
-    ensures { (result.sample_format ≡ Int) × (result.bits_per_sample ≡ 16) }
-{
-    WavSpec {
-        channels,
-        sample_rate: 44100,
-        bits_per_sample: 16,
-        sample_format: SampleFormat::Int,
-    }
-}
 
 // Writes as many samples by one batch, which count up from the first.
 fn write_up(
@@ -47,7 +34,7 @@ fn write_up(
 #[test]
 fn batches_are_written_as_samples_are(rt: HostRuntime) -> Result<(), Fail> {
     let alloc = rt.alloc();
-    let mut writer = WavWriter::new(empty_tape(alloc), spec(2))?;
+    let mut writer = WavWriter::new(empty_tape(alloc), sixteen(2))?;
     write_up(&mut writer, alloc, -1024, 1024)?;
     write_up(&mut writer, alloc, 0, 1024)?;
     assert_eq!(rt; writer.len(), 2048);
@@ -77,7 +64,7 @@ fn batches_are_written_as_samples_are(rt: HostRuntime) -> Result<(), Fail> {
 #[test]
 fn a_dropped_batch_is_not_accepted(rt: HostRuntime) -> Result<(), Fail> {
     let alloc = rt.alloc();
-    let mut writer = WavWriter::new(empty_tape(alloc), spec(1))?;
+    let mut writer = WavWriter::new(empty_tape(alloc), sixteen(1))?;
     writer.write_sample(1i16)?;
     {
         let mut batch = writer.get_i16_writer(alloc, 2)?;
@@ -95,7 +82,7 @@ fn a_dropped_batch_is_not_accepted(rt: HostRuntime) -> Result<(), Fail> {
 #[test]
 fn a_batch_is_no_longer_than_its_file(rt: HostRuntime) -> Result<(), Fail> {
     let alloc = rt.alloc();
-    let mut writer = WavWriter::new(empty_tape(alloc), spec(1))?;
+    let mut writer = WavWriter::new(empty_tape(alloc), sixteen(1))?;
     let batch = writer.get_i16_writer(alloc, 2147483630);
     assert!(rt; matches!(batch.err(), Some(Error::TooLong)));
     Ok(())
@@ -104,12 +91,7 @@ fn a_batch_is_no_longer_than_its_file(rt: HostRuntime) -> Result<(), Fail> {
 #[test]
 fn an_empty_batch_puts_nothing(rt: HostRuntime) -> Result<(), Fail> {
     let alloc = rt.alloc();
-    let medium = Faulty {
-        tape: empty_tape(alloc),
-        calls: 0,
-        fails_at: 0,
-    };
-    let mut writer = WavWriter::new(medium, spec(1))?;
+    let mut writer = WavWriter::new(Faulty::at(alloc, 0), sixteen(1))?;
     writer.get_i16_writer(alloc, 0)?.flush()?;
     assert_eq!(rt; writer.len(), 0);
     // The header takes 44 calls, the end 11: a byte a call, two places, and a flush.
@@ -121,12 +103,7 @@ fn an_empty_batch_puts_nothing(rt: HostRuntime) -> Result<(), Fail> {
 fn a_batch_that_fails_is_not_accepted(rt: HostRuntime) -> Result<(), Fail> {
     let alloc = rt.alloc();
     // The second byte of the second sample fails.
-    let medium = Faulty {
-        tape: empty_tape(alloc),
-        calls: 0,
-        fails_at: 48,
-    };
-    let mut writer = WavWriter::new(medium, spec(1))?;
+    let mut writer = WavWriter::new(Faulty::at(alloc, 48), sixteen(1))?;
     let mut batch = writer.get_i16_writer(alloc, 2)?;
     batch.write_sample(0x0101i16);
     batch.write_sample(0x0202i16);

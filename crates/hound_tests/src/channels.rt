@@ -1,5 +1,5 @@
 // Files of many channels.
-use crate::widths::{file_of, integers, samples_of};
+use crate::helpers::{file_of, integers, samples_of};
 use hound::Error;
 use std::test::Fail;
 

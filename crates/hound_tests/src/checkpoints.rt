@@ -1,18 +1,14 @@
 // Checkpoints, and writers that are dropped.
 ghost use Rattle.std.specs.Prelude.{◌≡◌};
 
-use crate::widths::{empty_tape, file_of, integers, samples_of};
-use crate::writing::Faulty;
-use hound::{Error, Placed, Tape, WavReader, WavSpec, WavWriter};
+use crate::helpers::{Faulty, empty_tape, file_of, integers, samples_of, sixteen, write_all};
+use hound::{Error, Placed, Tape, WavReader, WavWriter};
+use std::alloc::Global;
 use std::test::Fail;
-
-fn spec(channels: u16) -> WavSpec {
-    integers(channels, 44100, 16, 2).spec
-}
 
 #[test]
 fn a_checkpoint_inside_a_frame(rt: HostRuntime) -> Result<(), Fail> {
-    let mut writer = WavWriter::new(empty_tape(rt.alloc()), spec(2))?;
+    let mut writer = WavWriter::new(empty_tape(rt.alloc()), sixteen(2))?;
     writer.write_sample(1i16)?;
     assert!(rt; matches!(writer.flush(), Err(Error::UnfinishedSample)));
     writer.write_sample(2i16)?;
@@ -34,14 +30,11 @@ fn write_and_drop(tape: &mut Tape, samples: &[i16]) -> hound::Result<()>
     requires { (⟦<Tape as Placed>⟧.state tape.old).place ≡ 0 }
 {
     let mut writer = if Tape::bytes(tape).is_empty() {
-        WavWriter::new(tape, spec(2))?
+        WavWriter::new(tape, sixteen(2))?
     } else {
         WavWriter::new_append(tape)?
     };
-    for sample in samples {
-        writer.write_sample(*sample)?;
-    }
-    Ok(())
+    write_all(&mut writer, samples)
 }
 
 #[test]
@@ -62,10 +55,8 @@ fn a_dropped_writer_publishes(rt: HostRuntime) -> Result<(), Fail> {
 
 #[test]
 fn a_drop_hands_the_medium_back(rt: HostRuntime) -> Result<(), Fail> {
-    let mut writer = WavWriter::new(empty_tape(rt.alloc()), spec(1))?;
-    for sample in [2i16, 5, 7, 11] {
-        writer.write_sample(sample)?;
-    }
+    let mut writer = WavWriter::new(empty_tape(rt.alloc()), sixteen(1))?;
+    write_all(&mut writer, &[2i16, 5, 7, 11])?;
     let tape = writer.drop_into();
     let whole = file_of(rt.alloc(), integers(1, 44100, 16, 2), &[2i16, 5, 7, 11])?;
     assert_eq!(rt; tape.into_bytes().as_slice(), whole.as_slice());
@@ -74,19 +65,14 @@ fn a_drop_hands_the_medium_back(rt: HostRuntime) -> Result<(), Fail> {
 
 // A writer of one channel over a medium that takes a byte a call, of which this one fails. The
 // header takes 44 calls, a sample 2, a size 5 and each flush 1.
-fn faulty(fails_at: u64, tape: Tape) -> hound::Result<WavWriter<Faulty>> {
-    let medium = Faulty {
-        tape,
-        calls: 0,
-        fails_at,
-    };
-    WavWriter::new(medium, spec(1))
+fn faulty(alloc: Global, fails_at: u64) -> hound::Result<WavWriter<Faulty>> {
+    WavWriter::new(Faulty::at(alloc, fails_at), sixteen(1))
 }
 
 #[test]
 fn a_checkpoint_outlasts_a_failing_end(rt: HostRuntime) -> Result<(), Fail> {
     // After 46 calls the checkpoint takes 12, and the next sample 2.
-    let mut writer = faulty(61, empty_tape(rt.alloc()))?;
+    let mut writer = faulty(rt.alloc(), 61)?;
     writer.write_sample(1i16)?;
     writer.flush()?;
     writer.write_sample(2i16)?;
@@ -101,7 +87,7 @@ fn a_checkpoint_outlasts_a_failing_end(rt: HostRuntime) -> Result<(), Fail> {
 #[test]
 fn writing_goes_on_behind_a_failed_checkpoint(rt: HostRuntime) -> Result<(), Fail> {
     // The second byte of the data length fails.
-    let mut writer = faulty(54, empty_tape(rt.alloc()))?;
+    let mut writer = faulty(rt.alloc(), 54)?;
     writer.write_sample(1i16)?;
     assert!(rt; matches!(writer.flush(), Err(Error::IoError(_))));
     writer.write_sample(3i16)?;

@@ -1,15 +1,11 @@
 // Files on disk.
-use crate::widths::{file_of, integers, samples_of};
-use crate::writing::FOUR_SAMPLES;
-use hound::{Error, WavReader, WavSpec, WavWriter};
-use std::alloc::Global;
+use crate::helpers::{
+    FOUR_SAMPLES, NO_SAMPLES, file_of, integers, read_all, seeks_everywhere, sixteen, write_all,
+};
+use hound::{Error, WavReader, WavWriter};
 use std::path::{Path, PathBuf};
 use std::test::Fail;
 use std::{env, fs, io, process};
-
-fn spec(channels: u16) -> WavSpec {
-    integers(channels, 44100, 16, 2).spec
-}
 
 // A file that no other test names.
 fn path_of(rt: &HostRuntime, name: &str) -> Result<PathBuf, Fail> {
@@ -19,18 +15,14 @@ fn path_of(rt: &HostRuntime, name: &str) -> Result<PathBuf, Fail> {
 }
 
 fn write_to(rt: &HostRuntime, path: Path<'_>, samples: &[i16]) -> hound::Result<()> {
-    let mut writer = WavWriter::create(rt, rt.alloc(), path, spec(1))?;
-    for sample in samples {
-        writer.write_sample(*sample)?;
-    }
+    let mut writer = WavWriter::create(rt, rt.alloc(), path, sixteen(1))?;
+    write_all(&mut writer, samples)?;
     writer.finalize()
 }
 
 fn append_to(rt: &HostRuntime, path: Path<'_>, samples: &[i16]) -> hound::Result<()> {
     let mut writer = WavWriter::append(rt, rt.alloc(), path)?;
-    for sample in samples {
-        writer.write_sample(*sample)?;
-    }
+    write_all(&mut writer, samples)?;
     writer.finalize()
 }
 
@@ -41,13 +33,7 @@ fn append_one(rt: &HostRuntime, path: Path<'_>, sample: i16) -> hound::Result<()
 }
 
 fn read_from(rt: &HostRuntime, path: Path<'_>) -> hound::Result<Vec<i16>> {
-    let mut reader = WavReader::open(rt, rt.alloc(), path)?;
-    let mut read = Vec::new(rt.alloc());
-    for sample in reader.samples::<i16>() {
-        let sample = sample?;
-        read.push(sample).map_err(|_| Error::OutOfMemory)?;
-    }
-    Ok(read)
+    read_all(rt.alloc(), WavReader::open(rt, rt.alloc(), path)?)
 }
 
 // A file that is made, gone on with twice, and read.
@@ -71,6 +57,49 @@ fn a_file_is_made_gone_on_with_and_read(rt: HostRuntime) -> Result<(), Fail> {
     Ok(())
 }
 
+// What a reader finds behind a checkpoint, while the writer stands, and then what it finds at the end.
+fn checkpoint_and_end(rt: &HostRuntime, path: Path<'_>) -> hound::Result<(Vec<i16>, Vec<i16>)> {
+    let mut writer = WavWriter::create(rt, rt.alloc(), path, sixteen(1))?;
+    write_all(&mut writer, &[11i16, 13, 17])?;
+    writer.flush()?;
+    let first = read_from(rt, path)?;
+    write_all(&mut writer, &[19i16, 23])?;
+    writer.finalize()?;
+    Ok((first, read_from(rt, path)?))
+}
+
+#[test]
+fn a_checkpoint_is_read_while_the_writer_stands(rt: HostRuntime) -> Result<(), Fail> {
+    let path = path_of(&rt, "checkpoint")?;
+    let read = checkpoint_and_end(&rt, path.as_path());
+    fs::remove_file(&rt, path.as_path())?;
+    let (first, all) = read?;
+    assert_eq!(rt; first.as_slice(), [11i16, 13, 17].as_slice());
+    assert_eq!(rt; all.as_slice(), [11i16, 13, 17, 19, 23].as_slice());
+    Ok(())
+}
+
+#[test]
+fn a_file_of_no_samples_is_finalized(rt: HostRuntime) -> Result<(), Fail> {
+    let path = path_of(&rt, "none")?;
+    let written = write_to(&rt, path.as_path(), &[]);
+    let bytes = fs::read(&rt, path.as_path());
+    fs::remove_file(&rt, path.as_path())?;
+    written?;
+    assert_eq!(rt; bytes?.as_slice(), NO_SAMPLES.as_slice());
+    Ok(())
+}
+
+#[test]
+fn a_seek_in_a_file_leads_to_its_sample(rt: HostRuntime) -> Result<(), Fail> {
+    let path = path_of(&rt, "seek")?;
+    fs::write(&rt, path.as_path(), FOUR_SAMPLES.as_slice())?;
+    let reader = WavReader::open(&rt, rt.alloc(), path.as_path());
+    fs::remove_file(&rt, path.as_path())?;
+    assert!(rt; seeks_everywhere(reader?, &[2, -3, 5, -7])?);
+    Ok(())
+}
+
 #[test]
 fn a_file_that_is_missing_stays_so(rt: HostRuntime) -> Result<(), Fail> {
     let path = path_of(&rt, "missing")?;
@@ -86,7 +115,7 @@ fn a_file_that_is_missing_stays_so(rt: HostRuntime) -> Result<(), Fail> {
 fn an_unwritable_spec_leaves_an_empty_file(rt: HostRuntime) -> Result<(), Fail> {
     let path = path_of(&rt, "unwritable")?;
     fs::write(&rt, path.as_path(), FOUR_SAMPLES.as_slice())?;
-    let writer = WavWriter::create(&rt, rt.alloc(), path.as_path(), spec(0));
+    let writer = WavWriter::create(&rt, rt.alloc(), path.as_path(), sixteen(0));
     let error = writer.err();
     let bytes = fs::read(&rt, path.as_path());
     fs::remove_file(&rt, path.as_path())?;

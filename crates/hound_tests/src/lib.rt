@@ -16,6 +16,8 @@ mod checkpoints;
 #[cfg(test)]
 mod files;
 #[cfg(test)]
+mod helpers;
+#[cfg(test)]
 mod memory;
 #[cfg(test)]
 mod moments;
@@ -29,5 +31,7 @@ mod sessions;
 mod unknown_length;
 #[cfg(test)]
 mod widths;
+#[cfg(test)]
+mod words;
 #[cfg(test)]
 mod writing;

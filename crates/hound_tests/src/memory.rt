@@ -3,8 +3,7 @@
 ghost use Rattle.std.specs.Prelude.{◌≡◌};
 ghost use Rattle.hound.specs.Room.{IsSixteen};
 
-use crate::batches::spec;
-use crate::widths::{empty_tape, integers};
+use crate::helpers::{empty_tape, integers, sixteen};
 use hound::{Error, Tape, WavWriter};
 use std::alloc::Global;
 use std::test::Fail;
@@ -49,7 +48,7 @@ fn room_of(writer: &mut WavWriter<Tape>, alloc: Global, count: u32) -> hound::Re
 #[test]
 fn a_batch_uses_memory_that_is_kept(rt: HostRuntime) -> Result<(), Fail> {
     let alloc = rt.alloc();
-    let mut writer = WavWriter::new(empty_tape(alloc), spec(1))?;
+    let mut writer = WavWriter::new(empty_tape(alloc), sixteen(1))?;
     let mut batch = writer.get_i16_writer(alloc, 4)?;
     batch.write_sample(2i16);
     batch.write_sample(3i16);

@@ -1,21 +1,13 @@
 // Files over a medium that keeps its past and fails on request.
 ghost use Rattle.std.specs.Prelude.{◌≡◌, ◌≤◌, IfOk};
 
-use hound::{Error, Journal, Placed, SampleFormat, WavReader, WavSpec, WavWriter};
+use crate::helpers::{has_first, has_samples, integers, sixteen, write_all};
+use hound::{Error, Journal, Placed, WavReader, WavSpec, WavWriter};
 use std::alloc::Global;
 use std::test::Fail;
 
-fn spec(channels: u16, bits_per_sample: u16) -> WavSpec {
-    WavSpec {
-        channels,
-        sample_rate: 44100,
-        bits_per_sample,
-        sample_format: SampleFormat::Int,
-    }
-}
-
 fn mono(bits_per_sample: u16) -> WavSpec {
-    spec(1, bits_per_sample)
+    integers(1, 44100, bits_per_sample, bits_per_sample / 8).spec
 }
 
 // An empty journal that takes one byte a call, and fails at the calls with these numbers.
@@ -53,67 +45,7 @@ fn first(samples: &[i32], count: usize) -> Result<&[i32], Fail> {
     }
 }
 
-fn write_all(writer: &mut WavWriter<Journal>, samples: &[i32]) -> hound::Result<()> {
-    for sample in samples {
-        writer.write_sample(*sample)?;
-    }
-    Ok(())
-}
-
-// Whether a file has these samples and no others.
-fn has_samples(bytes: &[u8], samples: &[i32]) -> hound::Result<bool> {
-    let mut reader = WavReader::new(bytes)?;
-    if reader.len() as usize != samples.len() {
-        return Ok(false);
-    }
-    let mut items = reader.samples::<i32>();
-    for sample in samples {
-        match items.next() {
-            Some(Ok(value)) if value == *sample => {}
-            _ => return Ok(false),
-        }
-    }
-    Ok(items.next().is_none())
-}
-
-// The length in the four bytes before the data.
-fn data_length(bytes: &[u8], data_start: usize) -> Option<usize> {
-    match bytes.get(data_start.saturating_sub(4)..data_start) {
-        Some([a, b, c, d]) => Some(u32::from_le_bytes([*a, *b, *c, *d]) as usize),
-        _ => None,
-    }
-}
-
-// Whether a file has the first of these samples, as many as its length counts, or is refused for a
-// length of no whole frames.
-fn has_first(
-    bytes: &[u8],
-    samples: &[i32],
-    data_start: usize,
-    width: usize,
-    channels: usize,
-) -> bool
-    requires wide { 1 ≤ width }
-    requires many { 1 ≤ channels }
-{
-    let Some(length) = data_length(bytes, data_start) else {
-        return false;
-    };
-    let count = length / width;
-    let words = if length % width != 0 {
-        "data chunk length is not a multiple of sample size"
-    } else if count % channels != 0 {
-        "invalid data chunk length"
-    } else {
-        return match samples.get(..count) {
-            Some(first) => matches!(has_samples(bytes, first), Ok(true)),
-            None => false,
-        };
-    };
-    matches!(WavReader::new(bytes), Err(Error::FormatError(reason)) if reason == words)
-}
-
-// Whether that is so at each moment from the end of the header on.
+// Whether a file has the first of these samples at each moment from the end of the header on.
 fn has_first_at_each_moment(
     journal: &Journal,
     alloc: Global,
@@ -180,7 +112,7 @@ fn a_torn_sample_is_put_over(rt: HostRuntime) -> Result<(), Fail> {
 fn a_checkpoint_in_stereo_stands_until_the_next(rt: HostRuntime) -> Result<(), Fail> {
     let alloc = rt.alloc();
     let samples = [2i32, 4, 5, 7, 11, 13, 17, 19];
-    let mut writer = WavWriter::new(Journal::new(alloc, Vec::new(alloc))?, spec(2, 16))?;
+    let mut writer = WavWriter::new(Journal::new(alloc, Vec::new(alloc))?, sixteen(2))?;
     write_all(&mut writer, &samples[..6])?;
     writer.flush()?;
     write_all(&mut writer, &samples[6..])?;

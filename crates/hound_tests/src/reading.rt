@@ -1,5 +1,6 @@
 // Files of every fmt chunk that is read, at the types that hold their samples.
-use hound::{Error, FloatBits, Sample, WavReader};
+use crate::helpers::{file_with, read_all, samples_of};
+use hound::{Error, FloatBits, WavReader};
 use std::alloc::Global;
 use std::io;
 use std::test::Fail;
@@ -21,36 +22,14 @@ impl io::Read for ByteByByte<'_> {
     }
 }
 
-// The samples that a reader gives, up to the first that is refused.
-fn samples_of<S: Sample, R: io::Read + Drop>(alloc: Global, input: R) -> hound::Result<Vec<S>> {
-    let mut reader = WavReader::new(input)?;
-    let mut samples = Vec::new(alloc);
-    for sample in reader.samples::<S>() {
-        let sample = sample?;
-        samples.push(sample).map_err(|_| Error::OutOfMemory)?;
-    }
-    Ok(samples)
-}
-
-// A file of one fmt chunk and the data.
-pub(crate) fn file(alloc: Global, fmt: &[u8], data: &[u8]) -> Result<Vec<u8>, Fail> {
-    let mut bytes = b"RIFF\0\0\0\0WAVEfmt ".to_vec(alloc)?;
-    bytes.extend_from_slice(&[(fmt.len() % 256) as u8, 0, 0, 0])?;
-    bytes.extend_from_slice(fmt)?;
-    bytes.extend_from_slice(b"data")?;
-    bytes.extend_from_slice(&[(data.len() % 256) as u8, 0, 0, 0])?;
-    bytes.extend_from_slice(data)?;
-    Ok(bytes)
-}
-
 // Whether a file gives these numbers, whole and one byte a read.
 fn gives_numbers(alloc: Global, fmt: &[u8], data: &[u8], numbers: &[i32]) -> Result<bool, Fail> {
-    let bytes = file(alloc, fmt, data)?;
-    let whole: Vec<i32> = samples_of(alloc, bytes.as_slice())?;
+    let bytes = file_with(alloc, fmt, data)?;
+    let whole: Vec<i32> = samples_of(alloc, &bytes)?;
     let pieces = ByteByByte {
         bytes: bytes.as_slice(),
     };
-    let by_bytes: Vec<i32> = samples_of(alloc, pieces)?;
+    let by_bytes: Vec<i32> = read_all(alloc, WavReader::new(pieces)?)?;
     Ok(whole.as_slice() == numbers && by_bytes.as_slice() == numbers)
 }
 
@@ -94,7 +73,7 @@ fn integers_of_every_fmt_chunk(rt: HostRuntime) -> Result<(), Fail> {
 #[test]
 fn floats_of_a_waveformatex(rt: HostRuntime) -> Result<(), Fail> {
     let alloc = rt.alloc();
-    let bytes = file(
+    let bytes = file_with(
         alloc,
         b"\x03\0\x01\0\x44\xac\0\0\x10\xb1\x02\0\x04\0\x20\0\0\0",
         b"\0\0\0\x40\0\0\x40\x40\0\x36\x80\xc6\0\xc0\x7e\x44",
@@ -105,12 +84,12 @@ fn floats_of_a_waveformatex(rt: HostRuntime) -> Result<(), Fail> {
         FloatBits(0xc680_3600),
         FloatBits(0x447e_c000),
     ];
-    let whole: Vec<FloatBits> = samples_of(alloc, bytes.as_slice())?;
+    let whole: Vec<FloatBits> = samples_of(alloc, &bytes)?;
     assert_eq!(rt; whole.as_slice(), patterns.as_slice());
     let pieces = ByteByByte {
         bytes: bytes.as_slice(),
     };
-    let by_bytes: Vec<FloatBits> = samples_of(alloc, pieces)?;
+    let by_bytes: Vec<FloatBits> = read_all(alloc, WavReader::new(pieces)?)?;
     assert_eq!(rt; by_bytes.as_slice(), patterns.as_slice());
     Ok(())
 }
@@ -118,7 +97,7 @@ fn floats_of_a_waveformatex(rt: HostRuntime) -> Result<(), Fail> {
 // Data of unknown length in a mono file of 8 bits: a count that the data don't have.
 #[test]
 fn unknown_length_of_single_bytes(rt: HostRuntime) -> Result<(), Fail> {
-    let mut bytes = file(
+    let mut bytes = file_with(
         rt.alloc(),
         b"\x01\0\x01\0\x40\x1f\0\0\x40\x1f\0\0\x01\0\x08\0",
         b"\x80",

@@ -1,11 +1,11 @@
 // Iterators that count, and seeking.
 ghost use Rattle.std.specs.Prelude.{◌≡◌, false};
 ghost use Rattle.std.proofs.lemmas.Bool.{false≢true};
-ghost use Rattle.hound.specs.MediumState.{MediumState, unknown};
+ghost use Rattle.hound.specs.State.{MediumState, unknown};
 
-use crate::reading::file;
-use crate::widths::FOUR_BYTES;
-use crate::writing::{FOUR_SAMPLES, NO_SAMPLES};
+use crate::helpers::{
+    FOUR_BYTES, FOUR_SAMPLES, NO_SAMPLES, file_with, gives, seeks_everywhere, tape_of,
+};
 use hound::{Error, FloatBits, Placed, Sample, Source, Tape, WavReader};
 use std::alloc::Global;
 use std::io;
@@ -14,15 +14,7 @@ use std::test::Fail;
 
 // A reader of a file in memory.
 fn open(alloc: Global, file: &[u8]) -> Result<WavReader<Tape>, Fail> {
-    Ok(WavReader::new(Tape::new(file.to_vec(alloc)?))?)
-}
-
-// Whether the next item is this number.
-fn gives<S: Sample + PartialEq, R: io::Read + Drop>(reader: &mut WavReader<R>, number: S) -> bool {
-    match reader.samples::<S>().next() {
-        Some(Ok(value)) => value == number,
-        _ => false,
-    }
+    Ok(WavReader::new(tape_of(alloc, file)?)?)
 }
 
 fn gives_too_wide<S: Sample, R: io::Read + Drop>(reader: &mut WavReader<R>) -> bool {
@@ -154,7 +146,7 @@ impl Source for Held {
 
 #[test]
 fn a_seek_that_fails_changes_nothing(rt: HostRuntime) -> Result<(), Fail> {
-    let tape = Tape::new(FOUR_SAMPLES.to_vec(rt.alloc())?);
+    let tape = tape_of(rt.alloc(), &FOUR_SAMPLES)?;
     let mut reader = WavReader::new(Held { tape })?;
     assert!(rt; gives(&mut reader, 2i16));
     let error = reader.seek(0).err().ok_or("a tape that stays")?;
@@ -168,7 +160,7 @@ fn a_seek_that_fails_changes_nothing(rt: HostRuntime) -> Result<(), Fail> {
 fn a_refused_sample_takes_no_byte(rt: HostRuntime) -> Result<(), Fail> {
     let alloc = rt.alloc();
     // Mono, 24 bits in three bytes.
-    let bytes = file(
+    let bytes = file_with(
         alloc,
         b"\x01\0\x01\0\x44\xac\0\0\xcc\x04\x02\0\x03\0\x18\0",
         b"\xef\xff\xff\x0f\0\x40\x13\0\xa0\xe9\x7f\x7f",
@@ -178,7 +170,7 @@ fn a_refused_sample_takes_no_byte(rt: HostRuntime) -> Result<(), Fail> {
     assert!(rt; gives_too_wide::<i16, &[u8]>(&mut reader));
     assert!(rt; gives(&mut reader, -17i32));
     // Mono, floats.
-    let floats = file(
+    let floats = file_with(
         alloc,
         b"\x03\0\x01\0\x44\xac\0\0\x10\xb1\x02\0\x04\0\x20\0\0\0",
         b"\0\0\0\x40\0\0\x40\x40\0\x36\x80\xc6\0\xc0\x7e\x44",
@@ -189,7 +181,7 @@ fn a_refused_sample_takes_no_byte(rt: HostRuntime) -> Result<(), Fail> {
     assert!(rt; gives_other_format::<i32, &[u8]>(&mut reader));
     assert!(rt; gives(&mut reader, FloatBits(0x4000_0000)));
     // Mono, 8 bits.
-    let single = file(
+    let single = file_with(
         alloc,
         b"\x01\0\x01\0\x11\x2b\0\0\x11\x2b\0\0\x01\0\x08\0\0\0",
         b"\0\0\0\0",
@@ -238,41 +230,11 @@ fn both_iterators_agree(bytes: &[u8], numbers: &[i32]) -> hound::Result<bool> {
     Ok(samples.next().is_none() && taken.next().is_none())
 }
 
-// Whether the first item of this frame is the number at its place.
-fn seeks_to<R: Source>(
-    reader: &mut WavReader<R>,
-    time: u32,
-    numbers: &[i32],
-) -> hound::Result<bool> {
-    let channels = reader.spec().channels as usize;
-    reader.seek(time)?;
-    match numbers.get((time as usize).saturating_mul(channels)) {
-        Some(number) => Ok(gives(reader, *number)),
-        None => Ok(false),
-    }
-}
-
-// From each frame to each other one, and back to the first.
-fn seeks_everywhere(alloc: Global, bytes: &[u8], numbers: &[i32]) -> Result<bool, Fail> {
-    let mut reader = open(alloc, bytes)?;
-    for from in 0..reader.duration() {
-        for to in 0..reader.duration() {
-            if !seeks_to(&mut reader, from, numbers)? || !seeks_to(&mut reader, to, numbers)? {
-                return Ok(false);
-            }
-        }
-        if !seeks_to(&mut reader, 0, numbers)? {
-            return Ok(false);
-        }
-    }
-    Ok(true)
-}
-
 fn counts_are_right(alloc: Global, bytes: &[u8], numbers: &[i32]) -> Result<bool, Fail> {
     Ok(
         hints_are_exact(bytes, numbers)?
             && both_iterators_agree(bytes, numbers)?
-            && seeks_everywhere(alloc, bytes, numbers)?,
+            && seeks_everywhere(open(alloc, bytes)?, numbers)?,
     )
 }
 
@@ -281,21 +243,21 @@ fn counts_hints_and_seeks_agree(rt: HostRuntime) -> Result<(), Fail> {
     let alloc = rt.alloc();
     assert!(rt; counts_are_right(alloc, &FOUR_SAMPLES, &[2, -3, 5, -7])?);
     // Stereo, an extensible format of 32 bits that says 0 valid bits.
-    let extensible = file(
+    let extensible = file_with(
         alloc,
         b"\xfe\xff\x02\0\x80\xbb\0\0\0\xdc\x05\0\x08\0\x20\0\x16\0\0\0\x03\0\0\0\x01\0\0\0\0\0\x10\0\x80\0\0\xaa\0\x38\x9b\x71",
         b"\x13\0\0\0\x03\x80\xfc\xff\xd9\x7f\0\x02\x97\0\0\x80",
     )?;
     assert!(rt; counts_are_right(alloc, &extensible, &[19, -229373, 33587161, -2147483497])?);
     // Stereo, a WAVEFORMATEX of 16 bits.
-    let stereo = file(
+    let stereo = file_with(
         alloc,
         b"\x01\0\x02\0\x44\xac\0\0\x10\xb1\x02\0\x04\0\x10\0\0\0",
         b"\x02\0\xfd\xff\x05\0\xf9\xff\x0b\0\xf3\xff\x11\0\xed\xff",
     )?;
     assert!(rt; counts_are_right(alloc, &stereo, &[2, -3, 5, -7, 11, -13, 17, -19])?);
     // Stereo, a PCMWAVEFORMAT of 24 bits in four bytes.
-    let padded = file(
+    let padded = file_with(
         alloc,
         b"\x01\0\x02\0\x80\xbb\0\0\0\xdc\x05\0\x08\0\x18\0",
         b"\xa0\xff\xff\0\x0c\x5a\0\0\xff\xff\x7f\0\x20\x6d\x80\0",

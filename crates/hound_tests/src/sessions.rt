@@ -1,8 +1,8 @@
 // Whole runs of a writer as one call.
 ghost use Rattle.std.specs.Prelude.{◌≡◌, IfOk};
-ghost use Rattle.hound.specs.MediumState.{MediumState};
+ghost use Rattle.hound.specs.State.{MediumState};
 
-use crate::widths::{empty_tape, integers, samples_of};
+use crate::helpers::{empty_tape, has_first, integers, samples_of, tape_of};
 use hound::{
     Begin, End, Error, FloatBits, Journal, Placed, Step, Tape, WavSpecEx, run_session, run_sessions,
 };
@@ -11,12 +11,6 @@ use std::test::Fail;
 
 fn sixteen(channels: u16) -> WavSpecEx {
     integers(channels, 44100, 16, 2)
-}
-
-fn tape_of(alloc: Global, bytes: &[u8]) -> Result<Tape, Fail>
-    ensures { IfOk result (λ t. (⟦<Tape as Placed>⟧.state t).place ≡ 0) }
-{
-    Ok(Tape::new(bytes.to_vec(alloc)?))
 }
 
 // An empty journal that fails at the calls with these numbers.
@@ -314,25 +308,6 @@ fn stereo_file(alloc: Global, samples: &[i16]) -> Result<Vec<u8>, Fail> {
     Ok(bytes)
 }
 
-// Whether a file reads back as the first of these samples, as many as its length field counts, or
-// is refused for a length of no whole samples or frames.
-fn reads_back(alloc: Global, bytes: &[u8], samples: &[i16]) -> bool {
-    let Some([a, b, c, d]) = bytes.get(40..44) else {
-        return false;
-    };
-    let length = u32::from_le_bytes([*a, *b, *c, *d]) as usize;
-    match samples_of::<i16>(alloc, bytes) {
-        Ok(read) => {
-            length == read.len() * 2 && length % 4 == 0 && samples.starts_with(read.as_slice())
-        }
-        Err(Error::FormatError("data chunk length is not a multiple of sample size")) => {
-            length % 2 == 1
-        }
-        Err(Error::FormatError("invalid data chunk length")) => length % 4 == 2,
-        Err(_) => false,
-    }
-}
-
 // Whether a run left what its marks say.
 fn keeps_its_marks(alloc: Global, run: &Run) -> Result<bool, Fail> {
     let samples = marked_samples(alloc, run.marks)?;
@@ -342,7 +317,7 @@ fn keeps_its_marks(alloc: Global, run: &Run) -> Result<bool, Fail> {
             return Ok(false);
         }
     }
-    Ok(run.taken < 44 || reads_back(alloc, run.bytes.as_slice(), samples.as_slice()))
+    Ok(run.taken < 44 || has_first(&run.bytes, &samples, 44, 2, 2))
 }
 
 // Whether each run in which a range of so many calls fails left what its marks say.

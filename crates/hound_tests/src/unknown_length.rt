@@ -1,5 +1,5 @@
 // Headers of streams whose length isn't known.
-use crate::widths::integers;
+use crate::helpers::integers;
 use hound::{Error, WavReader};
 use std::test::Fail;
 

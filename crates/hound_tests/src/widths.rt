@@ -1,83 +1,8 @@
 // Every width and every sample type, written and read back.
-ghost use Rattle.std.specs.Prelude.{◌≡◌};
-
 use crate::Twelve;
-use hound::{
-    Error, FloatBits, Placed, Sample, SampleFormat, Tape, WavReader, WavSpec, WavSpecEx, WavWriter,
-};
-use std::alloc::Global;
+use crate::helpers::{FOUR_BYTES, empty_tape, file_of, floats, integers, samples_of};
+use hound::{Error, FloatBits, WavWriter};
 use std::test::Fail;
-
-pub(crate) fn integers(
-    channels: u16,
-    sample_rate: u32,
-    bits: u16,
-    bytes_per_sample: u16,
-) -> WavSpecEx {
-    WavSpecEx {
-        spec: WavSpec {
-            channels,
-            sample_rate,
-            bits_per_sample: bits,
-            sample_format: SampleFormat::Int,
-        },
-        bytes_per_sample,
-    }
-}
-
-pub(crate) fn floats(sample_rate: u32) -> WavSpecEx {
-    WavSpecEx {
-        spec: WavSpec {
-            channels: 1,
-            sample_rate,
-            bits_per_sample: 32,
-            sample_format: SampleFormat::Float,
-        },
-        bytes_per_sample: 4,
-    }
-}
-
-pub(crate) fn empty_tape(alloc: Global) -> Tape
-    ensures { (⟦<Tape as Placed>⟧.state result).place ≡ 0 }
-{
-    Tape::new(Vec::new(alloc))
-}
-
-// The bytes of a file of these samples.
-pub(crate) fn file_of<S: Sample + Copy>(
-    alloc: Global,
-    spec_ex: WavSpecEx,
-    samples: &[S],
-) -> hound::Result<Vec<u8>> {
-    let mut writer = WavWriter::new_with_spec_ex(empty_tape(alloc), spec_ex)?;
-    for sample in samples {
-        writer.write_sample(*sample)?;
-    }
-    let (tape, result) = writer.finalize_into();
-    result?;
-    Ok(tape.into_bytes())
-}
-
-// The samples of a file, up to the first that is refused.
-pub(crate) fn samples_of<S: Sample>(alloc: Global, file: &[u8]) -> hound::Result<Vec<S>> {
-    let mut reader = WavReader::new(file)?;
-    let mut samples = Vec::new(alloc);
-    for sample in reader.samples::<S>() {
-        let sample = sample?;
-        samples.push(sample).map_err(|_| Error::OutOfMemory)?;
-    }
-    Ok(samples)
-}
-
-// Stereo, 48000 Hz, 24 bits in four bytes.
-pub(crate) const FOUR_BYTES: [u8; 84] = [
-    0x52, 0x49, 0x46, 0x46, 0x4c, 0x00, 0x00, 0x00, 0x57, 0x41, 0x56, 0x45, 0x66, 0x6d, 0x74, 0x20,
-    0x28, 0x00, 0x00, 0x00, 0xfe, 0xff, 0x02, 0x00, 0x80, 0xbb, 0x00, 0x00, 0x00, 0xdc, 0x05, 0x00,
-    0x08, 0x00, 0x20, 0x00, 0x16, 0x00, 0x18, 0x00, 0x03, 0x00, 0x00, 0x00, 0x01, 0x00, 0x00, 0x00,
-    0x00, 0x00, 0x10, 0x00, 0x80, 0x00, 0x00, 0xaa, 0x00, 0x38, 0x9b, 0x71, 0x64, 0x61, 0x74, 0x61,
-    0x10, 0x00, 0x00, 0x00, 0xa0, 0xff, 0xff, 0x00, 0x0c, 0x5a, 0x00, 0x00, 0xff, 0xff, 0x7f, 0x00,
-    0x20, 0x6d, 0x80, 0x00,
-];
 
 #[test]
 fn twenty_four_bits_in_four_bytes(rt: HostRuntime) -> Result<(), Fail> {

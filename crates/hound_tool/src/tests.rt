@@ -176,6 +176,40 @@ fn faults_of_input_and_output_are_told(rt: HostRuntime) -> Result<(), Fail> {
     Ok(())
 }
 
+// Takes all bytes, and can't hand them on.
+#[derive(Drop)]
+struct Held {
+    taken: usize,
+}
+
+impl io::Write for Held {
+    fn write(&mut self, buf: &[u8]) -> io::Result<usize> {
+        self.taken = self.taken.saturating_add(buf.len());
+        Ok(buf.len())
+    }
+
+    fn flush(&mut self) -> io::Result<()> {
+        Err(Error::from(ErrorKind::Other))
+    }
+}
+
+#[test]
+fn output_that_is_not_handed_on_is_told(rt: HostRuntime) -> Result<(), Fail> {
+    let alloc = rt.alloc();
+    let packed: (&[&str], &[u8], usize) = (&["pack", "1", "44100", "16"], b"2 -3 5 -7", 52);
+    let shown: (&[&str], &[u8], usize) = (&["show"], &FOUR_SAMPLES, 61);
+    for (words, input, count) in [packed, shown] {
+        let mut output = Held { taken: 0 };
+        let mut errors = Vec::new(alloc);
+        let mut bytes = input;
+        let status = run(alloc, words, &mut bytes, &mut output, &mut errors);
+        assert_eq!(rt; status, 1);
+        assert_eq!(rt; output.taken, count);
+        assert_eq!(rt; errors.as_slice(), b"input or output failed\n".as_slice());
+    }
+    Ok(())
+}
+
 #[test]
 fn show_prints_what_pack_wrote(rt: HostRuntime) -> Result<(), Fail> {
     let Answer {
@@ -215,15 +249,17 @@ fn show_stops_at_the_first_fault(rt: HostRuntime) -> Result<(), Fail> {
 
 #[test]
 fn show_prints_floats_as_their_bits(rt: HostRuntime) -> Result<(), Fail> {
-    // Mono, 44100 Hz, one float: 1.0.
-    let file: [u8; 72] = [
-        0x52, 0x49, 0x46, 0x46, 0x40, 0x00, 0x00, 0x00, 0x57, 0x41, 0x56, 0x45, 0x66, 0x6d, 0x74,
+    // Mono, 44100 Hz, two floats: 1.0, and the least above 0.
+    let file: [u8; 76] = [
+        0x52, 0x49, 0x46, 0x46, 0x44, 0x00, 0x00, 0x00, 0x57, 0x41, 0x56, 0x45, 0x66, 0x6d, 0x74,
         0x20, 0x28, 0x00, 0x00, 0x00, 0xfe, 0xff, 0x01, 0x00, 0x44, 0xac, 0x00, 0x00, 0x10, 0xb1,
         0x02, 0x00, 0x04, 0x00, 0x20, 0x00, 0x16, 0x00, 0x20, 0x00, 0x01, 0x00, 0x00, 0x00, 0x03,
         0x00, 0x00, 0x00, 0x00, 0x00, 0x10, 0x00, 0x80, 0x00, 0x00, 0xaa, 0x00, 0x38, 0x9b, 0x71,
-        0x64, 0x61, 0x74, 0x61, 0x04, 0x00, 0x00, 0x00, 0x00, 0x00, 0x80, 0x3f,
+        0x64, 0x61, 0x74, 0x61, 0x08, 0x00, 0x00, 0x00, 0x00, 0x00, 0x80, 0x3f, 0x01, 0x00, 0x00,
+        0x00,
     ];
-    let lines: &[u8] = b"channels 1 rate 44100 bits 32 format float samples 1\n3f800000\n";
+    let lines: &[u8] =
+        b"channels 1 rate 44100 bits 32 format float samples 2\n3f800000\n00000001\n";
     let Answer {
         status,
         output,
@@ -260,6 +296,24 @@ fn every_width_goes_through(rt: HostRuntime) -> Result<(), Fail> {
     Ok(())
 }
 
+#[test]
+fn the_least_and_the_greatest_number_go_through(rt: HostRuntime) -> Result<(), Fail> {
+    let words = ["pack", "1", "44100", "32"];
+    let file = run_on(rt.alloc(), &words, b"-2147483648 2147483647");
+    assert_eq!(rt; file.status, 0);
+    let data = [0x00u8, 0x00, 0x00, 0x80, 0xff, 0xff, 0xff, 0x7f];
+    assert_eq!(rt; file.output.get(68..), Some(data.as_slice()));
+    let lines: &[u8] =
+        b"channels 1 rate 44100 bits 32 format int samples 2\n-2147483648\n2147483647\n";
+    assert_eq!(rt;
+        run_on(rt.alloc(), &["show"], &file.output)
+            .output
+            .as_slice(),
+        lines
+    );
+    Ok(())
+}
+
 // A file that no other test names.
 fn path_of(rt: &HostRuntime, name: &str) -> Result<PathBuf, Fail> {
     let id = process::id(rt.process());
@@ -268,7 +322,7 @@ fn path_of(rt: &HostRuntime, name: &str) -> Result<PathBuf, Fail> {
 }
 
 // What a run of `append` answers and says, and the file after it.
-fn append_on(rt: &HostRuntime, path: Path<'_>, file: &[u8], input: &[u8]) -> io::Result<Answer> {
+fn append_at(rt: &HostRuntime, path: Path<'_>, file: &[u8], input: &[u8]) -> io::Result<Answer> {
     fs::write(rt, path, file)?;
     let mut errors = Vec::new(rt.alloc());
     let mut bytes = input;
@@ -280,73 +334,72 @@ fn append_on(rt: &HostRuntime, path: Path<'_>, file: &[u8], input: &[u8]) -> io:
     })
 }
 
+// The same at a file that is removed behind the run.
+fn append_on(rt: &HostRuntime, name: &str, file: &[u8], input: &[u8]) -> Result<Answer, Fail> {
+    let path = path_of(rt, name)?;
+    let answer = append_at(rt, path.as_path(), file, input);
+    fs::remove_file(rt, path.as_path())?;
+    Ok(answer?)
+}
+
 #[test]
 fn append_goes_on_with_a_file(rt: HostRuntime) -> Result<(), Fail> {
     let packed = run_on(rt.alloc(), &["pack", "1", "44100", "16"], b"11 13 17");
-    let path = path_of(&rt, "append")?;
-    let answer = append_on(&rt, path.as_path(), &packed.output, b"19 23");
-    fs::remove_file(&rt, path.as_path())?;
-    let Answer {
-        status,
-        output,
-        errors,
-    } = answer?;
-    assert_eq!(rt; status, 0);
-    assert!(rt; errors.is_empty());
-    assert_eq!(rt; output.len(), 54);
+    let answer = append_on(&rt, "append", &packed.output, b"19 23")?;
+    assert_eq!(rt; answer.status, 0);
+    assert!(rt; answer.errors.is_empty());
+    assert_eq!(rt; answer.output.len(), 54);
+    let shown = run_on(rt.alloc(), &["show"], &answer.output);
     let lines: &[u8] = b"channels 1 rate 44100 bits 16 format int samples 5\n11\n13\n17\n19\n23\n";
-    assert_eq!(rt;
-        run_on(rt.alloc(), &["show"], &output).output.as_slice(),
-        lines
-    );
+    assert_eq!(rt; shown.output.as_slice(), lines);
+    Ok(())
+}
+
+// No numbers are none to be put, but the file is opened and its sizes are put.
+#[test]
+fn append_of_no_numbers_ends_the_file(rt: HostRuntime) -> Result<(), Fail> {
+    let mut begun = FOUR_SAMPLES.to_vec(rt.alloc())?;
+    for byte in begun.iter_mut().skip(4).take(4) {
+        *byte = 0;
+    }
+    let answer = append_on(&rt, "none", &begun, b" \n")?;
+    assert_eq!(rt; answer.status, 0);
+    assert!(rt; answer.errors.is_empty());
+    assert_eq!(rt; answer.output.as_slice(), FOUR_SAMPLES.as_slice());
     Ok(())
 }
 
 #[test]
 fn append_tests_its_numbers_before_it_opens_a_file(rt: HostRuntime) -> Result<(), Fail> {
-    let path = path_of(&rt, "numbers")?;
-    let answer = append_on(&rt, path.as_path(), &FOUR_SAMPLES, b"19 x");
-    fs::remove_file(&rt, path.as_path())?;
-    let Answer {
-        status,
-        output,
-        errors,
-    } = answer?;
-    assert_eq!(rt; status, 1);
-    assert_eq!(rt; errors.as_slice(), b"bad number\n".as_slice());
-    assert_eq!(rt; output.as_slice(), FOUR_SAMPLES.as_slice());
+    let answer = append_on(&rt, "numbers", &FOUR_SAMPLES, b"19 x")?;
+    assert_eq!(rt; answer.status, 1);
+    assert_eq!(rt; answer.errors.as_slice(), b"bad number\n".as_slice());
+    assert_eq!(rt; answer.output.as_slice(), FOUR_SAMPLES.as_slice());
     Ok(())
 }
 
 #[test]
 fn append_keeps_what_came_before_a_refusal(rt: HostRuntime) -> Result<(), Fail> {
-    let path = path_of(&rt, "refused")?;
-    let answer = append_on(&rt, path.as_path(), &FOUR_SAMPLES, b"11 32768 13");
-    fs::remove_file(&rt, path.as_path())?;
-    let Answer {
-        status,
-        output,
-        errors,
-    } = answer?;
+    let answer = append_on(&rt, "refused", &FOUR_SAMPLES, b"11 32768 13")?;
     let line: &[u8] = b"The sample has more bits than the destination type.\n";
+    assert_eq!(rt; answer.status, 1);
+    assert_eq!(rt; answer.errors.as_slice(), line);
+    let shown = run_on(rt.alloc(), &["show"], &answer.output);
     let lines: &[u8] = b"channels 1 rate 44100 bits 16 format int samples 5\n2\n-3\n5\n-7\n11\n";
-    assert_eq!(rt; status, 1);
-    assert_eq!(rt; errors.as_slice(), line);
-    assert_eq!(rt;
-        run_on(rt.alloc(), &["show"], &output).output.as_slice(),
-        lines
-    );
+    assert_eq!(rt; shown.output.as_slice(), lines);
     Ok(())
 }
 
 #[test]
 fn append_makes_no_file(rt: HostRuntime) -> Result<(), Fail> {
     let path = path_of(&rt, "missing")?;
-    let mut errors = Vec::new(rt.alloc());
-    let mut input: &[u8] = b"19 23";
-    let status = run_append(&rt, rt.alloc(), path.as_path(), &mut input, &mut errors);
-    assert_eq!(rt; status, 1);
-    assert_eq!(rt; errors.as_slice(), b"input or output failed\n".as_slice());
-    assert!(rt; fs::read(&rt, path.as_path()).is_err());
+    for numbers in [b"19 23".as_slice(), b"".as_slice()] {
+        let mut errors = Vec::new(rt.alloc());
+        let mut input = numbers;
+        let status = run_append(&rt, rt.alloc(), path.as_path(), &mut input, &mut errors);
+        assert_eq!(rt; status, 1);
+        assert_eq!(rt; errors.as_slice(), b"input or output failed\n".as_slice());
+        assert!(rt; fs::read(&rt, path.as_path()).is_err());
+    }
     Ok(())
 }

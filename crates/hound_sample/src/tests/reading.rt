@@ -1,11 +1,11 @@
 // What is read from containers, and what is refused.
 ghost use Rattle.std.specs.Prelude.{◌≡◌};
 
-use super::*;
-use crate::writing_tests::{
+use super::writing::{
     BYTES_OF_8, BYTES_OF_16, BYTES_OF_24, BYTES_OF_24_IN_4, BYTES_OF_32, NUMBERS_OF_8,
     NUMBERS_OF_16, NUMBERS_OF_24, NUMBERS_OF_24_IN_4, NUMBERS_OF_32,
 };
+use crate::{FloatBits, Sample};
 use hound_spec::{Error, Result, SampleFormat};
 use std::io::ErrorKind;
 
@@ -54,11 +54,35 @@ fn one_container_is_taken(rt: HostRuntime) -> Result<()> {
     Ok(())
 }
 
+// Whether each beginning of a container, but not the whole of it, ends early: an `IoError` of kind
+// `Other`, with no byte left.
+fn ends_early<S: Sample>(format: SampleFormat, width: u16, bits: u16) -> bool {
+    let container = [0x5a; 4];
+    for count in 0..(width as usize).min(4) {
+        let mut bytes = &container[..count];
+        match S::read(&mut bytes, format, width, bits) {
+            Err(Error::IoError(e)) if e.kind() == ErrorKind::Other => {}
+            _ => return false,
+        }
+        if !bytes.is_empty() {
+            return false;
+        }
+    }
+    true
+}
+
 #[test]
 fn an_early_end_is_an_other_error(rt: HostRuntime) {
-    let mut bytes: &[u8] = &[0xa0, 0xff, 0xff];
-    let end = i32::read(&mut bytes, SampleFormat::Int, 4, 24);
-    assert!(rt; matches!(&end, Err(Error::IoError(e)) if e.kind() == ErrorKind::Other));
+    assert!(rt; ends_early::<i8>(SampleFormat::Int, 1, 8));
+    assert!(rt; ends_early::<i16>(SampleFormat::Int, 1, 8));
+    assert!(rt; ends_early::<i16>(SampleFormat::Int, 2, 16));
+    for (width, bits) in [(1, 8), (2, 16), (3, 24), (4, 24), (4, 32)] {
+        assert!(rt;
+            ends_early::<i32>(SampleFormat::Int, width, bits),
+            "{bits} in {width}"
+        );
+    }
+    assert!(rt; ends_early::<FloatBits>(SampleFormat::Float, 4, 32));
 }
 
 #[test]

@@ -2,7 +2,7 @@
 ghost use Rattle.std.specs.Prelude.{◌≡◌, Ok, map};
 ghost use Rattle.hound_sample.specs.Container.{int_container};
 
-use super::*;
+use crate::{FloatBits, Sample};
 use hound_spec::{Error, Result};
 use std::io::ErrorKind;
 use std::test::Fail;

@@ -1,0 +1,304 @@
+// What the modules of tests share: specs, files in memory, and a medium that fails.
+ghost use Rattle.std.specs.Prelude.{◌≡◌, ◌≤◌, false, IfOk};
+ghost use Rattle.std.proofs.lemmas.Bool.{false≢true};
+ghost use Rattle.hound.specs.State.{MediumState, unknown};
+ghost use Rattle.hound.specs.declared.SampleFormat.TheVariants.{Int};
+
+use hound::{
+    Error, Medium, Placed, Sample, SampleFormat, Source, Tape, WavReader, WavSpec, WavSpecEx,
+    WavWriter,
+};
+use std::alloc::Global;
+use std::io;
+use std::io::ErrorKind;
+use std::test::Fail;
+
+pub(crate) fn integers(
+    channels: u16,
+    sample_rate: u32,
+    bits: u16,
+    bytes_per_sample: u16,
+) -> WavSpecEx {
+    WavSpecEx {
+        spec: WavSpec {
+            channels,
+            sample_rate,
+            bits_per_sample: bits,
+            sample_format: SampleFormat::Int,
+        },
+        bytes_per_sample,
+    }
+}
+
+pub(crate) fn floats(sample_rate: u32) -> WavSpecEx {
+    WavSpecEx {
+        spec: WavSpec {
+            channels: 1,
+            sample_rate,
+            bits_per_sample: 32,
+            sample_format: SampleFormat::Float,
+        },
+        bytes_per_sample: 4,
+    }
+}
+
+// Integers of 16 bits at 44100 Hz.
+pub(crate) fn sixteen(channels: u16) -> WavSpec
+    ensures { (result.sample_format ≡ Int) × (result.bits_per_sample ≡ 16) }
+{
+    WavSpec {
+        channels,
+        sample_rate: 44100,
+        bits_per_sample: 16,
+        sample_format: SampleFormat::Int,
+    }
+}
+
+// Mono, 44100 Hz, 16 bits: 2, -3, 5, -7.
+pub(crate) const FOUR_SAMPLES: [u8; 52] = [
+    0x52, 0x49, 0x46, 0x46, 0x2c, 0x00, 0x00, 0x00, 0x57, 0x41, 0x56, 0x45, 0x66, 0x6d, 0x74, 0x20,
+    0x10, 0x00, 0x00, 0x00, 0x01, 0x00, 0x01, 0x00, 0x44, 0xac, 0x00, 0x00, 0x88, 0x58, 0x01, 0x00,
+    0x02, 0x00, 0x10, 0x00, 0x64, 0x61, 0x74, 0x61, 0x08, 0x00, 0x00, 0x00, 0x02, 0x00, 0xfd, 0xff,
+    0x05, 0x00, 0xf9, 0xff,
+];
+
+// The same without samples.
+pub(crate) const NO_SAMPLES: [u8; 44] = [
+    0x52, 0x49, 0x46, 0x46, 0x24, 0x00, 0x00, 0x00, 0x57, 0x41, 0x56, 0x45, 0x66, 0x6d, 0x74, 0x20,
+    0x10, 0x00, 0x00, 0x00, 0x01, 0x00, 0x01, 0x00, 0x44, 0xac, 0x00, 0x00, 0x88, 0x58, 0x01, 0x00,
+    0x02, 0x00, 0x10, 0x00, 0x64, 0x61, 0x74, 0x61, 0x00, 0x00, 0x00, 0x00,
+];
+
+// Stereo, 48000 Hz, 24 bits in four bytes: -96, 23052, 8388607, -8360672.
+pub(crate) const FOUR_BYTES: [u8; 84] = [
+    0x52, 0x49, 0x46, 0x46, 0x4c, 0x00, 0x00, 0x00, 0x57, 0x41, 0x56, 0x45, 0x66, 0x6d, 0x74, 0x20,
+    0x28, 0x00, 0x00, 0x00, 0xfe, 0xff, 0x02, 0x00, 0x80, 0xbb, 0x00, 0x00, 0x00, 0xdc, 0x05, 0x00,
+    0x08, 0x00, 0x20, 0x00, 0x16, 0x00, 0x18, 0x00, 0x03, 0x00, 0x00, 0x00, 0x01, 0x00, 0x00, 0x00,
+    0x00, 0x00, 0x10, 0x00, 0x80, 0x00, 0x00, 0xaa, 0x00, 0x38, 0x9b, 0x71, 0x64, 0x61, 0x74, 0x61,
+    0x10, 0x00, 0x00, 0x00, 0xa0, 0xff, 0xff, 0x00, 0x0c, 0x5a, 0x00, 0x00, 0xff, 0xff, 0x7f, 0x00,
+    0x20, 0x6d, 0x80, 0x00,
+];
+
+pub(crate) fn empty_tape(alloc: Global) -> Tape
+    ensures { (⟦<Tape as Placed>⟧.state result).place ≡ 0 }
+{
+    Tape::new(Vec::new(alloc))
+}
+
+pub(crate) fn tape_of(alloc: Global, bytes: &[u8]) -> Result<Tape, Fail>
+    ensures { IfOk result (λ t. (⟦<Tape as Placed>⟧.state t).place ≡ 0) }
+{
+    Ok(Tape::new(bytes.to_vec(alloc)?))
+}
+
+// Writes these samples, up to the first that is refused.
+pub(crate) fn write_all<S: Sample + Copy, W: Medium>(
+    writer: &mut WavWriter<W>,
+    samples: &[S],
+) -> hound::Result<()> {
+    for sample in samples {
+        writer.write_sample(*sample)?;
+    }
+    Ok(())
+}
+
+// The bytes of a file of these samples.
+pub(crate) fn file_of<S: Sample + Copy>(
+    alloc: Global,
+    spec_ex: WavSpecEx,
+    samples: &[S],
+) -> hound::Result<Vec<u8>> {
+    let mut writer = WavWriter::new_with_spec_ex(empty_tape(alloc), spec_ex)?;
+    write_all(&mut writer, samples)?;
+    let (tape, result) = writer.finalize_into();
+    result?;
+    Ok(tape.into_bytes())
+}
+
+// A file of one fmt chunk and the data.
+pub(crate) fn file_with(alloc: Global, fmt: &[u8], data: &[u8]) -> Result<Vec<u8>, Fail> {
+    let mut bytes = b"RIFF\0\0\0\0WAVEfmt ".to_vec(alloc)?;
+    bytes.extend_from_slice(&[(fmt.len() % 256) as u8, 0, 0, 0])?;
+    bytes.extend_from_slice(fmt)?;
+    bytes.extend_from_slice(b"data")?;
+    bytes.extend_from_slice(&[(data.len() % 256) as u8, 0, 0, 0])?;
+    bytes.extend_from_slice(data)?;
+    Ok(bytes)
+}
+
+// The samples that a reader gives, up to the first that is refused.
+pub(crate) fn read_all<S: Sample, R: io::Read + Drop>(
+    alloc: Global,
+    reader: WavReader<R>,
+) -> hound::Result<Vec<S>> {
+    let mut samples = Vec::new(alloc);
+    for sample in reader.into_samples::<S>() {
+        let sample = sample?;
+        samples.push(sample).map_err(|_| Error::OutOfMemory)?;
+    }
+    Ok(samples)
+}
+
+// The samples of a file, up to the first that is refused.
+pub(crate) fn samples_of<S: Sample>(alloc: Global, file: &[u8]) -> hound::Result<Vec<S>> {
+    read_all(alloc, WavReader::new(file)?)
+}
+
+// Whether a file has these samples and no others.
+pub(crate) fn has_samples<S: Sample + PartialEq>(
+    bytes: &[u8],
+    samples: &[S],
+) -> hound::Result<bool> {
+    let mut reader = WavReader::new(bytes)?;
+    if reader.len() as usize != samples.len() {
+        return Ok(false);
+    }
+    let mut items = reader.samples::<S>();
+    for sample in samples {
+        match items.next() {
+            Some(Ok(value)) if value == *sample => {}
+            _ => return Ok(false),
+        }
+    }
+    Ok(items.next().is_none())
+}
+
+// Whether the next item is this number.
+pub(crate) fn gives<S: Sample + PartialEq, R: io::Read + Drop>(
+    reader: &mut WavReader<R>,
+    number: S,
+) -> bool {
+    match reader.samples::<S>().next() {
+        Some(Ok(value)) => value == number,
+        _ => false,
+    }
+}
+
+// Whether the first item of this frame is the number at its place.
+fn seeks_to<R: Source>(
+    reader: &mut WavReader<R>,
+    time: u32,
+    numbers: &[i32],
+) -> hound::Result<bool> {
+    let channels = reader.spec().channels as usize;
+    reader.seek(time)?;
+    match numbers.get((time as usize).saturating_mul(channels)) {
+        Some(number) => Ok(gives(reader, *number)),
+        None => Ok(false),
+    }
+}
+
+// From each frame to each other one, and back to the first.
+pub(crate) fn seeks_everywhere<R: Source>(
+    reader: WavReader<R>,
+    numbers: &[i32],
+) -> hound::Result<bool> {
+    let mut reader = reader;
+    for from in 0..reader.duration() {
+        for to in 0..reader.duration() {
+            if !seeks_to(&mut reader, from, numbers)? || !seeks_to(&mut reader, to, numbers)? {
+                return Ok(false);
+            }
+        }
+        if !seeks_to(&mut reader, 0, numbers)? {
+            return Ok(false);
+        }
+    }
+    Ok(true)
+}
+
+// The length in the four bytes before the data.
+fn data_length(bytes: &[u8], data_start: usize) -> Option<usize> {
+    match bytes.get(data_start.saturating_sub(4)..data_start) {
+        Some([a, b, c, d]) => Some(u32::from_le_bytes([*a, *b, *c, *d]) as usize),
+        _ => None,
+    }
+}
+
+// Whether a file has the first of these samples, as many as its length counts, or is refused for a
+// length of no whole frames.
+pub(crate) fn has_first<S: Sample + PartialEq>(
+    bytes: &[u8],
+    samples: &[S],
+    data_start: usize,
+    width: usize,
+    channels: usize,
+) -> bool
+    requires wide { 1 ≤ width }
+    requires many { 1 ≤ channels }
+{
+    let Some(length) = data_length(bytes, data_start) else {
+        return false;
+    };
+    let count = length / width;
+    let words = if length % width != 0 {
+        "data chunk length is not a multiple of sample size"
+    } else if count % channels != 0 {
+        "invalid data chunk length"
+    } else {
+        return match samples.get(..count) {
+            Some(first) => matches!(has_samples(bytes, first), Ok(true)),
+            None => false,
+        };
+    };
+    matches!(WavReader::new(bytes), Err(Error::FormatError(reason)) if reason == words)
+}
+
+// A tape that takes one byte a call, and fails at one of its calls.
+#[derive(Drop)]
+pub(crate) struct Faulty {
+    pub(crate) tape: Tape,
+    pub(crate) calls: u64,
+    pub(crate) fails_at: u64,
+}
+
+impl Faulty {
+    // Over no bytes, failing at the call with this number; at 0 none fails.
+    pub(crate) fn at(alloc: Global, fails_at: u64) -> Faulty {
+        Faulty {
+            tape: empty_tape(alloc),
+            calls: 0,
+            fails_at,
+        }
+    }
+
+    fn call(&mut self) -> io::Result<()> {
+        self.calls = self.calls.saturating_add(1);
+        if self.calls == self.fails_at {
+            return Err(io::Error::from(ErrorKind::Other));
+        }
+        Ok(())
+    }
+}
+
+impl Placed for Faulty {
+    ghost tells = { false };
+
+    ghost state = { λ _. unknown };
+
+    ghost bytes = { λ _ tells. Prim.absurd (false≢true tells) };
+
+    fn go(&mut self, to: u64) -> io::Result<()> {
+        self.call()?;
+        self.tape.go(to)
+    }
+
+    fn shift(&mut self, by: i64) -> io::Result<()> {
+        self.call()?;
+        self.tape.shift(by)
+    }
+}
+
+impl Medium for Faulty {
+    ghost replays = { λ _ tells. Prim.absurd (false≢true tells) };
+
+    fn put(&mut self, bytes: &[u8]) -> io::Result<usize> {
+        self.call()?;
+        Medium::put(&mut self.tape, &bytes[..1])
+    }
+
+    fn flush(&mut self) -> io::Result<()> {
+        self.call()?;
+        Medium::flush(&mut self.tape)
+    }
+}
