@@ -1,3 +1,4 @@
+pub mod CountingLemmas
 pub mod Exists
 pub mod FmtLemmas
 pub mod Gives

@@ -11,7 +11,7 @@ use Rattle.hound_spec.specs.declared.error.Error.TheVariants as errors
 use Rattle.hound_reader.specs.Outcome.{Refuses}
 use Rattle.hound_number.specs.Input.{Known}
 use Rattle.hound_reader.specs.Chunks.{Readable, Unreadable, data_fault}
-use Rattle.hound_reader.specs.Refusals.{Names, TellsError, IsRefusal, OpensAs, FailsAs}
+use Rattle.hound_reader.specs.Refusals.{Names, ReportsError, IsRefusal, OpensAs, FailsAs}
 use Rattle.hound_number.proofs.KnownSteps.{known_some}
 use Rattle.hound_reader.proofs.Unique.{heads_agree, head_no_fault, faults_agree}
 
@@ -52,12 +52,12 @@ if_some : (o : Option (List ℕ)) (Q : List ℕ → Type 0) → ((xs : List ℕ)
 if_some None Q f = tt
 if_some (Some xs) Q f = f xs
 
-pub refusal_told : (o n : Option (List ℕ)) (stop : HeadError) (e : Error) (P : List ℕ → Cause → Type 0) → TellsError stop e → Refuses stop (λ c. Known o n (λ xs ys. P xs c)) → IfSome o (λ xs. IsRefusal e (P xs))
+pub refusal_told : (o n : Option (List ℕ)) (stop : HeadError) (e : Error) (P : List ℕ → Cause → Type 0) → ReportsError stop e → Refuses stop (λ c. Known o n (λ xs ys. P xs c)) → IfSome o (λ xs. IsRefusal e (P xs))
 refusal_told o n (Failed x) e P r f = if_some o _ (λ xs. subst (λ y. IsRefusal y (P xs)) (sym r) tt)
 refusal_told o n (Refused' c) e P r f = known_some o n _ _ f (λ xs ys u. refusal_is e c (P xs) r u)
 
 -- what can be read is opened, unless a read failed
-pub opens_told : {A : Type 0} (o n : Option (List ℕ)) (stop : HeadError) (e : Error) (P : WavSpecEx → ℕ → A → Type 0) → TellsError stop e → Refuses stop (λ c. Known o n (λ xs ys. Unreadable xs c)) → IfSome o (λ xs. (spec : WavSpecEx) (samples h : ℕ) → Readable xs spec samples h → OpensAs (Err e) (P spec samples))
+pub opens_told : {A : Type 0} (o n : Option (List ℕ)) (stop : HeadError) (e : Error) (P : WavSpecEx → ℕ → A → Type 0) → ReportsError stop e → Refuses stop (λ c. Known o n (λ xs ys. Unreadable xs c)) → IfSome o (λ xs. (spec : WavSpecEx) (samples h : ℕ) → Readable xs spec samples h → OpensAs (Err e) (P spec samples))
 opens_told o n (Failed x) e P r f = if_some o _ (λ xs spec samples h a. subst (λ y. OpensAs (Err y) (P spec samples)) (sym r) tt)
 opens_told o n (Refused' c) e P r f = known_some o n _ _ f (λ xs ys u spec samples h a. absurd (readable_no_fault xs spec samples h c a u))
 
@@ -77,6 +77,6 @@ names_fails errors.OutOfMemory c n = n
 pub no_fault_ok : (o n : Option (List ℕ)) (spec : WavSpecEx) (samples : ℕ) → Known o n (λ xs ys. (h : ℕ) × Readable xs spec samples h × (ys ≡ drop h xs)) → IfSome o (λ xs. (c : Cause) → Unreadable xs c → ⊥)
 no_fault_ok o n spec samples k = known_some o n _ (λ xs. (c : Cause) → Unreadable xs c → ⊥) k (λ xs ys p c u. readable_no_fault xs spec samples p.0 c p.1 u)
 
-pub fails_told : (o n : Option (List ℕ)) (stop : HeadError) (e : Error) → TellsError stop e → Refuses stop (λ c. Known o n (λ xs ys. Unreadable xs c)) → IfSome o (λ xs. (c : Cause) → Unreadable xs c → FailsAs e c)
+pub fails_told : (o n : Option (List ℕ)) (stop : HeadError) (e : Error) → ReportsError stop e → Refuses stop (λ c. Known o n (λ xs ys. Unreadable xs c)) → IfSome o (λ xs. (c : Cause) → Unreadable xs c → FailsAs e c)
 fails_told o n (Failed x) e r f = if_some o _ (λ xs c u. subst (λ y. FailsAs y c) (sym r) tt)
 fails_told o n (Refused' d) e r f = known_some o n _ _ f (λ xs ys v c u. names_fails e c (subst (Names e) (unreadable_one xs d c v u) r))

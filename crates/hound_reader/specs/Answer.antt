@@ -22,9 +22,9 @@ abbrev pub HasOneAnswer : List ℕ → Type 0
 HasOneAnswer bytes = (a : Answer) × Answers bytes a × ((b : Answer) → Answers bytes b → b ≡ a)
 
 -- What was returned, and the bytes that are left, are this answer, unless a read failed.
-abbrev pub Tells : Result FileHead HeadError → List ℕ → List ℕ → Answer → Type 0
-Tells (Ok r) bytes rest (readable spec len h) = (r.spec_ex ≡ spec) × (r.data_length ≡ len) × (r.data_start ≡ h) × (rest ≡ drop h bytes)
-Tells (Ok r) bytes rest (unreadable cause) = ⊥
-Tells (Err (Failed e)) bytes rest a = ⊤
-Tells (Err (Refuses c)) bytes rest (readable spec len h) = ⊥
-Tells (Err (Refuses c)) bytes rest (unreadable cause) = c ≡ cause
+abbrev pub ReportsAnswer : Result FileHead HeadError → List ℕ → List ℕ → Answer → Type 0
+ReportsAnswer (Ok r) bytes rest (readable spec len h) = (r.spec_ex ≡ spec) × (r.data_length ≡ len) × (r.data_start ≡ h) × (rest ≡ drop h bytes)
+ReportsAnswer (Ok r) bytes rest (unreadable cause) = ⊥
+ReportsAnswer (Err (Failed e)) bytes rest a = ⊤
+ReportsAnswer (Err (Refuses c)) bytes rest (readable spec len h) = ⊥
+ReportsAnswer (Err (Refuses c)) bytes rest (unreadable cause) = c ≡ cause

@@ -8,6 +8,7 @@ pub mod Reader
 pub mod Samples
 pub mod Sources
 pub mod Containers
+pub mod Counting
 pub mod Items
 pub mod Rows
 pub mod Seeking

@@ -16,13 +16,14 @@ Gives old new n (Ok x) read = Known old new (λ xs ys. (read xs ≡ Ok x) × (n 
 Gives old new n (Err e) read = Refuses e (λ c. Known old new (λ xs ys. read xs ≡ Err c))
 
 -- P, unless a read failed
-abbrev pub UnlessFailed : {A : Type 0} → Result A HeadError → Type 0 → Type 0
-UnlessFailed (Ok x) P = P
-UnlessFailed (Err (Failed e)) P = ⊤
-UnlessFailed (Err (Refused c)) P = P
+abbrev pub UnlessReadFailed : {A : Type 0} → Result A HeadError → Type 0 → Type 0
+UnlessReadFailed (Ok x) P = P
+UnlessReadFailed (Err (Failed e)) P = ⊤
+UnlessReadFailed (Err (Refused c)) P = P
 
 -- a failed read is counted, and nothing else is
-abbrev pub CountsFailed : {A : Type 0} → Option Account → Option Account → Result A HeadError → Type 0
+abbrev pub CountsFailed : {Kept A : Type 0} → Option (Account Kept) → Option (Account Kept)
+    → Result A HeadError → Type 0
 CountsFailed old new (Ok x) = NoneFailed old new
 CountsFailed old new (Err (Failed e)) = OneFailed old new
 CountsFailed old new (Err (Refused c)) = NoneFailed old new

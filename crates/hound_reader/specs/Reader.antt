@@ -1,5 +1,6 @@
 -- A reader at its samples.
-use Rattle.std.specs.Prelude.{◌≡◌, ℕ, ◌+◌, ◌-◌, ◌*◌, ◌%◌, ◌<◌, ◌≤◌, List, Option, Some, None, IsSome, Result, Ok, Err}
+use Rattle.std.specs.Prelude.{◌≡◌, ℕ, ◌+◌, ◌-◌, ◌*◌, ◌%◌, ◌<◌, ◌≤◌, List, length, drop, Option, Some, None, IsSome, Result, Ok, Err}
+use Rattle.hound_number.specs.Input.{Known}
 use Rattle.hound_spec.specs.declared.error.Error.{Error}
 use Rattle.hound_spec.specs.declared.error.Error.TheVariants.{IoError}
 use Rattle.hound_spec.specs.declared.spec.SampleFormat.{SampleFormat}
@@ -34,6 +35,15 @@ TookBytes width (Ok value) old new = new ≡ old + width
 TookBytes width (Err (IoError e)) old new = (old ≤ new) × (new ≤ old + width)
 TookBytes width (Err _) old new = new ≡ old
 
+-- the first n bytes were taken
+abbrev pub AreTaken : ℕ → List ℕ → List ℕ → Type 0
+AreTaken n old new = (n ≤ length old) × (new ≡ drop n old)
+
+-- the count of bytes grew by exactly what was taken of those that were left, where these are known
+abbrev pub CountsTaken : {R : Type 0} → (R → Option (List ℕ)) → ReaderState R → ReaderState R → Type 0
+CountsTaken left old new = (n : ℕ) × (new.bytes_read ≡ old.bytes_read + n)
+    × Known (left old.reader) (left new.reader) (AreTaken n)
+
 -- the refusal and the meaning of a type, at the format, the width and the bits of a spec
 abbrev pub refusal_at : (SampleFormat → ℕ → ℕ → Option ReadRefusal) → WavSpecEx → Option ReadRefusal
 refusal_at refusal s = refusal s.spec.sample_format s.bytes_per_sample s.spec.bits_per_sample
@@ -48,6 +58,7 @@ pub record GivesItem {R A : Type 0} (left : R → Option (List ℕ)) (refusal : 
   pub read : Reads refusal meaning old.spec_ex.bytes_per_sample (left old.reader) (left new.reader) item
   pub untouched : IsSome refusal → new.reader ≡ old.reader
   pub bytes : TookBytes old.spec_ex.bytes_per_sample item old.bytes_read new.bytes_read
+  pub taken : CountsTaken left old new
   pub spec_ex : new.spec_ex ≡ old.spec_ex
   pub num_samples : new.num_samples ≡ old.num_samples
 

@@ -39,9 +39,9 @@ Names errors.Unsupported cause = cause ≡ Unsupported
 Names _ cause = ⊥
 
 -- the error that callers are told: that of a failed read, or that of the cause
-abbrev pub TellsError : HeadError → Error → Type 0
-TellsError (Failed e) told = told ≡ errors.IoError e
-TellsError (Refused cause) told = Names told cause
+abbrev pub ReportsError : HeadError → Error → Type 0
+ReportsError (Failed e) told = told ≡ errors.IoError e
+ReportsError (Refused cause) told = Names told cause
 
 -- an `IoError`, or the error of a cause that P says
 abbrev pub IsRefusal : Error → (Cause → Type 0) → Type 0

@@ -11,9 +11,19 @@ use Rattle.hound_reader.specs.declared.fault.HeadError.TheVariants.{Failed, Refu
 abbrev pub unread : MediumState → List ℕ
 unread s = drop s.place s.contents
 
+-- what no read of a source changes
+pub record Untouched : Type 0 where
+  pub contents : List ℕ
+  pub start : List ℕ
+  pub past : List (ℕ × ℕ)
+  pub flushed : ℕ
+
 -- the faults, and what no read changes
-abbrev pub account_of : MediumState → Account
-account_of s = record { failures = s.faults; contents = s.contents; start = s.start; past = s.past; flushed = s.flushed }
+abbrev pub account_of : MediumState → Account Untouched
+account_of s = record {
+  failures = s.faults;
+  kept = record { contents = s.contents; start = s.start; past = s.past; flushed = s.flushed };
+}
 
 -- the faults after a walk: a read that failed counts one, a cause none
 abbrev pub faults_after_walk : {A : Type 0} → Result A HeadError → ℕ → ℕ

@@ -5,11 +5,11 @@ ghost use Rattle.std.specs.Io.KnownBytes.{Consumes};
 ghost use Rattle.hound_number.specs.Input.{Known};
 ghost use Rattle.hound_number.specs.Number.{number};
 ghost use Rattle.hound_spec.specs.Header.{riff_tag, wave_tag};
-ghost use Rattle.hound_reader.specs.Outcome.{CountsFailed, Refuses, UnlessFailed};
+ghost use Rattle.hound_reader.specs.Outcome.{CountsFailed, Refuses, UnlessReadFailed};
 ghost use Rattle.hound_reader.specs.Fmt.{IsSound};
 ghost use Rattle.hound_reader.specs.Chunks.{Head, Refused, bound_of, front_fault, content_fault, chunk_fault};
 ghost use Rattle.hound_reader.specs.Sources.{FindsData};
-ghost use Rattle.hound_reader.specs.Answer.{Answer, Answers, Tells};
+ghost use Rattle.hound_reader.specs.Answer.{Answer, Answers, ReportsAnswer};
 ghost use Rattle.hound_reader.specs.Walk.{ReadsChunk, ReadsContent, Advances, ReachesData, MeetsFault, IsSoundOption, IsSoundChunk};
 
 use crate::fault::{Cause, HeadError, Reason};
@@ -213,8 +213,8 @@ pub fn read_until_data<R: Input>(reader: &mut R) -> Result<FileHead, HeadError>
     ensures found { IfOk result (λ r. Known (R.left reader.old) (R.left reader.new) (λ xs ys.
         Head xs r.spec_ex r.data_length r.data_start × (ys ≡ drop r.data_start xs))) }
     ensures refused { IfErr result (λ e. Refuses e (λ c. Known (R.left reader.old) (R.left reader.new) (λ xs ys. Refused xs c))) }
-    ensures only { UnlessFailed result (Known (R.left reader.old) (R.left reader.new) (λ xs ys.
-        (a : Answer) → Answers xs a → Tells result xs ys a)) }
+    ensures only { UnlessReadFailed result (Known (R.left reader.old) (R.left reader.new) (λ xs ys.
+        (a : Answer) → Answers xs a → ReportsAnswer result xs ys a)) }
 {
     read_head(reader)
 }

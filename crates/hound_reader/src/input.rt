@@ -3,7 +3,7 @@ ghost use Rattle.std.specs.Prelude.{◌≡◌, ◌<◌, [], length, if◌then◌
 ghost use Rattle.std.specs.Io.KnownBytes.{Consumes};
 ghost use Rattle.hound_number.specs.Input.{Known};
 ghost use Rattle.hound_reader.specs.Outcome.{Refuses, CountsFailed};
-ghost use Rattle.hound_reader.specs.Sources.{account_of, unread};
+ghost use Rattle.hound_reader.specs.Sources.{Untouched, account_of, unread};
 
 use crate::fault::{Cause, HeadError};
 use hound_medium::Source;
@@ -19,6 +19,8 @@ pub struct Counted<S> {
 
 impl<S: Source> Input for Counted<S> {
     ghost left = { λ c. if S.tells then Some (unread (S.state c.source)) else None };
+
+    ghost Kept = { Untouched };
 
     ghost account = { λ c. if S.tells then Some (account_of (S.state c.source)) else None };
 

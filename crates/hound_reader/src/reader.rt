@@ -15,7 +15,7 @@ ghost use Rattle.hound_reader.specs.Seeking.{Recounts, way_to};
 ghost use Rattle.hound_reader.specs.Samples.{lent_reader, lender, taken_reader};
 
 use crate::chunks::{read_riff_header, read_until_data};
-use crate::counting::CountingReader;
+use crate::counting::{read_counted, taken_by};
 use crate::fault::{Cause, HeadError, Reason, error_of};
 use crate::samples::{WavIntoSamples, WavSamples};
 use hound_medium::{Placed, Source};
@@ -69,7 +69,7 @@ pub fn read_wave_header<R: io::Read>(reader: &mut R) -> Result<u64>
 /// made, and behind the sample that was read last.
 #[derive(Drop)]
 pub struct WavReader<R> {
-    reader: CountingReader<R>,
+    reader: R,
     spec_ex: WavSpecEx,
     num_samples: u32,
     samples_read: u64,
@@ -81,7 +81,7 @@ impl<R> Model for WavReader<R> {
 
     ghost Value = { ReaderState R };
 
-    ghost view = { λ r. record { reader = r.reader.reader; spec_ex = r.spec_ex; num_samples = r.num_samples; samples_read = r.samples_read; bytes_read = r.bytes_read } };
+    ghost view = { λ r. record { reader = r.reader; spec_ex = r.spec_ex; num_samples = r.num_samples; samples_read = r.samples_read; bytes_read = r.bytes_read } };
 
     ghost invariant = { λ r. IsCounted r.spec_ex r.num_samples r.samples_read r.bytes_read };
 }
@@ -106,7 +106,7 @@ impl<R: io::Read + Drop> WavReader<R> {
         let mut reader = reader;
         match read_until_samples(&mut reader) {
             Ok((spec_ex, num_samples)) => Ok(WavReader {
-                reader: CountingReader { reader, given: 0 },
+                reader,
                 spec_ex,
                 num_samples,
                 samples_read: 0,
@@ -173,7 +173,7 @@ impl<R: io::Read + Drop> WavReader<R> {
         let samples = time as u64 * self.spec_ex.spec.channels as u64;
         let bytes = samples * self.spec_ex.bytes_per_sample as u64;
         let by = bytes as i64 - self.bytes_read as i64;
-        Placed::shift(&mut self.reader.reader, by)?;
+        Placed::shift(&mut self.reader, by)?;
         self.samples_read = samples;
         self.bytes_read = bytes;
         Ok(())
@@ -183,7 +183,7 @@ impl<R: io::Read + Drop> WavReader<R> {
     pub fn into_inner(self) -> R
         ensures { result ≡ self.reader }
     {
-        self.reader.reader
+        self.reader
     }
 
     /// How many samples are left; none behind the end.
@@ -209,27 +209,10 @@ impl<R: io::Read + Drop> WavReader<R> {
         if self.samples_read >= self.num_samples as u64 {
             return None;
         }
-        let spec = self.spec_ex.spec;
-        let width = self.spec_ex.bytes_per_sample;
-        self.reader.given = 0;
+        let (item, given) = read_counted::<R, S>(&mut self.reader, self.spec_ex);
+        let item = item?;
         self.samples_read += 1;
-        match S::read(
-            &mut self.reader,
-            spec.sample_format,
-            width,
-            spec.bits_per_sample,
-        ) {
-            Ok(sample) => {
-                self.bytes_read += width as u64;
-                Some(Ok(sample))
-            }
-            Err(error) => {
-                self.bytes_read += match &error {
-                    Error::IoError(_) => self.reader.given.min(width as u64),
-                    _ => 0,
-                };
-                Some(Err(error))
-            }
-        }
+        self.bytes_read += taken_by(&item, given, self.spec_ex.bytes_per_sample);
+        Some(item)
     }
 }

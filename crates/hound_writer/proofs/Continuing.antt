@@ -12,7 +12,7 @@ use Rattle.hound_reader.specs.declared.fault.HeadError.{HeadError}
 use Rattle.hound_reader.specs.declared.fault.HeadError.TheVariants.{Failed, Refused}
 use Rattle.hound_reader.specs.Fmt.{IsSound as IsSoundHead}
 use Rattle.hound_reader.specs.Chunks.{Head, Refused as RefusedFor}
-use Rattle.hound_reader.specs.Refusals.{TellsError}
+use Rattle.hound_reader.specs.Refusals.{ReportsError}
 use Rattle.hound_reader.specs.Sources.{FindsData}
 use Rattle.hound_writer.specs.Parts.{Stands, field}
 use Rattle.hound_writer.specs.Writer.{WriterState, IsSound, IsIoError}
@@ -103,7 +103,7 @@ after_walk state head old mid (Err (medium, e)) finds refused = record {
 }
 
 -- a walk that found none
-pub walk_fails : (error : HeadError) (e : Error) (old new : MediumState) → old.place ≡ 0 → TellsError error e → FindsData (Err error) old new → IsNotAppended old new e
+pub walk_fails : (error : HeadError) (e : Error) (old new : MediumState) → old.place ≡ 0 → ReportsError error e → FindsData (Err error) old new → IsNotAppended old new e
 walk_fails (Failed x) e old new begins told finds = record {
   puts = walk_puts_nothing (Err (Failed x)) old new finds;
   why = inr (subst IsIoError (sym told) tt, finds.faults);
