@@ -9,6 +9,7 @@ ghost use Rattle.hound_reader.specs.Outcome.{CountsFailed, Refuses, UnlessReadFa
 ghost use Rattle.hound_reader.specs.Fmt.{IsSound};
 ghost use Rattle.hound_reader.specs.Chunks.{Head, Refused, bound_of, front_fault, content_fault, chunk_fault};
 ghost use Rattle.hound_reader.specs.Sources.{FindsData};
+ghost use Rattle.hound_reader.specs.Front.{TakesFront};
 ghost use Rattle.hound_reader.specs.Answer.{Answer, Answers, ReportsAnswer};
 ghost use Rattle.hound_reader.specs.Walk.{ReadsChunk, ReadsContent, Advances, ReachesData, MeetsFault, IsSoundOption, IsSoundChunk};
 
@@ -74,7 +75,10 @@ pub(crate) fn read_riff_header<R: Input>(reader: &mut R) -> Result<u32, HeadErro
     ensures failures { CountsFailed (R.account reader.old) (R.account reader.new) result }
     ensures ok { IfOk result (λ n. Known (R.left reader.old) (R.left reader.new) (λ xs ys.
         (size : List ℕ) × (length size ≡ 4) × (xs ≡ riff_tag ++ (size ++ (wave_tag ++ ys))) × (n ≡ number size))) }
-    ensures err { IfErr result (λ e. Refuses e (λ c. Known (R.left reader.old) (R.left reader.new) (λ xs ys. front_fault xs ≡ Some c))) }
+    ensures err { IfErr result (λ e. Refuses e (λ c.
+        Known (R.left reader.old) (R.left reader.new) (λ xs ys. front_fault xs ≡ Some c))) }
+    ensures taken { IfErr result (λ e.
+        Known (R.left reader.old) (R.left reader.new) (TakesFront e)) }
 {
     let mut tag = [0; 4];
     fill(reader, &mut tag)?;

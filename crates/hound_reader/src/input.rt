@@ -1,5 +1,5 @@
 // What the walk takes its bytes from.
-ghost use Rattle.std.specs.Prelude.{◌≡◌, ◌<◌, [], length, if◌then◌else◌, None, Some, OnOk, IfErr};
+ghost use Rattle.std.specs.Prelude.{◌≡◌, ℕ, ◌<◌, List, [], length, if◌then◌else◌, None, Some, OnOk, OnErr, IfErr};
 ghost use Rattle.std.specs.Io.KnownBytes.{Consumes};
 ghost use Rattle.hound_number.specs.Input.{Known};
 ghost use Rattle.hound_reader.specs.Outcome.{Refuses, CountsFailed};
@@ -33,6 +33,8 @@ impl<S: Source> Input for Counted<S> {
 pub(crate) fn fill<R: Input>(reader: &mut R, buf: &mut [u8]) -> Result<(), HeadError>
     ensures failures { CountsFailed (R.account reader.old) (R.account reader.new) result }
     ensures ok { OnOk result (Consumes (R.left reader.old) (R.left reader.new) buf.new) }
+    ensures part { OnErr result ((bytes : List ℕ)
+        × (length bytes < length buf.new) × Consumes (R.left reader.old) (R.left reader.new) bytes) }
     ensures err { IfErr result (λ e. Refuses e (λ c. (c ≡ Cause.Ended)
         × Known (R.left reader.old) (R.left reader.new) (λ xs ys. (length xs < length buf.new) × (ys ≡ [])))) }
 {

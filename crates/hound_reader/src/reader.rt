@@ -6,7 +6,8 @@ ghost use Rattle.hound_spec.specs.Header.{riff_tag, wave_tag};
 ghost use Rattle.hound_spec.specs.declared.spec.WavSpecEx.{WavSpecEx};
 ghost use Rattle.hound_reader.specs.Outcome.{CountsFailed, Refuses};
 ghost use Rattle.hound_reader.specs.Fmt.{IsSound};
-ghost use Rattle.hound_reader.specs.Chunks.{Readable, Unreadable, front_fault};
+ghost use Rattle.hound_reader.specs.Chunks.{Readable, Unreadable};
+ghost use Rattle.hound_reader.specs.Front.{ReportsFront};
 ghost use Rattle.hound_reader.specs.declared.fault.Cause.{Cause};
 ghost use Rattle.hound_reader.specs.Refusals.{IsRefusal, OpensAs, FailsAs};
 ghost use Rattle.hound_medium.specs.State.{Shifts, WhereTells};
@@ -51,11 +52,13 @@ fn read_until_samples<R: Input>(reader: &mut R) -> result::Result<(WavSpecEx, u3
 /// Takes the first twelve bytes of a file, and gives the size of the whole file as they say it: the
 /// RIFF size, which doesn't count itself and the tag before it, and eight bytes more.
 ///
-/// The size is compared with nothing. An early end is an `IoError` of kind `Other`.
+/// The size is compared with nothing. An early end is an `IoError` of kind `Other`. No byte is taken
+/// behind a wrong tag.
 pub fn read_wave_header<R: io::Read>(reader: &mut R) -> Result<u64>
     ensures found { IfOk result (λ n. Known (R.remaining reader.old) (R.remaining reader.new) (λ xs ys.
         (size : List ℕ) × (length size ≡ 4) × (xs ≡ riff_tag ++ (size ++ (wave_tag ++ ys))) × (n ≡ number size + 8))) }
-    ensures refused { IfErr result (λ e. IfSome (R.remaining reader.old) (λ xs. IsRefusal e (λ c. front_fault xs ≡ Some c))) }
+    ensures refused { IfErr result (λ e.
+        Known (R.remaining reader.old) (R.remaining reader.new) (ReportsFront e)) }
 {
     match read_riff_header(reader) {
         Ok(size) => Ok(size as u64 + 8),
