@@ -167,7 +167,7 @@ no_fault_there c found bytes h =
     let k = guard_some (nat_lt (length bytes) 8) _ _ g.1 in
     chunk_there c found bytes (ltb-false _ _ g.0) (ltb-false _ _ k.0) k.1
 
-fault_or_none : (o : Option Cause) → ((c : Cause) × (o ≡ Some c)) ⊎ (o ≡ None)
+pub fault_or_none : (o : Option Cause) → ((c : Cause) × (o ≡ Some c)) ⊎ (o ≡ None)
 fault_or_none None = inr refl
 fault_or_none (Some c) = inl (c, refl)
 

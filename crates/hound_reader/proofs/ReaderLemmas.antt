@@ -1,5 +1,5 @@
 -- The answers of a reader.
-use Rattle.std.proofs.Common.{◌≡◌, ℕ, drop, inl, inr, ◌/◌, ◌∙◌, List, sym, ap, subst, Option, Some, None, Err}
+use Rattle.std.proofs.Common.{◌≡◌, ℕ, drop, inl, inr, ◌/◌, ◌∙◌, List, sym, ap, subst, Option, Some, None, Err, refl}
 use Rattle.std.specs.Prelude.{IfSome}
 use Rattle.std.proofs.lemmas.Option.{same_Some}
 use Rattle.hound_spec.specs.declared.spec.WavSpecEx.{WavSpecEx}
@@ -10,7 +10,9 @@ use Rattle.hound_spec.specs.declared.error.Error.{Error}
 use Rattle.hound_spec.specs.declared.error.Error.TheVariants as errors
 use Rattle.hound_reader.specs.Outcome.{Refuses}
 use Rattle.hound_number.specs.Input.{Known}
-use Rattle.hound_reader.specs.Chunks.{Readable, Unreadable, data_fault}
+use Rattle.hound_reader.specs.Answer.{Answer, readable, unreadable, Answers, AnswersFile, HasOneFileAnswer}
+use Rattle.hound_reader.proofs.Exists.{some_answer, fault_or_none}
+use Rattle.hound_reader.specs.Chunks.{Head, Readable, Unreadable, data_fault}
 use Rattle.hound_reader.specs.Refusals.{Names, ReportsError, IsRefusal, OpensAs, FailsAs}
 use Rattle.hound_number.proofs.KnownSteps.{known_some}
 use Rattle.hound_reader.proofs.Unique.{heads_agree, head_no_fault, faults_agree}
@@ -36,6 +38,29 @@ unreadable_one xs c d (inr (s, m, h, a, e)) (inr (t, n, k, b, f)) =
     let g = heads_agree xs s t m n h k a b in
     let there : data_fault s m ≡ Some d = rw (g.0, g.1) f in
     same_Some c d (sym e ∙ there)
+
+-- a head can be read, or its data length is at fault
+file_of_head : (bytes : List ℕ) (s : WavSpecEx) (len h : ℕ) → Head bytes s len h → (a : Answer) × AnswersFile bytes a
+file_of_head bytes s len h head = elim (fault_or_none (data_fault s len)) [
+  | inl (c, f) ↦ (unreadable c, inr (s, len, h, head, f))
+  | inr f ↦ (readable s (len / s.bytes_per_sample) h, record { len = len; head = head; frames = f; count = refl })
+]
+
+file_of_answer : (bytes : List ℕ) (a : Answer) → Answers bytes a → (b : Answer) × AnswersFile bytes b
+file_of_answer bytes (readable s len h) head = file_of_head bytes s len h head
+file_of_answer bytes (unreadable c) f = (unreadable c, inl f)
+
+same_file_answer : (bytes : List ℕ) (a b : Answer) → AnswersFile bytes a → AnswersFile bytes b → b ≡ a
+same_file_answer bytes (readable s m h) (readable t n k) a b = let e = readable_one bytes s t m n h k a b in ap (λ x. readable x n k) (sym e.0) ∙ ap (λ x. readable s x k) (sym e.1) ∙ ap (λ x. readable s m x) (sym e.2)
+same_file_answer bytes (readable s m h) (unreadable c) a b = absurd (readable_no_fault bytes s m h c a b)
+same_file_answer bytes (unreadable c) (readable s m h) a b = absurd (readable_no_fault bytes s m h c b a)
+same_file_answer bytes (unreadable c) (unreadable d) a b = ap unreadable (sym (unreadable_one bytes c d a b))
+
+pub one_file_answer : (bytes : List ℕ) → HasOneFileAnswer bytes
+one_file_answer bytes =
+    let head = some_answer bytes in
+    let file = file_of_answer bytes head.0 head.1 in
+    (file.0, file.1, λ b is. same_file_answer bytes file.0 b file.1 is)
 
 -- the error of a cause is a refusal for it
 refusal_is : (e : Error) (cause : Cause) (P : Cause → Type 0) → Names e cause → P cause → IsRefusal e P

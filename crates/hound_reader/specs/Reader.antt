@@ -22,8 +22,14 @@ pub record ReaderState (R : Type 0) : Type 0 where
 abbrev pub samples_left : {R : Type 0} → ReaderState R → ℕ
 samples_left reading = reading.num_samples - reading.samples_read
 
--- the counts of a reader, whatever was read or sought: whole frames, and no more bytes than the samples asked for have
-pub record IsCounted (spec_ex : WavSpecEx) (num_samples samples_read bytes_read : ℕ) : Type 0 where
+-- a spec that can be divided by, and whole frames
+abbrev pub HasWholeFrames : {R : Type 0} → ReaderState R → Type 0
+HasWholeFrames reading =
+    IsSound reading.spec_ex × (reading.num_samples % reading.spec_ex.spec.channels ≡ 0)
+
+-- the counts of a reader, whatever was read or sought: whole frames, and no more bytes than the
+-- samples asked for have
+pub record HasSoundCounts (spec_ex : WavSpecEx) (num_samples samples_read bytes_read : ℕ) : Type 0 where
   pub sound : IsSound spec_ex
   pub frames : num_samples % spec_ex.spec.channels ≡ 0
   pub samples : samples_read ≤ 4294967295 * spec_ex.spec.channels

@@ -4,7 +4,7 @@ ghost use Rattle.std.specs.Prelude.{◌≡◌, ℕ, ◌+◌, ◌*◌, ◌/◌, L
 ghost use Rattle.hound_spec.specs.Writable.{IsWritable};
 ghost use Rattle.hound_spec.specs.Header.{header, data_start, canonical};
 ghost use Rattle.hound_spec.specs.declared.spec.WavSpecEx.{WavSpecEx};
-ghost use Rattle.hound_reader.specs.Answer.{HasOneAnswer};
+ghost use Rattle.hound_reader.specs.Answer.{HasOneAnswer, HasOneFileAnswer};
 ghost use Rattle.hound_reader.specs.Chunks.{Head, Readable};
 ghost use Rattle.hound_sample.specs.Container.{containers};
 ghost use Rattle.hound_reader.specs.Containers.{AreContainers};
@@ -18,9 +18,11 @@ use hound_medium::Source;
 use hound_sample::Sample;
 use std::io;
 
-/// Bytes have a head or a cause for which they have none, and never two of these.
+/// Bytes have a head or a cause for which they have none, and never two of these; and so they can be
+/// read as a file, or can't for a cause.
 pub fn one_answer()
-    ensures { (bytes : List ℕ) → HasOneAnswer bytes }
+    ensures head { (bytes : List ℕ) → HasOneAnswer bytes }
+    ensures file { (bytes : List ℕ) → HasOneFileAnswer bytes }
 {}
 
 /// The header of a writable spec is a head with that spec and that length, whatever its RIFF size

@@ -11,7 +11,7 @@ ghost use Rattle.hound_reader.specs.Front.{ReportsFront};
 ghost use Rattle.hound_reader.specs.declared.fault.Cause.{Cause};
 ghost use Rattle.hound_reader.specs.Refusals.{IsRefusal, OpensAs, FailsAs};
 ghost use Rattle.hound_medium.specs.State.{Shifts, WhereTells};
-ghost use Rattle.hound_reader.specs.Reader.{IsNext, samples_left};
+ghost use Rattle.hound_reader.specs.Reader.{IsNext, HasWholeFrames, samples_left};
 ghost use Rattle.hound_reader.specs.Seeking.{Recounts, way_to};
 ghost use Rattle.hound_reader.specs.Samples.{lent_reader, lender, taken_reader};
 
@@ -80,13 +80,13 @@ pub struct WavReader<R> {
 }
 
 impl<R> Model for WavReader<R> {
-    ghost use Rattle.hound_reader.specs.Reader.{ReaderState, IsCounted};
+    ghost use Rattle.hound_reader.specs.Reader.{ReaderState, HasSoundCounts};
 
     ghost Value = { ReaderState R };
 
     ghost view = { λ r. record { reader = r.reader; spec_ex = r.spec_ex; num_samples = r.num_samples; samples_read = r.samples_read; bytes_read = r.bytes_read } };
 
-    ghost invariant = { λ r. IsCounted r.spec_ex r.num_samples r.samples_read r.bytes_read };
+    ghost invariant = { λ r. HasSoundCounts r.spec_ex r.num_samples r.samples_read r.bytes_read };
 }
 
 impl<R: io::Read + Drop> WavReader<R> {
@@ -101,6 +101,7 @@ impl<R: io::Read + Drop> WavReader<R> {
         ensures found { IfOk result (λ r. Known (R.remaining reader) (R.remaining r.reader) (λ xs ys.
             (h : ℕ) × Readable xs r.spec_ex r.num_samples h × (ys ≡ drop h xs))) }
         ensures fresh { IfOk result (λ r. (r.samples_read ≡ 0) × (r.bytes_read ≡ 0)) }
+        ensures sound { IfOk result (λ r. HasWholeFrames r) }
         ensures refused { IfErr result (λ e. IfSome (R.remaining reader) (λ xs. IsRefusal e (Unreadable xs))) }
         ensures readable { IfSome (R.remaining reader) (λ xs. (spec_ex : WavSpecEx) (samples h : ℕ) →
             Readable xs spec_ex samples h → OpensAs result (λ r. (r.spec_ex ≡ spec_ex) × (r.num_samples ≡ samples))) }
