@@ -1,6 +1,5 @@
 // Readers of files on disk.
 ghost use Rattle.std.specs.Prelude.{◌≡◌, IfOk};
-
 ghost use Rattle.hound_reader.specs.Reader.{HasWholeFrames};
 
 use crate::WavReader;
