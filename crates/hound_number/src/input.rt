@@ -66,8 +66,8 @@ impl From<ReadError> for io::Error {
 #[inline(always)]
 pub fn read_into<R: Input>(reader: &mut R, buf: &mut [u8]) -> Result<(), ReadError>
     ensures filled { OnOk result (Consumes (R.left reader.old) (R.left reader.new) buf.new) }
-    ensures part { OnErr result ((bytes : List ℕ)
-        × (length bytes < length buf.new) × Consumes (R.left reader.old) (R.left reader.new) bytes) }
+    ensures part { OnErr result ((bytes : List ℕ) × (length bytes < length buf.new)
+        × Consumes (R.left reader.old) (R.left reader.new) bytes) }
     ensures ended { IfErr result (λ e. IfEnded e (IsAtEnd (R.left reader.new))) }
     ensures failures { CountsReads (R.account reader.old) (R.account reader.new) result }
 {

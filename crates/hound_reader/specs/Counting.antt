@@ -5,12 +5,13 @@ use Rattle.hound_spec.specs.declared.error.Error.TheVariants.{IoError}
 use Rattle.std.proofs.Props.{props}
 use Rattle.std.specs.Coded.{Unit-prop}
 
--- Where the bytes are known, those that were left at first and are not left now have been given, from
--- the front, and `given` counts them, up to the greatest `u64`.
+-- Where the bytes are known, those that were left at first and are not left now have been given,
+-- from the front, and `given` counts them, up to the greatest `u64`.
 abbrev pub HasGiven : Option (List ℕ) → ℕ → Option (List ℕ) → Type 0
 HasGiven None given left = ⊤
 HasGiven (Some xs) given None = ⊥
-HasGiven (Some xs) given (Some ys) = (length ys ≤ length xs) × (ys ≡ drop (length xs - length ys) xs)
+HasGiven (Some xs) given (Some ys) = (length ys ≤ length xs)
+    × (ys ≡ drop (length xs - length ys) xs)
     × (given ≡ min (length xs - length ys) (2 ^ 64 - 1))
 
 pub HasGiven-prop : (first : Option (List ℕ)) (given : ℕ) (left : Option (List ℕ))

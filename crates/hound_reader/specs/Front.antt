@@ -33,8 +33,8 @@ abbrev pub TakesFront : HeadError → List ℕ → List ℕ → Type 0
 TakesFront (Failed e) old new = TakesLess old new
 TakesFront (Refused cause) old new = AreTaken (front_taken cause old) old new
 
--- what callers are told of it: the words of a wrong tag, or an `IoError`, for which less than twelve
--- bytes were taken
+-- what callers are told of it: the words of a wrong tag, or an `IoError`, for which less than
+-- twelve bytes were taken
 abbrev pub ReportsFront : Error → List ℕ → List ℕ → Type 0
 ReportsFront (errors.IoError e) old new = TakesLess old new
 ReportsFront (errors.FormatError s) old new =

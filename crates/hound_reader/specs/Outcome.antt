@@ -11,8 +11,10 @@ Refuses (Failed e) P = ⊤
 Refuses (Refused c) P = P c
 
 -- A call that takes n bytes answers what `read` says of the bytes, unless a read failed.
-abbrev pub Gives : {A : Type 0} → Option (List ℕ) → Option (List ℕ) → ℕ → Result A HeadError → (List ℕ → Result A Cause) → Type 0
-Gives old new n (Ok x) read = Known old new (λ xs ys. (read xs ≡ Ok x) × (n ≤ length xs) × (ys ≡ drop n xs))
+abbrev pub Gives : {A : Type 0} → Option (List ℕ) → Option (List ℕ) → ℕ → Result A HeadError
+    → (List ℕ → Result A Cause) → Type 0
+Gives old new n (Ok x) read =
+    Known old new (λ xs ys. (read xs ≡ Ok x) × (n ≤ length xs) × (ys ≡ drop n xs))
 Gives old new n (Err e) read = Refuses e (λ c. Known old new (λ xs ys. read xs ≡ Err c))
 
 -- P, unless a read failed

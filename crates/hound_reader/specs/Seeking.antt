@@ -27,14 +27,17 @@ count_after (Ok x) count old = count
 count_after (Err e) count old = old
 
 -- The counts after `seek`: all that stands before the frame counts as read, and an Err leaves them.
-pub record Recounts {R T E : Type 0} (time : ℕ) (result : Result T E) (old new : ReaderState R) : Type 0 where
-  pub samples : new.samples_read ≡ count_after result (samples_before time old.spec_ex) old.samples_read
+pub record Recounts {R T E : Type 0} (time : ℕ) (result : Result T E) (old new : ReaderState R)
+    : Type 0 where
+  pub samples : new.samples_read ≡ count_after result (samples_before time old.spec_ex)
+      old.samples_read
   pub bytes : new.bytes_read ≡ count_after result (bytes_before time old.spec_ex) old.bytes_read
   pub spec_ex : new.spec_ex ≡ old.spec_ex
   pub num_samples : new.num_samples ≡ old.num_samples
 
 -- `seek` was Ok, over a source that tells
-pub record Seeks {R : Type 0} (state : R → MediumState) (time : ℕ) (old new : ReaderState R) : Type 0 where
+pub record Seeks {R : Type 0} (state : R → MediumState) (time : ℕ) (old new : ReaderState R)
+    : Type 0 where
   pub counts : Recounts {T = Unit {0}} {E = IoFault} time (Ok tt) old new
   pub source : Shifts {T = Unit {0}} {E = IoFault} (way_to time old) (Ok tt)
       (state old.reader) (state new.reader)
@@ -44,7 +47,8 @@ abbrev pub IsAtCount : {R : Type 0} → (R → MediumState) → ℕ → ReaderSt
 IsAtCount state start reading = (state reading.reader).place ≡ start + reading.bytes_read
 
 -- `seek` was Ok, over a source that tells and stood where the reader counts itself to be
-pub record HasSought {R : Type 0} (state : R → MediumState) (start time : ℕ) (old new : ReaderState R) : Type 0 where
+pub record HasSought {R : Type 0} (state : R → MediumState) (start time : ℕ)
+    (old new : ReaderState R) : Type 0 where
   pub stood : IsAtCount state start old
   pub seeks : Seeks state time old new
 
@@ -58,7 +62,8 @@ pub record ReadsInPlace (old new : MediumState) : Type 0 where
   pub place : new.place ≡ old.place + (length (unread old) - length (unread new))
 
 -- an item of whatever type was given, whole, refused or torn, and it counts what it took
-pub record PassesItem {R : Type 0} (left : R → Option (List ℕ)) (state : R → MediumState) (old new : ReaderState R) : Type 0 where
+pub record PassesItem {R : Type 0} (left : R → Option (List ℕ)) (state : R → MediumState)
+    (old new : ReaderState R) : Type 0 where
   pub taken : CountsTaken left old new
   pub in_place : ReadsInPlace (state old.reader) (state new.reader)
   pub spec_ex : new.spec_ex ≡ old.spec_ex

@@ -31,9 +31,11 @@ faults_after_walk (Ok x) faults = faults
 faults_after_walk (Err (Failed e)) faults = one_more faults
 faults_after_walk (Err (Refused c)) faults = faults
 
--- the answer of a walk to bytes, of which `rest` is left: their head, or the cause for which they have none; a failed read says nothing of them
+-- the answer of a walk to bytes, of which `rest` is left: their head, or the cause for which they
+-- have none; a failed read says nothing of them
 abbrev pub AnswersBytes : Result FileHead HeadError → List ℕ → List ℕ → Type 0
-AnswersBytes (Ok head) bytes rest = Head bytes head.spec_ex head.data_length head.data_start × (rest ≡ drop head.data_start bytes)
+AnswersBytes (Ok head) bytes rest = Head bytes head.spec_ex head.data_length head.data_start
+    × (rest ≡ drop head.data_start bytes)
 AnswersBytes (Err (Failed e)) bytes rest = ⊤
 AnswersBytes (Err (Refused c)) bytes rest = Refused' bytes c
 

@@ -164,7 +164,8 @@ pub(crate) fn read_counted<R: io::Read, S: Sample>(
     reader: &mut R,
     spec_ex: WavSpecEx,
 ) -> (Option<Result<S>>, u64)
-    ensures read { IfSome result.0 (Reads (refusal_at S.refusal spec_ex) (meaning_at S.meaning spec_ex)
+    ensures read { IfSome result.0 (Reads (refusal_at S.refusal spec_ex)
+        (meaning_at S.meaning spec_ex)
         spec_ex.bytes_per_sample (R.remaining reader.old) (R.remaining reader.new)) }
     ensures some { IsSome result.0 }
     ensures untouched { IsSome (refusal_at S.refusal spec_ex) → reader.new ≡ reader.old }

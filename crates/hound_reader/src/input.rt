@@ -33,10 +33,11 @@ impl<S: Source> Input for Counted<S> {
 pub(crate) fn fill<R: Input>(reader: &mut R, buf: &mut [u8]) -> Result<(), HeadError>
     ensures failures { CountsFailed (R.account reader.old) (R.account reader.new) result }
     ensures ok { OnOk result (Consumes (R.left reader.old) (R.left reader.new) buf.new) }
-    ensures part { OnErr result ((bytes : List ℕ)
-        × (length bytes < length buf.new) × Consumes (R.left reader.old) (R.left reader.new) bytes) }
+    ensures part { OnErr result ((bytes : List ℕ) × (length bytes < length buf.new)
+        × Consumes (R.left reader.old) (R.left reader.new) bytes) }
     ensures err { IfErr result (λ e. Refuses e (λ c. (c ≡ Cause.Ended)
-        × Known (R.left reader.old) (R.left reader.new) (λ xs ys. (length xs < length buf.new) × (ys ≡ [])))) }
+        × Known (R.left reader.old) (R.left reader.new)
+        (λ xs ys. (length xs < length buf.new) × (ys ≡ [])))) }
 {
     match read_into(reader, buf) {
         Ok(()) => Ok(()),

@@ -1,7 +1,7 @@
 //! Reading WAV files.
 //!
-//! A file is RIFF, a size, WAVE and chunks. A [`WavReader`] walks over the chunks to the data, takes
-//! no byte of it, and then gives its samples, one container for each.
+//! A file is RIFF, a size, WAVE and chunks. A [`WavReader`] walks over the chunks to the data,
+//! takes no byte of it, and then gives its samples, one container for each.
 #![tactic(auto)]
 
 mod chunks;

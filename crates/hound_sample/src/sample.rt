@@ -85,7 +85,8 @@ pub trait Sample: Sized + Drop {
         ensures { IsEncoded (container self bits byte_width) result };
 
     /// A container has as many bytes as it was asked to have, from one to four.
-    ghost in_width: { (v : Self) (bits width : ℕ) (c : List ℕ) → container v bits width ≡ Ok c → (length c ≡ width) × (1 ≤ width) × (width ≤ 4) };
+    ghost in_width: { (v : Self) (bits width : ℕ) (c : List ℕ) → container v bits width ≡ Ok c →
+        (length c ≡ width) × (1 ≤ width) × (width ≤ 4) };
 }
 
 impl Sample for i8 {
