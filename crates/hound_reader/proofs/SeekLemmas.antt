@@ -51,7 +51,7 @@ frame_inside time (suc channels) samples t =
     omega (arith, p, div-mul-le_self samples (suc channels))
 
 module _ {R : Type 0} (state : R → MediumState) (start time : ℕ) (old new : ReaderState R) (sought : HasSought state start time old new) where
-  -- where the source stands behind a seek
+  -- where the source stands after a seek
   pub sought_place : (state new.reader).place ≡ start + bytes_before time old.spec_ex
   sought_place = arrives start old.bytes_read (bytes_before time old.spec_ex) (state old.reader).place (state new.reader).place sought.stood sought.seeks.source.place
 
@@ -85,7 +85,7 @@ reads_first meaning width bytes new (Err TooLong) read = read
 reads_first meaning width bytes new (Err OutOfMemory) read = read
 
 module _ {R A : Type 0} (state : R → MediumState) (left : R → Option (List ℕ)) (refusal : SampleFormat → ℕ → ℕ → Option ReadRefusal) (meaning : ℕ → ℕ → List ℕ → A) where
-  -- the item behind a seek
+  -- the item after a seek
   pub sought_item : (start time : ℕ) (old mid new : ReaderState R) (next : Option (Result A Error)) → left mid.reader ≡ Some (unread (state mid.reader)) → HasSought state start time old mid → time < old.num_samples / old.spec_ex.spec.channels → refusal_at refusal old.spec_ex ≡ None
       → IsNext left refusal meaning next mid new → IsMeaningOf (meaning_at meaning old.spec_ex) (container_at old.spec_ex.bytes_per_sample (samples_before time old.spec_ex) (drop start (state old.reader).contents)) next
   sought_item start time old mid new None known sought t taken step =
@@ -161,7 +161,7 @@ module _ {R : Type 0} (left : R → Option (List ℕ)) (state : R → MediumStat
         let p = stands_after start calls mid new (sought_counted state start time old mid (record { stood = stood; seeks = step })) run in
         (p.0, p.1 ∙ step.source.stays.contents, p.2 ∙ step.counts.spec_ex, p.3 ∙ step.counts.num_samples)
 
-    -- the item behind a seek, after any items and seeks since the data began
+    -- the item after a seek, after any items and seeks since the data began
     pub item_after : {A : Type 0} (refusal : SampleFormat → ℕ → ℕ → Option ReadRefusal) (meaning : ℕ → ℕ → List ℕ → A) (calls : List (Option ℕ)) (time : ℕ) (first old mid new : ReaderState R) (next : Option (Result A Error)) → first.bytes_read ≡ 0 → Follows left state calls first old
         → Seeks state time old mid → time < first.num_samples / first.spec_ex.spec.channels → refusal_at refusal first.spec_ex ≡ None → IsNext left refusal meaning next mid new
         → IsMeaningOf (meaning_at meaning first.spec_ex) (container_at first.spec_ex.bytes_per_sample (samples_before time first.spec_ex) (unread (state first.reader))) next

@@ -8,7 +8,7 @@ use Rattle.hound_sample.specs.Reads.{error_of_read}
 use Rattle.hound_reader.specs.Reader.{ReaderState, IsNext}
 
 -- The first items of data with containers of this width: each is the refusal of the type, or each
--- is the meaning of its own container, which is all there. Behind the first `IoError` nothing is
+-- is the meaning of its own container, which is all there. After the first `IoError` nothing is
 -- said.
 abbrev pub AreItems : {A : Type 0} → Option ReadRefusal → (List ℕ → A) → ℕ → List ℕ
     → List (Result A Error) → Type 0

@@ -107,7 +107,8 @@ fn bound(tag: &[u8], chunk_len: u32) -> u32
     }
 }
 
-// Takes the content of a chunk, of whose header eight bytes were taken behind those.
+// Takes the content of a chunk, after the eight bytes of its header. So many bytes were taken
+// before it.
 #[tactic(auto, unfolding(crate::specs::Chunks::content_fault))]
 fn read_content<R: Input>(
     reader: &mut R,

@@ -57,7 +57,7 @@ pub fn items_are_of_the_file<R: io::Read, S: Sample>()
 /// An iterator gives exactly as many items as are left where it begins, and then none: so many as
 /// its `size_hint` says.
 pub fn an_iterator_gives_what_it_hints<R: io::Read, S: Sample>()
-    ensures behind { (items : List (Result S Error)) (old new end : ReaderState R) →
+    ensures after { (items : List (Result S Error)) (old new end : ReaderState R) →
         GivesItems R.remaining S.refusal S.meaning items old new →
         IsNext {A = S} R.remaining S.refusal S.meaning None new end →
         length items ≡ samples_left old }
