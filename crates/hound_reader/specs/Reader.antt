@@ -7,7 +7,7 @@ use Rattle.hound_spec.specs.declared.spec.SampleFormat.{SampleFormat}
 use Rattle.hound_spec.specs.declared.spec.WavSpecEx.{WavSpecEx}
 use Rattle.hound_sample.specs.Meaning.{ReadRefusal}
 use Rattle.hound_sample.specs.Reads.{Reads}
-use Rattle.hound_reader.specs.Fmt.{IsSound}
+use Rattle.hound_reader.specs.Fmt.{IsSoundSpec}
 
 -- A reader as contracts see it: what it reads from, the spec with the width of a sample, how many
 -- samples the file has, how many of them were asked for, and how many bytes these took since the
@@ -26,13 +26,13 @@ samples_left reading = reading.num_samples - reading.samples_read
 -- a spec that can be divided by, and whole frames
 abbrev pub HasWholeFrames : {R : Type 0} → ReaderState R → Type 0
 HasWholeFrames reading =
-    IsSound reading.spec_ex × (reading.num_samples % reading.spec_ex.spec.channels ≡ 0)
+    IsSoundSpec reading.spec_ex × (reading.num_samples % reading.spec_ex.spec.channels ≡ 0)
 
 -- the counts of a reader, whatever was read or sought: whole frames, and no more bytes than the
 -- samples asked for have
 pub record HasSoundCounts (spec_ex : WavSpecEx) (num_samples samples_read bytes_read : ℕ) : Type 0
   where
-    pub sound : IsSound spec_ex
+    pub sound : IsSoundSpec spec_ex
     pub frames : num_samples % spec_ex.spec.channels ≡ 0
     pub samples : samples_read ≤ 4294967295 * spec_ex.spec.channels
     pub bytes : bytes_read ≤ samples_read * spec_ex.bytes_per_sample

@@ -6,7 +6,7 @@ ghost use Rattle.hound_number.specs.Input.{Known};
 ghost use Rattle.hound_number.specs.Number.{number};
 ghost use Rattle.hound_spec.specs.Header.{riff_tag, wave_tag};
 ghost use Rattle.hound_reader.specs.Outcome.{CountsFailed, Refuses, UnlessReadFailed};
-ghost use Rattle.hound_reader.specs.Fmt.{IsSound};
+ghost use Rattle.hound_reader.specs.Fmt.{IsSoundSpec};
 ghost use Rattle.hound_reader.specs.Chunks.{Head, Refused, bound_of, front_fault, content_fault, chunk_fault};
 ghost use Rattle.hound_reader.specs.Sources.{FindsData};
 ghost use Rattle.hound_reader.specs.Front.{TakesFront};
@@ -168,7 +168,7 @@ fn read_next_chunk<R: Input>(
 
 // Takes chunks from the WAVE tag on, up to the data.
 fn read_chunks<R: Input>(reader: &mut R) -> Result<FileHead, HeadError>
-    ensures sound { IfOk result (λ r. IsSound r.spec_ex) }
+    ensures sound { IfOk result (λ r. IsSoundSpec r.spec_ex) }
     ensures start { IfOk result (λ r. (20 ≤ r.data_start) × (r.data_start ≤ 4294967315)) }
     ensures failures { CountsFailed (R.account reader.old) (R.account reader.new) result }
     ensures ok { IfOk result (λ r. Known (R.left reader.old) (R.left reader.new) (λ xs ys.
@@ -196,7 +196,7 @@ fn read_chunks<R: Input>(reader: &mut R) -> Result<FileHead, HeadError>
 
 // Takes what stands before the data.
 fn read_head<R: Input>(reader: &mut R) -> Result<FileHead, HeadError>
-    ensures sound { IfOk result (λ r. IsSound r.spec_ex) }
+    ensures sound { IfOk result (λ r. IsSoundSpec r.spec_ex) }
     ensures start { IfOk result (λ r. (20 ≤ r.data_start) × (r.data_start ≤ 4294967315)) }
     ensures failures { CountsFailed (R.account reader.old) (R.account reader.new) result }
     ensures ok { IfOk result (λ r. Known (R.left reader.old) (R.left reader.new) (λ xs ys.
@@ -212,7 +212,7 @@ fn read_head<R: Input>(reader: &mut R) -> Result<FileHead, HeadError>
 /// The length of the data is not looked at. An error that the bytes don't decide is that of a read,
 /// and the only one that counts as failed.
 pub fn read_until_data<R: Input>(reader: &mut R) -> Result<FileHead, HeadError>
-    ensures sound { IfOk result (λ r. IsSound r.spec_ex) }
+    ensures sound { IfOk result (λ r. IsSoundSpec r.spec_ex) }
     ensures start { IfOk result (λ r. (20 ≤ r.data_start) × (r.data_start ≤ 4294967315)) }
     ensures failures { CountsFailed (R.account reader.old) (R.account reader.new) result }
     ensures found { IfOk result (λ r. Known (R.left reader.old) (R.left reader.new) (λ xs ys.
@@ -228,7 +228,7 @@ pub fn read_until_data<R: Input>(reader: &mut R) -> Result<FileHead, HeadError>
 ///
 /// Nothing of the source changes but its place and its count of faults.
 pub fn find_data<S: Source>(source: S) -> (S, Result<FileHead, HeadError>)
-    ensures sound { IfOk result.1 (λ r. IsSound r.spec_ex) }
+    ensures sound { IfOk result.1 (λ r. IsSoundSpec r.spec_ex) }
     ensures start { IfOk result.1 (λ r. (20 ≤ r.data_start) × (r.data_start ≤ 4294967315)) }
     ensures finds { WhereTells S.tells (FindsData result.1 (S.state source) (S.state result.0)) }
 {

@@ -5,7 +5,7 @@ ghost use Rattle.hound_number.specs.Number.{number};
 ghost use Rattle.hound_spec.specs.Header.{riff_tag, wave_tag};
 ghost use Rattle.hound_spec.specs.declared.spec.WavSpecEx.{WavSpecEx};
 ghost use Rattle.hound_reader.specs.Outcome.{CountsFailed, Refuses};
-ghost use Rattle.hound_reader.specs.Fmt.{IsSound};
+ghost use Rattle.hound_reader.specs.Fmt.{IsSoundSpec};
 ghost use Rattle.hound_reader.specs.Chunks.{Readable, Unreadable};
 ghost use Rattle.hound_reader.specs.Front.{ReportsFront};
 ghost use Rattle.hound_reader.specs.declared.fault.Cause.{Cause};
@@ -29,7 +29,7 @@ use std::{io, result};
 // Takes what stands before the data, which must be whole frames: the spec, and how many samples
 // follow.
 fn read_until_samples<R: Input>(reader: &mut R) -> result::Result<(WavSpecEx, u32), HeadError>
-    ensures sound { IfOk result (λ r. IsSound r.0) }
+    ensures sound { IfOk result (λ r. IsSoundSpec r.0) }
     ensures failures { CountsFailed (R.account reader.old) (R.account reader.new) result }
     ensures found { IfOk result (λ r. Known (R.left reader.old) (R.left reader.new) (λ xs ys.
         (h : ℕ) × Readable xs r.0 r.1 h × (ys ≡ drop h xs))) }

@@ -10,7 +10,7 @@ use Rattle.hound_medium.specs.State.{MediumState, one_more}
 use Rattle.hound_reader.specs.declared.chunks.FileHead.{FileHead}
 use Rattle.hound_reader.specs.declared.fault.HeadError.{HeadError}
 use Rattle.hound_reader.specs.declared.fault.HeadError.TheVariants.{Failed, Refused}
-use Rattle.hound_reader.specs.Fmt.{IsSound as IsSoundHead}
+use Rattle.hound_reader.specs.Fmt.{IsSoundSpec}
 use Rattle.hound_reader.specs.Chunks.{Head, Refused as RefusedFor}
 use Rattle.hound_reader.specs.Refusals.{ReportsError}
 use Rattle.hound_reader.specs.Sources.{FindsData}
@@ -34,7 +34,7 @@ pair_of Int bits width e = grind (arith, nat_tests)
 pair_of Float bits width e = grind (arith, nat_tests)
 
 -- a head with no fault
-pub sound_head : (s : WavSpecEx) (len h : ℕ) → IsSoundHead s → 20 ≤ h → head_fault s len h ≡ None → IsSound s h len
+pub sound_head : (s : WavSpecEx) (len h : ℕ) → IsSoundSpec s → 20 ≤ h → head_fault s len h ≡ None → IsSound s h len
 unfolding head_fault
 sound_head s len h sound behind none =
     let samples = none_behind _ _ _ none in
