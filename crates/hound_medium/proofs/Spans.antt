@@ -5,7 +5,7 @@ use Rattle.std.proofs.lemmas.List.{append-nil, take-append-le, take_all}
 use Rattle.std.proofs.Math.Seq.{take-append-add}
 use Rattle.hound_medium.specs.Bytes.{placed, overlay, moment}
 use Rattle.hound_medium.specs.State.{MediumState, Stays}
-use Rattle.hound_medium.specs.Spans.{Span, AtEach}
+use Rattle.hound_medium.specs.Spans.{Span}
 use Rattle.hound_medium.proofs.Overlays.{overlay-append, length-placed, take-placed}
 
 -- a moment of a past stays what it was, however the past goes on
@@ -89,7 +89,3 @@ span_weaker At Bt split old new weaker span = record {
   past = span.past;
   each = λ k from to. weaker (k - split) (moment new.start new.past k) (span.each k from to);
 }
-
--- a span whose levels say the same holds at each moment
-pub at_each : (P : List ℕ → Type 0) (split : ℕ) (old new : MediumState) → Span (λ _. P) split old new → AtEach P old new
-at_each P split old new span = span.each

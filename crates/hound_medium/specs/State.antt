@@ -2,9 +2,9 @@
 use Rattle.std.specs.Prelude.{◌≡◌, ℕ, ℤ, pos, negsuc, ◌+◌, ◌-◌, ◌^◌, ◌<◌, ◌≤◌, min, List, [], ◌++◌, length, take, drop, Ok, Err, Result, OnOk, OnErr, MatchResult, Bool, IsTrue}
 use Rattle.hound_medium.specs.Bytes.{placed, overlay}
 
--- A medium as contracts see it: its bytes, the place of the next one to be read or put, and how many calls failed.
--- Where it keeps its past also the bytes that it began with, each byte put since with its place, and how many of these
--- had been put at the last `flush` that was Ok.
+-- A medium as contracts see it: its bytes, the place of the next one to be read or put, and how
+-- many calls failed. Where it keeps its past also the bytes that it began with, each byte put since
+-- with its place, and how many of these had been put at the last `flush` that was Ok.
 pub record MediumState : Type 0 where
   pub contents : List ℕ
   pub place : ℕ
@@ -69,22 +69,26 @@ pub record Goes {T E : Type 0} (to : ℕ) (result : Result T E) (old new : Mediu
   pub flushed : new.flushed ≡ old.flushed
   pub faults : new.faults ≡ faults_after result old.faults
 
--- what `shift` does
-pub record Shifts {T E : Type 0} (by : ℤ) (result : Result T E) (old new : MediumState) : Type 0 where
-  pub stays : Stays old new
-  pub place : MatchResult result (λ _. IsMoved old.place by new.place) (λ _. new.place ≡ old.place)
-  pub flushed : new.flushed ≡ old.flushed
-  pub faults : new.faults ≡ faults_after result old.faults
+-- what `shift` does: it moves to a place that 64 bits can say, or stays
+pub record Shifts {T E : Type 0} (by : ℤ) (result : Result T E) (old new : MediumState) : Type 0
+  where
+    pub stays : Stays old new
+    pub place : MatchResult result (λ _. IsMoved old.place by new.place) (λ _. new.place ≡ old.place)
+    pub within : OnOk result (new.place < 2 ^ 64)
+    pub flushed : new.flushed ≡ old.flushed
+    pub faults : new.faults ≡ faults_after result old.faults
 
--- what `get` does, which leaves its bytes at the front of the buffer: it gives none only at the end or to an empty buffer
-pub record Gets {E : Type 0} (buf : List ℕ) (result : Result ℕ E) (old new : MediumState) : Type 0 where
-  pub stays : Stays old new
-  pub bytes : take (count_of result) buf ≡ take (count_of result) (drop old.place old.contents)
-  pub inside : count_of result ≤ length (drop old.place old.contents)
-  pub some : OnOk result (count_of result ≡ 0 → 0 < length buf → drop old.place old.contents ≡ [])
-  pub place : new.place ≡ old.place + count_of result
-  pub flushed : new.flushed ≡ old.flushed
-  pub faults : new.faults ≡ faults_after result old.faults
+-- what `get` does, which leaves its bytes at the front of the buffer: it gives none only at the end
+-- or to an empty buffer
+pub record Gets {E : Type 0} (buf : List ℕ) (result : Result ℕ E) (old new : MediumState) : Type 0
+  where
+    pub stays : Stays old new
+    pub bytes : take (count_of result) buf ≡ take (count_of result) (drop old.place old.contents)
+    pub inside : count_of result ≤ length (drop old.place old.contents)
+    pub some : OnOk result (count_of result ≡ 0 → 0 < length buf → drop old.place old.contents ≡ [])
+    pub place : new.place ≡ old.place + count_of result
+    pub flushed : new.flushed ≡ old.flushed
+    pub faults : new.faults ≡ faults_after result old.faults
 
 -- the first n of the bytes were put at the place, in order, and the place moved behind them
 pub record PutsFirst (keeps : Bool) (bytes : List ℕ) (n : ℕ) (old new : MediumState) : Type 0 where
@@ -95,7 +99,8 @@ pub record PutsFirst (keeps : Bool) (bytes : List ℕ) (n : ℕ) (old new : Medi
   pub flushed : new.flushed ≡ old.flushed
 
 -- what `put` does: it takes as many bytes as it says, none at an Err
-pub record Puts {E : Type 0} (keeps : Bool) (bytes : List ℕ) (result : Result ℕ E) (old new : MediumState) : Type 0 where
+pub record Puts {E : Type 0} (keeps : Bool) (bytes : List ℕ) (result : Result ℕ E)
+    (old new : MediumState) : Type 0 where
   pub takes : PutsFirst keeps bytes (count_of result) old new
   pub faults : new.faults ≡ faults_after result old.faults
 
@@ -103,11 +108,13 @@ pub record Puts {E : Type 0} (keeps : Bool) (bytes : List ℕ) (result : Result 
 pub record Flushes {T E : Type 0} (result : Result T E) (old new : MediumState) : Type 0 where
   pub stays : Stays old new
   pub place : new.place ≡ old.place
-  pub flushed : MatchResult result (λ _. new.flushed ≡ length new.past) (λ _. new.flushed ≡ old.flushed)
+  pub flushed : MatchResult result (λ _. new.flushed ≡ length new.past)
+      (λ _. new.flushed ≡ old.flushed)
   pub faults : new.faults ≡ faults_after result old.faults
 
 -- what a loop over `put` does: it puts `count` bytes, all of them at an Ok and fewer at an Err
-pub record PutsAll {T E : Type 0} (keeps : Bool) (bytes : List ℕ) (result : Result T E) (old new : MediumState) : Type 0 where
+pub record PutsAll {T E : Type 0} (keeps : Bool) (bytes : List ℕ) (result : Result T E)
+    (old new : MediumState) : Type 0 where
   pub count : ℕ
   pub within : count ≤ length bytes
   pub whole : OnOk result (count ≡ length bytes)

@@ -46,7 +46,8 @@ impl Journal {
     /// A journal of these bytes, at place 0, with nothing taken yet. It keeps a copy of them to
     /// begin with, so it is an `Err` where there is no memory for that.
     pub fn new(alloc: Global, bytes: Vec<u8>) -> Result<Journal>
-        ensures contents { IfOk result (λ j. (⟦<Journal as Placed>⟧.state j).contents ≡ bytes.items) }
+        ensures contents { IfOk result
+            (λ j. (⟦<Journal as Placed>⟧.state j).contents ≡ bytes.items) }
         ensures place { IfOk result (λ j. (⟦<Journal as Placed>⟧.state j).place ≡ 0) }
         ensures faults { IfOk result (λ j. (⟦<Journal as Placed>⟧.state j).faults ≡ 0) }
         ensures start { IfOk result (λ j. (⟦<Journal as Placed>⟧.state j).start ≡ bytes.items) }
@@ -131,7 +132,8 @@ impl Journal {
           calls = one_more self.old.calls;
           faults = faults_after result self.old.faults;
         } }
-        ensures fails { IsErr result ↔ (self.old.fail_from ≤ self.new.calls) × (self.new.calls ≤ self.old.fail_to) }
+        ensures fails { IsErr result ↔ (self.old.fail_from ≤ self.new.calls)
+            × (self.new.calls ≤ self.old.fail_to) }
     {
         self.calls = self.calls.saturating_add(1);
         if self.fail_from <= self.calls && self.calls <= self.fail_to {
@@ -159,7 +161,8 @@ impl Placed for Journal {
     ghost bytes = { λ j _. j.are_bytes };
 
     fn go(&mut self, to: u64) -> io::Result<()>
-        ensures goes { let state = ⟦<Journal as Placed>⟧.state in Goes to result (state self.old) (state self.new) }
+        ensures goes { let state = ⟦<Journal as Placed>⟧.state in
+            Goes to result (state self.old) (state self.new) }
     {
         self.call()?;
         self.place = to;
@@ -167,7 +170,8 @@ impl Placed for Journal {
     }
 
     fn shift(&mut self, by: i64) -> io::Result<()>
-        ensures shifts { let state = ⟦<Journal as Placed>⟧.state in Shifts by result (state self.old) (state self.new) }
+        ensures shifts { let state = ⟦<Journal as Placed>⟧.state in
+            Shifts by result (state self.old) (state self.new) }
     {
         self.call()?;
         match self.place.checked_add_signed(by) {
@@ -208,7 +212,8 @@ impl Medium for Journal {
     }
 
     fn flush(&mut self) -> io::Result<()>
-        ensures flushes { let state = ⟦<Journal as Placed>⟧.state in Flushes result (state self.old) (state self.new) }
+        ensures flushes { let state = ⟦<Journal as Placed>⟧.state in
+            Flushes result (state self.old) (state self.new) }
     {
         self.call()?;
         self.flushed = self.taken();

@@ -8,8 +8,8 @@ use std::io;
 
 /// A place among bytes, counted in bytes from 0. It may lie behind the end.
 ///
-/// Of a value that `tells`, contracts know the bytes; `seen` says nothing of any other. There an `Err`
-/// of any call, of `put`, `flush` and `get` too, changes nothing but the count of faults.
+/// Of a value that `tells`, contracts know the bytes; `state` says nothing of any other. There an
+/// `Err` of any call, of `put`, `flush` and `get` too, changes nothing but the count of faults.
 pub trait Placed: Drop {
     /// Whether the bytes are known.
     ghost tells: { Bool };
@@ -39,11 +39,13 @@ pub trait Medium: Placed {
     fn put(&mut self, bytes: &[u8]) -> io::Result<usize>
         requires { 0 < length bytes.now }
         ensures bound { IfOk result (λ n. (1 ≤ n) × (n ≤ length bytes.now)) }
-        ensures puts { WhereTells Self.tells (Puts Self.keeps bytes.now result (Self.state self.old) (Self.state self.new)) };
+        ensures puts { WhereTells Self.tells
+            (Puts Self.keeps bytes.now result (Self.state self.old) (Self.state self.new)) };
 
     /// Hands all that has been put to what lies behind the medium.
     fn flush(&mut self) -> io::Result<()>
-        ensures { WhereTells Self.tells (Flushes result (Self.state self.old) (Self.state self.new)) };
+        ensures { WhereTells Self.tells
+            (Flushes result (Self.state self.old) (Self.state self.new)) };
 
     /// What has been put leads from the first contents to those of now.
     ghost replays: { (m : Self) → WhereKeeps Self.tells Self.keeps
@@ -56,10 +58,12 @@ pub trait Source: io::Read + Placed {
     /// `read`, its contract says what becomes of the place and of the count of faults.
     fn get(&mut self, buf: &mut [u8]) -> io::Result<usize>
         ensures bound { IfOk result (λ n. n ≤ length buf.new) }
-        ensures gets { WhereTells Self.tells (Gets buf.new result (Self.state self.old) (Self.state self.new)) };
+        ensures gets { WhereTells Self.tells
+            (Gets buf.new result (Self.state self.old) (Self.state self.new)) };
 
     /// What is left to be read is the contents from the place on.
-    ghost left: { (s : Self) → WhereTells Self.tells (Self.remaining s ≡ Some (drop (Self.state s).place (Self.state s).contents)) };
+    ghost left: { (s : Self) → WhereTells Self.tells
+        (Self.remaining s ≡ Some (drop (Self.state s).place (Self.state s).contents)) };
 }
 
 impl<P: Placed> Placed for &mut P {

@@ -10,7 +10,8 @@ use std::io;
 /// At an `Err` a beginning of the bytes may have been put. No bytes: no call of `put`.
 #[inline(always)]
 pub fn put_all<M: Medium>(medium: &mut M, bytes: &[u8]) -> io::Result<()>
-    ensures { WhereTells M.tells (PutsAll M.keeps bytes.now result (M.state medium.old) (M.state medium.new)) }
+    ensures { WhereTells M.tells
+        (PutsAll M.keeps bytes.now result (M.state medium.old) (M.state medium.new)) }
 {
     let mut at = 0;
     while at < bytes.len() {

@@ -18,8 +18,8 @@ use std::io::{Error, ErrorKind};
 /// It keeps nothing of its past. A `put` fails only where no memory is left, or where its end would
 /// lie above `u64::MAX`; no other call but a `shift` fails.
 ///
-/// Where `io::Read` is in scope, `tape.bytes()` on a `Tape` or a `&mut Tape` is the iterator of that
-/// trait: write `Tape::bytes(&tape)` there.
+/// Where `io::Read` is in scope, `tape.bytes()` on a `Tape` or a `&mut Tape` is the iterator of
+/// that trait: write `Tape::bytes(&tape)` there.
 #[derive(Drop)]
 pub struct Tape {
     bytes: Vec<u8>,
@@ -74,7 +74,8 @@ impl Placed for Tape {
     ghost bytes = { λ t _. t.are_bytes };
 
     fn go(&mut self, to: u64) -> io::Result<()>
-        ensures goes { let state = ⟦<Tape as Placed>⟧.state in Goes to result (state self.old) (state self.new) }
+        ensures goes { let state = ⟦<Tape as Placed>⟧.state in
+            Goes to result (state self.old) (state self.new) }
         ensures ok { IsOk result }
     {
         self.place = to;
@@ -82,8 +83,10 @@ impl Placed for Tape {
     }
 
     fn shift(&mut self, by: i64) -> io::Result<()>
-        ensures shifts { let state = ⟦<Tape as Placed>⟧.state in Shifts by result (state self.old) (state self.new) }
-        ensures ok { IsOk result ↔ FitsUnsigned w64 (pos (⟦<Tape as Placed>⟧.state self.old).place +ℤ by) }
+        ensures shifts { let state = ⟦<Tape as Placed>⟧.state in
+            Shifts by result (state self.old) (state self.new) }
+        ensures ok { IsOk result ↔ FitsUnsigned w64
+            (pos (⟦<Tape as Placed>⟧.state self.old).place +ℤ by) }
         ensures kind { IfErr result (λ e. error_kind e ≡ ErrorKind.InvalidInput) }
     {
         match self.place.checked_add_signed(by) {
@@ -108,7 +111,8 @@ impl Medium for Tape {
         ensures puts { let state = ⟦<Tape as Placed>⟧.state in
             Puts false bytes.now result (state self.old) (state self.new) }
         ensures whole { IfOk result (λ n. n ≡ length bytes.now) }
-        ensures fits { OnOk result ((⟦<Tape as Placed>⟧.state self.old).place + length bytes.now < 2 ^ 64) }
+        ensures fits { OnOk result
+            ((⟦<Tape as Placed>⟧.state self.old).place + length bytes.now < 2 ^ 64) }
         ensures kind { IfErr result (λ e. error_kind e ≡ ErrorKind.OutOfMemory) }
     {
         match put_at(&mut self.bytes, self.place, bytes) {
@@ -124,7 +128,8 @@ impl Medium for Tape {
     }
 
     fn flush(&mut self) -> io::Result<()>
-        ensures flushes { let state = ⟦<Tape as Placed>⟧.state in Flushes result (state self.old) (state self.new) }
+        ensures flushes { let state = ⟦<Tape as Placed>⟧.state in
+            Flushes result (state self.old) (state self.new) }
         ensures ok { IsOk result }
     {
         // Nothing lies behind the memory.

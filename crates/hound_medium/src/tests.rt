@@ -1,5 +1,8 @@
 // What no clause says: that calls succeed where there is memory, and what files do. The expected
 // bytes are what a seek and a write leave in a file.
+ghost use Rattle.std.specs.Prelude.{◌+◌, [], true};
+ghost use Rattle.std.proofs.Common.{rules};
+
 use super::*;
 use std::alloc::Global;
 use std::io::{BufReader, BufWriter, ErrorKind, Read};
@@ -216,6 +219,66 @@ fn a_journal_serves_through_its_bounds(rt: HostRuntime) -> Result<(), Fail> {
     journal.go(4)?;
     assert_eq!(rt; skip_and_get(journal)?, (*b"c\0", 1));
     Ok(())
+}
+
+// No bytes, and a place that is counted from a start.
+#[derive(Drop)]
+struct Window {
+    start: u64,
+    offset: u64,
+    faults: u64,
+}
+
+impl Placed for Window {
+    ghost tells = { true };
+
+    ghost state = { λ w. record {
+      contents = [];
+      place = w.start + w.offset;
+      faults = w.faults;
+      start = [];
+      past = [];
+      flushed = 0;
+    } };
+
+    ghost bytes = { λ _ _ _. Prim.search rules };
+
+    fn go(&mut self, to: u64) -> io::Result<()> {
+        self.start = to;
+        self.offset = 0;
+        Ok(())
+    }
+
+    fn shift(&mut self, by: i64) -> io::Result<()> {
+        match self.offset.checked_add_signed(by) {
+            Some(offset) if offset <= u64::MAX - self.start => {
+                self.offset = offset;
+                Ok(())
+            }
+            _ => {
+                self.faults = self.faults.saturating_add(1);
+                Err(io::Error::from(ErrorKind::InvalidInput))
+            }
+        }
+    }
+}
+
+// The two answers of two moves by one.
+fn two_steps<P: Placed>(mut placed: P) -> [bool; 2] {
+    [placed.shift(1).is_ok(), placed.shift(1).is_ok()]
+}
+
+#[test]
+fn a_medium_of_ones_own_refuses_places_above_all(rt: HostRuntime) {
+    let mut window = Window {
+        start: u64::MAX - 1,
+        offset: 0,
+        faults: 0,
+    };
+    assert_eq!(rt; two_steps(&mut window), [true, false]);
+    assert_eq!(rt; (window.offset, window.faults), (1, 1));
+    assert!(rt; window.go(u64::MAX).is_ok());
+    assert_eq!(rt; two_steps(window), [false, false]);
 }
 
 #[test]

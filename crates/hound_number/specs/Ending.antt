@@ -7,6 +7,6 @@ use Rattle.hound_number.specs.declared.input.ReadError.{ReadError}
 use Rattle.hound_number.specs.declared.input.ReadError.TheVariants.{Failed, Ended}
 
 -- a read's own error, or one of kind `Other` for an early end
-abbrev pub Tells : ReadError → Error → Type 0
-Tells (Failed e) told = told ≡ e
-Tells Ended told = error_kind told ≡ Other
+abbrev pub ReportsEnding : ReadError → Error → Type 0
+ReportsEnding (Failed e) told = told ≡ e
+ReportsEnding Ended told = error_kind told ≡ Other

@@ -2,8 +2,8 @@
 ghost use Rattle.std.specs.Prelude.{◌≡◌, ℕ, ◌<◌, List, Option, None, length, OnErr, OnOk, IfErr};
 ghost use Rattle.std.specs.Io.{ReadsAtMost};
 ghost use Rattle.std.specs.Io.KnownBytes.{Consumes, IsAtEnd, ReadConsumes};
-ghost use Rattle.hound_number.specs.Input.{Account, Counts, CountsReads, IfEnded};
-ghost use Rattle.hound_number.specs.Ending.{Tells};
+ghost use Rattle.hound_number.specs.Input.{Account, CountsRead, CountsReads, IfEnded};
+ghost use Rattle.hound_number.specs.Ending.{ReportsEnding};
 
 use std::io;
 use std::io::ErrorKind;
@@ -13,15 +13,18 @@ pub trait Input {
     /// The bytes that are left, where they are known.
     ghost left: { Self → Option (List ℕ) };
 
+    /// The type of what no read changes.
+    ghost Kept: { Type 0 } = { Unit {0} };
+
     /// How many reads failed, and what no read changes, where these are known.
-    ghost account: { Self → Option Account };
+    ghost account: { Self → Option (Account Kept) };
 
     /// Reads bytes into the front of the buffer, and gives their number. It is 0 only at the end
     /// of the input or where the buffer is empty.
     fn read_some(&mut self, buf: &mut [u8]) -> io::Result<usize>
         ensures bound { ReadsAtMost result buf.new }
         ensures bytes { ReadConsumes (left self.old) (left self.new) result buf.new }
-        ensures failures { Counts (account self.old) (account self.new) result };
+        ensures failures { CountsRead (account self.old) (account self.new) result };
 }
 
 // Of a plain reader contracts see no more than the bytes that are left.
@@ -46,7 +49,7 @@ pub enum ReadError {
 }
 
 impl From<ReadError> for io::Error {
-    ghost from_gives = { Tells };
+    ghost from_gives = { ReportsEnding };
 
     fn from(error: ReadError) -> io::Error {
         match error {
@@ -63,8 +66,8 @@ impl From<ReadError> for io::Error {
 #[inline(always)]
 pub fn read_into<R: Input>(reader: &mut R, buf: &mut [u8]) -> Result<(), ReadError>
     ensures filled { OnOk result (Consumes (R.left reader.old) (R.left reader.new) buf.new) }
-    ensures part { OnErr result ((bytes : List ℕ)
-        × (length bytes < length buf.new) × Consumes (R.left reader.old) (R.left reader.new) bytes) }
+    ensures part { OnErr result ((bytes : List ℕ) × (length bytes < length buf.new)
+        × Consumes (R.left reader.old) (R.left reader.new) bytes) }
     ensures ended { IfErr result (λ e. IfEnded e (IsAtEnd (R.left reader.new))) }
     ensures failures { CountsReads (R.account reader.old) (R.account reader.new) result }
 {

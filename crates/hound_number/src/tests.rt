@@ -117,7 +117,7 @@ fn all_bytes_go_out_in_order(rt: HostRuntime) -> Result<(), Fail> {
 }
 
 #[test]
-fn a_fault_is_passed_on_behind_a_beginning(rt: HostRuntime) -> Result<(), Fail> {
+fn a_fault_is_passed_on_after_a_beginning(rt: HostRuntime) -> Result<(), Fail> {
     let mut full = Slow::new(rt.alloc(), 1, 2, None);
     let zero = write_bytes(&mut full, b"WAVE").map_err(|e| e.kind());
     assert_eq!(rt; zero, Err(ErrorKind::WriteZero));

@@ -12,7 +12,7 @@ use Rattle.hound_reader.specs.Fmt.{◌>>=◌, wave_format, wave_format_pcm, wave
 use Rattle.hound_reader.specs.Chunks.{Chunk, IsChunk, chunk_bytes, bound_of, fault_of, Chunks, joined, last_spec, Head, Refused, spec_after, front_fault, content_fault, chunk_fault}
 use Rattle.hound_spec.specs.Header.{riff_tag, wave_tag, fmt_tag, data_tag}
 use Rattle.hound_reader.proofs.WalkLemmas.{same_tag, taken_fmt, taken_other}
-use Rattle.hound_reader.specs.Answer.{Answer, readable, unreadable, Answers, HasOneAnswer, Tells}
+use Rattle.hound_reader.specs.Answer.{Answer, readable, unreadable, Answers, HasOneAnswer, ReportsAnswer}
 use Rattle.hound_reader.specs.declared.fault.HeadError.TheVariants as stops
 use Rattle.hound_reader.proofs.Unique.{spread, heads_agree, head_no_fault, faults_agree}
 
@@ -167,7 +167,7 @@ no_fault_there c found bytes h =
     let k = guard_some (nat_lt (length bytes) 8) _ _ g.1 in
     chunk_there c found bytes (ltb-false _ _ g.0) (ltb-false _ _ k.0) k.1
 
-fault_or_none : (o : Option Cause) → ((c : Cause) × (o ≡ Some c)) ⊎ (o ≡ None)
+pub fault_or_none : (o : Option Cause) → ((c : Cause) × (o ≡ Some c)) ⊎ (o ≡ None)
 fault_or_none None = inr refl
 fault_or_none (Some c) = inl (c, refl)
 
@@ -263,10 +263,10 @@ pub one_answer : (bytes : List ℕ) → HasOneAnswer bytes
 one_answer bytes = let s = some_answer bytes in (s.0, s.1, λ b h. same_answer bytes s.0 b s.1 h)
 
 -- what a reader answered, for any answer of the bytes
-pub tells_ok : (bytes rest : List ℕ) (r : FileHead) (a : Answer) → Head bytes r.spec_ex r.data_length r.data_start → rest ≡ drop r.data_start bytes → Answers bytes a → Tells (Ok r) bytes rest a
+pub tells_ok : (bytes rest : List ℕ) (r : FileHead) (a : Answer) → Head bytes r.spec_ex r.data_length r.data_start → rest ≡ drop r.data_start bytes → Answers bytes a → ReportsAnswer (Ok r) bytes rest a
 tells_ok bytes rest r (readable s n k) head e b = let g = heads_agree bytes r.spec_ex s r.data_length n r.data_start k head b in (g.0, g.1, g.2, e ∙ ap (λ i. drop i bytes) g.2)
 tells_ok bytes rest r (unreadable c) head e b = head_no_fault bytes r.spec_ex r.data_length r.data_start c head b
 
-pub tells_err : (bytes rest : List ℕ) (c : Cause) (a : Answer) → Refused bytes c → Answers bytes a → Tells (Err (stops.Refused c)) bytes rest a
+pub tells_err : (bytes rest : List ℕ) (c : Cause) (a : Answer) → Refused bytes c → Answers bytes a → ReportsAnswer (Err (stops.Refused c)) bytes rest a
 tells_err bytes rest c (readable s n k) f b = head_no_fault bytes s n k c b f
 tells_err bytes rest c (unreadable d) f b = faults_agree bytes c d f b

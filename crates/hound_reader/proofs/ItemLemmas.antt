@@ -50,7 +50,7 @@ module _ {R A : Type 0} (left : R → Option (List ℕ)) (refusal : SampleFormat
   run_keeps [] old new run = ap (λ (r : ReaderState R). r.num_samples) run
   run_keeps (item ∷ items) old new (mid, step, run) = run_keeps items mid new run ∙ step.num_samples
 
-  -- where none comes behind a run, it gave all that were left
+  -- where none comes after a run, it gave all that were left
   pub items_all : (items : List (Result A Error)) (old new end : ReaderState R) → GivesItems left refusal meaning items old new → IsNext {A = A} left refusal meaning None new end → length items ≡ samples_left old
   items_all items old new end run none =
       let counted = items_counted items old new run in

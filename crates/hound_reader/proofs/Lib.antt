@@ -1,5 +1,7 @@
+pub mod CountingLemmas
 pub mod Exists
 pub mod FmtLemmas
+pub mod FrontLemmas
 pub mod Gives
 pub mod ItemLemmas
 pub mod ReaderLemmas

@@ -1,5 +1,5 @@
 -- The answers of a reader.
-use Rattle.std.proofs.Common.{◌≡◌, ℕ, drop, inl, inr, ◌/◌, ◌∙◌, List, sym, ap, subst, Option, Some, None, Err}
+use Rattle.std.proofs.Common.{◌≡◌, ℕ, drop, inl, inr, ◌/◌, ◌∙◌, List, sym, ap, subst, Option, Some, None, Err, refl}
 use Rattle.std.specs.Prelude.{IfSome}
 use Rattle.std.proofs.lemmas.Option.{same_Some}
 use Rattle.hound_spec.specs.declared.spec.WavSpecEx.{WavSpecEx}
@@ -10,8 +10,10 @@ use Rattle.hound_spec.specs.declared.error.Error.{Error}
 use Rattle.hound_spec.specs.declared.error.Error.TheVariants as errors
 use Rattle.hound_reader.specs.Outcome.{Refuses}
 use Rattle.hound_number.specs.Input.{Known}
-use Rattle.hound_reader.specs.Chunks.{Readable, Unreadable, data_fault}
-use Rattle.hound_reader.specs.Refusals.{Names, TellsError, IsRefusal, OpensAs, FailsAs}
+use Rattle.hound_reader.specs.Answer.{Answer, readable, unreadable, Answers, AnswersFile, HasOneFileAnswer}
+use Rattle.hound_reader.proofs.Exists.{some_answer, fault_or_none}
+use Rattle.hound_reader.specs.Chunks.{Head, Readable, Unreadable, data_fault}
+use Rattle.hound_reader.specs.Refusals.{Names, ReportsError, IsRefusal, OpensAs, FailsAs}
 use Rattle.hound_number.proofs.KnownSteps.{known_some}
 use Rattle.hound_reader.proofs.Unique.{heads_agree, head_no_fault, faults_agree}
 
@@ -37,6 +39,29 @@ unreadable_one xs c d (inr (s, m, h, a, e)) (inr (t, n, k, b, f)) =
     let there : data_fault s m ≡ Some d = rw (g.0, g.1) f in
     same_Some c d (sym e ∙ there)
 
+-- a head can be read, or its data length is at fault
+file_of_head : (bytes : List ℕ) (s : WavSpecEx) (len h : ℕ) → Head bytes s len h → (a : Answer) × AnswersFile bytes a
+file_of_head bytes s len h head = elim (fault_or_none (data_fault s len)) [
+  | inl (c, f) ↦ (unreadable c, inr (s, len, h, head, f))
+  | inr f ↦ (readable s (len / s.bytes_per_sample) h, record { len = len; head = head; frames = f; count = refl })
+]
+
+file_of_answer : (bytes : List ℕ) (a : Answer) → Answers bytes a → (b : Answer) × AnswersFile bytes b
+file_of_answer bytes (readable s len h) head = file_of_head bytes s len h head
+file_of_answer bytes (unreadable c) f = (unreadable c, inl f)
+
+same_file_answer : (bytes : List ℕ) (a b : Answer) → AnswersFile bytes a → AnswersFile bytes b → b ≡ a
+same_file_answer bytes (readable s m h) (readable t n k) a b = let e = readable_one bytes s t m n h k a b in ap (λ x. readable x n k) (sym e.0) ∙ ap (λ x. readable s x k) (sym e.1) ∙ ap (λ x. readable s m x) (sym e.2)
+same_file_answer bytes (readable s m h) (unreadable c) a b = absurd (readable_no_fault bytes s m h c a b)
+same_file_answer bytes (unreadable c) (readable s m h) a b = absurd (readable_no_fault bytes s m h c b a)
+same_file_answer bytes (unreadable c) (unreadable d) a b = ap unreadable (sym (unreadable_one bytes c d a b))
+
+pub one_file_answer : (bytes : List ℕ) → HasOneFileAnswer bytes
+one_file_answer bytes =
+    let head = some_answer bytes in
+    let file = file_of_answer bytes head.0 head.1 in
+    (file.0, file.1, λ b is. same_file_answer bytes file.0 b file.1 is)
+
 -- the error of a cause is a refusal for it
 refusal_is : (e : Error) (cause : Cause) (P : Cause → Type 0) → Names e cause → P cause → IsRefusal e P
 refusal_is (errors.IoError e) cause P n p = tt
@@ -52,12 +77,12 @@ if_some : (o : Option (List ℕ)) (Q : List ℕ → Type 0) → ((xs : List ℕ)
 if_some None Q f = tt
 if_some (Some xs) Q f = f xs
 
-pub refusal_told : (o n : Option (List ℕ)) (stop : HeadError) (e : Error) (P : List ℕ → Cause → Type 0) → TellsError stop e → Refuses stop (λ c. Known o n (λ xs ys. P xs c)) → IfSome o (λ xs. IsRefusal e (P xs))
+pub refusal_told : (o n : Option (List ℕ)) (stop : HeadError) (e : Error) (P : List ℕ → Cause → Type 0) → ReportsError stop e → Refuses stop (λ c. Known o n (λ xs ys. P xs c)) → IfSome o (λ xs. IsRefusal e (P xs))
 refusal_told o n (Failed x) e P r f = if_some o _ (λ xs. subst (λ y. IsRefusal y (P xs)) (sym r) tt)
 refusal_told o n (Refused' c) e P r f = known_some o n _ _ f (λ xs ys u. refusal_is e c (P xs) r u)
 
 -- what can be read is opened, unless a read failed
-pub opens_told : {A : Type 0} (o n : Option (List ℕ)) (stop : HeadError) (e : Error) (P : WavSpecEx → ℕ → A → Type 0) → TellsError stop e → Refuses stop (λ c. Known o n (λ xs ys. Unreadable xs c)) → IfSome o (λ xs. (spec : WavSpecEx) (samples h : ℕ) → Readable xs spec samples h → OpensAs (Err e) (P spec samples))
+pub opens_told : {A : Type 0} (o n : Option (List ℕ)) (stop : HeadError) (e : Error) (P : WavSpecEx → ℕ → A → Type 0) → ReportsError stop e → Refuses stop (λ c. Known o n (λ xs ys. Unreadable xs c)) → IfSome o (λ xs. (spec : WavSpecEx) (samples h : ℕ) → Readable xs spec samples h → OpensAs (Err e) (P spec samples))
 opens_told o n (Failed x) e P r f = if_some o _ (λ xs spec samples h a. subst (λ y. OpensAs (Err y) (P spec samples)) (sym r) tt)
 opens_told o n (Refused' c) e P r f = known_some o n _ _ f (λ xs ys u spec samples h a. absurd (readable_no_fault xs spec samples h c a u))
 
@@ -77,6 +102,6 @@ names_fails errors.OutOfMemory c n = n
 pub no_fault_ok : (o n : Option (List ℕ)) (spec : WavSpecEx) (samples : ℕ) → Known o n (λ xs ys. (h : ℕ) × Readable xs spec samples h × (ys ≡ drop h xs)) → IfSome o (λ xs. (c : Cause) → Unreadable xs c → ⊥)
 no_fault_ok o n spec samples k = known_some o n _ (λ xs. (c : Cause) → Unreadable xs c → ⊥) k (λ xs ys p c u. readable_no_fault xs spec samples p.0 c p.1 u)
 
-pub fails_told : (o n : Option (List ℕ)) (stop : HeadError) (e : Error) → TellsError stop e → Refuses stop (λ c. Known o n (λ xs ys. Unreadable xs c)) → IfSome o (λ xs. (c : Cause) → Unreadable xs c → FailsAs e c)
+pub fails_told : (o n : Option (List ℕ)) (stop : HeadError) (e : Error) → ReportsError stop e → Refuses stop (λ c. Known o n (λ xs ys. Unreadable xs c)) → IfSome o (λ xs. (c : Cause) → Unreadable xs c → FailsAs e c)
 fails_told o n (Failed x) e r f = if_some o _ (λ xs c u. subst (λ y. FailsAs y c) (sym r) tt)
 fails_told o n (Refused' d) e r f = known_some o n _ _ f (λ xs ys v c u. names_fails e c (subst (Names e) (unreadable_one xs d c v u) r))

@@ -1,5 +1,5 @@
 -- Where a seek leads.
-use Rattle.std.proofs.Common.{◌≡◌, ℕ, zero, suc, ℤ, pos, negsuc, ◌+ℤ◌, ◌-ℤ◌, ◌+◌, ◌-◌, ◌*◌, ◌/◌, ◌^◌, ◌<◌, ◌≤◌, List, length, take, drop, arith, subst, sym, ap, ◌∙◌, Option, Some, None, Result, Ok, Err}
+use Rattle.std.proofs.Common.{◌≡◌, ℕ, zero, suc, ℤ, pos, negsuc, ◌+ℤ◌, ◌-ℤ◌, ◌+◌, ◌-◌, ◌*◌, ◌/◌, ◌^◌, ◌<◌, ◌≤◌, List, [], ◌∷◌, length, refl, take, drop, arith, subst, sym, ap, ◌∙◌, Option, Some, None, Result, Ok, Err}
 use Rattle.std.proofs.Math.Nat.{mul_assoc, mul-le-mul, mul-le-mul_right, div-zero, div-mul-le_self}
 use Rattle.std.proofs.lemmas.Int.{ints}
 use Rattle.std.proofs.lemmas.List.{length-drop, drop-drop}
@@ -9,8 +9,11 @@ use Rattle.hound_spec.specs.declared.spec.SampleFormat.{SampleFormat}
 use Rattle.hound_sample.specs.Meaning.{ReadRefusal}
 use Rattle.hound_sample.specs.Reads.{Reads}
 use Rattle.hound_medium.specs.State.{MediumState, Shifts, IsMoved}
-use Rattle.hound_reader.specs.Reader.{ReaderState, IsNext, refusal_at, meaning_at}
-use Rattle.hound_reader.specs.Seeking.{HasSought, IsMeaningOf, container_at, samples_before, bytes_before}
+use Rattle.hound_number.specs.Input.{Known}
+use Rattle.std.proofs.lemmas.Option.{same_Some}
+use Rattle.hound_spec.specs.declared.spec.WavSpecEx.{WavSpecEx}
+use Rattle.hound_reader.specs.Reader.{ReaderState, IsNext, CountsTaken, AreTaken, refusal_at, meaning_at}
+use Rattle.hound_reader.specs.Seeking.{HasSought, Seeks, StandsAsCounted, IsAtCount, ReadsInPlace, PassesItem, Follows, IsMeaningOf, container_at, samples_before, bytes_before}
 use Rattle.hound_reader.specs.Sources.{unread}
 
 -- the place of a frame is one that 63 bits can say
@@ -48,17 +51,17 @@ frame_inside time (suc channels) samples t =
     omega (arith, p, div-mul-le_self samples (suc channels))
 
 module _ {R : Type 0} (state : R → MediumState) (start time : ℕ) (old new : ReaderState R) (sought : HasSought state start time old new) where
-  -- where the source stands behind a seek
+  -- where the source stands after a seek
   pub sought_place : (state new.reader).place ≡ start + bytes_before time old.spec_ex
-  sought_place = arrives start old.bytes_read (bytes_before time old.spec_ex) (state old.reader).place (state new.reader).place sought.stood sought.source.place
+  sought_place = arrives start old.bytes_read (bytes_before time old.spec_ex) (state old.reader).place (state new.reader).place sought.stood sought.seeks.source.place
 
   -- which the reader counts
   pub sought_counted : (state new.reader).place ≡ start + new.bytes_read
-  sought_counted = omega (arith, sought_place, sought.counts.bytes)
+  sought_counted = omega (arith, sought_place, sought.seeks.counts.bytes)
 
   -- what is left there
   pub sought_unread : unread (state new.reader) ≡ drop (start + bytes_before time old.spec_ex) (state old.reader).contents
-  sought_unread = ap (λ n. drop n (state new.reader).contents) sought_place ∙ ap (drop (start + bytes_before time old.spec_ex)) sought.source.stays.contents
+  sought_unread = ap (λ n. drop n (state new.reader).contents) sought_place ∙ ap (drop (start + bytes_before time old.spec_ex)) sought.seeks.source.stays.contents
 
   -- and it has the whole container, where the data have all of theirs
   pub sought_there : time < old.num_samples / old.spec_ex.spec.channels → start + old.num_samples * old.spec_ex.bytes_per_sample ≤ length (state old.reader).contents → old.spec_ex.bytes_per_sample ≤ length (unread (state new.reader))
@@ -82,16 +85,92 @@ reads_first meaning width bytes new (Err TooLong) read = read
 reads_first meaning width bytes new (Err OutOfMemory) read = read
 
 module _ {R A : Type 0} (state : R → MediumState) (left : R → Option (List ℕ)) (refusal : SampleFormat → ℕ → ℕ → Option ReadRefusal) (meaning : ℕ → ℕ → List ℕ → A) where
-  -- the item behind a seek
+  -- the item after a seek
   pub sought_item : (start time : ℕ) (old mid new : ReaderState R) (next : Option (Result A Error)) → left mid.reader ≡ Some (unread (state mid.reader)) → HasSought state start time old mid → time < old.num_samples / old.spec_ex.spec.channels → refusal_at refusal old.spec_ex ≡ None
       → IsNext left refusal meaning next mid new → IsMeaningOf (meaning_at meaning old.spec_ex) (container_at old.spec_ex.bytes_per_sample (samples_before time old.spec_ex) (drop start (state old.reader).contents)) next
   sought_item start time old mid new None known sought t taken step =
       let inside = frame_inside time old.spec_ex.spec.channels old.num_samples t in
-      absurd (omega (arith, inside, step.0, sought.counts.samples, sought.counts.num_samples))
+      absurd (omega (arith, inside, step.0, sought.seeks.counts.samples, sought.seeks.counts.num_samples))
   sought_item start time old mid new (Some item) known sought t taken step =
       let width = old.spec_ex.bytes_per_sample in
       let there = known ∙ ap Some (sought_unread state start time old mid sought ∙ sym (drop-drop (bytes_before time old.spec_ex) start (state old.reader).contents)) in
-      let read = subst (λ s. Reads (refusal_at refusal s) (meaning_at meaning s) s.bytes_per_sample (left mid.reader) (left new.reader) item) sought.counts.spec_ex step.read in
+      let read = subst (λ s. Reads (refusal_at refusal s) (meaning_at meaning s) s.bytes_per_sample (left mid.reader) (left new.reader) item) sought.seeks.counts.spec_ex step.read in
       let known_read = subst (λ o. Reads (refusal_at refusal old.spec_ex) (meaning_at meaning old.spec_ex) width o (left new.reader) item) there read in
       reads_first (meaning_at meaning old.spec_ex) width (drop (bytes_before time old.spec_ex) (drop start (state old.reader).contents)) (left new.reader) item
       (subst (λ o. Reads o (meaning_at meaning old.spec_ex) width (Some (drop (bytes_before time old.spec_ex) (drop start (state old.reader).contents))) (left new.reader) item) taken known_read)
+
+known_left : (o n : Option (List ℕ)) (xs : List ℕ) (P : List ℕ → List ℕ → Type 0) → o ≡ Some xs → Known o n P → (ys : List ℕ) × (n ≡ Some ys) × P xs ys
+known_left None n xs P e k = absurd (let no : ⊥ = cc in no)
+known_left (Some zs) None xs P e k = absurd k
+known_left (Some zs) (Some ys) xs P e k = (ys, refl, subst (λ l. P l ys) (same_Some zs xs e) k)
+
+module _ {R : Type 0} (left : R → Option (List ℕ)) where
+  -- what an item took is counted
+  took_counted : (bytes : List ℕ) (old new : ReaderState R) → StandsAsCounted left bytes old → CountsTaken left old new → StandsAsCounted left bytes new
+  took_counted bytes old new stands (n, count, known) =
+      let p = known_left (left old.reader) (left new.reader) (drop old.bytes_read bytes) (AreTaken n) stands known in
+      p.1 ∙ ap Some (p.2.1 ∙ drop-drop n old.bytes_read bytes ∙ ap (λ i. drop i bytes) (sym count))
+
+  -- an item keeps what is left as counted
+  pub item_counted : {A : Type 0} (refusal : SampleFormat → ℕ → ℕ → Option ReadRefusal) (meaning : ℕ → ℕ → List ℕ → A) (bytes : List ℕ) (old new : ReaderState R) (next : Option (Result A Error)) → StandsAsCounted left bytes old → IsNext left refusal meaning next old new → StandsAsCounted left bytes new
+  item_counted refusal meaning bytes old new None stands step = subst (StandsAsCounted left bytes) (sym step.1) stands
+  item_counted refusal meaning bytes old new (Some item) stands step = took_counted bytes old new stands step.taken
+
+module _ {R : Type 0} (left : R → Option (List ℕ)) (state : R → MediumState) where
+  -- and so does an Ok seek that doesn't go back
+  pub ahead_counted : (bytes : List ℕ) (time : ℕ) (old new : ReaderState R) → left old.reader ≡ Some (unread (state old.reader)) → left new.reader ≡ Some (unread (state new.reader)) → StandsAsCounted left bytes old → Seeks state time old new
+      → old.bytes_read ≤ bytes_before time old.spec_ex → StandsAsCounted left bytes new
+  ahead_counted bytes time old new before behind stands seeks ahead =
+      let from = old.bytes_read in
+      let to = bytes_before time old.spec_ex in
+      let p = (state old.reader).place in
+      let c = (state old.reader).contents in
+      let e = moved p (state new.reader).place (pos to -ℤ pos from) seeks.source.place in
+      let q : (state new.reader).place ≡ p + (to - from) = omega (arith, ints, e, ahead) in
+      let here : drop p c ≡ drop from bytes = same_Some _ _ (sym before ∙ stands) in
+      let sum : from + (to - from) ≡ to = omega (arith, ahead) in
+      behind ∙ ap Some (ap (λ n. drop n (state new.reader).contents) q ∙ ap (drop (p + (to - from))) seeks.source.stays.contents ∙ sym (drop-drop (to - from) p c) ∙ ap (drop (to - from)) here
+      ∙ drop-drop (to - from) from bytes ∙ ap (λ i. drop i bytes) (sum ∙ sym seeks.counts.bytes))
+
+  -- an item of a type passes
+  pub item_passes : {A : Type 0} (refusal : SampleFormat → ℕ → ℕ → Option ReadRefusal) (meaning : ℕ → ℕ → List ℕ → A) (old new : ReaderState R) (item : Result A Error) → IsNext left refusal meaning (Some item) old new → ReadsInPlace (state old.reader) (state new.reader) → PassesItem left state old new
+  item_passes refusal meaning old new item step place = record { taken = step.taken; in_place = place; spec_ex = step.spec_ex; num_samples = step.num_samples }
+
+  module _ (told : (r : R) → left r ≡ Some (unread (state r))) where
+    -- the source moved by what the item counts
+    passed : (start : ℕ) (old new : ReaderState R) → IsAtCount state start old → PassesItem left state old new → IsAtCount state start new
+    passed start old new stood step =
+        let p = known_left (left old.reader) (left new.reader) (unread (state old.reader)) (AreTaken step.taken.0) (told old.reader) step.taken.2 in
+        let same : p.0 ≡ unread (state new.reader) = same_Some _ _ (sym p.1 ∙ told new.reader) in
+        let l : length (unread (state new.reader)) ≡ length (unread (state old.reader)) - step.taken.0 = ap length (sym same ∙ p.2.1) ∙ length-drop step.taken.0 (unread (state old.reader)) in
+        omega (arith, stood, step.in_place.place, l, p.2.0, step.taken.1)
+
+    -- after all calls the source stands as counted, over the same contents
+    pub stands_after : (start : ℕ) (calls : List (Option ℕ)) (old new : ReaderState R) → IsAtCount state start old → Follows left state calls old new
+        → IsAtCount state start new × ((state new.reader).contents ≡ (state old.reader).contents) × (new.spec_ex ≡ old.spec_ex) × (new.num_samples ≡ old.num_samples)
+    stands_after start [] old new stood run = (
+      subst (IsAtCount state start) (sym run) stood,
+      ap (λ (r : ReaderState R). (state r.reader).contents) run,
+      ap (λ (r : ReaderState R). r.spec_ex) run,
+      ap (λ (r : ReaderState R). r.num_samples) run,
+    )
+    stands_after start (None ∷ calls) old new stood (mid, step, run) =
+        let p = stands_after start calls mid new (passed start old mid stood step) run in
+        (p.0, p.1 ∙ step.in_place.contents, p.2 ∙ step.spec_ex, p.3 ∙ step.num_samples)
+    stands_after start (Some time ∷ calls) old new stood (mid, step, run) =
+        let p = stands_after start calls mid new (sought_counted state start time old mid (record { stood = stood; seeks = step })) run in
+        (p.0, p.1 ∙ step.source.stays.contents, p.2 ∙ step.counts.spec_ex, p.3 ∙ step.counts.num_samples)
+
+    -- the item after a seek, after any items and seeks since the data began
+    pub item_after : {A : Type 0} (refusal : SampleFormat → ℕ → ℕ → Option ReadRefusal) (meaning : ℕ → ℕ → List ℕ → A) (calls : List (Option ℕ)) (time : ℕ) (first old mid new : ReaderState R) (next : Option (Result A Error)) → first.bytes_read ≡ 0 → Follows left state calls first old
+        → Seeks state time old mid → time < first.num_samples / first.spec_ex.spec.channels → refusal_at refusal first.spec_ex ≡ None → IsNext left refusal meaning next mid new
+        → IsMeaningOf (meaning_at meaning first.spec_ex) (container_at first.spec_ex.bytes_per_sample (samples_before time first.spec_ex) (unread (state first.reader))) next
+    item_after {A} refusal meaning calls time first old mid new next fresh run seeks t taken step =
+        let start = (state first.reader).place in
+        let p = stands_after start calls first old (omega (arith, fresh)) run in
+        let bytes = drop start (state old.reader).contents in
+        let P : WavSpecEx → List ℕ → Type 0 = λ s l. IsMeaningOf (meaning_at meaning s) (container_at s.bytes_per_sample (samples_before time s) l) next in
+        let inside : time < old.num_samples / old.spec_ex.spec.channels = rw (p.2, p.3) t in
+        let takes : refusal_at refusal old.spec_ex ≡ None = rw p.2 taken in
+        let there = sought_item state left refusal meaning start time old mid new next (told mid.reader) (record { stood = p.0; seeks = seeks }) inside takes step in
+        subst (λ l. P first.spec_ex l) (ap (drop start) p.1) (subst (λ s. P s bytes) p.2 there)

@@ -115,5 +115,5 @@ fmt_of len content =
     else wave_format (take 16 content) >>= λ found. by_tag (tag_of (take 16 content)) len found (drop 16 content)
 
 -- what a reader divides by is not 0, and a frame has at most 65535 bytes
-abbrev pub IsSound : WavSpecEx → Type 0
-IsSound found = (0 < found.spec.channels) × (0 < found.bytes_per_sample) × (found.spec.channels * found.bytes_per_sample ≤ 65535)
+abbrev pub IsSoundSpec : WavSpecEx → Type 0
+IsSoundSpec found = (0 < found.spec.channels) × (0 < found.bytes_per_sample) × (found.spec.channels * found.bytes_per_sample ≤ 65535)

@@ -8,6 +8,8 @@ pub mod Reader
 pub mod Samples
 pub mod Sources
 pub mod Containers
+pub mod Counting
+pub mod Front
 pub mod Items
 pub mod Rows
 pub mod Seeking

@@ -11,18 +11,21 @@ Refuses (Failed e) P = ⊤
 Refuses (Refused c) P = P c
 
 -- A call that takes n bytes answers what `read` says of the bytes, unless a read failed.
-abbrev pub Gives : {A : Type 0} → Option (List ℕ) → Option (List ℕ) → ℕ → Result A HeadError → (List ℕ → Result A Cause) → Type 0
-Gives old new n (Ok x) read = Known old new (λ xs ys. (read xs ≡ Ok x) × (n ≤ length xs) × (ys ≡ drop n xs))
+abbrev pub Gives : {A : Type 0} → Option (List ℕ) → Option (List ℕ) → ℕ → Result A HeadError
+    → (List ℕ → Result A Cause) → Type 0
+Gives old new n (Ok x) read =
+    Known old new (λ xs ys. (read xs ≡ Ok x) × (n ≤ length xs) × (ys ≡ drop n xs))
 Gives old new n (Err e) read = Refuses e (λ c. Known old new (λ xs ys. read xs ≡ Err c))
 
 -- P, unless a read failed
-abbrev pub UnlessFailed : {A : Type 0} → Result A HeadError → Type 0 → Type 0
-UnlessFailed (Ok x) P = P
-UnlessFailed (Err (Failed e)) P = ⊤
-UnlessFailed (Err (Refused c)) P = P
+abbrev pub UnlessReadFailed : {A : Type 0} → Result A HeadError → Type 0 → Type 0
+UnlessReadFailed (Ok x) P = P
+UnlessReadFailed (Err (Failed e)) P = ⊤
+UnlessReadFailed (Err (Refused c)) P = P
 
 -- a failed read is counted, and nothing else is
-abbrev pub CountsFailed : {A : Type 0} → Option Account → Option Account → Result A HeadError → Type 0
+abbrev pub CountsFailed : {Kept A : Type 0} → Option (Account Kept) → Option (Account Kept)
+    → Result A HeadError → Type 0
 CountsFailed old new (Ok x) = NoneFailed old new
 CountsFailed old new (Err (Failed e)) = OneFailed old new
 CountsFailed old new (Err (Refused c)) = NoneFailed old new

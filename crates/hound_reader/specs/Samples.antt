@@ -18,13 +18,18 @@ module _ {R S : Type 0} where
   lender samples = samples.reader.ghost_name
 
   -- `next`: the next sample of the reader, which stays the same one
-  abbrev pub LendsNext : (R → Option (List ℕ)) → (SampleFormat → ℕ → ℕ → Option ReadRefusal) → (ℕ → ℕ → List ℕ → S) → WavSamples R S → Option (Result S Error) → WavSamples R S → Type 0
-  LendsNext left refusal meaning old item new = (lender new ≡ lender old) × IsNext left refusal meaning item (lent_reader old) (lent_reader new)
+  abbrev pub LendsNext : (R → Option (List ℕ)) → (SampleFormat → ℕ → ℕ → Option ReadRefusal)
+      → (ℕ → ℕ → List ℕ → S) → WavSamples R S → Option (Result S Error) → WavSamples R S → Type 0
+  LendsNext left refusal meaning old item new = (lender new ≡ lender old)
+      × IsNext left refusal meaning item (lent_reader old) (lent_reader new)
 
   -- the reader that was taken, as it is now
   abbrev pub taken_reader : WavIntoSamples R S → ReaderState R
   taken_reader samples = samples.reader
 
   -- `next`: the next sample of the reader that was taken
-  abbrev pub TakesNext : (R → Option (List ℕ)) → (SampleFormat → ℕ → ℕ → Option ReadRefusal) → (ℕ → ℕ → List ℕ → S) → WavIntoSamples R S → Option (Result S Error) → WavIntoSamples R S → Type 0
-  TakesNext left refusal meaning old item new = IsNext left refusal meaning item (taken_reader old) (taken_reader new)
+  abbrev pub TakesNext : (R → Option (List ℕ)) → (SampleFormat → ℕ → ℕ → Option ReadRefusal)
+      → (ℕ → ℕ → List ℕ → S) → WavIntoSamples R S → Option (Result S Error) → WavIntoSamples R S
+      → Type 0
+  TakesNext left refusal meaning old item new = IsNext left refusal meaning item (taken_reader old)
+      (taken_reader new)

@@ -11,9 +11,19 @@ use Rattle.hound_reader.specs.declared.fault.HeadError.TheVariants.{Failed, Refu
 abbrev pub unread : MediumState → List ℕ
 unread s = drop s.place s.contents
 
+-- what no read of a source changes
+pub record Untouched : Type 0 where
+  pub contents : List ℕ
+  pub start : List ℕ
+  pub past : List (ℕ × ℕ)
+  pub flushed : ℕ
+
 -- the faults, and what no read changes
-abbrev pub account_of : MediumState → Account
-account_of s = record { failures = s.faults; contents = s.contents; start = s.start; past = s.past; flushed = s.flushed }
+abbrev pub account_of : MediumState → Account Untouched
+account_of s = record {
+  failures = s.faults;
+  kept = record { contents = s.contents; start = s.start; past = s.past; flushed = s.flushed };
+}
 
 -- the faults after a walk: a read that failed counts one, a cause none
 abbrev pub faults_after_walk : {A : Type 0} → Result A HeadError → ℕ → ℕ
@@ -21,9 +31,11 @@ faults_after_walk (Ok x) faults = faults
 faults_after_walk (Err (Failed e)) faults = one_more faults
 faults_after_walk (Err (Refused c)) faults = faults
 
--- the answer of a walk to bytes, of which `rest` is left: their head, or the cause for which they have none; a failed read says nothing of them
+-- the answer of a walk to bytes, of which `rest` is left: their head, or the cause for which they
+-- have none; a failed read says nothing of them
 abbrev pub AnswersBytes : Result FileHead HeadError → List ℕ → List ℕ → Type 0
-AnswersBytes (Ok head) bytes rest = Head bytes head.spec_ex head.data_length head.data_start × (rest ≡ drop head.data_start bytes)
+AnswersBytes (Ok head) bytes rest = Head bytes head.spec_ex head.data_length head.data_start
+    × (rest ≡ drop head.data_start bytes)
 AnswersBytes (Err (Failed e)) bytes rest = ⊤
 AnswersBytes (Err (Refused c)) bytes rest = Refused' bytes c
 

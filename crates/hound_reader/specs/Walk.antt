@@ -3,7 +3,7 @@ use Rattle.std.specs.Prelude.{◌≡◌, ℕ, ◌+◌, ◌≤◌, List, ◌++◌
 use Rattle.hound_number.specs.Number.{number}
 use Rattle.hound_spec.specs.Header.{fmt_tag, data_tag}
 use Rattle.hound_reader.specs.Chunks.{Chunks, joined, last_spec, chunk_fault, Chunk, IsChunk, chunk_bytes, bound_of, spec_after, taken_of, ok_of, fault_of}
-use Rattle.hound_reader.specs.Fmt.{fmt_of, IsSound}
+use Rattle.hound_reader.specs.Fmt.{fmt_of, IsSoundSpec}
 use Rattle.std.specs.Str.{bytes_eq}
 use Rattle.hound_spec.specs.declared.spec.WavSpecEx.{WavSpecEx}
 use Rattle.hound_reader.specs.declared.fault.Cause.{Cause}
@@ -53,10 +53,10 @@ pub record MeetsFault (xs : List ℕ) (cause : Cause) : Type 0 where
 
 -- the spec so far, where there is one, can be divided by
 abbrev pub IsSoundChunk : ChunkRead → Type 0
-IsSoundChunk (Data spec len) = IsSound spec
+IsSoundChunk (Data spec len) = IsSoundSpec spec
 IsSoundChunk (Other None taken) = ⊤
-IsSoundChunk (Other (Some spec) taken) = IsSound spec
+IsSoundChunk (Other (Some spec) taken) = IsSoundSpec spec
 
 abbrev pub IsSoundOption : Option WavSpecEx → Type 0
 IsSoundOption None = ⊤
-IsSoundOption (Some spec) = IsSound spec
+IsSoundOption (Some spec) = IsSoundSpec spec

@@ -5,11 +5,12 @@ ghost use Rattle.std.specs.Io.KnownBytes.{Consumes};
 ghost use Rattle.hound_number.specs.Input.{Known};
 ghost use Rattle.hound_number.specs.Number.{number};
 ghost use Rattle.hound_spec.specs.Header.{riff_tag, wave_tag};
-ghost use Rattle.hound_reader.specs.Outcome.{CountsFailed, Refuses, UnlessFailed};
-ghost use Rattle.hound_reader.specs.Fmt.{IsSound};
+ghost use Rattle.hound_reader.specs.Outcome.{CountsFailed, Refuses, UnlessReadFailed};
+ghost use Rattle.hound_reader.specs.Fmt.{IsSoundSpec};
 ghost use Rattle.hound_reader.specs.Chunks.{Head, Refused, bound_of, front_fault, content_fault, chunk_fault};
 ghost use Rattle.hound_reader.specs.Sources.{FindsData};
-ghost use Rattle.hound_reader.specs.Answer.{Answer, Answers, Tells};
+ghost use Rattle.hound_reader.specs.Front.{TakesFront};
+ghost use Rattle.hound_reader.specs.Answer.{Answer, Answers, ReportsAnswer};
 ghost use Rattle.hound_reader.specs.Walk.{ReadsChunk, ReadsContent, Advances, ReachesData, MeetsFault, IsSoundOption, IsSoundChunk};
 
 use crate::fault::{Cause, HeadError, Reason};
@@ -74,7 +75,10 @@ pub(crate) fn read_riff_header<R: Input>(reader: &mut R) -> Result<u32, HeadErro
     ensures failures { CountsFailed (R.account reader.old) (R.account reader.new) result }
     ensures ok { IfOk result (λ n. Known (R.left reader.old) (R.left reader.new) (λ xs ys.
         (size : List ℕ) × (length size ≡ 4) × (xs ≡ riff_tag ++ (size ++ (wave_tag ++ ys))) × (n ≡ number size))) }
-    ensures err { IfErr result (λ e. Refuses e (λ c. Known (R.left reader.old) (R.left reader.new) (λ xs ys. front_fault xs ≡ Some c))) }
+    ensures err { IfErr result (λ e. Refuses e (λ c.
+        Known (R.left reader.old) (R.left reader.new) (λ xs ys. front_fault xs ≡ Some c))) }
+    ensures taken { IfErr result (λ e.
+        Known (R.left reader.old) (R.left reader.new) (TakesFront e)) }
 {
     let mut tag = [0; 4];
     fill(reader, &mut tag)?;
@@ -103,7 +107,8 @@ fn bound(tag: &[u8], chunk_len: u32) -> u32
     }
 }
 
-// Takes the content of a chunk, of whose header eight bytes were taken behind those.
+// Takes the content of a chunk, after the eight bytes of its header. So many bytes were taken
+// before it.
 #[tactic(auto, unfolding(crate::specs::Chunks::content_fault))]
 fn read_content<R: Input>(
     reader: &mut R,
@@ -163,7 +168,7 @@ fn read_next_chunk<R: Input>(
 
 // Takes chunks from the WAVE tag on, up to the data.
 fn read_chunks<R: Input>(reader: &mut R) -> Result<FileHead, HeadError>
-    ensures sound { IfOk result (λ r. IsSound r.spec_ex) }
+    ensures sound { IfOk result (λ r. IsSoundSpec r.spec_ex) }
     ensures start { IfOk result (λ r. (20 ≤ r.data_start) × (r.data_start ≤ 4294967315)) }
     ensures failures { CountsFailed (R.account reader.old) (R.account reader.new) result }
     ensures ok { IfOk result (λ r. Known (R.left reader.old) (R.left reader.new) (λ xs ys.
@@ -191,7 +196,7 @@ fn read_chunks<R: Input>(reader: &mut R) -> Result<FileHead, HeadError>
 
 // Takes what stands before the data.
 fn read_head<R: Input>(reader: &mut R) -> Result<FileHead, HeadError>
-    ensures sound { IfOk result (λ r. IsSound r.spec_ex) }
+    ensures sound { IfOk result (λ r. IsSoundSpec r.spec_ex) }
     ensures start { IfOk result (λ r. (20 ≤ r.data_start) × (r.data_start ≤ 4294967315)) }
     ensures failures { CountsFailed (R.account reader.old) (R.account reader.new) result }
     ensures ok { IfOk result (λ r. Known (R.left reader.old) (R.left reader.new) (λ xs ys.
@@ -207,14 +212,14 @@ fn read_head<R: Input>(reader: &mut R) -> Result<FileHead, HeadError>
 /// The length of the data is not looked at. An error that the bytes don't decide is that of a read,
 /// and the only one that counts as failed.
 pub fn read_until_data<R: Input>(reader: &mut R) -> Result<FileHead, HeadError>
-    ensures sound { IfOk result (λ r. IsSound r.spec_ex) }
+    ensures sound { IfOk result (λ r. IsSoundSpec r.spec_ex) }
     ensures start { IfOk result (λ r. (20 ≤ r.data_start) × (r.data_start ≤ 4294967315)) }
     ensures failures { CountsFailed (R.account reader.old) (R.account reader.new) result }
     ensures found { IfOk result (λ r. Known (R.left reader.old) (R.left reader.new) (λ xs ys.
         Head xs r.spec_ex r.data_length r.data_start × (ys ≡ drop r.data_start xs))) }
     ensures refused { IfErr result (λ e. Refuses e (λ c. Known (R.left reader.old) (R.left reader.new) (λ xs ys. Refused xs c))) }
-    ensures only { UnlessFailed result (Known (R.left reader.old) (R.left reader.new) (λ xs ys.
-        (a : Answer) → Answers xs a → Tells result xs ys a)) }
+    ensures only { UnlessReadFailed result (Known (R.left reader.old) (R.left reader.new) (λ xs ys.
+        (a : Answer) → Answers xs a → ReportsAnswer result xs ys a)) }
 {
     read_head(reader)
 }
@@ -223,7 +228,7 @@ pub fn read_until_data<R: Input>(reader: &mut R) -> Result<FileHead, HeadError>
 ///
 /// Nothing of the source changes but its place and its count of faults.
 pub fn find_data<S: Source>(source: S) -> (S, Result<FileHead, HeadError>)
-    ensures sound { IfOk result.1 (λ r. IsSound r.spec_ex) }
+    ensures sound { IfOk result.1 (λ r. IsSoundSpec r.spec_ex) }
     ensures start { IfOk result.1 (λ r. (20 ≤ r.data_start) × (r.data_start ≤ 4294967315)) }
     ensures finds { WhereTells S.tells (FindsData result.1 (S.state source) (S.state result.0)) }
 {

@@ -1,7 +1,7 @@
 // Why the bytes before the data can't be read.
 ghost use Rattle.std.specs.Prelude.{◌≡◌};
 ghost use Rattle.hound_reader.specs.declared.fault.HeadError.TheVariants.{Refused};
-ghost use Rattle.hound_reader.specs.Refusals.{reason_text, TellsError};
+ghost use Rattle.hound_reader.specs.Refusals.{reason_text, ReportsError};
 
 use hound_number::ReadError;
 use hound_spec::Error;
@@ -101,7 +101,7 @@ fn text_of(reason: Reason) -> &'static str
 
 /// The error that callers are told.
 pub fn error_of(head_error: HeadError) -> Error
-    ensures { TellsError head_error result }
+    ensures { ReportsError head_error result }
 {
     match head_error {
         HeadError::Failed(e) => Error::IoError(e),

@@ -1,5 +1,6 @@
 // Readers of files on disk.
 ghost use Rattle.std.specs.Prelude.{◌≡◌, IfOk};
+ghost use Rattle.hound_reader.specs.Reader.{HasWholeFrames};
 
 use crate::WavReader;
 use hound_spec::{Error, Result};
@@ -19,6 +20,7 @@ impl WavReader<io::BufReader<fs::File>> {
         path: Path<'_>,
     ) -> Result<WavReader<io::BufReader<fs::File>>>
         ensures fresh { IfOk result (λ r. (r.samples_read ≡ 0) × (r.bytes_read ≡ 0)) }
+        ensures sound { IfOk result (λ r. HasWholeFrames r) }
     {
         let file = fs::open(rt, path)?;
         let Ok(reader) = io::BufReader::new(alloc, file) else {

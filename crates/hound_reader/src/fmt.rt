@@ -1,7 +1,7 @@
 // The content of a fmt chunk.
 ghost use Rattle.std.specs.Prelude.{◌≡◌, ◌-◌, ◌≤◌, min, length, take, IfOk};
 ghost use Rattle.hound_reader.specs.Outcome.{Gives, CountsFailed};
-ghost use Rattle.hound_reader.specs.Fmt.{wave_format, wave_format_pcm, wave_format_ieee_float, wave_format_extensible, by_subformat, by_tag, fmt_of, IsSound};
+ghost use Rattle.hound_reader.specs.Fmt.{wave_format, wave_format_pcm, wave_format_ieee_float, wave_format_extensible, by_subformat, by_tag, fmt_of, IsSoundSpec};
 
 use crate::fault::{Cause, HeadError, Reason};
 use crate::input::fill;
@@ -23,7 +23,7 @@ const KSDATAFORMAT_SUBTYPE_IEEE_FLOAT: [u8; 16] = [
 fn check_wave_format(head: &[u8]) -> Result<WavSpecEx, Cause>
     requires { length head.now ≡ 16 }
     ensures fields { result ≡ wave_format head.now }
-    ensures sound { IfOk result IsSound }
+    ensures sound { IfOk result IsSoundSpec }
 {
     let channels = u16_at(head, 2);
     let sample_rate = u32_at(head, 4);
@@ -68,8 +68,8 @@ fn read_wave_format_pcm<R: Input>(
     found: WavSpecEx,
 ) -> Result<WavSpecEx, HeadError>
     requires chunk_len { 16 ≤ chunk_len }
-    requires sound { IsSound found }
-    ensures sound { IfOk result IsSound }
+    requires sound { IsSoundSpec found }
+    ensures sound { IfOk result IsSoundSpec }
     ensures failures { CountsFailed (R.account reader.old) (R.account reader.new) result }
     ensures gives { Gives (R.left reader.old) (R.left reader.new) (min chunk_len 40 - 16) result
         (λ xs. wave_format_pcm chunk_len found (take (min chunk_len 40 - 16) xs)) }
@@ -99,8 +99,8 @@ fn read_wave_format_ieee_float<R: Input>(
     found: WavSpecEx,
 ) -> Result<WavSpecEx, HeadError>
     requires chunk_len { 16 ≤ chunk_len }
-    requires sound { IsSound found }
-    ensures sound { IfOk result IsSound }
+    requires sound { IsSoundSpec found }
+    ensures sound { IfOk result IsSoundSpec }
     ensures failures { CountsFailed (R.account reader.old) (R.account reader.new) result }
     ensures gives { Gives (R.left reader.old) (R.left reader.new) (min chunk_len 40 - 16) result
         (λ xs. wave_format_ieee_float chunk_len found (take (min chunk_len 40 - 16) xs)) }
@@ -128,9 +128,9 @@ fn read_wave_format_ieee_float<R: Input>(
 // The valid bits, the mask of speakers, which says nothing here, and the subformat.
 fn choose_subformat(found: WavSpecEx, rest: &[u8]) -> Result<WavSpecEx, Cause>
     requires rest { length rest.now ≡ 22 }
-    requires sound { IsSound found }
+    requires sound { IsSoundSpec found }
     ensures subformat { result ≡ by_subformat found rest.now }
-    ensures sound { IfOk result IsSound }
+    ensures sound { IfOk result IsSoundSpec }
 {
     let valid_bits_per_sample = u16_at(rest, 0);
     let subformat = &rest[6..22];
@@ -162,8 +162,8 @@ fn read_wave_format_extensible<R: Input>(
     found: WavSpecEx,
 ) -> Result<WavSpecEx, HeadError>
     requires chunk_len { 16 ≤ chunk_len }
-    requires sound { IsSound found }
-    ensures sound { IfOk result IsSound }
+    requires sound { IsSoundSpec found }
+    ensures sound { IfOk result IsSoundSpec }
     ensures failures { CountsFailed (R.account reader.old) (R.account reader.new) result }
     ensures gives { Gives (R.left reader.old) (R.left reader.new) (min chunk_len 40 - 16) result
         (λ xs. wave_format_extensible chunk_len found (take (min chunk_len 40 - 16) xs)) }
@@ -190,8 +190,8 @@ fn read_by_tag<R: Input>(
     found: WavSpecEx,
 ) -> Result<WavSpecEx, HeadError>
     requires chunk_len { 16 ≤ chunk_len }
-    requires sound { IsSound found }
-    ensures sound { IfOk result IsSound }
+    requires sound { IsSoundSpec found }
+    ensures sound { IfOk result IsSoundSpec }
     ensures failures { CountsFailed (R.account reader.old) (R.account reader.new) result }
     ensures gives { Gives (R.left reader.old) (R.left reader.new) (min chunk_len 40 - 16) result
         (λ xs. by_tag tag chunk_len found (take (min chunk_len 40 - 16) xs)) }
@@ -211,7 +211,7 @@ pub(crate) fn read_fmt_chunk<R: Input>(
     reader: &mut R,
     chunk_len: u32,
 ) -> Result<WavSpecEx, HeadError>
-    ensures sound { IfOk result IsSound }
+    ensures sound { IfOk result IsSoundSpec }
     ensures failures { CountsFailed (R.account reader.old) (R.account reader.new) result }
     ensures gives { Gives (R.left reader.old) (R.left reader.new) (min chunk_len 40) result
         (λ xs. fmt_of chunk_len (take (min chunk_len 40) xs)) }

@@ -1,9 +1,9 @@
 // What the walk takes its bytes from.
-ghost use Rattle.std.specs.Prelude.{◌≡◌, ◌<◌, [], length, if◌then◌else◌, None, Some, OnOk, IfErr};
+ghost use Rattle.std.specs.Prelude.{◌≡◌, ℕ, ◌<◌, List, [], length, if◌then◌else◌, None, Some, OnOk, OnErr, IfErr};
 ghost use Rattle.std.specs.Io.KnownBytes.{Consumes};
 ghost use Rattle.hound_number.specs.Input.{Known};
 ghost use Rattle.hound_reader.specs.Outcome.{Refuses, CountsFailed};
-ghost use Rattle.hound_reader.specs.Sources.{account_of, unread};
+ghost use Rattle.hound_reader.specs.Sources.{Untouched, account_of, unread};
 
 use crate::fault::{Cause, HeadError};
 use hound_medium::Source;
@@ -20,6 +20,8 @@ pub struct Counted<S> {
 impl<S: Source> Input for Counted<S> {
     ghost left = { λ c. if S.tells then Some (unread (S.state c.source)) else None };
 
+    ghost Kept = { Untouched };
+
     ghost account = { λ c. if S.tells then Some (account_of (S.state c.source)) else None };
 
     fn read_some(&mut self, buf: &mut [u8]) -> io::Result<usize> {
@@ -31,8 +33,11 @@ impl<S: Source> Input for Counted<S> {
 pub(crate) fn fill<R: Input>(reader: &mut R, buf: &mut [u8]) -> Result<(), HeadError>
     ensures failures { CountsFailed (R.account reader.old) (R.account reader.new) result }
     ensures ok { OnOk result (Consumes (R.left reader.old) (R.left reader.new) buf.new) }
+    ensures part { OnErr result ((bytes : List ℕ) × (length bytes < length buf.new)
+        × Consumes (R.left reader.old) (R.left reader.new) bytes) }
     ensures err { IfErr result (λ e. Refuses e (λ c. (c ≡ Cause.Ended)
-        × Known (R.left reader.old) (R.left reader.new) (λ xs ys. (length xs < length buf.new) × (ys ≡ [])))) }
+        × Known (R.left reader.old) (R.left reader.new)
+        (λ xs ys. (length xs < length buf.new) × (ys ≡ [])))) }
 {
     match read_into(reader, buf) {
         Ok(()) => Ok(()),

@@ -1,16 +1,17 @@
 // What holds of all bytes, of all files that are written, and of all readers.
 ghost use Rattle.hound_medium.specs.State.{WhereTells};
-ghost use Rattle.std.specs.Prelude.{◌≡◌, ℕ, ◌+◌, ◌*◌, ◌/◌, List, length, drop, ◌++◌, ◌<◌, ◌≤◌, IsTrue, Option, None, Result, IfSome};
+ghost use Rattle.std.specs.Prelude.{◌≡◌, ℕ, ◌+◌, ◌*◌, ◌/◌, List, length, drop, ◌++◌, ◌<◌, ◌≤◌, IsTrue, Option, None, Some, Result, IfSome};
 ghost use Rattle.hound_spec.specs.Writable.{IsWritable};
 ghost use Rattle.hound_spec.specs.Header.{header, data_start, canonical};
 ghost use Rattle.hound_spec.specs.declared.spec.WavSpecEx.{WavSpecEx};
-ghost use Rattle.hound_reader.specs.Answer.{HasOneAnswer};
+ghost use Rattle.hound_reader.specs.Answer.{HasOneAnswer, HasOneFileAnswer};
 ghost use Rattle.hound_reader.specs.Chunks.{Head, Readable};
 ghost use Rattle.hound_sample.specs.Container.{containers};
 ghost use Rattle.hound_reader.specs.Containers.{AreContainers};
 ghost use Rattle.hound_reader.specs.Items.{AreItems, GivesItems};
 ghost use Rattle.hound_reader.specs.Reader.{ReaderState, IsNext, refusal_at, meaning_at, samples_left};
-ghost use Rattle.hound_reader.specs.Seeking.{HasSought, IsMeaningOf, container_at, samples_before};
+ghost use Rattle.hound_reader.specs.Seeking.{HasSought, Seeks, StandsAsCounted, IsAtCount, ReadsInPlace, PassesItem, Follows};
+ghost use Rattle.hound_reader.specs.Seeking.{IsMeaningOf, container_at, samples_before, bytes_before};
 ghost use Rattle.hound_reader.specs.Sources.{unread};
 ghost use Rattle.hound_spec.specs.declared.error.Error.{Error};
 
@@ -18,9 +19,11 @@ use hound_medium::Source;
 use hound_sample::Sample;
 use std::io;
 
-/// Bytes have a head or a cause for which they have none, and never two of these.
+/// Bytes have a head or a cause for which they have none, and never two of these; and so they can
+/// be read as a file, or can't for a cause.
 pub fn one_answer()
-    ensures { (bytes : List ℕ) → HasOneAnswer bytes }
+    ensures head { (bytes : List ℕ) → HasOneAnswer bytes }
+    ensures file { (bytes : List ℕ) → HasOneFileAnswer bytes }
 {}
 
 /// The header of a writable spec is a head with that spec and that length, whatever its RIFF size
@@ -34,26 +37,55 @@ pub fn written_is_head()
 pub fn written_is_read()
     ensures { (s : WavSpecEx) (list : List (List ℕ)) → IsWritable s → AreContainers s list →
         Readable (canonical s list) s (length list) (data_start s)
-        × (containers s.bytes_per_sample (length list) (drop (data_start s) (canonical s list)) ≡ list) }
+        × (containers s.bytes_per_sample (length list) (drop (data_start s) (canonical s list))
+        ≡ list) }
 {}
 
 /// The items that a reader gives of one type are those of the file, from where the reader stands,
 /// and each counts.
 pub fn items_are_of_the_file<R: io::Read, S: Sample>()
-    ensures items { (items : List (Result S Error)) (old new : ReaderState R) → GivesItems R.remaining S.refusal S.meaning items old new →
+    ensures items { (items : List (Result S Error)) (old new : ReaderState R) →
+        GivesItems R.remaining S.refusal S.meaning items old new →
         IfSome (R.remaining old.reader) (λ bytes.
-        AreItems (refusal_at S.refusal old.spec_ex) (meaning_at S.meaning old.spec_ex) old.spec_ex.bytes_per_sample bytes items) }
-    ensures counted { (items : List (Result S Error)) (old new : ReaderState R) → GivesItems R.remaining S.refusal S.meaning items old new →
+        AreItems (refusal_at S.refusal old.spec_ex) (meaning_at S.meaning old.spec_ex)
+        old.spec_ex.bytes_per_sample bytes items) }
+    ensures counted { (items : List (Result S Error)) (old new : ReaderState R) →
+        GivesItems R.remaining S.refusal S.meaning items old new →
         (new.samples_read ≡ old.samples_read + length items) × (length items ≤ samples_left old) }
 {}
 
 /// An iterator gives exactly as many items as are left where it begins, and then none: so many as
 /// its `size_hint` says.
 pub fn an_iterator_gives_what_it_hints<R: io::Read, S: Sample>()
-    ensures behind { (items : List (Result S Error)) (old new end : ReaderState R) → GivesItems R.remaining S.refusal S.meaning items old new →
-        IsNext {A = S} R.remaining S.refusal S.meaning None new end → length items ≡ samples_left old }
-    ensures inside { (items : List (Result S Error)) (next : Option (Result S Error)) (old new end : ReaderState R) → GivesItems R.remaining S.refusal S.meaning items old new →
-        length items ≡ samples_left old → IsNext R.remaining S.refusal S.meaning next new end → next ≡ None }
+    ensures after { (items : List (Result S Error)) (old new end : ReaderState R) →
+        GivesItems R.remaining S.refusal S.meaning items old new →
+        IsNext {A = S} R.remaining S.refusal S.meaning None new end →
+        length items ≡ samples_left old }
+    ensures inside { (items : List (Result S Error)) (next : Option (Result S Error))
+        (old new end : ReaderState R) → GivesItems R.remaining S.refusal S.meaning items old new →
+        length items ≡ samples_left old → IsNext R.remaining S.refusal S.meaning next new end →
+        next ≡ None }
+{}
+
+/// A reader counts the bytes that its items took, whether they were read, refused or torn: what is
+/// left are the data behind these bytes. So it stays after an Ok `seek` that doesn't go back, and
+/// over a source whose reads move its place alone after any `seek`.
+pub fn a_reader_stands_as_counted<R: Source, S: Sample>()
+    ensures item { (bytes : List ℕ) (old new : ReaderState R) (next : Option (Result S Error)) →
+        StandsAsCounted R.remaining bytes old → IsNext R.remaining S.refusal S.meaning next old
+        new →
+        StandsAsCounted R.remaining bytes new }
+    ensures ahead { (bytes : List ℕ) (time : ℕ) (old new : ReaderState R) → WhereTells R.tells (
+        StandsAsCounted R.remaining bytes old → Seeks R.state time old new →
+        old.bytes_read ≤ bytes_before time old.spec_ex → StandsAsCounted R.remaining bytes new) }
+    ensures passes { (old new : ReaderState R) (item : Result S Error) →
+        IsNext R.remaining S.refusal S.meaning (Some item) old new →
+        ReadsInPlace (R.state old.reader) (R.state new.reader) →
+        PassesItem R.remaining R.state old new }
+    ensures place { (start : ℕ) (calls : List (Option ℕ)) (old new : ReaderState R) →
+        WhereTells R.tells (IsAtCount R.state start old →
+        Follows R.remaining R.state calls old new →
+        IsAtCount R.state start new) }
 {}
 
 /// An Ok `seek` leads to its frame, where the source stood as many bytes behind the first data byte
@@ -61,13 +93,30 @@ pub fn an_iterator_gives_what_it_hints<R: io::Read, S: Sample>()
 /// item is then the meaning of the frame's first container, unless it is an `IoError`, and that
 /// container is all there where the data chunk is.
 pub fn a_seek_leads_to_its_frame<R: Source, S: Sample>()
-    ensures place { (start time : ℕ) (old new : ReaderState R) → HasSought R.state start time old new →
+    ensures place { (start time : ℕ) (old new : ReaderState R) →
+        HasSought R.state start time old new →
         (R.state new.reader).place ≡ start + new.bytes_read }
-    ensures item { (start time : ℕ) (old mid new : ReaderState R) (next : Option (Result S Error)) → WhereTells R.tells (HasSought R.state start time old mid →
-        time < old.num_samples / old.spec_ex.spec.channels → refusal_at S.refusal old.spec_ex ≡ None → IsNext R.remaining S.refusal S.meaning next mid new →
+    ensures item { (start time : ℕ) (old mid new : ReaderState R) (next : Option (Result S Error)) →
+        WhereTells R.tells (HasSought R.state start time old mid →
+        time < old.num_samples / old.spec_ex.spec.channels →
+        refusal_at S.refusal old.spec_ex ≡ None →
+        IsNext R.remaining S.refusal S.meaning next mid new →
         IsMeaningOf (meaning_at S.meaning old.spec_ex)
-        (container_at old.spec_ex.bytes_per_sample (samples_before time old.spec_ex) (drop start (R.state old.reader).contents)) next) }
-    ensures there { (start time : ℕ) (old mid : ReaderState R) → HasSought R.state start time old mid →
-        time < old.num_samples / old.spec_ex.spec.channels → start + old.num_samples * old.spec_ex.bytes_per_sample ≤ length (R.state old.reader).contents →
+        (container_at old.spec_ex.bytes_per_sample (samples_before time old.spec_ex)
+        (drop start (R.state old.reader).contents)) next) }
+    ensures since_new { (calls : List (Option ℕ)) (time : ℕ) (first old mid new : ReaderState R)
+        (next : Option (Result S Error)) → WhereTells R.tells (first.bytes_read ≡ 0 →
+        Follows R.remaining R.state calls first old → Seeks R.state time old mid →
+        time < first.num_samples / first.spec_ex.spec.channels →
+        refusal_at S.refusal first.spec_ex ≡ None →
+        IsNext R.remaining S.refusal S.meaning next mid new →
+        IsMeaningOf (meaning_at S.meaning first.spec_ex)
+        (container_at first.spec_ex.bytes_per_sample
+        (samples_before time first.spec_ex) (unread (R.state first.reader))) next) }
+    ensures there { (start time : ℕ) (old mid : ReaderState R) →
+        HasSought R.state start time old mid →
+        time < old.num_samples / old.spec_ex.spec.channels →
+        start + old.num_samples * old.spec_ex.bytes_per_sample ≤ length
+        (R.state old.reader).contents →
         old.spec_ex.bytes_per_sample ≤ length (unread (R.state mid.reader)) }
 {}

@@ -1,7 +1,7 @@
 //! Reading WAV files.
 //!
-//! A file is RIFF, a size, WAVE and chunks. A [`WavReader`] walks over the chunks to the data, takes
-//! no byte of it, and then gives its samples, one container for each.
+//! A file is RIFF, a size, WAVE and chunks. A [`WavReader`] walks over the chunks to the data,
+//! takes no byte of it, and then gives its samples, one container for each.
 #![tactic(auto)]
 
 mod chunks;
@@ -18,8 +18,8 @@ pub use chunks::{ChunkRead, FileHead, find_data, read_until_data};
 pub use fault::{Cause, HeadError, Reason, error_of};
 pub use input::Counted;
 pub use laws::{
-    a_seek_leads_to_its_frame, an_iterator_gives_what_it_hints, items_are_of_the_file, one_answer,
-    written_is_head, written_is_read,
+    a_reader_stands_as_counted, a_seek_leads_to_its_frame, an_iterator_gives_what_it_hints,
+    items_are_of_the_file, one_answer, written_is_head, written_is_read,
 };
 pub use reader::{WavReader, read_wave_header};
 pub use samples::{WavIntoSamples, WavSamples};

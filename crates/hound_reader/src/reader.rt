@@ -5,17 +5,18 @@ ghost use Rattle.hound_number.specs.Number.{number};
 ghost use Rattle.hound_spec.specs.Header.{riff_tag, wave_tag};
 ghost use Rattle.hound_spec.specs.declared.spec.WavSpecEx.{WavSpecEx};
 ghost use Rattle.hound_reader.specs.Outcome.{CountsFailed, Refuses};
-ghost use Rattle.hound_reader.specs.Fmt.{IsSound};
-ghost use Rattle.hound_reader.specs.Chunks.{Readable, Unreadable, front_fault};
+ghost use Rattle.hound_reader.specs.Fmt.{IsSoundSpec};
+ghost use Rattle.hound_reader.specs.Chunks.{Readable, Unreadable};
+ghost use Rattle.hound_reader.specs.Front.{ReportsFront};
 ghost use Rattle.hound_reader.specs.declared.fault.Cause.{Cause};
 ghost use Rattle.hound_reader.specs.Refusals.{IsRefusal, OpensAs, FailsAs};
 ghost use Rattle.hound_medium.specs.State.{Shifts, WhereTells};
-ghost use Rattle.hound_reader.specs.Reader.{IsNext, samples_left};
+ghost use Rattle.hound_reader.specs.Reader.{IsNext, HasWholeFrames, samples_left};
 ghost use Rattle.hound_reader.specs.Seeking.{Recounts, way_to};
 ghost use Rattle.hound_reader.specs.Samples.{lent_reader, lender, taken_reader};
 
 use crate::chunks::{read_riff_header, read_until_data};
-use crate::counting::CountingReader;
+use crate::counting::{read_counted, taken_by};
 use crate::fault::{Cause, HeadError, Reason, error_of};
 use crate::samples::{WavIntoSamples, WavSamples};
 use hound_medium::{Placed, Source};
@@ -28,11 +29,12 @@ use std::{io, result};
 // Takes what stands before the data, which must be whole frames: the spec, and how many samples
 // follow.
 fn read_until_samples<R: Input>(reader: &mut R) -> result::Result<(WavSpecEx, u32), HeadError>
-    ensures sound { IfOk result (λ r. IsSound r.0) }
+    ensures sound { IfOk result (λ r. IsSoundSpec r.0) }
     ensures failures { CountsFailed (R.account reader.old) (R.account reader.new) result }
     ensures found { IfOk result (λ r. Known (R.left reader.old) (R.left reader.new) (λ xs ys.
         (h : ℕ) × Readable xs r.0 r.1 h × (ys ≡ drop h xs))) }
-    ensures refused { IfErr result (λ e. Refuses e (λ c. Known (R.left reader.old) (R.left reader.new) (λ xs ys. Unreadable xs c))) }
+    ensures refused { IfErr result (λ e. Refuses e
+        (λ c. Known (R.left reader.old) (R.left reader.new) (λ xs ys. Unreadable xs c))) }
     ensures frames { IfOk result (λ r. r.1 % r.0.spec.channels ≡ 0) }
 {
     let head = read_until_data(reader)?;
@@ -51,11 +53,15 @@ fn read_until_samples<R: Input>(reader: &mut R) -> result::Result<(WavSpecEx, u3
 /// Takes the first twelve bytes of a file, and gives the size of the whole file as they say it: the
 /// RIFF size, which doesn't count itself and the tag before it, and eight bytes more.
 ///
-/// The size is compared with nothing. An early end is an `IoError` of kind `Other`.
+/// The size is compared with nothing. An early end is an `IoError` of kind `Other`. No byte is
+/// taken behind a wrong tag.
 pub fn read_wave_header<R: io::Read>(reader: &mut R) -> Result<u64>
-    ensures found { IfOk result (λ n. Known (R.remaining reader.old) (R.remaining reader.new) (λ xs ys.
-        (size : List ℕ) × (length size ≡ 4) × (xs ≡ riff_tag ++ (size ++ (wave_tag ++ ys))) × (n ≡ number size + 8))) }
-    ensures refused { IfErr result (λ e. IfSome (R.remaining reader.old) (λ xs. IsRefusal e (λ c. front_fault xs ≡ Some c))) }
+    ensures found { IfOk result (λ n. Known (R.remaining reader.old) (R.remaining reader.new)
+        (λ xs ys.
+        (size : List ℕ) × (length size ≡ 4) × (xs ≡ riff_tag ++ (size ++ (wave_tag ++ ys)))
+        × (n ≡ number size + 8))) }
+    ensures refused { IfErr result (λ e.
+        Known (R.remaining reader.old) (R.remaining reader.new) (ReportsFront e)) }
 {
     match read_riff_header(reader) {
         Ok(size) => Ok(size as u64 + 8),
@@ -69,7 +75,7 @@ pub fn read_wave_header<R: io::Read>(reader: &mut R) -> Result<u64>
 /// made, and behind the sample that was read last.
 #[derive(Drop)]
 pub struct WavReader<R> {
-    reader: CountingReader<R>,
+    reader: R,
     spec_ex: WavSpecEx,
     num_samples: u32,
     samples_read: u64,
@@ -77,13 +83,19 @@ pub struct WavReader<R> {
 }
 
 impl<R> Model for WavReader<R> {
-    ghost use Rattle.hound_reader.specs.Reader.{ReaderState, IsCounted};
+    ghost use Rattle.hound_reader.specs.Reader.{ReaderState, HasSoundCounts};
 
     ghost Value = { ReaderState R };
 
-    ghost view = { λ r. record { reader = r.reader.reader; spec_ex = r.spec_ex; num_samples = r.num_samples; samples_read = r.samples_read; bytes_read = r.bytes_read } };
+    ghost view = { λ r. record {
+      reader = r.reader;
+      spec_ex = r.spec_ex;
+      num_samples = r.num_samples;
+      samples_read = r.samples_read;
+      bytes_read = r.bytes_read;
+    } };
 
-    ghost invariant = { λ r. IsCounted r.spec_ex r.num_samples r.samples_read r.bytes_read };
+    ghost invariant = { λ r. HasSoundCounts r.spec_ex r.num_samples r.samples_read r.bytes_read };
 }
 
 impl<R: io::Read + Drop> WavReader<R> {
@@ -91,22 +103,28 @@ impl<R: io::Read + Drop> WavReader<R> {
     ///
     /// Files are RIFF and WAVE with a fmt chunk before the data, of a PCMWAVEFORMAT, a WAVEFORMATEX
     /// or a WAVEFORMATEXTENSIBLE. Other chunks before the data are passed over, and of several fmt
-    /// chunks the last counts. Faults are told in the order of the bytes: first those of the chunks,
-    /// then data that are no whole samples, then data that are no whole frames. An early end is an
-    /// `IoError` of kind `Other`.
+    /// chunks the last counts. Faults are told in the order of the bytes: first those of the
+    /// chunks, then data that are no whole samples, then data that are no whole frames. An early
+    /// end is an `IoError` of kind `Other`.
     pub fn new(reader: R) -> Result<WavReader<R>>
-        ensures found { IfOk result (λ r. Known (R.remaining reader) (R.remaining r.reader) (λ xs ys.
+        ensures found { IfOk result (λ r. Known (R.remaining reader) (R.remaining r.reader)
+            (λ xs ys.
             (h : ℕ) × Readable xs r.spec_ex r.num_samples h × (ys ≡ drop h xs))) }
         ensures fresh { IfOk result (λ r. (r.samples_read ≡ 0) × (r.bytes_read ≡ 0)) }
-        ensures refused { IfErr result (λ e. IfSome (R.remaining reader) (λ xs. IsRefusal e (Unreadable xs))) }
-        ensures readable { IfSome (R.remaining reader) (λ xs. (spec_ex : WavSpecEx) (samples h : ℕ) →
-            Readable xs spec_ex samples h → OpensAs result (λ r. (r.spec_ex ≡ spec_ex) × (r.num_samples ≡ samples))) }
-        ensures unreadable { IfSome (R.remaining reader) (λ xs. (c : Cause) → Unreadable xs c → MatchResult result (λ _. ⊥) (λ e. FailsAs e c)) }
+        ensures sound { IfOk result (λ r. HasWholeFrames r) }
+        ensures refused { IfErr result (λ e. IfSome (R.remaining reader)
+            (λ xs. IsRefusal e (Unreadable xs))) }
+        ensures readable { IfSome (R.remaining reader)
+            (λ xs. (spec_ex : WavSpecEx) (samples h : ℕ) →
+            Readable xs spec_ex samples h → OpensAs result (λ r. (r.spec_ex ≡ spec_ex)
+            × (r.num_samples ≡ samples))) }
+        ensures unreadable { IfSome (R.remaining reader) (λ xs. (c : Cause) → Unreadable xs c →
+            MatchResult result (λ _. ⊥) (λ e. FailsAs e c)) }
     {
         let mut reader = reader;
         match read_until_samples(&mut reader) {
             Ok((spec_ex, num_samples)) => Ok(WavReader {
-                reader: CountingReader { reader, given: 0 },
+                reader,
                 spec_ex,
                 num_samples,
                 samples_read: 0,
@@ -140,8 +158,8 @@ impl<R: io::Read + Drop> WavReader<R> {
 
     /// An iterator over the samples that are left, one item for each.
     ///
-    /// The type need not fit the file: each item is then the refusal of the type, and takes no byte.
-    /// A new iterator goes on where the last stopped.
+    /// The type need not fit the file: each item is then the refusal of the type, and takes no
+    /// byte. A new iterator goes on where the last stopped.
     pub fn samples<'wr, S: Sample>(&'wr mut self) -> WavSamples<'wr, R, S>
         ensures reader { lent_reader result ≡ self.old }
         ensures lender { lender result ≡ self.entry.ghost_name }
@@ -162,18 +180,19 @@ impl<R: io::Read + Drop> WavReader<R> {
     /// the bytes that samples really took so far. So the place is right after samples that were
     /// refused, which took none, and after one that was torn, which took a part.
     ///
-    /// A `time` at or behind the end is allowed; then no samples are left. An error leaves the source
-    /// where it was, and the reader counts as before.
+    /// A `time` at or behind the end is allowed; then no samples are left. An error leaves the
+    /// source where it was, and the reader counts as before.
     pub fn seek(&mut self, time: u32) -> io::Result<()>
     where
         R: Source,
         ensures counts { Recounts time result self.old self.new }
-        ensures source { WhereTells R.tells (Shifts (way_to time self.old) result (R.state self.old.reader) (R.state self.new.reader)) }
+        ensures source { WhereTells R.tells (Shifts (way_to time self.old) result
+            (R.state self.old.reader) (R.state self.new.reader)) }
     {
         let samples = time as u64 * self.spec_ex.spec.channels as u64;
         let bytes = samples * self.spec_ex.bytes_per_sample as u64;
         let by = bytes as i64 - self.bytes_read as i64;
-        Placed::shift(&mut self.reader.reader, by)?;
+        Placed::shift(&mut self.reader, by)?;
         self.samples_read = samples;
         self.bytes_read = bytes;
         Ok(())
@@ -183,7 +202,7 @@ impl<R: io::Read + Drop> WavReader<R> {
     pub fn into_inner(self) -> R
         ensures { result ≡ self.reader }
     {
-        self.reader.reader
+        self.reader
     }
 
     /// How many samples are left; none behind the end.
@@ -195,7 +214,8 @@ impl<R: io::Read + Drop> WavReader<R> {
 
     /// As many items as samples are left, and no more.
     pub(crate) fn size_hint(&self) -> (usize, Option<usize>)
-        ensures exact { (result.0 ≡ samples_left self.now) × (result.1 ≡ Some (samples_left self.now)) }
+        ensures exact { (result.0 ≡ samples_left self.now)
+            × (result.1 ≡ Some (samples_left self.now)) }
     {
         let left = self.samples_left() as usize;
         (left, Some(left))
@@ -209,27 +229,10 @@ impl<R: io::Read + Drop> WavReader<R> {
         if self.samples_read >= self.num_samples as u64 {
             return None;
         }
-        let spec = self.spec_ex.spec;
-        let width = self.spec_ex.bytes_per_sample;
-        self.reader.given = 0;
+        let (item, given) = read_counted::<R, S>(&mut self.reader, self.spec_ex);
+        let item = item?;
         self.samples_read += 1;
-        match S::read(
-            &mut self.reader,
-            spec.sample_format,
-            width,
-            spec.bits_per_sample,
-        ) {
-            Ok(sample) => {
-                self.bytes_read += width as u64;
-                Some(Ok(sample))
-            }
-            Err(error) => {
-                self.bytes_read += match &error {
-                    Error::IoError(_) => self.reader.given.min(width as u64),
-                    _ => 0,
-                };
-                Some(Err(error))
-            }
-        }
+        self.bytes_read += taken_by(&item, given, self.spec_ex.bytes_per_sample);
+        Some(item)
     }
 }

@@ -49,7 +49,8 @@ impl<R: io::Read + Drop, S: Sample> Iterator for WavSamples<'_, R, S> {
     fn size_hint(&self) -> (usize, Option<usize>)
         ensures lower { IsWithinCount result.0 (at_most (samples_left (lent_reader self.now))) }
         ensures upper { IfSome result.1 (UpTo (at_most (samples_left (lent_reader self.now)))) }
-        ensures exact { (result.0 ≡ samples_left (lent_reader self.now)) × (result.1 ≡ Some (samples_left (lent_reader self.now))) }
+        ensures exact { (result.0 ≡ samples_left (lent_reader self.now))
+            × (result.1 ≡ Some (samples_left (lent_reader self.now))) }
     {
         self.reader.size_hint()
     }
@@ -94,7 +95,8 @@ impl<R: io::Read + Drop, S: Sample> Iterator for WavIntoSamples<R, S> {
     fn size_hint(&self) -> (usize, Option<usize>)
         ensures lower { IsWithinCount result.0 (at_most (samples_left (taken_reader self.now))) }
         ensures upper { IfSome result.1 (UpTo (at_most (samples_left (taken_reader self.now)))) }
-        ensures exact { (result.0 ≡ samples_left (taken_reader self.now)) × (result.1 ≡ Some (samples_left (taken_reader self.now))) }
+        ensures exact { (result.0 ≡ samples_left (taken_reader self.now))
+            × (result.1 ≡ Some (samples_left (taken_reader self.now))) }
     {
         self.reader.size_hint()
     }

@@ -31,7 +31,7 @@ struct Pieces {
     len: usize,
     taken: usize,
     most: usize,
-    // What a read answers behind the bytes: an end, or this fault.
+    // What a read answers after the bytes: an end, or this fault.
     fault: Option<ErrorKind>,
 }
 

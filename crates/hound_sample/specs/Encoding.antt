@@ -15,9 +15,12 @@ abbrev pub IsEncoded : Result (List ℕ) Refusal → Result (List ℕ) Error →
 IsEncoded (Ok container) result = result ≡ Ok (container ++ replicate (4 - length container) 0)
 IsEncoded (Err refusal) result = result ≡ Err (error_of refusal)
 
--- `write_padded`: exactly the container went out, or a shorter beginning of it where the writer failed; at a refusal nothing
-abbrev pub WritesContainer : {T : Type 0} → Result (List ℕ) Refusal → Option (List ℕ) → Option (List ℕ) → Result T Error → Type 0
+-- `write_padded`: exactly the container went out, or a shorter beginning of it where the writer
+-- failed; at a refusal nothing
+abbrev pub WritesContainer : {T : Type 0} → Result (List ℕ) Refusal → Option (List ℕ)
+    → Option (List ℕ) → Result T Error → Type 0
 WritesContainer (Ok container) old new (Ok x) = Appends old new container
-WritesContainer (Ok container) old new (Err (IoError e)) = (n : ℕ) × (n < length container) × Appends old new (take n container)
+WritesContainer (Ok container) old new (Err (IoError e)) = (n : ℕ) × (n < length container)
+    × Appends old new (take n container)
 WritesContainer (Ok container) old new (Err _) = ⊥
 WritesContainer (Err refusal) old new result = (result ≡ Err (error_of refusal)) × (new ≡ old)

@@ -13,19 +13,25 @@ error_of_read other_pair = Unsupported
 
 -- a whole container was taken, and this is its value
 abbrev pub TakesContainer : {A : Type 0} → (List ℕ → A) → ℕ → A → List ℕ → List ℕ → Type 0
-TakesContainer meaning width value old new = (width ≤ length old) × (value ≡ meaning (take width old)) × (new ≡ drop width old)
+TakesContainer meaning width value old new = (width ≤ length old)
+    × (value ≡ meaning (take width old)) × (new ≡ drop width old)
 
 -- less than a container was taken
 abbrev pub TakesPart : ℕ → List ℕ → List ℕ → Type 0
 TakesPart width old new = (n : ℕ) × (n < width) × (n ≤ length old) × (new ≡ drop n old)
 
--- what a type that reads the samples answers: the value of a container, or an `IoError` with less than one taken
-abbrev pub ReadsContainer : {A : Type 0} → (List ℕ → A) → ℕ → Option (List ℕ) → Option (List ℕ) → Result A Error → Type 0
+-- what a type that reads the samples answers: the value of a container, or an `IoError` with less
+-- than one taken
+abbrev pub ReadsContainer : {A : Type 0} → (List ℕ → A) → ℕ → Option (List ℕ) → Option (List ℕ)
+    → Result A Error → Type 0
 ReadsContainer meaning width old new (Ok value) = Known old new (TakesContainer meaning width value)
 ReadsContainer meaning width old new (Err (IoError e)) = Known old new (TakesPart width)
 ReadsContainer meaning width old new (Err _) = ⊥
 
--- `read`: where the type refuses, that refusal, with the bytes as they were; else the container is read
-abbrev pub Reads : {A : Type 0} → Option ReadRefusal → (List ℕ → A) → ℕ → Option (List ℕ) → Option (List ℕ) → Result A Error → Type 0
-Reads (Some refusal) meaning width old new result = (result ≡ Err (error_of_read refusal)) × (new ≡ old)
+-- `read`: where the type refuses, that refusal, with the bytes as they were; else the container is
+-- read
+abbrev pub Reads : {A : Type 0} → Option ReadRefusal → (List ℕ → A) → ℕ → Option (List ℕ)
+    → Option (List ℕ) → Result A Error → Type 0
+Reads (Some refusal) meaning width old new result = (result ≡ Err (error_of_read refusal))
+    × (new ≡ old)
 Reads None meaning width old new result = ReadsContainer meaning width old new result

@@ -21,7 +21,8 @@ pub struct FloatBits(pub u32);
 
 #[inline(always)]
 fn read_pattern<R: io::Read>(reader: &mut R) -> Result<FloatBits>
-    ensures { ReadsContainer (λ container. record { 0 = pattern container }) 4 (R.remaining reader.old) (R.remaining reader.new) result }
+    ensures { ReadsContainer (λ container. record { 0 = pattern container }) 4
+        (R.remaining reader.old) (R.remaining reader.new) result }
 {
     let mut container = [0; 4];
     match read_into(reader, &mut container) {

@@ -106,7 +106,8 @@ pub(crate) fn lowest_16_bits(x: i32) -> i16
 // One unsigned byte, which counts from -128.
 #[inline(always)]
 pub(crate) fn read_8_bits<R: io::Read>(reader: &mut R) -> Result<i8>
-    ensures { ReadsContainer (int_meaning 1 8) 1 (R.remaining reader.old) (R.remaining reader.new) result }
+    ensures { ReadsContainer (int_meaning 1 8) 1 (R.remaining reader.old) (R.remaining reader.new)
+        result }
 {
     let mut container = [0; 1];
     match read_into(reader, &mut container) {
@@ -117,7 +118,8 @@ pub(crate) fn read_8_bits<R: io::Read>(reader: &mut R) -> Result<i8>
 
 #[inline(always)]
 pub(crate) fn read_16_bits<R: io::Read>(reader: &mut R) -> Result<i16>
-    ensures { ReadsContainer (int_meaning 2 16) 2 (R.remaining reader.old) (R.remaining reader.new) result }
+    ensures { ReadsContainer (int_meaning 2 16) 2 (R.remaining reader.old) (R.remaining reader.new)
+        result }
 {
     let mut container = [0; 2];
     match read_into(reader, &mut container) {
@@ -128,7 +130,8 @@ pub(crate) fn read_16_bits<R: io::Read>(reader: &mut R) -> Result<i16>
 
 #[inline(always)]
 pub(crate) fn read_24_bits<R: io::Read>(reader: &mut R) -> Result<i32>
-    ensures { ReadsContainer (int_meaning 3 24) 3 (R.remaining reader.old) (R.remaining reader.new) result }
+    ensures { ReadsContainer (int_meaning 3 24) 3 (R.remaining reader.old) (R.remaining reader.new)
+        result }
 {
     let mut container = [0; 3];
     match read_into(reader, &mut container) {
@@ -140,7 +143,8 @@ pub(crate) fn read_24_bits<R: io::Read>(reader: &mut R) -> Result<i32>
 // The fourth byte says nothing.
 #[inline(always)]
 pub(crate) fn read_24_bits_of_4<R: io::Read>(reader: &mut R) -> Result<i32>
-    ensures { ReadsContainer (int_meaning 4 24) 4 (R.remaining reader.old) (R.remaining reader.new) result }
+    ensures { ReadsContainer (int_meaning 4 24) 4 (R.remaining reader.old) (R.remaining reader.new)
+        result }
 {
     let mut container = [0; 4];
     match read_into(reader, &mut container) {
@@ -154,7 +158,8 @@ pub(crate) fn read_24_bits_of_4<R: io::Read>(reader: &mut R) -> Result<i32>
 
 #[inline(always)]
 pub(crate) fn read_32_bits<R: io::Read>(reader: &mut R) -> Result<i32>
-    ensures { ReadsContainer (int_meaning 4 32) 4 (R.remaining reader.old) (R.remaining reader.new) result }
+    ensures { ReadsContainer (int_meaning 4 32) 4 (R.remaining reader.old) (R.remaining reader.new)
+        result }
 {
     let mut container = [0; 4];
     match read_into(reader, &mut container) {

@@ -1,5 +1,5 @@
 // The types of samples.
-ghost use Rattle.std.specs.Prelude.{◌≡◌, ◌≤◌, ◌/◌, ℕ, ℤ, ⊤, List, Option, Result, Ok, IsSome, length};
+ghost use Rattle.std.specs.Prelude.{◌≡◌, ◌≤◌, ◌/◌, ℕ, ℤ, ⊤, List, Option, Result, Ok, IsSome, IsErr, length};
 ghost use Rattle.hound_sample.specs.Container.{Refusal, int_container};
 ghost use Rattle.hound_sample.specs.Encoding.{IsEncoded, WritesContainer};
 ghost use Rattle.hound_sample.specs.ContainerLaws.{int_container-in_width};
@@ -44,7 +44,9 @@ pub trait Sample: Sized + Drop {
 
     /// Writes the container of `bits / 8` bytes, rounded down, as `write_padded` does.
     fn write<W: io::Write>(self, writer: &mut W, bits: u16) -> Result<()>
-        ensures { WritesContainer (container self bits (bits / 8)) (W.contents writer.old) (W.contents writer.new) result }
+        ensures writes { WritesContainer (container self bits (bits / 8))
+            (W.contents writer.old) (W.contents writer.new) result }
+        ensures untouched { IsErr (container self bits (bits / 8)) → writer.new ≡ writer.old }
     {
         self.write_padded(writer, bits, bits / 8)
     }
@@ -52,9 +54,11 @@ pub trait Sample: Sized + Drop {
     /// Writes the container.
     ///
     /// A fault of the writer is passed on as `IoError`, `Interrupted` too; a beginning of the
-    /// container may then be out. At any other error the writer was not called.
+    /// container may then be out. A refusal of the type leaves the writer as it was.
     fn write_padded<W: io::Write>(self, writer: &mut W, bits: u16, byte_width: u16) -> Result<()>
-        ensures { WritesContainer (container self bits byte_width) (W.contents writer.old) (W.contents writer.new) result }
+        ensures writes { WritesContainer (container self bits byte_width)
+            (W.contents writer.old) (W.contents writer.new) result }
+        ensures untouched { IsErr (container self bits byte_width) → writer.new ≡ writer.old }
     {
         let container = self.encode(bits, byte_width)?;
         write_bytes(writer, &container[..byte_width as usize])?;
@@ -81,7 +85,8 @@ pub trait Sample: Sized + Drop {
         ensures { IsEncoded (container self bits byte_width) result };
 
     /// A container has as many bytes as it was asked to have, from one to four.
-    ghost in_width: { (v : Self) (bits width : ℕ) (c : List ℕ) → container v bits width ≡ Ok c → (length c ≡ width) × (1 ≤ width) × (width ≤ 4) };
+    ghost in_width: { (v : Self) (bits width : ℕ) (c : List ℕ) → container v bits width ≡ Ok c →
+        (length c ≡ width) × (1 ≤ width) × (width ≤ 4) };
 }
 
 impl Sample for i8 {

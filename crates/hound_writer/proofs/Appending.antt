@@ -11,7 +11,7 @@ use Rattle.hound_medium.specs.State.{MediumState, Goes, WhereTells, one_more}
 use Rattle.hound_reader.specs.declared.chunks.FileHead.{FileHead}
 use Rattle.hound_reader.specs.declared.fault.HeadError.{HeadError}
 use Rattle.hound_reader.specs.declared.fault.HeadError.TheVariants.{Failed, Refused}
-use Rattle.hound_reader.specs.Fmt.{IsSound as IsSoundHead}
+use Rattle.hound_reader.specs.Fmt.{IsSoundSpec as IsSoundHead}
 use Rattle.hound_reader.specs.Chunks.{Head, Refused as RefusedFor}
 use Rattle.hound_reader.specs.Refusals.{TellsError}
 use Rattle.hound_reader.specs.Sources.{FindsData}

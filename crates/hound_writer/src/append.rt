@@ -1,7 +1,7 @@
 // Appending to files that are there.
 ghost use Rattle.std.specs.Prelude.{◌≡◌, ◌≤◌, MatchResult};
 ghost use Rattle.hound_medium.specs.State.{WhereTells};
-ghost use Rattle.hound_reader.specs.Fmt.{IsSound};
+ghost use Rattle.hound_reader.specs.Fmt.{IsSoundSpec};
 ghost use Rattle.hound_reader.specs.Chunks.{Head};
 ghost use Rattle.hound_writer.specs.Appending.{Appends, IsNotAppended, FailsCheck, head_fault};
 ghost use Rattle.hound_reader.specs.Refusals.{Names};
@@ -23,7 +23,7 @@ fn refused(cause: Cause) -> Error
 // Looks whether a file with this head can be appended to.
 #[tactic(auto, unfolding(crate::specs::Appending::head_fault))]
 fn check_head(head: FileHead) -> Result<()>
-    requires sound { IsSound head.spec_ex }
+    requires sound { IsSoundSpec head.spec_ex }
     requires start { (20 ≤ head.data_start) × (head.data_start ≤ 4294967315) }
     ensures { FailsCheck result (head_fault head.spec_ex head.data_length head.data_start) }
 {
@@ -49,7 +49,7 @@ pub(crate) fn append_at<W: Medium>(
     writer: W,
     head: FileHead,
 ) -> result::Result<WavWriter<W>, (W, Error)>
-    requires sound { IsSound head.spec_ex }
+    requires sound { IsSoundSpec head.spec_ex }
     requires start { (20 ≤ head.data_start) × (head.data_start ≤ 4294967315) }
     requires head { WhereTells W.tells (Head (W.state writer).contents head.spec_ex head.data_length head.data_start) }
     ensures { MatchResult result (Appends W.tells W.state (W.state writer))

@@ -1,8 +1,10 @@
-use Rattle.std.proofs.Common.{◌≡◌, ◌++◌, take, slice_range, true, false, refl, ap, ◌∙◌, arith, append_assoc, length-take}
+use Rattle.std.proofs.lemmas.Result.{err_from_is_err_and}
+use Rattle.std.proofs.Common.{◌≡◌, [], ◌++◌, length, take, slice_range, true, false, refl, ap, ◌∙◌, arith, append_assoc, length-append, length-take}
 use Rattle.std.specs.Str.{bytes_eq}
-use Rattle.std.proofs.KnownBytes.{Consumes-trans}
+use Rattle.std.proofs.KnownBytes.{Consumes-nil, Consumes-trans}
 use Rattle.hound_spec.specs.Header.{riff_tag, wave_tag}
 use Rattle.hound_number.proofs.KnownSteps.{known_from}
+use Rattle.hound_reader.proofs.FrontLemmas.{all_taken, front_cut}
 use Rattle.hound_reader.proofs.WalkLemmas.{ne_test, no_riff, same_tag, halves}
 use Rattle.hound_reader.proofs.chunks.read_riff_header.Goals as goal
 
@@ -27,3 +29,19 @@ returns-clause-ok g c =
           ∙ ap (λ t. riff_tag ++ t) (append_assoc size wave_tag ys),
       c.u32_at.ensures,
     ))
+
+pub returns-in_err-fill-clause-taken : goal.returns-in_err-fill-clause-taken
+returns-in_err-fill-clause-taken g c =
+    let p = err_from_is_err_and c.from_residual.result c.from_residual.ensures.1 in
+    rw (p.1, p.2) (front_cut [] (length c.fill.new.buf) _ _ _ c.in_err-fill.field-0.0 (Consumes-nil (g.R.Input.left c.args.reader.now)) (omega arith) (c.in_err-fill.ensures.part) c.in_err-fill.ensures.err)
+
+pub returns-then-ne-clause-taken : goal.returns-then-ne-clause-taken
+returns-then-ne-clause-taken g c = all_taken c.fill.new.buf 4 _ _ c.in_ok-fill.ensures.ok (omega arith)
+
+pub returns-in_err-fill-2-clause-taken : goal.returns-in_err-fill-2-clause-taken
+returns-in_err-fill-2-clause-taken g c =
+    let p = err_from_is_err_and c.from_residual-in_err-fill-2.result c.from_residual-in_err-fill-2.ensures.1 in
+    rw (p.1, p.2) (front_cut c.fill.new.buf (length c.fill-2.new.buf) _ _ _ c.in_err-fill-2.field-0.0 c.in_ok-fill.ensures.ok (omega arith) c.in_err-fill-2.ensures.part c.in_err-fill-2.ensures.err)
+
+pub returns-then-ne-2-clause-taken : goal.returns-then-ne-2-clause-taken
+returns-then-ne-2-clause-taken g c = all_taken (c.fill.new.buf ++ c.fill-2.new.buf) 12 _ _ (Consumes-trans _ _ _ _ _ c.in_ok-fill.ensures.ok c.in_ok-fill-2.ensures.ok) (omega (arith, length-append c.fill.new.buf c.fill-2.new.buf))

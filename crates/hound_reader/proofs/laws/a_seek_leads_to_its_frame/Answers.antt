@@ -1,4 +1,4 @@
-use Rattle.hound_reader.proofs.SeekLemmas.{sought_counted, sought_item, sought_there}
+use Rattle.hound_reader.proofs.SeekLemmas.{sought_counted, sought_item, sought_there, item_after}
 use Rattle.hound_reader.proofs.laws.a_seek_leads_to_its_frame.Goals as goal
 
 pub returns-clause-place : goal.returns-clause-place
@@ -9,3 +9,6 @@ returns-clause-item g c start time old mid new next tells = sought_item g.R.Plac
 
 pub returns-clause-there : goal.returns-clause-there
 returns-clause-there g c = sought_there g.R.Placed.state
+
+pub returns-clause-since_new : goal.returns-clause-since_new
+returns-clause-since_new g c calls time first old mid new next tells = item_after g.R.Read.remaining g.R.Placed.state (λ r. g.met.R.Source.left r tells) g.S.Sample.refusal g.S.Sample.meaning calls time first old mid new next

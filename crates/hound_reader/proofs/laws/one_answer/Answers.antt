@@ -1,5 +1,9 @@
 use Rattle.hound_reader.proofs.Exists.{one_answer}
+use Rattle.hound_reader.proofs.ReaderLemmas.{one_file_answer}
 use Rattle.hound_reader.proofs.laws.one_answer.Goals as goal
 
-pub returns : goal.returns
-returns c = one_answer
+pub returns-clause-head : goal.returns-clause-head
+returns-clause-head c = one_answer
+
+pub returns-clause-file : goal.returns-clause-file
+returns-clause-file c = one_file_answer

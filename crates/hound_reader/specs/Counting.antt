@@ -1,0 +1,28 @@
+-- What a reader that counts has given.
+use Rattle.std.specs.Prelude.{◌≡◌, ℕ, ◌-◌, ◌^◌, ◌≤◌, min, List, length, drop, ⊤, Option, None, Some, Result, Ok, Err}
+use Rattle.hound_spec.specs.declared.error.Error.{Error}
+use Rattle.hound_spec.specs.declared.error.Error.TheVariants.{IoError}
+use Rattle.std.proofs.Props.{props}
+use Rattle.std.specs.Coded.{Unit-prop}
+
+-- Where the bytes are known, those that were left at first and are not left now have been given,
+-- from the front, and `given` counts them, up to the greatest `u64`.
+abbrev pub HasGiven : Option (List ℕ) → ℕ → Option (List ℕ) → Type 0
+HasGiven None given left = ⊤
+HasGiven (Some xs) given None = ⊥
+HasGiven (Some xs) given (Some ys) = (length ys ≤ length xs)
+    × (ys ≡ drop (length xs - length ys) xs)
+    × (given ≡ min (length xs - length ys) (2 ^ 64 - 1))
+
+pub HasGiven-prop : (first : Option (List ℕ)) (given : ℕ) (left : Option (List ℕ))
+    → IsProp (HasGiven first given left)
+HasGiven-prop None given left = Unit-prop
+HasGiven-prop (Some xs) given None = λ a b. absurd a
+HasGiven-prop (Some xs) given (Some ys) = hlevel props
+
+-- How many bytes an item took, of those that were given for it: a container of this width at an Ok,
+-- what was given of it where a fault or the end cut it, and none at a refusal.
+abbrev pub bytes_taken : {A : Type 0} → Result A Error → ℕ → ℕ → ℕ
+bytes_taken (Ok value) given width = width
+bytes_taken (Err (IoError e)) given width = min given width
+bytes_taken (Err _) given width = 0
