@@ -1,15 +1,15 @@
 -- For given bytes there is one answer.
-use Rattle.std.proofs.Common.{◌≡◌, ℕ, ◌+◌, ◌≤◌, inl, inr, min, true, false, List, [], ◌∷◌, ◌++◌, length, take, drop, refl, sym, ap, ◌∙◌, subst, arith, take_at, drop_at, length-append, append_assoc, le-ltb, Option, Some, None}
+use Rattle.std.proofs.Common.{◌≡◌, ℕ, ◌+◌, ◌≤◌, inl, inr, true, List, [], ◌∷◌, ◌++◌, length, take, drop, refl, sym, ap, ◌∙◌, subst, arith, take_at, drop_at, length-append, append_assoc, le-ltb, Option, Some, None}
 use Rattle.std.specs.Str.{bytes_eq}
-use Rattle.std.proofs.lemmas.Bool.{true≢false, cases_Bool}
+use Rattle.std.proofs.lemmas.Bool.{true≢false}
 use Rattle.std.proofs.lemmas.List.{append_cancel_left}
 use Rattle.std.proofs.lemmas.Option.{same_Some}
 use Rattle.hound_spec.specs.declared.spec.WavSpecEx.{WavSpecEx}
 use Rattle.hound_reader.specs.declared.fault.Cause.{Cause}
 use Rattle.hound_number.specs.Number.{number}
 use Rattle.hound_reader.specs.Chunks.{Chunk, IsChunk, chunk_bytes, taken_of, bound_of, Chunks, joined, last_spec, Walk, Head, Refused, front_fault, content_fault, chunk_fault}
-use Rattle.hound_spec.specs.Header.{riff_tag, wave_tag, fmt_tag, data_tag}
-use Rattle.hound_reader.proofs.WalkLemmas.{taken_fmt, taken_other}
+use Rattle.hound_spec.specs.Fmt.{greatest_u32}
+use Rattle.hound_spec.specs.Header.{riff_tag, wave_tag, data_tag}
 
 -- fronts of one length
 same_front : (a b x y : List ℕ) → length a ≡ length b → a ++ x ≡ b ++ y → (a ≡ b) × (x ≡ y)
@@ -34,7 +34,7 @@ same_chunk p q x y isp isq e =
 
 -- no chunk begins here
 abbrev Ends : ℕ → List ℕ → Type 0
-Ends k bytes = (p : Chunk) (rest : List ℕ) → IsChunk p → k + 8 + bound_of p.tag (number p.size) ≤ 4294967295 → bytes ≡ chunk_bytes p ++ rest → ⊥
+Ends k bytes = (p : Chunk) (rest : List ℕ) → IsChunk p → k + 8 + bound_of p.tag (number p.size) ≤ greatest_u32 → bytes ≡ chunk_bytes p ++ rest → ⊥
 
 same_walk : (c i j : ℕ) (ps qs : List Chunk) (x y : List ℕ) → Chunks c ps → Chunks c qs → joined ps ++ x ≡ joined qs ++ y → i ≡ c + length (joined ps) → j ≡ c + length (joined qs) → Ends i x → Ends j y → (ps ≡ qs) × (x ≡ y)
 same_walk c i j [] [] x y cp cq e k l ex ey = (refl, e)
@@ -47,28 +47,20 @@ same_walk c i j (p ∷ ps) (q ∷ qs) x y (isp, lp, cp) (isq, lq, cq) e k l ex e
     let more = same_walk (c + length (chunk_bytes p)) i j ps qs x y cp cq' one.1 (omega (arith, length-append (chunk_bytes p) (joined ps))) (omega (arith, n, length-append (chunk_bytes q) (joined qs))) ex ey in
     (ap (λ t. t ∷ ps) one.0 ∙ ap (λ t. q ∷ t) more.0, more.1)
 
-content_sound_fmt : (c : ℕ) (found : Option WavSpecEx) (p : Chunk) (rest : List ℕ) → IsChunk p → c + 8 + bound_of p.tag (number p.size) ≤ 4294967295 → bytes_eq p.tag fmt_tag ≡ true → content_fault c found p.tag (number p.size) (p.content ++ rest) ≡ None
+content_sound : (c : ℕ) (found : Option WavSpecEx) (p : Chunk) (rest : List ℕ) → IsChunk p → c + 8 + bound_of p.tag (number p.size) ≤ greatest_u32 → content_fault c found p.tag (number p.size) (p.content ++ rest) ≡ None
 unfolding content_fault
-content_sound_fmt c found p rest is limit e =
-    let room = le-ltb 4294967295 (c + 8 + bound_of p.tag (number p.size)) limit in
-    let cut = take_at p.content rest (min (number p.size) 40) (is.content ∙ taken_fmt p.tag (number p.size) e) in
-    rw (is.other, room, e, cut) (is.sound e)
-
-content_sound_other : (c : ℕ) (found : Option WavSpecEx) (p : Chunk) (rest : List ℕ) → IsChunk p → c + 8 + bound_of p.tag (number p.size) ≤ 4294967295 → bytes_eq p.tag fmt_tag ≡ false → content_fault c found p.tag (number p.size) (p.content ++ rest) ≡ None
-unfolding content_fault
-content_sound_other c found p rest is limit e =
-    let room = le-ltb 4294967295 (c + 8 + bound_of p.tag (number p.size)) limit in
-    let enough = le-ltb (length (p.content ++ rest)) (bound_of p.tag (number p.size)) (omega (arith, length-append p.content rest, is.content, taken_other p.tag (number p.size) e)) in
-    rw (is.other, room, e, enough) refl
-
-content_sound : (c : ℕ) (found : Option WavSpecEx) (p : Chunk) (rest : List ℕ) → IsChunk p → c + 8 + bound_of p.tag (number p.size) ≤ 4294967295 → content_fault c found p.tag (number p.size) (p.content ++ rest) ≡ None
-content_sound c found p rest is limit = elim (cases_Bool (bytes_eq p.tag fmt_tag)) [ inl e ↦ content_sound_fmt c found p rest is limit e | inr e ↦ content_sound_other c found p rest is limit e ]
+content_sound c found p rest is limit =
+    let n = taken_of p.tag (number p.size) in
+    let room = le-ltb greatest_u32 (c + 8 + bound_of p.tag (number p.size)) limit in
+    let cut = take_at p.content rest n is.content in
+    let enough = le-ltb (length (p.content ++ rest)) n (omega (arith, length-append p.content rest, is.content)) in
+    rw (is.other, room, cut, is.sound, enough) refl
 
 -- a chunk within the limit has no fault
-chunk_sound : (c : ℕ) (found : Option WavSpecEx) (p : Chunk) (rest : List ℕ) → IsChunk p → c + 8 + bound_of p.tag (number p.size) ≤ 4294967295 → chunk_fault c found (chunk_bytes p ++ rest) ≡ None
+chunk_sound : (c : ℕ) (found : Option WavSpecEx) (p : Chunk) (rest : List ℕ) → IsChunk p → c + 8 + bound_of p.tag (number p.size) ≤ greatest_u32 → chunk_fault c found (chunk_bytes p ++ rest) ≡ None
 unfolding chunk_fault
 chunk_sound c found p rest is limit =
-    let room = le-ltb 4294967295 (c + 8) (omega arith) in
+    let room = le-ltb greatest_u32 (c + 8) (omega arith) in
     let whole = spread p rest in
     let enough = le-ltb (length (p.tag ++ (p.size ++ (p.content ++ rest)))) 8 (omega (arith, is.tag, is.size, length-append p.tag (p.size ++ (p.content ++ rest)), length-append p.size (p.content ++ rest))) in
     let tag : take 4 (p.tag ++ (p.size ++ (p.content ++ rest))) ≡ p.tag = take_at p.tag _ 4 is.tag in
@@ -88,10 +80,10 @@ data_ends c size rest p more is limit e =
     let yes : bytes_eq p.tag data_tag ≡ true = rw (← same.0) refl in
     true≢false (sym yes ∙ is.other)
 
-data_sound : (c : ℕ) (spec : WavSpecEx) (size rest : List ℕ) → c + 8 ≤ 4294967295 → length size ≡ 4 → chunk_fault c (Some spec) (data_tag ++ (size ++ rest)) ≡ None
+data_sound : (c : ℕ) (spec : WavSpecEx) (size rest : List ℕ) → c + 8 ≤ greatest_u32 → length size ≡ 4 → chunk_fault c (Some spec) (data_tag ++ (size ++ rest)) ≡ None
 unfolding chunk_fault content_fault
 data_sound c spec size rest limit four =
-    let room = le-ltb 4294967295 (c + 8) limit in
+    let room = le-ltb greatest_u32 (c + 8) limit in
     let enough = le-ltb (length (data_tag ++ (size ++ rest))) 8 (omega (arith, four, length-append size rest)) in
     rw (room, enough) refl
 

@@ -1,5 +1,5 @@
 -- The definitions of the walk at bytes in pieces.
-use Rattle.std.proofs.Common.{◌≡◌, ℕ, ◌+◌, ◌≤◌, min, Bool, true, false, not, List, [], ◌∷◌, ◌++◌, length, take, drop, slice_range, refl, sym, ap, ◌∙◌, arith, take_at, drop_at, length-append, append-nil, append_assoc, le-ltb, length-take, length-drop, take_all, Option, Some, None}
+use Rattle.std.proofs.Common.{◌≡◌, ℕ, ◌+◌, ◌≤◌, Bool, true, false, not, List, [], ◌∷◌, ◌++◌, length, take, drop, slice_range, refl, sym, ap, ◌∙◌, arith, take_at, drop_at, length-append, append-nil, append_assoc, le-ltb, length-take, length-drop, take_all, Option, Some, None}
 use Rattle.std.specs.Str.{bytes_eq}
 use Rattle.std.proofs.lemmas.Slice.Eq.{bytes_eq-Decides}
 use Rattle.std.proofs.lemmas.List.{take-append-drop}
@@ -9,8 +9,9 @@ use Rattle.hound_reader.specs.declared.fault.Reason.TheVariants.{NoRiffTag}
 use Rattle.hound_reader.specs.declared.chunks.ChunkRead.{ChunkRead}
 use Rattle.hound_reader.specs.declared.chunks.ChunkRead.TheVariants.{Data, Other}
 use Rattle.hound_number.specs.Number.{number}
-use Rattle.hound_reader.specs.Chunks.{Chunk, IsChunk, chunk_bytes, taken_of, bound_of, Chunks, joined, last_spec, Head, spec_after, front_fault}
-use Rattle.hound_spec.specs.Header.{riff_tag, wave_tag, fmt_tag, data_tag}
+use Rattle.hound_reader.specs.Chunks.{Chunk, IsChunk, chunk_bytes, bound_of, Chunks, joined, last_spec, Head, spec_after, front_fault}
+use Rattle.hound_spec.specs.Fmt.{greatest_u32}
+use Rattle.hound_spec.specs.Header.{riff_tag, wave_tag, data_tag}
 use Rattle.hound_reader.specs.Walk.{ReadsChunk, ReadsContent, Walked, ReachesData}
 
 -- what a test of the code says
@@ -33,23 +34,11 @@ no_riff h ys l e =
     let enough = le-ltb (length (h ++ ys)) 4 (omega (arith, length-append h ys)) in
     rw (enough, take_at h ys 4 l, e) refl
 
-pub bound_fmt : (tag : List ℕ) (len : ℕ) → bytes_eq tag fmt_tag ≡ true → bound_of tag len ≡ 40
-unfolding bound_of
-bound_fmt tag len e = rw e refl
-
-pub taken_fmt : (tag : List ℕ) (len : ℕ) → bytes_eq tag fmt_tag ≡ true → taken_of tag len ≡ min len 40
-unfolding taken_of
-taken_fmt tag len e = rw e refl
-
-pub taken_other : (tag : List ℕ) (len : ℕ) → bytes_eq tag fmt_tag ≡ false → taken_of tag len ≡ bound_of tag len
-unfolding taken_of bound_of
-taken_other tag len e = rw e refl
-
 -- eight bytes are a tag and a length
 pub halves : (h : List ℕ) → length h ≡ 8 → h ≡ take 4 h ++ slice_range h 4 8
 halves h l = sym (take-append-drop 4 h) ∙ ap (λ t. take 4 h ++ t) (sym (take_all 4 (drop 4 h) (simp length-drop (omega arith))))
 
-pub chunk_from : (c : ℕ) (found : Option WavSpecEx) (h : List ℕ) (t : ChunkRead) (ys zs : List ℕ) → length h ≡ 8 → c + 8 ≤ 4294967295 → ReadsContent c found (take 4 h) (number (slice_range h 4 8)) t ys zs → ReadsChunk c found t (h ++ ys) zs
+pub chunk_from : (c : ℕ) (found : Option WavSpecEx) (h : List ℕ) (t : ChunkRead) (ys zs : List ℕ) → length h ≡ 8 → c + 8 ≤ greatest_u32 → ReadsContent c found (take 4 h) (number (slice_range h 4 8)) t ys zs → ReadsChunk c found t (h ++ ys) zs
 unfolding spec_after
 chunk_from c found h (Data spec n) ys zs l room (is, f, k, e) =
     let size = slice_range h 4 8 in (
@@ -72,7 +61,7 @@ chunk_from c found h (Other next taken) ys zs l room (content, n, other, sound, 
       ap (λ t. h ++ t) e ∙ ap (λ t. t ++ (content ++ zs)) (halves h l) ∙ append_assoc (take 4 h) size (content ++ zs) ∙ ap (λ t. take 4 h ++ t) (sym (append_assoc size content zs)) ∙ sym (append_assoc (take 4 h) (size ++ content) zs),
     )
 
-Chunks-more : (c : ℕ) (ps : List Chunk) (p : Chunk) → Chunks c ps → IsChunk p → c + length (joined ps) + 8 + bound_of p.tag (number p.size) ≤ 4294967295 → Chunks c (ps ++ p ∷ [])
+Chunks-more : (c : ℕ) (ps : List Chunk) (p : Chunk) → Chunks c ps → IsChunk p → c + length (joined ps) + 8 + bound_of p.tag (number p.size) ≤ greatest_u32 → Chunks c (ps ++ p ∷ [])
 Chunks-more c [] p each is limit = (is, omega arith, tt)
 Chunks-more c (q ∷ ps) p (first, room, each) is limit =
     (first, room, Chunks-more (c + length (chunk_bytes q)) ps p each is (omega (arith, length-append (chunk_bytes q) (joined ps))))

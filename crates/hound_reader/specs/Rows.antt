@@ -1,10 +1,11 @@
 -- Files that were written elsewhere, as bytes.
-use Rattle.std.specs.Prelude.{◌≡◌, ℕ, ℤ, List, [], ◌∷◌, ◌++◌, length, map}
+use Rattle.std.specs.Prelude.{◌≡◌, ℕ, ℤ, List, [], ◌∷◌, ◌++◌, codes, length, map}
 use Rattle.hound_spec.specs.declared.spec.SampleFormat.TheVariants.{Int}
 use Rattle.hound_spec.specs.declared.spec.WavSpecEx.{WavSpecEx}
 use Rattle.hound_spec.specs.Header.{riff_tag, wave_tag, fmt_tag, data_tag}
 use Rattle.hound_sample.specs.Meaning.{int_meaning}
 use Rattle.hound_sample.specs.Container.{containers}
+use Rattle.hound_reader.specs.Chunks.{fact_tag}
 use Rattle.hound_reader.specs.Reader.{ReaderState}
 
 -- the content of a fmt chunk: mono, 44100 Hz, 16 bits
@@ -40,12 +41,12 @@ four_samples = mono_front ++ data_tag ++ (0x08 ∷ 0x00 ∷ 0x00 ∷ 0x00 ∷ []
 
 -- the same with a fact chunk of eight bytes before the data
 abbrev pub long_fact : List ℕ
-long_fact = mono_front ++ (0x66 ∷ 0x61 ∷ 0x63 ∷ 0x74 ∷ 0x08 ∷ 0x00 ∷ 0x00 ∷ 0x00 ∷ 0x04 ∷ 0x00 ∷ 0x00 ∷ 0x00 ∷ 0x00 ∷ 0x00 ∷ 0x00 ∷ 0x00 ∷ [])
+long_fact = mono_front ++ fact_tag ++ (0x08 ∷ 0x00 ∷ 0x00 ∷ 0x00 ∷ 0x04 ∷ 0x00 ∷ 0x00 ∷ 0x00 ∷ 0x00 ∷ 0x00 ∷ 0x00 ∷ 0x00 ∷ [])
     ++ data_tag ++ (0x08 ∷ 0x00 ∷ 0x00 ∷ 0x00 ∷ []) ++ four_containers
 
 -- RIFF, a size, WAVE, "junk", and a length that passes the limit
 abbrev pub past_the_limit : List ℕ
-past_the_limit = riff_tag ++ (0x00 ∷ 0x00 ∷ 0x00 ∷ 0x00 ∷ []) ++ wave_tag ++ (0x6a ∷ 0x75 ∷ 0x6e ∷ 0x6b ∷ 0xff ∷ 0xff ∷ 0xff ∷ 0xff ∷ 0x00 ∷ 0x00 ∷ [])
+past_the_limit = riff_tag ++ (0x00 ∷ 0x00 ∷ 0x00 ∷ 0x00 ∷ []) ++ wave_tag ++ codes "junk" ++ (0xff ∷ 0xff ∷ 0xff ∷ 0xff ∷ 0x00 ∷ 0x00 ∷ [])
 
 -- the containers of so many bytes and bits are these numbers
 abbrev pub AreRead : ℕ → ℕ → List ℕ → List ℤ → Type 0

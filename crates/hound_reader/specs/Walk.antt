@@ -2,7 +2,7 @@
 use Rattle.std.specs.Prelude.{◌≡◌, ℕ, ◌+◌, ◌≤◌, List, ◌++◌, length, ⊤, Option, Some, None, true, false, if◌then◌else◌}
 use Rattle.hound_number.specs.Number.{number}
 use Rattle.hound_spec.specs.Header.{fmt_tag, data_tag}
-use Rattle.hound_reader.specs.Chunks.{Chunks, joined, last_spec, chunk_fault, Chunk, IsChunk, chunk_bytes, bound_of, spec_after, taken_of, ok_of, fault_of}
+use Rattle.hound_reader.specs.Chunks.{Chunks, joined, last_spec, chunk_fault, Chunk, IsChunk, chunk_bytes, bound_of, spec_after, taken_of, ok_of, fmt_fault}
 use Rattle.hound_reader.specs.Fmt.{fmt_of, IsSound}
 use Rattle.std.specs.Str.{bytes_eq}
 use Rattle.hound_spec.specs.declared.spec.WavSpecEx.{WavSpecEx}
@@ -19,7 +19,7 @@ ReadsChunk c found (Other next taken) xs ys = (p : Chunk) × IsChunk p × (c + 8
 abbrev pub ReadsContent : ℕ → Option WavSpecEx → List ℕ → ℕ → ChunkRead → List ℕ → List ℕ → Type 0
 ReadsContent c found tag len (Data spec n) xs ys = (bytes_eq tag data_tag ≡ true) × (found ≡ Some spec) × (n ≡ len) × (xs ≡ ys)
 ReadsContent c found tag len (Other next taken) xs ys = (content : List ℕ) × (length content ≡ taken_of tag len) × (bytes_eq tag data_tag ≡ false)
-    × (bytes_eq tag fmt_tag ≡ true → fault_of (fmt_of len content) ≡ None) × (c + 8 + bound_of tag len ≤ 4294967295)
+    × (fmt_fault tag len content ≡ None) × (c + 8 + bound_of tag len ≤ 4294967295)
     × (next ≡ (if bytes_eq tag fmt_tag then ok_of (fmt_of len content) else found)) × (taken ≡ c + 8 + length content) × (xs ≡ content ++ ys)
 
 -- A chunk before the data takes at least its header's eight bytes, and stays within the limit.

@@ -9,10 +9,8 @@ use Rattle.std.specs.Io.{StartsWith}
 use Rattle.hound_number.specs.Number.{AreBytes}
 use Rattle.hound_spec.specs.declared.error.Error.{Error}
 use Rattle.hound_spec.specs.declared.error.Error.TheVariants.{IoError, FormatError, TooWide, UnfinishedSample, Unsupported, InvalidSampleFormat, TooLong, OutOfMemory}
-use Rattle.hound_spec.specs.declared.spec.SampleFormat.{SampleFormat}
-use Rattle.hound_spec.specs.declared.spec.SampleFormat.TheVariants.{Int, Float}
 use Rattle.hound_spec.specs.declared.spec.WavSpecEx.{WavSpecEx}
-use Rattle.hound_spec.specs.Writable.{IsWritable, IsPair}
+use Rattle.hound_spec.specs.Writable.{IsWritable}
 use Rattle.hound_spec.specs.Header.{header, data_start, canonical, riff_size}
 use Rattle.hound_spec.proofs.HeaderLemmas.{length-header, data_start_least}
 use Rattle.hound_sample.specs.Container.{Refusal, too_wide, unsupported, containers}
@@ -23,7 +21,7 @@ use Rattle.hound_reader.proofs.WrittenLemmas.{header_head}
 use Rattle.hound_reader.proofs.Unique.{heads_agree, head_no_fault}
 use Rattle.hound_writer.specs.Parts.{field}
 use Rattle.hound_writer.specs.Writer.{WriterState, HasHeader, IsWhole, IsBegun, IsPublishing, Publishes, accepted, faults_told}
-use Rattle.hound_writer.specs.Appending.{GoesOn, IsNotAppended, IsAppendFault, AppendFault, head_fault, is_written_pair}
+use Rattle.hound_writer.specs.Appending.{GoesOn, IsNotAppended, IsAppendFault, AppendFault, head_fault}
 use Rattle.hound_medium.proofs.Torn.{number_at_small}
 use Rattle.hound_writer.proofs.Accepting.{length_overlay_max}
 use Rattle.hound_session.specs.declared.session.Step.{Step}
@@ -119,21 +117,12 @@ module _ {M : Type 0} (state : M → MediumState) (s : WavSpecEx) (list : List (
             (length-canonical s (list ++ more) ∙ ap (λ n. n + length (concat (list ++ more))) (sym on.at) ∙ ap (λ n. first.data_start + n) (sym size));
       }
 
--- a pair that can be written
-written_pair : (format : SampleFormat) (bits width : ℕ) → IsPair format bits width → is_written_pair format bits width ≡ true
-written_pair Int bits width (inl (b, w)) = (λ i. is_written_pair Int (b i) (w i))
-written_pair Int bits width (inr (inl (b, w))) = (λ i. is_written_pair Int (b i) (w i))
-written_pair Int bits width (inr (inr (inl (b, w)))) = (λ i. is_written_pair Int (b i) (w i))
-written_pair Int bits width (inr (inr (inr (inl (b, w))))) = (λ i. is_written_pair Int (b i) (w i))
-written_pair Int bits width (inr (inr (inr (inr (b, w))))) = (λ i. is_written_pair Int (b i) (w i))
-written_pair Float bits width (b, w) = (λ i. is_written_pair Float (b i) (w i))
-
 -- a head that can be gone on with
 no_head_fault : (s : WavSpecEx) (len h : ℕ) → IsWritable s → len % s.bytes_per_sample ≡ 0 → len / s.bytes_per_sample % s.spec.channels ≡ 0 → riff_size h len ≤ 4294967295 → head_fault s len h ≡ None
 unfolding head_fault
 no_head_fault s len h writable samples frames fits =
     let a = eq-eqb (len % s.bytes_per_sample) 0 samples in
-    let b = written_pair s.spec.sample_format s.spec.bits_per_sample s.bytes_per_sample writable.pair in
+    let b = writable.pair in
     let c = eq-eqb (len / s.bytes_per_sample % s.spec.channels) 0 frames in
     let d = le-ltb 4294967295 (riff_size h len) fits in
     rw (a, b, c, d) refl

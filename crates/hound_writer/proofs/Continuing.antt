@@ -2,10 +2,7 @@
 use Rattle.std.proofs.Common.{◌≡◌, ℕ, ◌+◌, ◌-◌, ◌≤◌, Bool, true, false, not, cond, nat_lt, List, length, drop, Option, Some, None, inl, inr, Result, Ok, Err, MatchResult, refl, sym, ◌∙◌, ap, subst, arith, eqb-true}
 use Rattle.std.proofs.lemmas.Bool.Decides.{nat_tests}
 use Rattle.hound_spec.specs.declared.error.Error.{Error}
-use Rattle.hound_spec.specs.declared.spec.SampleFormat.{SampleFormat}
-use Rattle.hound_spec.specs.declared.spec.SampleFormat.TheVariants.{Int, Float}
 use Rattle.hound_spec.specs.declared.spec.WavSpecEx.{WavSpecEx}
-use Rattle.hound_spec.specs.Writable.{IsPair}
 use Rattle.hound_medium.specs.State.{MediumState, one_more}
 use Rattle.hound_reader.specs.declared.chunks.FileHead.{FileHead}
 use Rattle.hound_reader.specs.declared.fault.HeadError.{HeadError}
@@ -16,7 +13,7 @@ use Rattle.hound_reader.specs.Refusals.{TellsError}
 use Rattle.hound_reader.specs.Sources.{FindsData}
 use Rattle.hound_writer.specs.Parts.{Stands, field}
 use Rattle.hound_writer.specs.Writer.{WriterState, IsSound, IsIoError}
-use Rattle.hound_writer.specs.Appending.{IsAppendFault, by_bytes, head_fault, is_written_pair, GoesOn, IsNotAppended, PutsNothing}
+use Rattle.hound_writer.specs.Appending.{IsAppendFault, by_bytes, head_fault, GoesOn, IsNotAppended, PutsNothing}
 use Rattle.hound_writer.proofs.Heads.{head_inside, head_field}
 
 -- where a row of a table isn't met, the rows behind it decide
@@ -28,11 +25,6 @@ holds : (b : Bool) → not b ≡ false → b ≡ true
 holds true e = refl
 holds false e = cc
 
--- samples of a pair that is written
-pub pair_of : (format : SampleFormat) (bits width : ℕ) → is_written_pair format bits width ≡ true → IsPair format bits width
-pair_of Int bits width e = grind (arith, nat_tests)
-pair_of Float bits width e = grind (arith, nat_tests)
-
 -- a head with no fault
 pub sound_head : (s : WavSpecEx) (len h : ℕ) → IsSoundHead s → 20 ≤ h → head_fault s len h ≡ None → IsSound s h len
 unfolding head_fault
@@ -42,7 +34,7 @@ sound_head s len h sound behind none =
     let frames = none_behind _ _ _ pair.1 in
     let fits = none_behind _ _ _ frames.1 in
     record {
-      pair = pair_of s.spec.sample_format s.spec.bits_per_sample s.bytes_per_sample (holds _ pair.0);
+      pair = holds _ pair.0;
       channels = omega (arith, sound.0);
       width = omega (arith, sound.1);
       whole = eqb-true _ _ (holds _ samples.0);
