@@ -97,14 +97,14 @@ Ending c found bytes = ((cause : Cause) × (chunk_fault c found bytes ≡ Some c
 abbrev Goes : ℕ → Option WavSpecEx → List ℕ → Type 0
 Goes c found bytes = (ps : List Chunk) × (rest : List ℕ) × (bytes ≡ joined ps ++ rest) × Chunks c ps × Ending (c + length (joined ps)) (last_spec found ps) rest
 
-goes_more : (c : ℕ) (found : Option WavSpecEx) (bytes : List ℕ) (p : Chunk) (rest : List ℕ) → IsChunk p → c + 8 + bound_of p.tag (number p.size) ≤ greatest_u32 → bytes ≡ chunk_bytes p ++ rest → Goes (c + length (chunk_bytes p)) (spec_after found p) rest → Goes c found bytes
+goes_more : (c : ℕ) (found : Option WavSpecEx) (bytes : List ℕ) (p : Chunk) (rest : List ℕ) → IsChunk p → c + 8 + bound_of p.tag (number p.size) ≤ greatest_u32 → bytes ≡ chunk_bytes p ++ rest → Goes (c + length (chunk_bytes p)) (spec_after found p.tag (number p.size) p.content) rest → Goes c found bytes
 goes_more c found bytes p rest is limit e (ps, end, f, each, ending) =
     let n : c + length (chunk_bytes p) + length (joined ps) ≡ c + length (chunk_bytes p ++ joined ps) = omega (arith, length-append (chunk_bytes p) (joined ps)) in (
       p ∷ ps,
       end,
       e ∙ ap (λ t. chunk_bytes p ++ t) f ∙ sym (append_assoc (chunk_bytes p) (joined ps) end),
       (is, limit, each),
-      subst (λ i. Ending i (last_spec (spec_after found p) ps) end) n ending,
+      subst (λ i. Ending i (last_spec (spec_after found p.tag (number p.size) p.content) ps) end) n ending,
     )
 
 goes_none : (c : ℕ) (found : Option WavSpecEx) (bytes : List ℕ) → Ending c found bytes → Goes c found bytes
@@ -126,7 +126,7 @@ goes (suc fuel) c found bytes l = elim (fault_or_none (chunk_fault c found bytes
   | inr f ↦ elim (no_fault_there c found bytes f) [
     | inl d ↦ goes_none c found bytes (inr d)
     | inr (p, rest, is, limit, e) ↦ goes_more c found bytes p rest is limit e
-        (goes fuel (c + length (chunk_bytes p)) (spec_after found p) rest (omega (arith, ap length e, length-append (chunk_bytes p) rest, long_chunk p is)))
+        (goes fuel (c + length (chunk_bytes p)) (spec_after found p.tag (number p.size) p.content) rest (omega (arith, ap length e, length-append (chunk_bytes p) rest, long_chunk p is)))
   ]
 ]
 

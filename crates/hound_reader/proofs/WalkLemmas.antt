@@ -39,7 +39,6 @@ pub halves : (h : List ℕ) → length h ≡ 8 → h ≡ take 4 h ++ slice_range
 halves h l = sym (take-append-drop 4 h) ∙ ap (λ t. take 4 h ++ t) (sym (take_all 4 (drop 4 h) (simp length-drop (omega arith))))
 
 pub chunk_from : (c : ℕ) (found : Option WavSpecEx) (h : List ℕ) (t : ChunkRead) (ys zs : List ℕ) → length h ≡ 8 → c + 8 ≤ greatest_u32 → ReadsContent c found (take 4 h) (number (slice_range h 4 8)) t ys zs → ReadsChunk c found t (h ++ ys) zs
-unfolding spec_after
 chunk_from c found h (Data spec n) ys zs l room (is, f, k, e) =
     let size = slice_range h 4 8 in (
       f,
@@ -66,9 +65,9 @@ Chunks-more c [] p each is limit = (is, omega arith, tt)
 Chunks-more c (q ∷ ps) p (first, room, each) is limit =
     (first, room, Chunks-more (c + length (chunk_bytes q)) ps p each is (omega (arith, length-append (chunk_bytes q) (joined ps))))
 
-last_spec-more : (found : Option WavSpecEx) (ps : List Chunk) (p : Chunk) → last_spec found (ps ++ p ∷ []) ≡ spec_after (last_spec found ps) p
+last_spec-more : (found : Option WavSpecEx) (ps : List Chunk) (p : Chunk) → last_spec found (ps ++ p ∷ []) ≡ spec_after (last_spec found ps) p.tag (number p.size) p.content
 last_spec-more found [] p = refl
-last_spec-more found (q ∷ ps) p = last_spec-more (spec_after found q) ps p
+last_spec-more found (q ∷ ps) p = last_spec-more (spec_after found q.tag (number q.size) q.content) ps p
 
 joined-more : (ps : List Chunk) (p : Chunk) (rest : List ℕ) → joined (ps ++ p ∷ []) ++ rest ≡ joined ps ++ (chunk_bytes p ++ rest)
 joined-more [] p rest = ap (λ t. t ++ rest) (append-nil (chunk_bytes p))
@@ -84,7 +83,7 @@ walked_more xs ys zs c taken found next w (p, is, limit, f, k, e) = record {
   chunks = w.chunks ++ p ∷ [];
   each = Chunks-more 0 w.chunks p w.each is (omega (arith, w.taken_is));
   whole = w.whole ∙ ap (λ t. joined w.chunks ++ t) e ∙ sym (joined-more w.chunks p zs);
-  found_is = f ∙ ap (λ g. spec_after g p) w.found_is ∙ sym (last_spec-more None w.chunks p);
+  found_is = f ∙ ap (λ g. spec_after g p.tag (number p.size) p.content) w.found_is ∙ sym (last_spec-more None w.chunks p);
   taken_is = k ∙ ap (λ i. i + length (chunk_bytes p)) w.taken_is ∙ sym (length-joined-more w.chunks p);
 }
 

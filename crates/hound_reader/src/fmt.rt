@@ -72,7 +72,8 @@ fn read_wave_format_pcm<R: Input>(
     requires sound { IsSound found }
     ensures sound { IfOk result IsSound }
     ensures failures { CountsFailed (R.account reader.old) (R.account reader.new) result }
-    ensures gives { Gives (R.left reader.old) (R.left reader.new) (taken_of fmt_tag chunk_len - 16) result
+    ensures gives { Gives (R.left reader.old) (R.left reader.new)
+        (taken_of fmt_tag chunk_len - 16) result
         (λ xs. wave_format_pcm chunk_len found (take (taken_of fmt_tag chunk_len - 16) xs)) }
 {
     if chunk_len == 16 {
@@ -103,7 +104,8 @@ fn read_wave_format_ieee_float<R: Input>(
     requires sound { IsSound found }
     ensures sound { IfOk result IsSound }
     ensures failures { CountsFailed (R.account reader.old) (R.account reader.new) result }
-    ensures gives { Gives (R.left reader.old) (R.left reader.new) (taken_of fmt_tag chunk_len - 16) result
+    ensures gives { Gives (R.left reader.old) (R.left reader.new)
+        (taken_of fmt_tag chunk_len - 16) result
         (λ xs. wave_format_ieee_float chunk_len found (take (taken_of fmt_tag chunk_len - 16) xs)) }
 {
     if chunk_len != 16 && chunk_len != 18 {
@@ -166,7 +168,8 @@ fn read_wave_format_extensible<R: Input>(
     requires sound { IsSound found }
     ensures sound { IfOk result IsSound }
     ensures failures { CountsFailed (R.account reader.old) (R.account reader.new) result }
-    ensures gives { Gives (R.left reader.old) (R.left reader.new) (taken_of fmt_tag chunk_len - 16) result
+    ensures gives { Gives (R.left reader.old) (R.left reader.new)
+        (taken_of fmt_tag chunk_len - 16) result
         (λ xs. wave_format_extensible chunk_len found (take (taken_of fmt_tag chunk_len - 16) xs)) }
 {
     if chunk_len < 40 {
@@ -194,7 +197,8 @@ fn read_by_tag<R: Input>(
     requires sound { IsSound found }
     ensures sound { IfOk result IsSound }
     ensures failures { CountsFailed (R.account reader.old) (R.account reader.new) result }
-    ensures gives { Gives (R.left reader.old) (R.left reader.new) (taken_of fmt_tag chunk_len - 16) result
+    ensures gives { Gives (R.left reader.old) (R.left reader.new)
+        (taken_of fmt_tag chunk_len - 16) result
         (λ xs. by_tag tag chunk_len found (take (taken_of fmt_tag chunk_len - 16) xs)) }
 {
     match tag {
@@ -214,7 +218,8 @@ pub(crate) fn read_fmt_chunk<R: Input>(
 ) -> Result<WavSpecEx, HeadError>
     ensures sound { IfOk result IsSound }
     ensures failures { CountsFailed (R.account reader.old) (R.account reader.new) result }
-    ensures gives { Gives (R.left reader.old) (R.left reader.new) (taken_of fmt_tag chunk_len) result
+    ensures gives { Gives (R.left reader.old) (R.left reader.new)
+        (taken_of fmt_tag chunk_len) result
         (λ xs. fmt_of chunk_len (take (taken_of fmt_tag chunk_len) xs)) }
 {
     if chunk_len < 16 {

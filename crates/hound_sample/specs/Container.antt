@@ -4,7 +4,8 @@ use Rattle.hound_number.specs.Number.{bytes_of, signed_bytes_of}
 use Rattle.hound_spec.specs.Writable.{is_pair}
 use Rattle.hound_spec.specs.declared.spec.SampleFormat.TheVariants.{Int, Float}
 
--- why a value has no container: it needs more bits, or its type is not written with these bits and bytes
+-- why a value has no container: it needs more bits, or its type is not written with these bits and
+-- bytes
 pub data Refusal : Type 0 where
   too_wide : Refusal
   unsupported : Refusal
@@ -26,16 +27,18 @@ if_fits bits v container = if fits bits v then Ok container else Err too_wide
 -- behind the used bits
 abbrev pub int_bytes : ℤ → ℕ → ℕ → List ℕ
 int_bytes v bits width =
-    if width == 1 then offset_byte v else (signed_bytes_of (bits / 8) v ++ replicate (width - bits / 8) 0)
+    if width == 1 then offset_byte v
+    else (signed_bytes_of (bits / 8) v ++ replicate (width - bits / 8) 0)
 
--- the container of an integer, by the used bits and the bytes; the pair is looked at before the value
+-- the container of an integer, by the used bits and the bytes; these are looked at before the value
 unfoldable pub int_container : ℤ → ℕ → ℕ → Result (List ℕ) Refusal
 int_container v bits width =
     if is_pair Int bits width then if_fits bits v (int_bytes v bits width) else Err unsupported
 
 -- the container of a pattern of 32 bits, by the used bits and the bytes
 unfoldable pub pattern_container : ℕ → ℕ → ℕ → Result (List ℕ) Refusal
-pattern_container pattern bits width = if is_pair Float bits width then Ok (bytes_of 4 pattern) else Err unsupported
+pattern_container pattern bits width =
+    if is_pair Float bits width then Ok (bytes_of 4 pattern) else Err unsupported
 
 -- the first containers of data, so many of this width
 abbrev pub containers : ℕ → ℕ → List ℕ → List (List ℕ)

@@ -1,7 +1,8 @@
 -- What holds of every container.
 use Rattle.std.proofs.Common.{◌≡◌, ℕ, ℤ, pos, negsuc, ◌≤◌, Bool, true, false, cond, List, length, Result, Ok, Err, IsTrue, refl, ◌∙◌, ap, lit≤}
+use Rattle.std.specs.List.{AllByRecursion}
 use Rattle.hound_number.specs.Number.{bytes_of}
-use Rattle.hound_spec.specs.Writable.{IsPair, is_pair}
+use Rattle.hound_spec.specs.Writable.{IsPair, is_pair, pairs}
 use Rattle.hound_spec.proofs.WritableLemmas.{of_pair}
 use Rattle.hound_spec.specs.declared.spec.SampleFormat.TheVariants.{Int, Float}
 use Rattle.hound_sample.specs.Container.{Refusal, too_wide, unsupported, fits, int_bytes, int_container, pattern_container, offset_byte}
@@ -11,12 +12,14 @@ abbrev InWidth : List ℕ → ℕ → Type 0
 InWidth c width = (length c ≡ width) × (1 ≤ width) × (width ≤ 4)
 
 -- what is Ok has met its condition
-met : (b : Bool) (here : Result (List ℕ) Refusal) (refusal : Refusal) (c : List ℕ) → cond b here (Err refusal) ≡ Ok c → IsTrue b × (here ≡ Ok c)
+met : (b : Bool) (here : Result (List ℕ) Refusal) (refusal : Refusal) (c : List ℕ)
+    → cond b here (Err refusal) ≡ Ok c → IsTrue b × (here ≡ Ok c)
 met true here refusal c is = (refl, is)
 met false here refusal c is = cc
 
 -- an integer that has a container: its bits and bytes are a pair, and it fits
-pub contained : (v : ℤ) (bits width : ℕ) (c : List ℕ) → int_container v bits width ≡ Ok c → IsPair Int bits width × IsTrue (fits bits v) × (c ≡ int_bytes v bits width)
+pub contained : (v : ℤ) (bits width : ℕ) (c : List ℕ) → int_container v bits width ≡ Ok c
+    → IsPair Int bits width × IsTrue (fits bits v) × (c ≡ int_bytes v bits width)
 unfolding int_container
 contained v bits width c is =
     let (pair, fitting) = met (is_pair Int bits width) _ unsupported c is in
@@ -24,21 +27,27 @@ contained v bits width c is =
     (pair, fit, cc)
 
 -- a container of an integer has the bytes that it was asked to have, one to four
-pub int_container-in_width : (v : ℤ) (bits width : ℕ) (c : List ℕ) → int_container v bits width ≡ Ok c → (length c ≡ width) × (1 ≤ width) × (width ≤ 4)
+pub int_container-in_width : (v : ℤ) (bits width : ℕ) (c : List ℕ) → int_container v bits width ≡ Ok c
+    → (length c ≡ width) × (1 ≤ width) × (width ≤ 4)
 int_container-in_width v bits width c is =
     let (pair, _, same) = contained v bits width c is in
-    let (size, some, few) = of_pair (λ b w. InWidth (int_bytes v b w) w) Int bits width (one v, ((refl, lit≤ tt, lit≤ tt), ((refl, lit≤ tt, lit≤ tt), ((refl, lit≤ tt, lit≤ tt), ((refl, lit≤ tt, lit≤ tt), tt))))) pair in
+    let (size, some, few) = of_pair (λ b w. InWidth (int_bytes v b w) w) Int bits width rows pair in
     (ap length same ∙ size, some, few)
   where
     one : (v : ℤ) → InWidth (offset_byte v) 1
     one (pos n) = (refl, lit≤ tt, lit≤ tt)
     one (negsuc n) = (refl, lit≤ tt, lit≤ tt)
 
+    rows : AllByRecursion (λ (b, w). InWidth (int_bytes v b w) w) (pairs Int)
+    rows = (one v, ((refl, lit≤ tt, lit≤ tt), ((refl, lit≤ tt, lit≤ tt), ((refl, lit≤ tt, lit≤ tt), ((refl, lit≤ tt, lit≤ tt), tt)))))
+
 -- so has the container of a pattern
-pub pattern_container-in_width : (pattern bits width : ℕ) (c : List ℕ) → pattern_container pattern bits width ≡ Ok c → (length c ≡ width) × (1 ≤ width) × (width ≤ 4)
+pub pattern_container-in_width : (pattern bits width : ℕ) (c : List ℕ)
+    → pattern_container pattern bits width ≡ Ok c → (length c ≡ width) × (1 ≤ width) × (width ≤ 4)
 unfolding pattern_container
 pattern_container-in_width pattern bits width c is =
     let (pair, here) = met (is_pair Float bits width) (Ok (bytes_of 4 pattern)) unsupported c is in
     let same : c ≡ bytes_of 4 pattern = cc in
-    let (size, some, few) = of_pair (λ b w. InWidth (bytes_of 4 pattern) w) Float bits width ((refl, lit≤ tt, lit≤ tt), tt) pair in
+    let (size, some, few) =
+    of_pair (λ b w. InWidth (bytes_of 4 pattern) w) Float bits width ((refl, lit≤ tt, lit≤ tt), tt) pair in
     (ap length same ∙ size, some, few)

@@ -54,8 +54,11 @@ pub record FieldsFit (f : FmtFields) : Type 0 where
   pub align : f.align < 256 ^ 2
   pub bits : f.bits < 256 ^ 2
 
--- What an extensible chunk has behind those and the size of this, 22 (WAVEFORMATEXTENSIBLE: the
+-- What an extensible chunk has behind those fields and the size of this (WAVEFORMATEXTENSIBLE: the
 -- valid bits, the mask of speakers, the subformat).
+abbrev pub extension_size : ℕ
+extension_size = 22
+
 pub record Extension : Type 0 where
   pub valid_bits : ℕ
   pub mask : ℕ
@@ -75,8 +78,8 @@ extension bytes = record {
 -- The GUID of a sample format (KSDATAFORMAT_SUBTYPE_PCM, KSDATAFORMAT_SUBTYPE_IEEE_FLOAT): its
 -- format tag, and fourteen bytes that all such GUIDs have.
 abbrev pub guid : ℕ → List ℕ
-guid tag = bytes_of 2 tag
-    ++ 0x00 ∷ 0x00 ∷ 0x00 ∷ 0x00 ∷ 0x10 ∷ 0x00 ∷ 0x80 ∷ 0x00 ∷ 0x00 ∷ 0xaa ∷ 0x00 ∷ 0x38 ∷ 0x9b ∷ 0x71 ∷ []
+guid tag = bytes_of 2 tag ++ 0x00 ∷ 0x00 ∷ 0x00 ∷ 0x00 ∷ 0x10 ∷ 0x00
+    ∷ 0x80 ∷ 0x00 ∷ 0x00 ∷ 0xaa ∷ 0x00 ∷ 0x38 ∷ 0x9b ∷ 0x71 ∷ []
 
 abbrev pub subformat : SampleFormat → List ℕ
 subformat Int = guid pcm

@@ -2,7 +2,7 @@
 use Rattle.std.specs.Prelude.{ℕ, ◌+◌, ◌-◌, ◌*◌, ◌^◌, min, Bool, ◌&&◌, nat_le, if◌then◌else◌, List, ◌++◌, length, codes}
 use Rattle.std.specs.List.{concat}
 use Rattle.hound_number.specs.Number.{bytes_of}
-use Rattle.hound_spec.specs.Fmt.{FmtFields, fmt_bytes, extension_bytes, subformat, pcm, extensible}
+use Rattle.hound_spec.specs.Fmt.{FmtFields, fmt_bytes, Extension, extension_bytes, extension_size, subformat, pcm, extensible}
 use Rattle.hound_spec.specs.declared.spec.WavSpecEx.{WavSpecEx}
 
 -- The chunk identifiers (RIFF, "Chunks": four characters, a size, the content).
@@ -22,7 +22,8 @@ data_tag = codes "data"
 abbrev pub is_short : WavSpecEx → Bool
 is_short s = nat_le s.spec.channels 2 && nat_le s.spec.bits_per_sample 16
 
--- The speakers of so many channels: as many low bits, of 18 (WAVEFORMATEXTENSIBLE, "dwChannelMask").
+-- The speakers of so many channels: as many low bits, of 18 (WAVEFORMATEXTENSIBLE,
+-- "dwChannelMask").
 abbrev pub mask : ℕ → ℕ
 mask channels = 2 ^ min channels 18 - 1
 
@@ -37,14 +38,23 @@ fields tag bits s = record {
   bits = bits;
 }
 
--- The content of a PCMWAVEFORMAT, and of a WAVEFORMATEXTENSIBLE, whose bits are those of a container.
+-- What the extension of a spec says (WAVEFORMATEXTENSIBLE).
+abbrev pub extended : WavSpecEx → Extension
+extended s = record {
+  valid_bits = s.spec.bits_per_sample;
+  mask = mask s.spec.channels;
+  subformat = subformat s.spec.sample_format;
+}
+
+-- The content of a PCMWAVEFORMAT, and of a WAVEFORMATEXTENSIBLE, whose bits are those of the
+-- container.
 abbrev pub short_fmt : WavSpecEx → List ℕ
 short_fmt s = fmt_bytes (fields pcm s.spec.bits_per_sample s)
 
 abbrev pub long_fmt : WavSpecEx → List ℕ
 long_fmt s =
-    let more = extension_bytes (record { valid_bits = s.spec.bits_per_sample; mask = mask s.spec.channels; subformat = subformat s.spec.sample_format }) in
-    fmt_bytes (fields extensible (8 * s.bytes_per_sample) s) ++ bytes_of 2 22 ++ more
+    fmt_bytes (fields extensible (8 * s.bytes_per_sample) s)
+    ++ bytes_of 2 extension_size ++ extension_bytes (extended s)
 
 -- The fmt chunk behind its tag: its length and its content.
 unfoldable pub sized_fmt : WavSpecEx → List ℕ

@@ -195,10 +195,13 @@ impl WavSpec {
     ///
     /// The errors, in their order: `Unsupported`, for a spec that can't be written; `OutOfMemory`.
     pub fn into_header_for_infinite_file(self, alloc: Global) -> Result<Vec<u8>>
-        ensures unsupported { (IsWritable (with_default_width self) → ⊥) → result ≡ Err Unsupported }
+        ensures unsupported { (IsWritable (with_default_width self) → ⊥) →
+            result ≡ Err Unsupported }
         ensures only_writable { OnOk result (IsWritable (with_default_width self)) }
-        ensures header { IfOk result (λ bytes. bytes.items ≡ header (with_default_width self) greatest_u32 greatest_u32) }
-        ensures writable { IsWritable (with_default_width self) → IfErr result (λ e. e ≡ OutOfMemory) }
+        ensures header { IfOk result (λ bytes.
+            bytes.items ≡ header (with_default_width self) greatest_u32 greatest_u32) }
+        ensures writable { IsWritable (with_default_width self) →
+            IfErr result (λ e. e ≡ OutOfMemory) }
     {
         let spec_ex = with_default_width(self);
         if !spec_ex.is_writable() {

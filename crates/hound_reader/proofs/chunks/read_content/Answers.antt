@@ -1,6 +1,6 @@
 use Rattle.std.proofs.Common.{◌≡◌, ◌+◌, ◌++◌, length, take, Some, true, false, refl, sym, ap, ◌∙◌, arith, length-take-le}
 use Rattle.std.proofs.lemmas.List.{take-append-drop}
-use Rattle.hound_reader.specs.Chunks.{taken_of}
+use Rattle.hound_reader.specs.Chunks.{taken_of, spec_after}
 use Rattle.hound_spec.specs.Header.{fmt_tag, data_tag}
 use Rattle.hound_reader.specs.Walk.{ReadsContent}
 use Rattle.hound_reader.specs.declared.chunks.ChunkRead.TheVariants.{Other}
@@ -9,6 +9,7 @@ use Rattle.hound_reader.proofs.WalkLemmas.{tag_test, same_tag}
 use Rattle.hound_reader.proofs.chunks.read_content.Goals as goal
 
 pub returns-then-eq-2-clause-ok : goal.returns-then-eq-2-clause-ok
+unfolding spec_after
 returns-then-eq-2-clause-ok g c =
     let tag = c.args.tag.now in
     let len = c.args.chunk_len in
@@ -29,6 +30,7 @@ returns-then-eq-2-clause-ok g c =
     ))
 
 pub returns-clause-ok : goal.returns-clause-ok
+unfolding spec_after
 returns-clause-ok g c =
     let tag = c.args.tag.now in
     let len = c.args.chunk_len in
