@@ -18,25 +18,33 @@ use Rattle.hound_reader.proofs.Unique.{spread, heads_agree, head_no_fault, fault
 
 -- the header of the data, with a spec before it
 abbrev DataEnd : ℕ → Option WavSpecEx → List ℕ → Type 0
-DataEnd c found bytes = (spec : WavSpecEx) × (size : List ℕ) × (rest : List ℕ) × (found ≡ Some spec) × (c + 8 ≤ greatest_u32) × (length size ≡ 4) × (bytes ≡ data_tag ++ (size ++ rest))
+DataEnd c found bytes = (spec : WavSpecEx) × (size : List ℕ) × (rest : List ℕ) × (found ≡ Some spec)
+    × (c + 8 ≤ greatest_u32) × (length size ≡ 4) × (bytes ≡ data_tag ++ (size ++ rest))
 
 -- a chunk within the limit
 abbrev OneChunk : ℕ → List ℕ → Type 0
-OneChunk c bytes = (p : Chunk) × (rest : List ℕ) × IsChunk p × (c + 8 + bound_of p.tag (number p.size) ≤ greatest_u32) × (bytes ≡ chunk_bytes p ++ rest)
+OneChunk c bytes = (p : Chunk) × (rest : List ℕ) × IsChunk p
+    × (c + 8 + bound_of p.tag (number p.size) ≤ greatest_u32) × (bytes ≡ chunk_bytes p ++ rest)
 
-guard_some : (b : Bool) (c : Cause) (o : Option Cause) → cond b (Some c) o ≡ None → (b ≡ false) × (o ≡ None)
+guard_some : (b : Bool) (c : Cause) (o : Option Cause) → cond b (Some c) o ≡ None
+    → (b ≡ false) × (o ≡ None)
 guard_some true c o h = absurd (let k : ⊥ = cc in k)
 guard_some false c o h = (refl, h)
 
-some_from : (found : Option WavSpecEx) → is_none found ≡ false → (spec : WavSpecEx) × (found ≡ Some spec)
+some_from : (found : Option WavSpecEx) → is_none found ≡ false
+    → (spec : WavSpecEx) × (found ≡ Some spec)
 some_from None h = absurd (let k : ⊥ = cc in k)
 some_from (Some s) h = (s, refl)
 
-parts : (bytes : List ℕ) → 8 ≤ length bytes → bytes ≡ take 4 bytes ++ (slice_range bytes 4 8 ++ drop 8 bytes)
+parts : (bytes : List ℕ) → 8 ≤ length bytes
+    → bytes ≡ take 4 bytes ++ (slice_range bytes 4 8 ++ drop 8 bytes)
 parts bytes l =
-    sym (take-append-drop 4 bytes) ∙ ap (λ t. take 4 bytes ++ t) (sym (take-append-drop 4 (drop 4 bytes)) ∙ ap (λ t. slice_range bytes 4 8 ++ t) (drop-drop 4 4 bytes))
+    sym (take-append-drop 4 bytes)
+    ∙ ap (λ t. take 4 bytes ++ t) (sym (take-append-drop 4 (drop 4 bytes)) ∙ ap (λ t. slice_range bytes 4 8 ++ t) (drop-drop 4 4 bytes))
 
-at_data : (c : ℕ) (found : Option WavSpecEx) (tag : List ℕ) (len : ℕ) (rest : List ℕ) → bytes_eq tag data_tag ≡ true → content_fault c found tag len rest ≡ None → (spec : WavSpecEx) × (found ≡ Some spec)
+at_data : (c : ℕ) (found : Option WavSpecEx) (tag : List ℕ) (len : ℕ) (rest : List ℕ)
+    → bytes_eq tag data_tag ≡ true → content_fault c found tag len rest ≡ None
+    → (spec : WavSpecEx) × (found ≡ Some spec)
 unfolding content_fault
 at_data c found tag len rest e h =
     let g = guard_some (is_none found) _ _ (rw e at h) in
@@ -46,8 +54,11 @@ none_first : (a b : Option Cause) → first_fault a b ≡ None → (a ≡ None) 
 none_first None b h = (refl, h)
 none_first (Some c) b h = cc
 
-at_chunk : (c : ℕ) (found : Option WavSpecEx) (tag : List ℕ) (len : ℕ) (rest : List ℕ) → bytes_eq tag data_tag ≡ false → content_fault c found tag len rest ≡ None
-    → (c + 8 + bound_of tag len ≤ greatest_u32) × (fmt_fault tag len (take (taken_of tag len) rest) ≡ None) × (taken_of tag len ≤ length rest)
+at_chunk : (c : ℕ) (found : Option WavSpecEx) (tag : List ℕ) (len : ℕ) (rest : List ℕ)
+    → bytes_eq tag data_tag ≡ false → content_fault c found tag len rest ≡ None
+    → (c + 8 + bound_of tag len ≤ greatest_u32)
+    × (fmt_fault tag len (take (taken_of tag len) rest) ≡ None)
+    × (taken_of tag len ≤ length rest)
 unfolding content_fault
 at_chunk c found tag len rest e h =
     let g = guard_some (nat_lt greatest_u32 (c + 8 + bound_of tag len)) _ _ (rw e at h) in
@@ -55,7 +66,10 @@ at_chunk c found tag len rest e h =
     let l = guard_some (nat_lt (length rest) (taken_of tag len)) _ _ k.1 in
     (ltb-false _ _ g.0, k.0, ltb-false _ _ l.0)
 
-chunk_there : (c : ℕ) (found : Option WavSpecEx) (bytes : List ℕ) → c + 8 ≤ greatest_u32 → 8 ≤ length bytes → content_fault c found (take 4 bytes) (number (slice_range bytes 4 8)) (drop 8 bytes) ≡ None → DataEnd c found bytes ⊎ OneChunk c bytes
+chunk_there : (c : ℕ) (found : Option WavSpecEx) (bytes : List ℕ) → c + 8 ≤ greatest_u32
+    → 8 ≤ length bytes
+    → content_fault c found (take 4 bytes) (number (slice_range bytes 4 8)) (drop 8 bytes) ≡ None
+    → DataEnd c found bytes ⊎ OneChunk c bytes
 chunk_there c found bytes room enough h =
     let tag = take 4 bytes in
     let size = slice_range bytes 4 8 in
@@ -66,7 +80,16 @@ chunk_there c found bytes room enough h =
     let whole = parts bytes enough in
     elim (cases_Bool (bytes_eq tag data_tag)) [
       | inl e ↦ let f = at_data c found tag len rest e h in
-          inl (f.0, size, rest, f.1, room, four, whole ∙ ap (λ t. t ++ (size ++ rest)) (same_tag tag data_tag e))
+          inl (
+            f.0,
+            size,
+            rest,
+            f.1,
+            room,
+            four,
+            whole
+                ∙ ap (λ t. t ++ (size ++ rest)) (same_tag tag data_tag e),
+          )
       | inr e ↦ let k = at_chunk c found tag len rest e h in
           let n = taken_of tag len in
           let p : Chunk = record { tag = tag; size = size; content = take n rest } in
@@ -75,11 +98,13 @@ chunk_there c found bytes room enough h =
             drop n rest,
             record { tag = tag_four; size = four; content = length-take-le n rest k.2; other = e; sound = k.1 },
             k.0,
-            whole ∙ ap (λ t. tag ++ (size ++ t)) (sym (take-append-drop n rest)) ∙ sym (spread p (drop n rest)),
+            whole ∙ ap (λ t. tag ++ (size ++ t)) (sym (take-append-drop n rest))
+                ∙ sym (spread p (drop n rest)),
           )
     ]
 
-no_fault_there : (c : ℕ) (found : Option WavSpecEx) (bytes : List ℕ) → chunk_fault c found bytes ≡ None → DataEnd c found bytes ⊎ OneChunk c bytes
+no_fault_there : (c : ℕ) (found : Option WavSpecEx) (bytes : List ℕ)
+    → chunk_fault c found bytes ≡ None → DataEnd c found bytes ⊎ OneChunk c bytes
 unfolding chunk_fault
 no_fault_there c found bytes h =
     let g = guard_some (nat_lt greatest_u32 (c + 8)) _ _ h in
@@ -92,12 +117,18 @@ fault_or_none (Some c) = inl (c, refl)
 
 -- how a walk ends
 abbrev Ending : ℕ → Option WavSpecEx → List ℕ → Type 0
-Ending c found bytes = ((cause : Cause) × (chunk_fault c found bytes ≡ Some cause)) ⊎ DataEnd c found bytes
+Ending c found bytes = ((cause : Cause)
+    × (chunk_fault c found bytes ≡ Some cause)) ⊎ DataEnd c found bytes
 
 abbrev Goes : ℕ → Option WavSpecEx → List ℕ → Type 0
-Goes c found bytes = (ps : List Chunk) × (rest : List ℕ) × (bytes ≡ joined ps ++ rest) × Chunks c ps × Ending (c + length (joined ps)) (last_spec found ps) rest
+Goes c found bytes = (ps : List Chunk) × (rest : List ℕ) × (bytes ≡ joined ps ++ rest) × Chunks c ps
+    × Ending (c + length (joined ps)) (last_spec found ps) rest
 
-goes_more : (c : ℕ) (found : Option WavSpecEx) (bytes : List ℕ) (p : Chunk) (rest : List ℕ) → IsChunk p → c + 8 + bound_of p.tag (number p.size) ≤ greatest_u32 → bytes ≡ chunk_bytes p ++ rest → Goes (c + length (chunk_bytes p)) (spec_after found p.tag (number p.size) p.content) rest → Goes c found bytes
+goes_more : (c : ℕ) (found : Option WavSpecEx) (bytes : List ℕ) (p : Chunk) (rest : List ℕ)
+    → IsChunk p → c + 8 + bound_of p.tag (number p.size) ≤ greatest_u32
+    → bytes ≡ chunk_bytes p ++ rest
+    → Goes (c + length (chunk_bytes p)) (spec_after found p.tag (number p.size) p.content) rest
+    → Goes c found bytes
 goes_more c found bytes p rest is limit e (ps, end, f, each, ending) =
     let n : c + length (chunk_bytes p) + length (joined ps) ≡ c + length (chunk_bytes p ++ joined ps) = omega (arith, length-append (chunk_bytes p) (joined ps)) in (
       p ∷ ps,
@@ -107,13 +138,15 @@ goes_more c found bytes p rest is limit e (ps, end, f, each, ending) =
       subst (λ i. Ending i (last_spec (spec_after found p.tag (number p.size) p.content) ps) end) n ending,
     )
 
-goes_none : (c : ℕ) (found : Option WavSpecEx) (bytes : List ℕ) → Ending c found bytes → Goes c found bytes
+goes_none : (c : ℕ) (found : Option WavSpecEx) (bytes : List ℕ) → Ending c found bytes
+    → Goes c found bytes
 goes_none c found bytes e = let n : c ≡ c + 0 = omega arith in ([], bytes, refl, tt, subst (λ i. Ending i found bytes) n e)
 
 long_chunk : (p : Chunk) → IsChunk p → 8 ≤ length (chunk_bytes p)
 long_chunk p is = omega (arith, is.tag, is.size, length-append p.tag (p.size ++ p.content), length-append p.size p.content)
 
-goes : (fuel c : ℕ) (found : Option WavSpecEx) (bytes : List ℕ) → length bytes ≤ fuel → Goes c found bytes
+goes : (fuel c : ℕ) (found : Option WavSpecEx) (bytes : List ℕ) → length bytes ≤ fuel
+    → Goes c found bytes
 goes zero c found bytes l = elim (fault_or_none (chunk_fault c found bytes)) [
   | inl f ↦ goes_none c found bytes (inl f)
   | inr f ↦ elim (no_fault_there c found bytes f) [
@@ -130,7 +163,8 @@ goes (suc fuel) c found bytes l = elim (fault_or_none (chunk_fault c found bytes
   ]
 ]
 
-front_there : (bytes : List ℕ) → front_fault bytes ≡ None → (size : List ℕ) × (rest : List ℕ) × (length size ≡ 4) × (bytes ≡ riff_tag ++ (size ++ (wave_tag ++ rest)))
+front_there : (bytes : List ℕ) → front_fault bytes ≡ None
+    → (size : List ℕ) × (rest : List ℕ) × (length size ≡ 4) × (bytes ≡ riff_tag ++ (size ++ (wave_tag ++ rest)))
 unfolding front_fault
 front_there bytes h =
     let g1 = guard_some (nat_lt (length bytes) 4) _ _ h in
@@ -145,19 +179,41 @@ front_there bytes h =
       drop 4 (drop 8 bytes),
       simp (length-take, length-drop) (omega arith),
       parts bytes (omega arith) ∙ ap (λ t. t ++ (size ++ drop 8 bytes)) riff
-          ∙ ap (λ t. riff_tag ++ (size ++ t)) (sym (take-append-drop 4 (drop 8 bytes)) ∙ ap (λ t. t ++ drop 4 (drop 8 bytes)) wave),
+          ∙ ap (λ t. riff_tag ++ (size ++ t)) (sym (take-append-drop 4 (drop 8 bytes))
+          ∙ ap (λ t. t ++ drop 4 (drop 8 bytes)) wave),
     )
 
-ending_answer : (bytes size rest : List ℕ) → length size ≡ 4 → bytes ≡ riff_tag ++ (size ++ (wave_tag ++ rest)) → Goes 0 None rest → (a : Answer) × Answers bytes a
-ending_answer bytes size rest four e (ps, end, w, each, inl (cause, f)) =
-    (unreadable cause, inr (ps, end, record { size = size; four = four; whole = e ∙ ap (λ t. riff_tag ++ (size ++ (wave_tag ++ t))) w; each = each }, rw (zero-add (length (joined ps))) at f))
+ending_answer : (bytes size rest : List ℕ) → length size ≡ 4
+    → bytes ≡ riff_tag ++ (size ++ (wave_tag ++ rest)) → Goes 0 None rest
+    → (a : Answer) × Answers bytes a
+ending_answer bytes size rest four e (ps, end, w, each, inl (cause, f)) = (
+  unreadable cause,
+  inr (
+    ps,
+    end,
+    record {
+      size = size;
+      four = four;
+      whole = e
+          ∙ ap (λ t. riff_tag ++ (size ++ (wave_tag ++ t))) w;
+      each = each;
+    },
+    rw (zero-add (length (joined ps))) at f,
+  ),
+)
 ending_answer bytes size rest four e (ps, end, w, each, inr (spec, dsize, after, f, limit, dfour, d)) = (
   readable spec (number dsize) (12 + length (joined ps) + 8),
   record {
     chunks = ps;
     size = dsize;
     rest = after;
-    walk = record { size = size; four = four; whole = e ∙ ap (λ t. riff_tag ++ (size ++ (wave_tag ++ t))) (w ∙ ap (λ t. joined ps ++ t) d); each = each };
+    walk = record {
+      size = size;
+      four = four;
+      whole = e
+          ∙ ap (λ t. riff_tag ++ (size ++ (wave_tag ++ t))) (w ∙ ap (λ t. joined ps ++ t) d);
+      each = each;
+    };
     four = dfour;
     data_len = refl;
     limit = omega arith;
@@ -182,10 +238,13 @@ pub one_answer : (bytes : List ℕ) → HasOneAnswer bytes
 one_answer bytes = let s = some_answer bytes in (s.0, s.1, λ b h. same_answer bytes s.0 b s.1 h)
 
 -- what a reader answered, for any answer of the bytes
-pub tells_ok : (bytes rest : List ℕ) (r : FileHead) (a : Answer) → Head bytes r.spec_ex r.data_length r.data_start → rest ≡ drop r.data_start bytes → Answers bytes a → Tells (Ok r) bytes rest a
+pub tells_ok : (bytes rest : List ℕ) (r : FileHead) (a : Answer)
+    → Head bytes r.spec_ex r.data_length r.data_start → rest ≡ drop r.data_start bytes
+    → Answers bytes a → Tells (Ok r) bytes rest a
 tells_ok bytes rest r (readable s n k) head e b = let g = heads_agree bytes r.spec_ex s r.data_length n r.data_start k head b in (g.0, g.1, g.2, e ∙ ap (λ i. drop i bytes) g.2)
 tells_ok bytes rest r (unreadable c) head e b = head_no_fault bytes r.spec_ex r.data_length r.data_start c head b
 
-pub tells_err : (bytes rest : List ℕ) (c : Cause) (a : Answer) → Refused bytes c → Answers bytes a → Tells (Err (stops.Refused c)) bytes rest a
+pub tells_err : (bytes rest : List ℕ) (c : Cause) (a : Answer) → Refused bytes c → Answers bytes a
+    → Tells (Err (stops.Refused c)) bytes rest a
 tells_err bytes rest c (readable s n k) f b = head_no_fault bytes s n k c b f
 tells_err bytes rest c (unreadable d) f b = faults_agree bytes c d f b

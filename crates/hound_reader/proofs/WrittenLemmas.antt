@@ -21,14 +21,16 @@ use Rattle.hound_sample.specs.Container.{containers}
 use Rattle.hound_reader.specs.Containers.{AreContainers}
 
 times-over : (c w : ℕ) → 0 < c → c * w / c ≡ w
-times-over c w h = let e : c * w ≡ w * c + 0 = omega arith in ap (λ x. x / c) e ∙ div-mul-add w c 0 h
+times-over c w h = let e : c * w ≡ w * c + 0 = omega arith in ap (λ x. x / c) e
+    ∙ div-mul-add w c 0 h
 
 le_times : (a b : ℕ) → 0 < b → a ≤ b * a
 le_times a zero h = absurd (omega arith)
 le_times a (suc b) h = omega arith
 
 -- the fields of a spec fit in their bytes
-fields_fit : (tag bits : ℕ) (s : WavSpecEx) → IsWritable s → tag < 256 ^ 2 → bits ≤ 8 * s.bytes_per_sample → FieldsFit (fields tag bits s)
+fields_fit : (tag bits : ℕ) (s : WavSpecEx) → IsWritable s → tag < 256 ^ 2
+    → bits ≤ 8 * s.bytes_per_sample → FieldsFit (fields tag bits s)
 fields_fit tag bits s w small in_width =
     let p = pair_facts s.spec.sample_format s.spec.bits_per_sample s.bytes_per_sample w.pair in
     let frame = s.spec.channels * s.bytes_per_sample in
@@ -47,7 +49,8 @@ abbrev with_fields : WavSpecEx → ℕ → SampleFormat → WavSpecEx
 with_fields s bits format = record { spec = record { channels = s.spec.channels; sample_rate = s.spec.sample_rate; bits_per_sample = bits; sample_format = format }; bytes_per_sample = s.bytes_per_sample }
 
 -- the fields of a spec pass every check
-fields_pass : (tag bits : ℕ) (s : WavSpecEx) → IsWritable s → 0 < bits → bits % 8 ≡ 0 → bits ≤ 8 * s.bytes_per_sample → wave_format (fields tag bits s) ≡ Ok (with_fields s bits Int)
+fields_pass : (tag bits : ℕ) (s : WavSpecEx) → IsWritable s → 0 < bits → bits % 8 ≡ 0
+    → bits ≤ 8 * s.bytes_per_sample → wave_format (fields tag bits s) ≡ Ok (with_fields s bits Int)
 unfolding wave_format
 fields_pass tag bits s w some whole in_width =
     let p = pair_facts s.spec.sample_format s.spec.bits_per_sample s.bytes_per_sample w.pair in
@@ -63,7 +66,9 @@ fields_pass tag bits s w some whole in_width =
     rw (width, t1, t2, t3, t4, t5, t6, t7) refl
 
 -- and so do their bytes
-bytes_pass : (tag bits : ℕ) (s : WavSpecEx) → IsWritable s → tag < 256 ^ 2 → 0 < bits → bits % 8 ≡ 0 → bits ≤ 8 * s.bytes_per_sample → wave_format (fmt_fields (fmt_bytes (fields tag bits s))) ≡ Ok (with_fields s bits Int)
+bytes_pass : (tag bits : ℕ) (s : WavSpecEx) → IsWritable s → tag < 256 ^ 2 → 0 < bits → bits % 8 ≡ 0
+    → bits ≤ 8 * s.bytes_per_sample
+    → wave_format (fmt_fields (fmt_bytes (fields tag bits s))) ≡ Ok (with_fields s bits Int)
 bytes_pass tag bits s w small some whole in_width = ap wave_format (fields_written (fields tag bits s) [] (fields_fit tag bits s w small in_width)) ∙ fields_pass tag bits s w some whole in_width
 
 -- the older fmt chunk is of integers
@@ -71,7 +76,8 @@ short_is_int : (f : SampleFormat) (b w : ℕ) → IsPair f b w → b ≤ 16 → 
 short_is_int Int b w p few = refl
 short_is_int Float b w p few = absurd (grind (arith, nat_tests))
 
-short_back : (s : WavSpecEx) → IsWritable s → s.spec.bits_per_sample ≤ 16 → fmt_of 16 (short_fmt s) ≡ Ok s
+short_back : (s : WavSpecEx) → IsWritable s → s.spec.bits_per_sample ≤ 16
+    → fmt_of 16 (short_fmt s) ≡ Ok s
 unfolding fmt_of by_tag wave_format_pcm
 short_back s w few =
     let p = pair_facts s.spec.sample_format s.spec.bits_per_sample s.bytes_per_sample w.pair in
@@ -98,7 +104,8 @@ long_back s w = back s.spec.sample_format
     pass : wave_format (fmt_fields (fmt_bytes (fields extensible (8 * s.bytes_per_sample) s))) ≡ Ok (with_fields s (8 * s.bytes_per_sample) Int)
     pass = bytes_pass extensible (8 * s.bytes_per_sample) s w (lit< tt) (omega (arith, p.some)) (omega arith) (omega arith)
 
-    back : (f : SampleFormat) → fmt_of 40 (fmt_bytes (fields extensible (8 * s.bytes_per_sample) s) ++ bytes_of 2 22 ++ extension_bytes (more f)) ≡ Ok (with_fields s s.spec.bits_per_sample f)
+    back : (f : SampleFormat)
+        → fmt_of 40 (fmt_bytes (fields extensible (8 * s.bytes_per_sample) s) ++ bytes_of 2 22 ++ extension_bytes (more f)) ≡ Ok (with_fields s s.spec.bits_per_sample f)
     back Int = rw (pass, valid, some) refl
     back Float = rw (pass, valid, some) refl
 
@@ -106,21 +113,28 @@ long_back s w = back s.spec.sample_format
 abbrev fmt_chunk : ℕ → List ℕ → Chunk
 fmt_chunk len content = record { tag = fmt_tag; size = bytes_of 4 len; content = content }
 
-joined-one : (len : ℕ) (content rest : List ℕ) → joined (fmt_chunk len content ∷ []) ++ rest ≡ fmt_tag ++ (bytes_of 4 len ++ (content ++ rest))
+joined-one : (len : ℕ) (content rest : List ℕ)
+    → joined (fmt_chunk len content ∷ []) ++ rest ≡ fmt_tag ++ (bytes_of 4 len ++ (content ++ rest))
 joined-one len content rest = ap (λ t. fmt_tag ++ (bytes_of 4 len ++ (t ++ rest))) (append-nil content)
 
-length-joined-one : (len : ℕ) (content : List ℕ) → length (joined (fmt_chunk len content ∷ [])) ≡ 8 + length content
+length-joined-one : (len : ℕ) (content : List ℕ)
+    → length (joined (fmt_chunk len content ∷ [])) ≡ 8 + length content
 length-joined-one len content = ap (λ t. length (fmt_tag ++ (bytes_of 4 len ++ t))) (append-nil content) ∙ omega arith
 
 regroup : (a b c d e : List ℕ) → (((a ++ b) ++ c) ++ d) ++ e ≡ a ++ (b ++ (c ++ (d ++ e)))
 regroup a b c d e = simp append_assoc
 
-header-parts : (s : WavSpecEx) (size len n : ℕ) (content rest : List ℕ) → sized_fmt s ≡ bytes_of 4 n ++ content → header s size len ++ rest ≡ riff_tag ++ (bytes_of 4 size ++ (wave_tag ++ (fmt_tag ++ (bytes_of 4 n ++ (content ++ (data_tag ++ (bytes_of 4 len ++ rest)))))))
+header-parts : (s : WavSpecEx) (size len n : ℕ) (content rest : List ℕ)
+    → sized_fmt s ≡ bytes_of 4 n ++ content
+    → header s size len ++ rest ≡ riff_tag ++ (bytes_of 4 size ++ (wave_tag ++ (fmt_tag ++ (bytes_of 4 n ++ (content ++ (data_tag ++ (bytes_of 4 len ++ rest)))))))
 unfolding header
 header-parts s size len n content rest e = rw e (ap (λ t. riff_tag ++ (bytes_of 4 size ++ (wave_tag ++ (fmt_tag ++ t)))) (regroup (bytes_of 4 n) content data_tag (bytes_of 4 len) rest))
 
 -- a header with one fmt chunk that gives the spec
-head_of : (s : WavSpecEx) (size len n : ℕ) (content rest : List ℕ) → sized_fmt s ≡ bytes_of 4 n ++ content → number (bytes_of 4 n) ≡ n → n ≤ 40 → length content ≡ n → fmt_of n content ≡ Ok s → len ≤ greatest_u32 → Head (header s size len ++ rest) s len (28 + n)
+head_of : (s : WavSpecEx) (size len n : ℕ) (content rest : List ℕ)
+    → sized_fmt s ≡ bytes_of 4 n ++ content → number (bytes_of 4 n) ≡ n → n ≤ 40
+    → length content ≡ n → fmt_of n content ≡ Ok s → len ≤ greatest_u32
+    → Head (header s size len ++ rest) s len (28 + n)
 unfolding taken_of bound_of spec_after
 head_of s size len n content rest e back few l read fits = record {
   chunks = fmt_chunk n content ∷ [];
@@ -129,7 +143,8 @@ head_of s size len n content rest e back few l read fits = record {
   walk = record {
     size = bytes_of 4 size;
     four = refl;
-    whole = header-parts s size len n content rest e ∙ ap (λ t. riff_tag ++ (bytes_of 4 size ++ (wave_tag ++ t))) (sym (joined-one n content (data_tag ++ (bytes_of 4 len ++ rest))));
+    whole = header-parts s size len n content rest e
+        ∙ ap (λ t. riff_tag ++ (bytes_of 4 size ++ (wave_tag ++ t))) (sym (joined-one n content (data_tag ++ (bytes_of 4 len ++ rest))));
     each = (record { tag = refl; size = refl; content = omega (arith, l, back); other = refl; sound = rw back (ap fault_of read) }, omega arith, tt);
   };
   four = refl;
@@ -139,44 +154,54 @@ head_of s size len n content rest e back few l read fits = record {
   place = omega (arith, length-joined-one n content, l);
 }
 
-short_head : (s : WavSpecEx) (size len : ℕ) (rest : List ℕ) → IsWritable s → is_short s ≡ true → s.spec.bits_per_sample ≤ 16 → len ≤ greatest_u32 → Head (header s size len ++ rest) s len 44
+short_head : (s : WavSpecEx) (size len : ℕ) (rest : List ℕ) → IsWritable s → is_short s ≡ true
+    → s.spec.bits_per_sample ≤ 16 → len ≤ greatest_u32 → Head (header s size len ++ rest) s len 44
 short_head s size len rest w short few fits = head_of s size len 16 (short_fmt s) rest (sized_fmt-short s short) refl (omega arith) refl (short_back s w few) fits
 
-long_head : (s : WavSpecEx) (size len : ℕ) (rest : List ℕ) → IsWritable s → is_short s ≡ false → len ≤ greatest_u32 → Head (header s size len ++ rest) s len 68
+long_head : (s : WavSpecEx) (size len : ℕ) (rest : List ℕ) → IsWritable s → is_short s ≡ false
+    → len ≤ greatest_u32 → Head (header s size len ++ rest) s len 68
 long_head s size len rest w long fits = head_of s size len 40 (long_fmt s) rest (sized_fmt-long s long) refl (omega arith) (length-long_fmt s) (long_back s w) fits
 
 nat_le-true : (a b : ℕ) → nat_le a b ≡ true → a ≤ b
 nat_le-true a b h = grind (arith, nat_tests)
 
-pub header_head : (s : WavSpecEx) (size len : ℕ) (rest : List ℕ) → IsWritable s → len ≤ greatest_u32 → Head (header s size len ++ rest) s len (data_start s)
+pub header_head : (s : WavSpecEx) (size len : ℕ) (rest : List ℕ) → IsWritable s → len ≤ greatest_u32
+    → Head (header s size len ++ rest) s len (data_start s)
 header_head s size len rest w fits = elim (cases_Bool (is_short s)) [
   | inl e ↦ rw e (short_head s size len rest w e (nat_le-true s.spec.bits_per_sample 16 (and_parts _ _ e).1) fits)
   | inr e ↦ rw e (long_head s size len rest w e fits)
 ]
 
-length-concat : (w : ℕ) (list : List (List ℕ)) → AllByRecursion (λ c. length c ≡ w) list → length (concat list) ≡ length list * w
+length-concat : (w : ℕ) (list : List (List ℕ)) → AllByRecursion (λ c. length c ≡ w) list
+    → length (concat list) ≡ length list * w
 length-concat w [] each = omega arith
 length-concat w (c ∷ list) (one, each) = let more = length-concat w list each in omega (arith, one, more, length-append c (concat list))
 
-containers-concat : (w : ℕ) (list : List (List ℕ)) → AllByRecursion (λ c. length c ≡ w) list → containers w (length list) (concat list) ≡ list
+containers-concat : (w : ℕ) (list : List (List ℕ)) → AllByRecursion (λ c. length c ≡ w) list
+    → containers w (length list) (concat list) ≡ list
 containers-concat w [] each = refl
 containers-concat w (c ∷ list) (one, each) =
     let rest = concat list in
-    ap (λ t. t ∷ containers w (length list) (drop w (c ++ rest))) (take_at c rest w one) ∙ ap (λ t. c ∷ containers w (length list) t) (drop_at c rest w one) ∙ ap (λ t. c ∷ t) (containers-concat w list each)
+    ap (λ t. t ∷ containers w (length list) (drop w (c ++ rest))) (take_at c rest w one)
+    ∙ ap (λ t. c ∷ containers w (length list) t) (drop_at c rest w one)
+    ∙ ap (λ t. c ∷ t) (containers-concat w list each)
 
 add_none : (n : ℕ) → n ≡ n + 0
 add_none n = omega arith
 
 -- what is written is read back
 pub canonical_back : (s : WavSpecEx) (list : List (List ℕ)) → IsWritable s → AreContainers s list
-    → Readable (canonical s list) s (length list) (data_start s) × (containers s.bytes_per_sample (length list) (drop (data_start s) (canonical s list)) ≡ list)
+    → Readable (canonical s list) s (length list) (data_start s)
+    × (containers s.bytes_per_sample (length list) (drop (data_start s) (canonical s list)) ≡ list)
 canonical_back s list w a =
     let bytes = concat list in
     let n = length-concat s.bytes_per_sample list a.each in
     let p = pair_facts s.spec.sample_format s.spec.bits_per_sample s.bytes_per_sample w.pair in
     let size = data_start s - 8 + length bytes in
-    let div : length bytes / s.bytes_per_sample ≡ length list = ap (λ t. t / s.bytes_per_sample) (n ∙ add_none (length list * s.bytes_per_sample)) ∙ div-mul-add (length list) s.bytes_per_sample 0 p.some in
-    let whole : length bytes % s.bytes_per_sample ≡ 0 = ap (λ t. t % s.bytes_per_sample) n ∙ mul-mod_left (length list) s.bytes_per_sample in
+    let div : length bytes / s.bytes_per_sample ≡ length list = ap (λ t. t / s.bytes_per_sample) (n
+    ∙ add_none (length list * s.bytes_per_sample)) ∙ div-mul-add (length list) s.bytes_per_sample 0 p.some in
+    let whole : length bytes % s.bytes_per_sample ≡ 0 = ap (λ t. t % s.bytes_per_sample) n
+    ∙ mul-mod_left (length list) s.bytes_per_sample in
     let t1 = eq-eqb (length bytes % s.bytes_per_sample) 0 whole in
     let t2 = eq-eqb ((length bytes / s.bytes_per_sample) % s.spec.channels) 0 (ap (λ t. t % s.spec.channels) div ∙ a.frames) in (
       record { len = length bytes; head = header_head s size (length bytes) bytes w (omega (arith, a.fits, n)); frames = rw (t1, t2) refl; count = sym div },

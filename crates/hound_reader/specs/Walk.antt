@@ -25,7 +25,8 @@ ReadsChunk c found (Other next taken) xs ys = (p : Chunk) × IsChunk p
 abbrev pub ReadsContent : ℕ → Option WavSpecEx → List ℕ → ℕ → ChunkRead → List ℕ → List ℕ → Type 0
 ReadsContent c found tag len (Data spec n) xs ys = (bytes_eq tag data_tag ≡ true)
     × (found ≡ Some spec) × (n ≡ len) × (xs ≡ ys)
-ReadsContent c found tag len (Other next taken) xs ys = (content : List ℕ) × (length content ≡ taken_of tag len)
+ReadsContent c found tag len (Other next taken) xs ys = (content : List ℕ)
+    × (length content ≡ taken_of tag len)
     × (bytes_eq tag data_tag ≡ false)
     × (fmt_fault tag len content ≡ None) × (c + 8 + bound_of tag len ≤ greatest_u32)
     × (next ≡ spec_after found tag len content) × (taken ≡ c + 8 + length content)

@@ -23,18 +23,22 @@ minus a (suc p) n e = let less : a < suc p = omega (arith, e) in rw (lt-ltb a (s
 signed_of-negsuc : (k n : ℕ) → 2 * (n + 1) ≤ 256 ^ k → signed_of k (256 ^ k - (n + 1)) ≡ negsuc n
 signed_of-negsuc k n h = go (256 ^ k) h
   where
-    go : (p : ℕ) → 2 * (n + 1) ≤ p → cond (ltb (2 * (p - (n + 1))) p) (pos (p - (n + 1))) (pos (p - (n + 1)) -ℤ pos p) ≡ negsuc n
+    go : (p : ℕ) → 2 * (n + 1) ≤ p
+        → cond (ltb (2 * (p - (n + 1))) p) (pos (p - (n + 1))) (pos (p - (n + 1)) -ℤ pos p) ≡ negsuc n
     go p few = rw (le-ltb (2 * (p - (n + 1))) p (omega (arith, few))) (minus (p - (n + 1)) p n (omega (arith, few)))
 
 -- whole bytes of signed bits
-signed_back : (k bits : ℕ) (v : ℤ) → 2 * 2 ^ (bits - 1) ≡ 256 ^ k → IsTrue (fits bits v) → signed_number (signed_bytes_of k v) ≡ v
+signed_back : (k bits : ℕ) (v : ℤ) → 2 * 2 ^ (bits - 1) ≡ 256 ^ k → IsTrue (fits bits v)
+    → signed_number (signed_bytes_of k v) ≡ v
 signed_back k bits (pos n) whole h =
     let few : n < 2 ^ (bits - 1) = ltb-true n (2 ^ (bits - 1)) h in
-    (λ i. signed_of (length-bytes_of k n i) (number-bytes_of k n (omega (arith, few, whole)) i)) ∙ signed_of-pos k n (omega (arith, few, whole))
+    (λ i. signed_of (length-bytes_of k n i) (number-bytes_of k n (omega (arith, few, whole)) i))
+    ∙ signed_of-pos k n (omega (arith, few, whole))
 signed_back k bits (negsuc n) whole h =
     let few : n < 2 ^ (bits - 1) = ltb-true n (2 ^ (bits - 1)) h in
     let m = 256 ^ k - (n + 1) in
-    (λ i. signed_of (length-bytes_of k m i) (number-bytes_of k m (omega (arith, few, whole)) i)) ∙ signed_of-negsuc k n (omega (arith, few, whole))
+    (λ i. signed_of (length-bytes_of k m i) (number-bytes_of k m (omega (arith, few, whole)) i))
+    ∙ signed_of-negsuc k n (omega (arith, few, whole))
 
 -- the unsigned byte of a number of eight bits means that number
 offset_back : (v : ℤ) → fits 8 v ≡ true → int_meaning 1 8 (offset_byte v) ≡ v
@@ -48,14 +52,17 @@ offset_back (negsuc n) h =
     ap (λ x. pos x -ℤ pos 128) e ∙ minus (127 - n) 128 n (omega (arith, few))
 
 -- samples of the bits and bytes of every container are read as 32 bits
-pub integers_taken : (v : ℤ) (bits width : ℕ) (c : List ℕ) → int_container v bits width ≡ Ok c → int_refusal 4 Int width bits ≡ None
+pub integers_taken : (v : ℤ) (bits width : ℕ) (c : List ℕ) → int_container v bits width ≡ Ok c
+    → int_refusal 4 Int width bits ≡ None
 integers_taken v bits width c is = of_pair (λ b w. int_refusal 4 Int w b ≡ None) Int bits width (refl, (refl, (refl, (refl, (refl, tt))))) (contained v bits width c is).0
 
 -- the number of every container is the one that it was made of
-pub integers_same : (v : ℤ) (bits width : ℕ) (c : List ℕ) → int_container v bits width ≡ Ok c → int_meaning width bits c ≡ v
+pub integers_same : (v : ℤ) (bits width : ℕ) (c : List ℕ) → int_container v bits width ≡ Ok c
+    → int_meaning width bits c ≡ v
 integers_same v bits width c is =
     let (pair, fit, same) = contained v bits width c is in
-    ap (int_meaning width bits) same ∙ of_pair (λ b w. IsTrue (fits b v) → int_meaning w b (int_bytes v b w) ≡ v) Int bits width
+    ap (int_meaning width bits) same
+    ∙ of_pair (λ b w. IsTrue (fits b v) → int_meaning w b (int_bytes v b w) ≡ v) Int bits width
     (offset_back v, (signed_back 2 16 v refl, (signed_back 3 24 v refl, (signed_back 3 24 v refl, (signed_back 4 32 v refl, tt))))) pair fit
 
 -- the two low bytes of the four of a short number are its two bytes

@@ -13,8 +13,8 @@ pub data ReadRefusal : Type 0 where
   wider : ReadRefusal
   other_pair : ReadRefusal
 
--- why an integer type of so many bytes doesn't read samples of a format, a width and used bits, if it
--- doesn't
+-- why an integer type of so many bytes doesn't read samples of a format, a width and used bits, if
+-- it doesn't
 abbrev pub int_refusal : ℕ → SampleFormat → ℕ → ℕ → Option ReadRefusal
 int_refusal most Float width bits = Some other_format
 int_refusal most Int width bits =

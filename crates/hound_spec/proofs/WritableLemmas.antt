@@ -7,7 +7,9 @@ use Rattle.hound_spec.specs.declared.spec.SampleFormat.TheVariants.{Int, Float}
 use Rattle.hound_spec.specs.Writable.{pairs, IsPair}
 
 -- what holds of each row of a list of pairs holds of the pairs that are in it
-of_row : (P : ℕ → ℕ → Type 0) (rows : List (ℕ × ℕ)) (bits width : ℕ) → AllByRecursion (λ (b, w). P b w) rows → list_any (λ (b, w). bits == b && width == w) rows ≡ true → P bits width
+of_row : (P : ℕ → ℕ → Type 0) (rows : List (ℕ × ℕ)) (bits width : ℕ)
+    → AllByRecursion (λ (b, w). P b w) rows
+    → list_any (λ (b, w). bits == b && width == w) rows ≡ true → P bits width
 of_row P [] bits width each is = cc
 of_row P ((b, w) ∷ rows) bits width (here, each) is = elim (or_cases (bits == b && width == w) _ is) [
   | inl same ↦ let (is_bits, is_width) = and_parts (bits == b) (width == w) same in
@@ -16,7 +18,8 @@ of_row P ((b, w) ∷ rows) bits width (here, each) is = elim (or_cases (bits == 
 ]
 
 -- what holds of each pair of the one list
-pub of_pair : (P : ℕ → ℕ → Type 0) (f : SampleFormat) (bits width : ℕ) → AllByRecursion (λ (b, w). P b w) (pairs f) → IsPair f bits width → P bits width
+pub of_pair : (P : ℕ → ℕ → Type 0) (f : SampleFormat) (bits width : ℕ)
+    → AllByRecursion (λ (b, w). P b w) (pairs f) → IsPair f bits width → P bits width
 of_pair P f bits width each is = of_row P (pairs f) bits width each is
 
 -- the used bits are whole bytes, some, and fit in the container, which has one to four bytes

@@ -23,7 +23,8 @@ pub data AppendFault : Type 0 where
 unfoldable pub head_fault : WavSpecEx → ℕ → ℕ → Option AppendFault
 head_fault s len h =
     if not (len % s.bytes_per_sample == 0) then Some (by_bytes (Format DataLength))
-    else if not (is_pair s.spec.sample_format s.spec.bits_per_sample s.bytes_per_sample) then Some (by_bytes Unsupported)
+    else if not (is_pair s.spec.sample_format s.spec.bits_per_sample s.bytes_per_sample)
+    then Some (by_bytes Unsupported)
     else if not (len / s.bytes_per_sample % s.spec.channels == 0) then Some (by_bytes (Format FrameLength))
     else if nat_lt greatest_u32 (riff_size h len) then Some too_long
     else None
