@@ -1,130 +1,75 @@
 -- Bytes have an answer.
-use Rattle.std.proofs.Common.{◌≡◌, ℕ, zero, suc, ◌+◌, ◌-◌, ◌≤◌, ◌⊎◌, inl, inr, min, Bool, true, false, not, cond, ◌||◌, ◌==◌, List, [], ◌∷◌, ◌++◌, length, take, drop, slice_range, refl, sym, ap, le_refl, zero-add, ◌∙◌, subst, arith, length-append, append_assoc, length-take, length-drop, length-take-le, ltb-false, nat_lt, Option, Some, None, Result, Ok, Err}
+use Rattle.std.proofs.Common.{◌≡◌, ℕ, zero, suc, ◌+◌, ◌≤◌, ◌⊎◌, inl, inr, Bool, true, false, not, cond, List, [], ◌∷◌, ◌++◌, length, take, drop, slice_range, refl, sym, ap, le_refl, zero-add, ◌∙◌, subst, arith, length-append, append_assoc, length-take, length-drop, length-take-le, ltb-false, nat_lt, Option, Some, None, Ok, Err}
 use Rattle.std.specs.Prelude.{is_none}
 use Rattle.std.specs.Str.{bytes_eq}
-use Rattle.std.proofs.lemmas.Bool.{true≢false, cases_Bool, eqb-true, or_cases, not-false}
+use Rattle.std.proofs.lemmas.Bool.{cases_Bool, not-false}
 use Rattle.std.proofs.lemmas.List.{take-append-drop, drop-drop}
 use Rattle.hound_spec.specs.declared.spec.WavSpecEx.{WavSpecEx}
 use Rattle.hound_reader.specs.declared.chunks.FileHead.{FileHead}
 use Rattle.hound_reader.specs.declared.fault.Cause.{Cause}
 use Rattle.hound_number.specs.Number.{number}
-use Rattle.hound_reader.specs.Fmt.{◌>>=◌, wave_format, wave_format_pcm, wave_format_ieee_float, wave_format_extensible, by_tag, tag_of, fmt_of}
-use Rattle.hound_reader.specs.Chunks.{Chunk, IsChunk, chunk_bytes, bound_of, fault_of, Chunks, joined, last_spec, Head, Refused, spec_after, front_fault, content_fault, chunk_fault}
-use Rattle.hound_spec.specs.Header.{riff_tag, wave_tag, fmt_tag, data_tag}
-use Rattle.hound_reader.proofs.WalkLemmas.{same_tag, taken_fmt, taken_other}
+use Rattle.hound_reader.specs.Chunks.{Chunk, IsChunk, chunk_bytes, taken_of, bound_of, fmt_fault, first_fault, Chunks, joined, last_spec, Head, Refused, spec_after, front_fault, content_fault, chunk_fault}
+use Rattle.hound_spec.specs.Fmt.{greatest_u32}
+use Rattle.hound_spec.specs.Header.{riff_tag, wave_tag, data_tag}
+use Rattle.hound_reader.proofs.WalkLemmas.{same_tag}
 use Rattle.hound_reader.specs.Answer.{Answer, readable, unreadable, Answers, HasOneAnswer, ReportsAnswer}
 use Rattle.hound_reader.specs.declared.fault.HeadError.TheVariants as stops
 use Rattle.hound_reader.proofs.Unique.{spread, heads_agree, head_no_fault, faults_agree}
 
--- a check that found no fault
-guard_ok : (b : Bool) (c : Cause) (r : Result WavSpecEx Cause) (x : WavSpecEx) → cond b (Err c) r ≡ Ok x → (b ≡ false) × (r ≡ Ok x)
-guard_ok true c r x h = absurd (let k : ⊥ = cc in k)
-guard_ok false c r x h = (refl, h)
-
-bind_ok : (r : Result WavSpecEx Cause) (f : WavSpecEx → Result WavSpecEx Cause) (y : WavSpecEx) → (r >>= f) ≡ Ok y → (x : WavSpecEx) × (r ≡ Ok x) × (f x ≡ Ok y)
-bind_ok (Ok x) f y h = (x, refl, h)
-bind_ok (Err c) f y h = absurd (let k : ⊥ = cc in k)
-
-pub ok_of_sound : (r : Result WavSpecEx Cause) → fault_of r ≡ None → (x : WavSpecEx) × (r ≡ Ok x)
-ok_of_sound (Ok x) h = (x, refl)
-ok_of_sound (Err c) h = absurd (let k : ⊥ = cc in k)
-
--- What has a spec is all there.
-pcm_long : (len : ℕ) (found x : WavSpecEx) (after : List ℕ) → (len == 16) ≡ false → wave_format_pcm len found after ≡ Ok x → min len 40 ≤ 16 + length after
-unfolding wave_format_pcm
-pcm_long len found x after e h =
-    let h0 = rw e at h in
-    let g1 = guard_ok (not (len == 18 || len == 40)) _ _ _ h0 in
-    let g2 = guard_ok (nat_lt (length after) 2) _ _ _ g1.1 in
-    let g3 = guard_ok (not (found.spec.bits_per_sample == 8 || found.spec.bits_per_sample == 16 || found.spec.bits_per_sample == 24)) _ _ _ g2.1 in
-    let g4 = guard_ok (nat_lt (length after) (len - 16)) _ _ _ g3.1 in
-    let n : len - 16 ≤ length after = ltb-false (length after) (len - 16) g4.0 in
-    let one : (len == 18 || len == 40) ≡ true = not-false _ g1.0 in
-    elim (or_cases (len == 18) (len == 40) one) [ inl a ↦ omega (arith, n, eqb-true len 18 a) | inr a ↦ omega (arith, n, eqb-true len 40 a) ]
-
-pcm_whole : (len : ℕ) (found x : WavSpecEx) (after : List ℕ) → wave_format_pcm len found after ≡ Ok x → min len 40 ≤ 16 + length after
-pcm_whole len found x after h = elim (cases_Bool (len == 16)) [ inl e ↦ omega (arith, eqb-true len 16 e) | inr e ↦ pcm_long len found x after e h ]
-
-float_whole : (len : ℕ) (found x : WavSpecEx) (after : List ℕ) → wave_format_ieee_float len found after ≡ Ok x → min len 40 ≤ 16 + length after
-unfolding wave_format_ieee_float
-float_whole len found x after h =
-    let g1 = guard_ok (not (len == 16 || len == 18)) _ _ _ h in
-    let g2 = guard_ok (nat_lt (length after) (len - 16)) _ _ _ g1.1 in
-    let n : len - 16 ≤ length after = ltb-false (length after) (len - 16) g2.0 in
-    omega (arith, n)
-
-extensible_whole : (len : ℕ) (found x : WavSpecEx) (after : List ℕ) → wave_format_extensible len found after ≡ Ok x → min len 40 ≤ 16 + length after
-unfolding wave_format_extensible
-extensible_whole len found x after h =
-    let g1 = guard_ok (nat_lt len 40) _ _ _ h in
-    let g2 = guard_ok (nat_lt (length after) 2) _ _ _ g1.1 in
-    let g3 = guard_ok (not (number (take 2 after) == 22)) _ _ _ g2.1 in
-    let g4 = guard_ok (nat_lt (length after) 24) _ _ _ g3.1 in
-    let n : 24 ≤ length after = ltb-false (length after) 24 g4.0 in
-    omega (arith, n)
-
-by_tag_whole : (tag len : ℕ) (found x : WavSpecEx) (after : List ℕ) → by_tag tag len found after ≡ Ok x → min len 40 ≤ 16 + length after
-unfolding by_tag
-by_tag_whole tag len found x after h = elim (cases_Bool (tag == 1)) [
-  | inl a ↦ pcm_whole len found x after (rw a at h)
-  | inr a ↦ elim (cases_Bool (tag == 3)) [
-    | inl b ↦ float_whole len found x after (rw (a, b) at h)
-    | inr b ↦ elim (cases_Bool (tag == 0xfffe)) [
-      | inl d ↦ extensible_whole len found x after (rw (a, b, d) at h)
-      | inr d ↦ absurd (let k = rw (a, b, d) at h in let z : ⊥ = cc in z)
-    ]
-  ]
-]
-
-pub fmt_whole : (len : ℕ) (content : List ℕ) (x : WavSpecEx) → fmt_of len content ≡ Ok x → min len 40 ≤ length content
-unfolding fmt_of
-fmt_whole len content x h =
-    let g1 = guard_ok (nat_lt len 16) _ _ _ h in
-    let g2 = guard_ok (nat_lt (length content) 16) _ _ _ g1.1 in
-    let n : 16 ≤ length content = ltb-false (length content) 16 g2.0 in
-    let b = bind_ok (wave_format (take 16 content)) (λ found. by_tag (tag_of (take 16 content)) len found (drop 16 content)) x g2.1 in
-    omega (arith, n, by_tag_whole _ len b.0 x (drop 16 content) b.2, length-drop 16 content)
-
 -- the header of the data, with a spec before it
 abbrev DataEnd : ℕ → Option WavSpecEx → List ℕ → Type 0
-DataEnd c found bytes = (spec : WavSpecEx) × (size : List ℕ) × (rest : List ℕ) × (found ≡ Some spec) × (c + 8 ≤ 4294967295) × (length size ≡ 4) × (bytes ≡ data_tag ++ (size ++ rest))
+DataEnd c found bytes = (spec : WavSpecEx) × (size : List ℕ) × (rest : List ℕ) × (found ≡ Some spec)
+    × (c + 8 ≤ greatest_u32) × (length size ≡ 4) × (bytes ≡ data_tag ++ (size ++ rest))
 
 -- a chunk within the limit
 abbrev OneChunk : ℕ → List ℕ → Type 0
-OneChunk c bytes = (p : Chunk) × (rest : List ℕ) × IsChunk p × (c + 8 + bound_of p.tag (number p.size) ≤ 4294967295) × (bytes ≡ chunk_bytes p ++ rest)
+OneChunk c bytes = (p : Chunk) × (rest : List ℕ) × IsChunk p
+    × (c + 8 + bound_of p.tag (number p.size) ≤ greatest_u32) × (bytes ≡ chunk_bytes p ++ rest)
 
-guard_some : (b : Bool) (c : Cause) (o : Option Cause) → cond b (Some c) o ≡ None → (b ≡ false) × (o ≡ None)
+guard_some : (b : Bool) (c : Cause) (o : Option Cause) → cond b (Some c) o ≡ None
+    → (b ≡ false) × (o ≡ None)
 guard_some true c o h = absurd (let k : ⊥ = cc in k)
 guard_some false c o h = (refl, h)
 
-some_from : (found : Option WavSpecEx) → is_none found ≡ false → (spec : WavSpecEx) × (found ≡ Some spec)
+some_from : (found : Option WavSpecEx) → is_none found ≡ false
+    → (spec : WavSpecEx) × (found ≡ Some spec)
 some_from None h = absurd (let k : ⊥ = cc in k)
 some_from (Some s) h = (s, refl)
 
-parts : (bytes : List ℕ) → 8 ≤ length bytes → bytes ≡ take 4 bytes ++ (slice_range bytes 4 8 ++ drop 8 bytes)
+parts : (bytes : List ℕ) → 8 ≤ length bytes
+    → bytes ≡ take 4 bytes ++ (slice_range bytes 4 8 ++ drop 8 bytes)
 parts bytes l =
-    sym (take-append-drop 4 bytes) ∙ ap (λ t. take 4 bytes ++ t) (sym (take-append-drop 4 (drop 4 bytes)) ∙ ap (λ t. slice_range bytes 4 8 ++ t) (drop-drop 4 4 bytes))
+    sym (take-append-drop 4 bytes)
+    ∙ ap (λ t. take 4 bytes ++ t) (sym (take-append-drop 4 (drop 4 bytes)) ∙ ap (λ t. slice_range bytes 4 8 ++ t) (drop-drop 4 4 bytes))
 
-at_data : (c : ℕ) (found : Option WavSpecEx) (tag : List ℕ) (len : ℕ) (rest : List ℕ) → bytes_eq tag data_tag ≡ true → content_fault c found tag len rest ≡ None → (spec : WavSpecEx) × (found ≡ Some spec)
+at_data : (c : ℕ) (found : Option WavSpecEx) (tag : List ℕ) (len : ℕ) (rest : List ℕ)
+    → bytes_eq tag data_tag ≡ true → content_fault c found tag len rest ≡ None
+    → (spec : WavSpecEx) × (found ≡ Some spec)
 unfolding content_fault
 at_data c found tag len rest e h =
     let g = guard_some (is_none found) _ _ (rw e at h) in
     some_from found g.0
 
-at_fmt : (c : ℕ) (found : Option WavSpecEx) (tag : List ℕ) (len : ℕ) (rest : List ℕ) → bytes_eq tag data_tag ≡ false → bytes_eq tag fmt_tag ≡ true → content_fault c found tag len rest ≡ None → (c + 8 + bound_of tag len ≤ 4294967295) × (fault_of (fmt_of len (take (min len 40) rest)) ≡ None)
-unfolding content_fault
-at_fmt c found tag len rest e f h =
-    let g = guard_some (nat_lt 4294967295 (c + 8 + bound_of tag len)) _ _ (rw (e, f) at h) in
-    (ltb-false _ _ g.0, g.1)
+none_first : (a b : Option Cause) → first_fault a b ≡ None → (a ≡ None) × (b ≡ None)
+none_first None b h = (refl, h)
+none_first (Some c) b h = cc
 
-at_other : (c : ℕ) (found : Option WavSpecEx) (tag : List ℕ) (len : ℕ) (rest : List ℕ) → bytes_eq tag data_tag ≡ false → bytes_eq tag fmt_tag ≡ false → content_fault c found tag len rest ≡ None → (c + 8 + bound_of tag len ≤ 4294967295) × (bound_of tag len ≤ length rest)
+at_chunk : (c : ℕ) (found : Option WavSpecEx) (tag : List ℕ) (len : ℕ) (rest : List ℕ)
+    → bytes_eq tag data_tag ≡ false → content_fault c found tag len rest ≡ None
+    → (c + 8 + bound_of tag len ≤ greatest_u32)
+    × (fmt_fault tag len (take (taken_of tag len) rest) ≡ None)
+    × (taken_of tag len ≤ length rest)
 unfolding content_fault
-at_other c found tag len rest e f h =
-    let g = guard_some (nat_lt 4294967295 (c + 8 + bound_of tag len)) _ _ (rw (e, f) at h) in
-    let k = guard_some (nat_lt (length rest) (bound_of tag len)) _ _ g.1 in
-    (ltb-false _ _ g.0, ltb-false _ _ k.0)
+at_chunk c found tag len rest e h =
+    let g = guard_some (nat_lt greatest_u32 (c + 8 + bound_of tag len)) _ _ (rw e at h) in
+    let k = none_first (fmt_fault tag len (take (taken_of tag len) rest)) _ g.1 in
+    let l = guard_some (nat_lt (length rest) (taken_of tag len)) _ _ k.1 in
+    (ltb-false _ _ g.0, k.0, ltb-false _ _ l.0)
 
-chunk_there : (c : ℕ) (found : Option WavSpecEx) (bytes : List ℕ) → c + 8 ≤ 4294967295 → 8 ≤ length bytes → content_fault c found (take 4 bytes) (number (slice_range bytes 4 8)) (drop 8 bytes) ≡ None → DataEnd c found bytes ⊎ OneChunk c bytes
+chunk_there : (c : ℕ) (found : Option WavSpecEx) (bytes : List ℕ) → c + 8 ≤ greatest_u32
+    → 8 ≤ length bytes
+    → content_fault c found (take 4 bytes) (number (slice_range bytes 4 8)) (drop 8 bytes) ≡ None
+    → DataEnd c found bytes ⊎ OneChunk c bytes
 chunk_there c found bytes room enough h =
     let tag = take 4 bytes in
     let size = slice_range bytes 4 8 in
@@ -135,35 +80,34 @@ chunk_there c found bytes room enough h =
     let whole = parts bytes enough in
     elim (cases_Bool (bytes_eq tag data_tag)) [
       | inl e ↦ let f = at_data c found tag len rest e h in
-          inl (f.0, size, rest, f.1, room, four, whole ∙ ap (λ t. t ++ (size ++ rest)) (same_tag tag data_tag e))
-      | inr e ↦ elim (cases_Bool (bytes_eq tag fmt_tag)) [
-        | inl f ↦ let k = at_fmt c found tag len rest e f h in
-            let x = ok_of_sound _ k.1 in
-            let n : min len 40 ≤ length (take (min len 40) rest) = fmt_whole len (take (min len 40) rest) x.0 x.1 in
-            let all : length (take (min len 40) rest) ≡ min len 40 = omega (arith, n, length-take (min len 40) rest) in
-            inr (
-              record { tag = tag; size = size; content = take (min len 40) rest },
-              drop (min len 40) rest,
-              record { tag = tag_four; size = four; content = all ∙ sym (taken_fmt tag len f); other = e; sound = λ _. k.1 },
-              k.0,
-              whole ∙ ap (λ t. tag ++ (size ++ t)) (sym (take-append-drop (min len 40) rest)) ∙ sym (spread (record { tag = tag; size = size; content = take (min len 40) rest }) (drop (min len 40) rest)),
-            )
-        | inr f ↦ let k = at_other c found tag len rest e f h in
-            let b = bound_of tag len in
-            inr (
-              record { tag = tag; size = size; content = take b rest },
-              drop b rest,
-              record { tag = tag_four; size = four; content = length-take-le b rest k.1 ∙ sym (taken_other tag len f); other = e; sound = λ g. absurd (true≢false (sym g ∙ f)) },
-              k.0,
-              whole ∙ ap (λ t. tag ++ (size ++ t)) (sym (take-append-drop b rest)) ∙ sym (spread (record { tag = tag; size = size; content = take b rest }) (drop b rest)),
-            )
-      ]
+          inl (
+            f.0,
+            size,
+            rest,
+            f.1,
+            room,
+            four,
+            whole
+                ∙ ap (λ t. t ++ (size ++ rest)) (same_tag tag data_tag e),
+          )
+      | inr e ↦ let k = at_chunk c found tag len rest e h in
+          let n = taken_of tag len in
+          let p : Chunk = record { tag = tag; size = size; content = take n rest } in
+          inr (
+            p,
+            drop n rest,
+            record { tag = tag_four; size = four; content = length-take-le n rest k.2; other = e; sound = k.1 },
+            k.0,
+            whole ∙ ap (λ t. tag ++ (size ++ t)) (sym (take-append-drop n rest))
+                ∙ sym (spread p (drop n rest)),
+          )
     ]
 
-no_fault_there : (c : ℕ) (found : Option WavSpecEx) (bytes : List ℕ) → chunk_fault c found bytes ≡ None → DataEnd c found bytes ⊎ OneChunk c bytes
+no_fault_there : (c : ℕ) (found : Option WavSpecEx) (bytes : List ℕ)
+    → chunk_fault c found bytes ≡ None → DataEnd c found bytes ⊎ OneChunk c bytes
 unfolding chunk_fault
 no_fault_there c found bytes h =
-    let g = guard_some (nat_lt 4294967295 (c + 8)) _ _ h in
+    let g = guard_some (nat_lt greatest_u32 (c + 8)) _ _ h in
     let k = guard_some (nat_lt (length bytes) 8) _ _ g.1 in
     chunk_there c found bytes (ltb-false _ _ g.0) (ltb-false _ _ k.0) k.1
 
@@ -173,28 +117,36 @@ fault_or_none (Some c) = inl (c, refl)
 
 -- how a walk ends
 abbrev Ending : ℕ → Option WavSpecEx → List ℕ → Type 0
-Ending c found bytes = ((cause : Cause) × (chunk_fault c found bytes ≡ Some cause)) ⊎ DataEnd c found bytes
+Ending c found bytes = ((cause : Cause)
+    × (chunk_fault c found bytes ≡ Some cause)) ⊎ DataEnd c found bytes
 
 abbrev Goes : ℕ → Option WavSpecEx → List ℕ → Type 0
-Goes c found bytes = (ps : List Chunk) × (rest : List ℕ) × (bytes ≡ joined ps ++ rest) × Chunks c ps × Ending (c + length (joined ps)) (last_spec found ps) rest
+Goes c found bytes = (ps : List Chunk) × (rest : List ℕ) × (bytes ≡ joined ps ++ rest) × Chunks c ps
+    × Ending (c + length (joined ps)) (last_spec found ps) rest
 
-goes_more : (c : ℕ) (found : Option WavSpecEx) (bytes : List ℕ) (p : Chunk) (rest : List ℕ) → IsChunk p → c + 8 + bound_of p.tag (number p.size) ≤ 4294967295 → bytes ≡ chunk_bytes p ++ rest → Goes (c + length (chunk_bytes p)) (spec_after found p) rest → Goes c found bytes
+goes_more : (c : ℕ) (found : Option WavSpecEx) (bytes : List ℕ) (p : Chunk) (rest : List ℕ)
+    → IsChunk p → c + 8 + bound_of p.tag (number p.size) ≤ greatest_u32
+    → bytes ≡ chunk_bytes p ++ rest
+    → Goes (c + length (chunk_bytes p)) (spec_after found p.tag (number p.size) p.content) rest
+    → Goes c found bytes
 goes_more c found bytes p rest is limit e (ps, end, f, each, ending) =
     let n : c + length (chunk_bytes p) + length (joined ps) ≡ c + length (chunk_bytes p ++ joined ps) = omega (arith, length-append (chunk_bytes p) (joined ps)) in (
       p ∷ ps,
       end,
       e ∙ ap (λ t. chunk_bytes p ++ t) f ∙ sym (append_assoc (chunk_bytes p) (joined ps) end),
       (is, limit, each),
-      subst (λ i. Ending i (last_spec (spec_after found p) ps) end) n ending,
+      subst (λ i. Ending i (last_spec (spec_after found p.tag (number p.size) p.content) ps) end) n ending,
     )
 
-goes_none : (c : ℕ) (found : Option WavSpecEx) (bytes : List ℕ) → Ending c found bytes → Goes c found bytes
+goes_none : (c : ℕ) (found : Option WavSpecEx) (bytes : List ℕ) → Ending c found bytes
+    → Goes c found bytes
 goes_none c found bytes e = let n : c ≡ c + 0 = omega arith in ([], bytes, refl, tt, subst (λ i. Ending i found bytes) n e)
 
 long_chunk : (p : Chunk) → IsChunk p → 8 ≤ length (chunk_bytes p)
 long_chunk p is = omega (arith, is.tag, is.size, length-append p.tag (p.size ++ p.content), length-append p.size p.content)
 
-goes : (fuel c : ℕ) (found : Option WavSpecEx) (bytes : List ℕ) → length bytes ≤ fuel → Goes c found bytes
+goes : (fuel c : ℕ) (found : Option WavSpecEx) (bytes : List ℕ) → length bytes ≤ fuel
+    → Goes c found bytes
 goes zero c found bytes l = elim (fault_or_none (chunk_fault c found bytes)) [
   | inl f ↦ goes_none c found bytes (inl f)
   | inr f ↦ elim (no_fault_there c found bytes f) [
@@ -207,11 +159,12 @@ goes (suc fuel) c found bytes l = elim (fault_or_none (chunk_fault c found bytes
   | inr f ↦ elim (no_fault_there c found bytes f) [
     | inl d ↦ goes_none c found bytes (inr d)
     | inr (p, rest, is, limit, e) ↦ goes_more c found bytes p rest is limit e
-        (goes fuel (c + length (chunk_bytes p)) (spec_after found p) rest (omega (arith, ap length e, length-append (chunk_bytes p) rest, long_chunk p is)))
+        (goes fuel (c + length (chunk_bytes p)) (spec_after found p.tag (number p.size) p.content) rest (omega (arith, ap length e, length-append (chunk_bytes p) rest, long_chunk p is)))
   ]
 ]
 
-front_there : (bytes : List ℕ) → front_fault bytes ≡ None → (size : List ℕ) × (rest : List ℕ) × (length size ≡ 4) × (bytes ≡ riff_tag ++ (size ++ (wave_tag ++ rest)))
+front_there : (bytes : List ℕ) → front_fault bytes ≡ None
+    → (size : List ℕ) × (rest : List ℕ) × (length size ≡ 4) × (bytes ≡ riff_tag ++ (size ++ (wave_tag ++ rest)))
 unfolding front_fault
 front_there bytes h =
     let g1 = guard_some (nat_lt (length bytes) 4) _ _ h in
@@ -226,19 +179,41 @@ front_there bytes h =
       drop 4 (drop 8 bytes),
       simp (length-take, length-drop) (omega arith),
       parts bytes (omega arith) ∙ ap (λ t. t ++ (size ++ drop 8 bytes)) riff
-          ∙ ap (λ t. riff_tag ++ (size ++ t)) (sym (take-append-drop 4 (drop 8 bytes)) ∙ ap (λ t. t ++ drop 4 (drop 8 bytes)) wave),
+          ∙ ap (λ t. riff_tag ++ (size ++ t)) (sym (take-append-drop 4 (drop 8 bytes))
+          ∙ ap (λ t. t ++ drop 4 (drop 8 bytes)) wave),
     )
 
-ending_answer : (bytes size rest : List ℕ) → length size ≡ 4 → bytes ≡ riff_tag ++ (size ++ (wave_tag ++ rest)) → Goes 0 None rest → (a : Answer) × Answers bytes a
-ending_answer bytes size rest four e (ps, end, w, each, inl (cause, f)) =
-    (unreadable cause, inr (ps, end, record { size = size; four = four; whole = e ∙ ap (λ t. riff_tag ++ (size ++ (wave_tag ++ t))) w; each = each }, rw (zero-add (length (joined ps))) at f))
+ending_answer : (bytes size rest : List ℕ) → length size ≡ 4
+    → bytes ≡ riff_tag ++ (size ++ (wave_tag ++ rest)) → Goes 0 None rest
+    → (a : Answer) × Answers bytes a
+ending_answer bytes size rest four e (ps, end, w, each, inl (cause, f)) = (
+  unreadable cause,
+  inr (
+    ps,
+    end,
+    record {
+      size = size;
+      four = four;
+      whole = e
+          ∙ ap (λ t. riff_tag ++ (size ++ (wave_tag ++ t))) w;
+      each = each;
+    },
+    rw (zero-add (length (joined ps))) at f,
+  ),
+)
 ending_answer bytes size rest four e (ps, end, w, each, inr (spec, dsize, after, f, limit, dfour, d)) = (
   readable spec (number dsize) (12 + length (joined ps) + 8),
   record {
     chunks = ps;
     size = dsize;
     rest = after;
-    walk = record { size = size; four = four; whole = e ∙ ap (λ t. riff_tag ++ (size ++ (wave_tag ++ t))) (w ∙ ap (λ t. joined ps ++ t) d); each = each };
+    walk = record {
+      size = size;
+      four = four;
+      whole = e
+          ∙ ap (λ t. riff_tag ++ (size ++ (wave_tag ++ t))) (w ∙ ap (λ t. joined ps ++ t) d);
+      each = each;
+    };
     four = dfour;
     data_len = refl;
     limit = omega arith;
@@ -263,10 +238,13 @@ pub one_answer : (bytes : List ℕ) → HasOneAnswer bytes
 one_answer bytes = let s = some_answer bytes in (s.0, s.1, λ b h. same_answer bytes s.0 b s.1 h)
 
 -- what a reader answered, for any answer of the bytes
-pub tells_ok : (bytes rest : List ℕ) (r : FileHead) (a : Answer) → Head bytes r.spec_ex r.data_length r.data_start → rest ≡ drop r.data_start bytes → Answers bytes a → ReportsAnswer (Ok r) bytes rest a
+pub tells_ok : (bytes rest : List ℕ) (r : FileHead) (a : Answer)
+    → Head bytes r.spec_ex r.data_length r.data_start → rest ≡ drop r.data_start bytes
+    → Answers bytes a → ReportsAnswer (Ok r) bytes rest a
 tells_ok bytes rest r (readable s n k) head e b = let g = heads_agree bytes r.spec_ex s r.data_length n r.data_start k head b in (g.0, g.1, g.2, e ∙ ap (λ i. drop i bytes) g.2)
 tells_ok bytes rest r (unreadable c) head e b = head_no_fault bytes r.spec_ex r.data_length r.data_start c head b
 
-pub tells_err : (bytes rest : List ℕ) (c : Cause) (a : Answer) → Refused bytes c → Answers bytes a → ReportsAnswer (Err (stops.Refused c)) bytes rest a
+pub tells_err : (bytes rest : List ℕ) (c : Cause) (a : Answer) → Refused bytes c → Answers bytes a
+    → ReportsAnswer (Err (stops.Refused c)) bytes rest a
 tells_err bytes rest c (readable s n k) f b = head_no_fault bytes s n k c b f
 tells_err bytes rest c (unreadable d) f b = faults_agree bytes c d f b

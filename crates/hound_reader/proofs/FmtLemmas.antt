@@ -1,16 +1,20 @@
 -- The definitions of a fmt chunk at bytes in pieces.
-use Rattle.std.proofs.Common.{◌≡◌, ℕ, ◌-◌, ◌≤◌, min, true, ◌||◌, List, ◌++◌, length, take, refl, ap, ◌∙◌, arith, take_at, drop_at, length-append, le-ltb, Ok}
+use Rattle.std.proofs.Common.{◌≡◌, ℕ, ◌-◌, ◌≤◌, true, ◌||◌, List, ◌++◌, length, take, refl, ap, ◌∙◌, arith, take_at, drop_at, length-append, le-ltb, Ok}
 use Rattle.std.proofs.Common.{◌==◌}
 use Rattle.hound_spec.specs.declared.spec.WavSpecEx.{WavSpecEx}
 use Rattle.hound_number.specs.Number.{number}
-use Rattle.hound_reader.specs.Fmt.{◌>>=◌, wave_format, fmt_of, wave_format_pcm, wave_format_extensible, by_subformat, by_tag, tag_of}
+use Rattle.hound_spec.specs.Fmt.{fmt_fields, extension}
+use Rattle.hound_reader.specs.Fmt.{◌>>=◌, wave_format, fmt_of, wave_format_pcm, wave_format_extensible, by_subformat, by_tag}
 use Rattle.hound_reader.proofs.Gives.{take_over}
 
-pub pcm_forty : (len : ℕ) (found : WavSpecEx) (after : List ℕ) → len ≡ 40 → length after ≡ 24 → (found.spec.bits_per_sample == 8 || found.spec.bits_per_sample == 16 || found.spec.bits_per_sample == 24) ≡ true → wave_format_pcm len found after ≡ Ok found
+pub pcm_forty : (len : ℕ) (found : WavSpecEx) (after : List ℕ) → len ≡ 40 → length after ≡ 24
+    → (found.spec.bits_per_sample == 8 || found.spec.bits_per_sample == 16 || found.spec.bits_per_sample == 24) ≡ true → wave_format_pcm len found after ≡ Ok found
 unfolding wave_format_pcm
 pcm_forty len found after e l b = rw (e, l, b) refl
 
-pub extensible_at : (len : ℕ) (found : WavSpecEx) (size rest : List ℕ) → 40 ≤ len → length size ≡ 2 → length rest ≡ 22 → number size ≡ 22 → wave_format_extensible len found (size ++ rest) ≡ by_subformat found rest
+pub extensible_at : (len : ℕ) (found : WavSpecEx) (size rest : List ℕ) → 40 ≤ len → length size ≡ 2
+    → length rest ≡ 22 → number size ≡ 22
+    → wave_format_extensible len found (size ++ rest) ≡ by_subformat found (extension rest)
 unfolding wave_format_extensible
 extensible_at len found size rest big two more is =
     let long = le-ltb len 40 big in
@@ -19,11 +23,14 @@ extensible_at len found size rest big two more is =
     let back = drop_at size rest 2 two in
     rw (long, all, front, back, is) refl
 
-pub fmt_head : (len : ℕ) (h zs : List ℕ) → 16 ≤ len → length h ≡ 16 → fmt_of len (take (min len 40) (h ++ zs)) ≡ (wave_format h >>= λ found. by_tag (tag_of h) len found (take (min len 40 - 16) zs))
+-- the first sixteen bytes of a content, and what stands behind them
+pub fmt_head : (len n : ℕ) (h zs : List ℕ) → 16 ≤ len → 16 ≤ n → length h ≡ 16
+    → fmt_of len (take n (h ++ zs)) ≡ (wave_format (fmt_fields h) >>= λ found. by_tag (fmt_fields h).tag len found (take (n - 16) zs))
 unfolding fmt_of
-fmt_head len h zs big l =
-    let cut : take (min len 40) (h ++ zs) ≡ h ++ take (min len 40 - 16) zs = take_over (min len 40) h zs (omega arith) ∙ ap (λ i. h ++ take (min len 40 - i) zs) l in
-    let rest = take (min len 40 - 16) zs in
+fmt_head len n h zs big some l =
+    let cut : take n (h ++ zs) ≡ h ++ take (n - 16) zs = take_over n h zs (omega arith)
+    ∙ ap (λ i. h ++ take (n - i) zs) l in
+    let rest = take (n - 16) zs in
     let long = le-ltb len 16 big in
     let enough = le-ltb (length (h ++ rest)) 16 (omega (arith, length-append h rest)) in
     let front = take_at h rest 16 l in

@@ -1,15 +1,15 @@
 -- For given bytes there is one answer.
-use Rattle.std.proofs.Common.{◌≡◌, ℕ, ◌+◌, ◌≤◌, inl, inr, min, true, false, List, [], ◌∷◌, ◌++◌, length, take, drop, refl, sym, ap, ◌∙◌, subst, arith, take_at, drop_at, length-append, append_assoc, le-ltb, Option, Some, None}
+use Rattle.std.proofs.Common.{◌≡◌, ℕ, ◌+◌, ◌≤◌, inl, inr, true, List, [], ◌∷◌, ◌++◌, length, take, drop, refl, sym, ap, ◌∙◌, subst, arith, take_at, drop_at, length-append, append_assoc, le-ltb, Option, Some, None}
 use Rattle.std.specs.Str.{bytes_eq}
-use Rattle.std.proofs.lemmas.Bool.{true≢false, cases_Bool}
+use Rattle.std.proofs.lemmas.Bool.{true≢false}
 use Rattle.std.proofs.lemmas.List.{append_cancel_left}
 use Rattle.std.proofs.lemmas.Option.{same_Some}
 use Rattle.hound_spec.specs.declared.spec.WavSpecEx.{WavSpecEx}
 use Rattle.hound_reader.specs.declared.fault.Cause.{Cause}
 use Rattle.hound_number.specs.Number.{number}
 use Rattle.hound_reader.specs.Chunks.{Chunk, IsChunk, chunk_bytes, taken_of, bound_of, Chunks, joined, last_spec, Walk, Head, Refused, front_fault, content_fault, chunk_fault}
-use Rattle.hound_spec.specs.Header.{riff_tag, wave_tag, fmt_tag, data_tag}
-use Rattle.hound_reader.proofs.WalkLemmas.{taken_fmt, taken_other}
+use Rattle.hound_spec.specs.Fmt.{greatest_u32}
+use Rattle.hound_spec.specs.Header.{riff_tag, wave_tag, data_tag}
 
 -- fronts of one length
 same_front : (a b x y : List ℕ) → length a ≡ length b → a ++ x ≡ b ++ y → (a ≡ b) × (x ≡ y)
@@ -19,13 +19,18 @@ same_front a b x y l e = (
 )
 
 pub spread : (p : Chunk) (x : List ℕ) → chunk_bytes p ++ x ≡ p.tag ++ (p.size ++ (p.content ++ x))
-spread p x = append_assoc p.tag (p.size ++ p.content) x ∙ ap (λ t. p.tag ++ t) (append_assoc p.size p.content x)
+spread p x = append_assoc p.tag (p.size ++ p.content) x
+    ∙ ap (λ t. p.tag ++ t) (append_assoc p.size p.content x)
 
-same_chunk : (p q : Chunk) (x y : List ℕ) → IsChunk p → IsChunk q → chunk_bytes p ++ x ≡ chunk_bytes q ++ y → (p ≡ q) × (x ≡ y)
+same_chunk : (p q : Chunk) (x y : List ℕ) → IsChunk p → IsChunk q
+    → chunk_bytes p ++ x ≡ chunk_bytes q ++ y → (p ≡ q) × (x ≡ y)
 same_chunk p q x y isp isq e =
-    let a = same_front p.tag q.tag _ _ (isp.tag ∙ sym isq.tag) (sym (spread p x) ∙ e ∙ spread q y) in
+    let a = same_front p.tag q.tag _ _ (isp.tag ∙ sym isq.tag) (sym (spread p x) ∙ e
+    ∙ spread q y) in
     let b = same_front p.size q.size _ _ (isp.size ∙ sym isq.size) a.1 in
-    let n : length p.content ≡ length q.content = isp.content ∙ ap (λ t. taken_of t (number p.size)) a.0 ∙ ap (λ s. taken_of q.tag (number s)) b.0 ∙ sym isq.content in
+    let n : length p.content ≡ length q.content = isp.content
+    ∙ ap (λ t. taken_of t (number p.size)) a.0 ∙ ap (λ s. taken_of q.tag (number s)) b.0
+    ∙ sym isq.content in
     let d = same_front p.content q.content x y n b.1 in
     let first : p ≡ record { tag = q.tag; size = p.size; content = p.content } = ap (λ (t : List ℕ). record { tag = t; size = p.size; content = p.content }) a.0 in
     let second : ◌≡◌ {A = Chunk} (record { tag = q.tag; size = p.size; content = p.content }) (record { tag = q.tag; size = q.size; content = p.content }) = ap (λ (t : List ℕ). record { tag = q.tag; size = t; content = p.content }) b.0 in
@@ -34,9 +39,11 @@ same_chunk p q x y isp isq e =
 
 -- no chunk begins here
 abbrev Ends : ℕ → List ℕ → Type 0
-Ends k bytes = (p : Chunk) (rest : List ℕ) → IsChunk p → k + 8 + bound_of p.tag (number p.size) ≤ 4294967295 → bytes ≡ chunk_bytes p ++ rest → ⊥
+Ends k bytes = (p : Chunk) (rest : List ℕ) → IsChunk p → k + 8 + bound_of p.tag (number p.size) ≤ greatest_u32 → bytes ≡ chunk_bytes p ++ rest → ⊥
 
-same_walk : (c i j : ℕ) (ps qs : List Chunk) (x y : List ℕ) → Chunks c ps → Chunks c qs → joined ps ++ x ≡ joined qs ++ y → i ≡ c + length (joined ps) → j ≡ c + length (joined qs) → Ends i x → Ends j y → (ps ≡ qs) × (x ≡ y)
+same_walk : (c i j : ℕ) (ps qs : List Chunk) (x y : List ℕ) → Chunks c ps → Chunks c qs
+    → joined ps ++ x ≡ joined qs ++ y → i ≡ c + length (joined ps) → j ≡ c + length (joined qs)
+    → Ends i x → Ends j y → (ps ≡ qs) × (x ≡ y)
 same_walk c i j [] [] x y cp cq e k l ex ey = (refl, e)
 same_walk c i j [] (q ∷ qs) x y cp (is, limit, cq) e k l ex ey = absurd (ex q (joined qs ++ y) is (omega arith) (e ∙ append_assoc (chunk_bytes q) (joined qs) y))
 same_walk c i j (p ∷ ps) [] x y (is, limit, cp) cq e k l ex ey = absurd (ey p (joined ps ++ x) is (omega arith) (sym e ∙ append_assoc (chunk_bytes p) (joined ps) x))
@@ -47,40 +54,40 @@ same_walk c i j (p ∷ ps) (q ∷ qs) x y (isp, lp, cp) (isq, lq, cq) e k l ex e
     let more = same_walk (c + length (chunk_bytes p)) i j ps qs x y cp cq' one.1 (omega (arith, length-append (chunk_bytes p) (joined ps))) (omega (arith, n, length-append (chunk_bytes q) (joined qs))) ex ey in
     (ap (λ t. t ∷ ps) one.0 ∙ ap (λ t. q ∷ t) more.0, more.1)
 
-content_sound_fmt : (c : ℕ) (found : Option WavSpecEx) (p : Chunk) (rest : List ℕ) → IsChunk p → c + 8 + bound_of p.tag (number p.size) ≤ 4294967295 → bytes_eq p.tag fmt_tag ≡ true → content_fault c found p.tag (number p.size) (p.content ++ rest) ≡ None
+content_sound : (c : ℕ) (found : Option WavSpecEx) (p : Chunk) (rest : List ℕ) → IsChunk p
+    → c + 8 + bound_of p.tag (number p.size) ≤ greatest_u32
+    → content_fault c found p.tag (number p.size) (p.content ++ rest) ≡ None
 unfolding content_fault
-content_sound_fmt c found p rest is limit e =
-    let room = le-ltb 4294967295 (c + 8 + bound_of p.tag (number p.size)) limit in
-    let cut = take_at p.content rest (min (number p.size) 40) (is.content ∙ taken_fmt p.tag (number p.size) e) in
-    rw (is.other, room, e, cut) (is.sound e)
-
-content_sound_other : (c : ℕ) (found : Option WavSpecEx) (p : Chunk) (rest : List ℕ) → IsChunk p → c + 8 + bound_of p.tag (number p.size) ≤ 4294967295 → bytes_eq p.tag fmt_tag ≡ false → content_fault c found p.tag (number p.size) (p.content ++ rest) ≡ None
-unfolding content_fault
-content_sound_other c found p rest is limit e =
-    let room = le-ltb 4294967295 (c + 8 + bound_of p.tag (number p.size)) limit in
-    let enough = le-ltb (length (p.content ++ rest)) (bound_of p.tag (number p.size)) (omega (arith, length-append p.content rest, is.content, taken_other p.tag (number p.size) e)) in
-    rw (is.other, room, e, enough) refl
-
-content_sound : (c : ℕ) (found : Option WavSpecEx) (p : Chunk) (rest : List ℕ) → IsChunk p → c + 8 + bound_of p.tag (number p.size) ≤ 4294967295 → content_fault c found p.tag (number p.size) (p.content ++ rest) ≡ None
-content_sound c found p rest is limit = elim (cases_Bool (bytes_eq p.tag fmt_tag)) [ inl e ↦ content_sound_fmt c found p rest is limit e | inr e ↦ content_sound_other c found p rest is limit e ]
+content_sound c found p rest is limit =
+    let n = taken_of p.tag (number p.size) in
+    let room = le-ltb greatest_u32 (c + 8 + bound_of p.tag (number p.size)) limit in
+    let cut = take_at p.content rest n is.content in
+    let enough = le-ltb (length (p.content ++ rest)) n (omega (arith, length-append p.content rest, is.content)) in
+    rw (is.other, room, cut, is.sound, enough) refl
 
 -- a chunk within the limit has no fault
-chunk_sound : (c : ℕ) (found : Option WavSpecEx) (p : Chunk) (rest : List ℕ) → IsChunk p → c + 8 + bound_of p.tag (number p.size) ≤ 4294967295 → chunk_fault c found (chunk_bytes p ++ rest) ≡ None
+chunk_sound : (c : ℕ) (found : Option WavSpecEx) (p : Chunk) (rest : List ℕ) → IsChunk p
+    → c + 8 + bound_of p.tag (number p.size) ≤ greatest_u32
+    → chunk_fault c found (chunk_bytes p ++ rest) ≡ None
 unfolding chunk_fault
 chunk_sound c found p rest is limit =
-    let room = le-ltb 4294967295 (c + 8) (omega arith) in
+    let room = le-ltb greatest_u32 (c + 8) (omega arith) in
     let whole = spread p rest in
     let enough = le-ltb (length (p.tag ++ (p.size ++ (p.content ++ rest)))) 8 (omega (arith, is.tag, is.size, length-append p.tag (p.size ++ (p.content ++ rest)), length-append p.size (p.content ++ rest))) in
     let tag : take 4 (p.tag ++ (p.size ++ (p.content ++ rest))) ≡ p.tag = take_at p.tag _ 4 is.tag in
     let back : drop 4 (p.tag ++ (p.size ++ (p.content ++ rest))) ≡ p.size ++ (p.content ++ rest) = drop_at p.tag _ 4 is.tag in
     let size : take 4 (p.size ++ (p.content ++ rest)) ≡ p.size = take_at p.size _ 4 is.size in
     let all : drop 8 (p.tag ++ (p.size ++ (p.content ++ rest))) ≡ p.content ++ rest =
-    ap (drop 8) (sym (append_assoc p.tag p.size (p.content ++ rest))) ∙ drop_at (p.tag ++ p.size) (p.content ++ rest) 8 (omega (arith, is.tag, is.size, length-append p.tag p.size)) in
-    ap (chunk_fault c found) whole ∙ rw (room, enough, tag, all, back, size) (content_sound c found p rest is limit)
+    ap (drop 8) (sym (append_assoc p.tag p.size (p.content ++ rest)))
+    ∙ drop_at (p.tag ++ p.size) (p.content ++ rest) 8 (omega (arith, is.tag, is.size, length-append p.tag p.size)) in
+    ap (chunk_fault c found) whole
+    ∙ rw (room, enough, tag, all, back, size) (content_sound c found p rest is limit)
 
 -- where a fault or the data stands, no chunk begins
-fault_ends : (c : ℕ) (found : Option WavSpecEx) (bytes : List ℕ) (cause : Cause) → chunk_fault c found bytes ≡ Some cause → Ends c bytes
-fault_ends c found bytes cause h p rest is limit e = let none = ap (chunk_fault c found) e ∙ chunk_sound c found p rest is limit in cc
+fault_ends : (c : ℕ) (found : Option WavSpecEx) (bytes : List ℕ) (cause : Cause)
+    → chunk_fault c found bytes ≡ Some cause → Ends c bytes
+fault_ends c found bytes cause h p rest is limit e = let none = ap (chunk_fault c found) e
+    ∙ chunk_sound c found p rest is limit in cc
 
 data_ends : (c : ℕ) (size rest : List ℕ) → Ends c (data_tag ++ (size ++ rest))
 data_ends c size rest p more is limit e =
@@ -88,14 +95,16 @@ data_ends c size rest p more is limit e =
     let yes : bytes_eq p.tag data_tag ≡ true = rw (← same.0) refl in
     true≢false (sym yes ∙ is.other)
 
-data_sound : (c : ℕ) (spec : WavSpecEx) (size rest : List ℕ) → c + 8 ≤ 4294967295 → length size ≡ 4 → chunk_fault c (Some spec) (data_tag ++ (size ++ rest)) ≡ None
+data_sound : (c : ℕ) (spec : WavSpecEx) (size rest : List ℕ) → c + 8 ≤ greatest_u32
+    → length size ≡ 4 → chunk_fault c (Some spec) (data_tag ++ (size ++ rest)) ≡ None
 unfolding chunk_fault content_fault
 data_sound c spec size rest limit four =
-    let room = le-ltb 4294967295 (c + 8) limit in
+    let room = le-ltb greatest_u32 (c + 8) limit in
     let enough = le-ltb (length (data_tag ++ (size ++ rest))) 8 (omega (arith, four, length-append size rest)) in
     rw (room, enough) refl
 
-front_sound : (size rest : List ℕ) → length size ≡ 4 → front_fault (riff_tag ++ (size ++ (wave_tag ++ rest))) ≡ None
+front_sound : (size rest : List ℕ) → length size ≡ 4
+    → front_fault (riff_tag ++ (size ++ (wave_tag ++ rest))) ≡ None
 unfolding front_fault
 front_sound size rest four =
     let enough = le-ltb (length (riff_tag ++ (size ++ (wave_tag ++ rest)))) 12 (omega (arith, four, length-append size (wave_tag ++ rest))) in
@@ -103,27 +112,34 @@ front_sound size rest four =
     let back : drop 4 (size ++ (wave_tag ++ rest)) ≡ wave_tag ++ rest = drop_at size (wave_tag ++ rest) 4 four in
     rw (some, enough, back) refl
 
-no_front_fault : (bytes : List ℕ) (chunks : List Chunk) (rest : List ℕ) → Walk bytes chunks rest → front_fault bytes ≡ None
-no_front_fault bytes chunks rest w = ap front_fault w.whole ∙ front_sound w.size (joined chunks ++ rest) w.four
+no_front_fault : (bytes : List ℕ) (chunks : List Chunk) (rest : List ℕ) → Walk bytes chunks rest
+    → front_fault bytes ≡ None
+no_front_fault bytes chunks rest w = ap front_fault w.whole
+    ∙ front_sound w.size (joined chunks ++ rest) w.four
 
 -- two walks of the same bytes that both end
-pub same_walks : (bytes : List ℕ) (ps qs : List Chunk) (x y : List ℕ) → Walk bytes ps x → Walk bytes qs y → Ends (length (joined ps)) x → Ends (length (joined qs)) y → (ps ≡ qs) × (x ≡ y)
+pub same_walks : (bytes : List ℕ) (ps qs : List Chunk) (x y : List ℕ) → Walk bytes ps x
+    → Walk bytes qs y → Ends (length (joined ps)) x → Ends (length (joined qs)) y
+    → (ps ≡ qs) × (x ≡ y)
 same_walks bytes ps qs x y v w ex ey =
     let a = append_cancel_left riff_tag _ _ (sym v.whole ∙ w.whole) in
     let b = same_front v.size w.size _ _ (v.four ∙ sym w.four) a in
     let d = append_cancel_left wave_tag _ _ b.1 in
     same_walk 0 (length (joined ps)) (length (joined qs)) ps qs x y v.each w.each d (omega arith) (omega arith) ex ey
 
-pub heads_agree : (bytes : List ℕ) (s t : WavSpecEx) (m n h k : ℕ) → Head bytes s m h → Head bytes t n k → (s ≡ t) × (m ≡ n) × (h ≡ k)
+pub heads_agree : (bytes : List ℕ) (s t : WavSpecEx) (m n h k : ℕ) → Head bytes s m h
+    → Head bytes t n k → (s ≡ t) × (m ≡ n) × (h ≡ k)
 heads_agree bytes s t m n h k a b =
     let w = same_walks bytes a.chunks b.chunks _ _ a.walk b.walk (data_ends _ a.size a.rest) (data_ends _ b.size b.rest) in
-    let e = same_front a.size b.size a.rest b.rest (a.four ∙ sym b.four) (append_cancel_left data_tag _ _ w.1) in (
+    let e = same_front a.size b.size a.rest b.rest (a.four
+    ∙ sym b.four) (append_cancel_left data_tag _ _ w.1) in (
       same_Some s t (sym a.spec_is ∙ ap (last_spec None) w.0 ∙ b.spec_is),
       sym a.data_len ∙ ap number e.0 ∙ b.data_len,
       a.place ∙ ap (λ c. 12 + length (joined c) + 8) w.0 ∙ sym b.place,
     )
 
-pub head_no_fault : (bytes : List ℕ) (s : WavSpecEx) (m h : ℕ) (cause : Cause) → Head bytes s m h → Refused bytes cause → ⊥
+pub head_no_fault : (bytes : List ℕ) (s : WavSpecEx) (m h : ℕ) (cause : Cause) → Head bytes s m h
+    → Refused bytes cause → ⊥
 head_no_fault bytes s m h cause a (inl e) = let n = no_front_fault bytes a.chunks _ a.walk in cc
 head_no_fault bytes s m h cause a (inr (chunks, rest, walk, fault)) =
     let w = same_walks bytes a.chunks chunks _ _ a.walk walk (data_ends _ a.size a.rest) (fault_ends _ (last_spec None chunks) rest cause fault) in

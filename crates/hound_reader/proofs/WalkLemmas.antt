@@ -1,5 +1,5 @@
 -- The definitions of the walk at bytes in pieces.
-use Rattle.std.proofs.Common.{◌≡◌, ℕ, ◌+◌, ◌≤◌, min, Bool, true, false, not, List, [], ◌∷◌, ◌++◌, length, take, drop, slice_range, refl, sym, ap, ◌∙◌, arith, take_at, drop_at, length-append, append-nil, append_assoc, le-ltb, length-take, length-drop, take_all, Option, Some, None}
+use Rattle.std.proofs.Common.{◌≡◌, ℕ, ◌+◌, ◌≤◌, Bool, true, false, not, List, [], ◌∷◌, ◌++◌, length, take, drop, slice_range, refl, sym, ap, ◌∙◌, arith, take_at, drop_at, length-append, append-nil, append_assoc, le-ltb, length-take, length-drop, take_all, Option, Some, None}
 use Rattle.std.specs.Str.{bytes_eq}
 use Rattle.std.proofs.lemmas.Slice.Eq.{bytes_eq-Decides}
 use Rattle.std.proofs.lemmas.List.{take-append-drop}
@@ -9,48 +9,44 @@ use Rattle.hound_reader.specs.declared.fault.Reason.TheVariants.{NoRiffTag}
 use Rattle.hound_reader.specs.declared.chunks.ChunkRead.{ChunkRead}
 use Rattle.hound_reader.specs.declared.chunks.ChunkRead.TheVariants.{Data, Other}
 use Rattle.hound_number.specs.Number.{number}
-use Rattle.hound_reader.specs.Chunks.{Chunk, IsChunk, chunk_bytes, taken_of, bound_of, Chunks, joined, last_spec, Head, spec_after, front_fault}
-use Rattle.hound_spec.specs.Header.{riff_tag, wave_tag, fmt_tag, data_tag}
+use Rattle.hound_reader.specs.Chunks.{Chunk, IsChunk, chunk_bytes, bound_of, Chunks, joined, last_spec, Head, spec_after, front_fault}
+use Rattle.hound_spec.specs.Fmt.{greatest_u32}
+use Rattle.hound_spec.specs.Header.{riff_tag, wave_tag, data_tag}
 use Rattle.hound_reader.specs.Walk.{ReadsChunk, ReadsContent, Walked, ReachesData}
 
 -- what a test of the code says
-pub tag_test : (r b : Bool) (tag now lit : List ℕ) → r ≡ bytes_eq tag now → now ≡ lit → r ≡ b → bytes_eq tag lit ≡ b
+pub tag_test : (r b : Bool) (tag now lit : List ℕ) → r ≡ bytes_eq tag now → now ≡ lit → r ≡ b
+    → bytes_eq tag lit ≡ b
 tag_test r b tag now lit e l t = sym (e ∙ ap (bytes_eq tag) l) ∙ t
 
 not-not : (b : Bool) → not (not b) ≡ b
 not-not true = refl
 not-not false = refl
 
-pub ne_test : (r b : Bool) (x tag now lit : List ℕ) → r ≡ not (bytes_eq x now) → x ≡ tag → now ≡ lit → r ≡ b → bytes_eq tag lit ≡ not b
-ne_test r b x tag now lit e k l t = sym (ap (λ y. bytes_eq y lit) k) ∙ sym (ap (bytes_eq x) l) ∙ sym (not-not (bytes_eq x now)) ∙ ap not (sym e ∙ t)
+pub ne_test : (r b : Bool) (x tag now lit : List ℕ) → r ≡ not (bytes_eq x now) → x ≡ tag → now ≡ lit
+    → r ≡ b → bytes_eq tag lit ≡ not b
+ne_test r b x tag now lit e k l t = sym (ap (λ y. bytes_eq y lit) k) ∙ sym (ap (bytes_eq x) l)
+    ∙ sym (not-not (bytes_eq x now)) ∙ ap not (sym e ∙ t)
 
 pub same_tag : (tag lit : List ℕ) → bytes_eq tag lit ≡ true → tag ≡ lit
 same_tag tag lit e = (bytes_eq-Decides tag lit).0 e
 
-pub no_riff : (h ys : List ℕ) → length h ≡ 4 → bytes_eq h riff_tag ≡ false → front_fault (h ++ ys) ≡ Some (Format NoRiffTag)
+pub no_riff : (h ys : List ℕ) → length h ≡ 4 → bytes_eq h riff_tag ≡ false
+    → front_fault (h ++ ys) ≡ Some (Format NoRiffTag)
 unfolding front_fault
 no_riff h ys l e =
     let enough = le-ltb (length (h ++ ys)) 4 (omega (arith, length-append h ys)) in
     rw (enough, take_at h ys 4 l, e) refl
 
-pub bound_fmt : (tag : List ℕ) (len : ℕ) → bytes_eq tag fmt_tag ≡ true → bound_of tag len ≡ 40
-unfolding bound_of
-bound_fmt tag len e = rw e refl
-
-pub taken_fmt : (tag : List ℕ) (len : ℕ) → bytes_eq tag fmt_tag ≡ true → taken_of tag len ≡ min len 40
-unfolding taken_of
-taken_fmt tag len e = rw e refl
-
-pub taken_other : (tag : List ℕ) (len : ℕ) → bytes_eq tag fmt_tag ≡ false → taken_of tag len ≡ bound_of tag len
-unfolding taken_of bound_of
-taken_other tag len e = rw e refl
-
 -- eight bytes are a tag and a length
 pub halves : (h : List ℕ) → length h ≡ 8 → h ≡ take 4 h ++ slice_range h 4 8
-halves h l = sym (take-append-drop 4 h) ∙ ap (λ t. take 4 h ++ t) (sym (take_all 4 (drop 4 h) (simp length-drop (omega arith))))
+halves h l = sym (take-append-drop 4 h)
+    ∙ ap (λ t. take 4 h ++ t) (sym (take_all 4 (drop 4 h) (simp length-drop (omega arith))))
 
-pub chunk_from : (c : ℕ) (found : Option WavSpecEx) (h : List ℕ) (t : ChunkRead) (ys zs : List ℕ) → length h ≡ 8 → c + 8 ≤ 4294967295 → ReadsContent c found (take 4 h) (number (slice_range h 4 8)) t ys zs → ReadsChunk c found t (h ++ ys) zs
-unfolding spec_after
+pub chunk_from : (c : ℕ) (found : Option WavSpecEx) (h : List ℕ) (t : ChunkRead) (ys zs : List ℕ)
+    → length h ≡ 8 → c + 8 ≤ greatest_u32
+    → ReadsContent c found (take 4 h) (number (slice_range h 4 8)) t ys zs
+    → ReadsChunk c found t (h ++ ys) zs
 chunk_from c found h (Data spec n) ys zs l room (is, f, k, e) =
     let size = slice_range h 4 8 in (
       f,
@@ -58,7 +54,8 @@ chunk_from c found h (Data spec n) ys zs l room (is, f, k, e) =
       size,
       simp (length-take, length-drop) (omega arith),
       sym k,
-      ap (λ t. t ++ ys) (halves h l ∙ ap (λ t. t ++ size) (same_tag (take 4 h) data_tag is)) ∙ append_assoc data_tag size ys ∙ ap (λ t. data_tag ++ (size ++ t)) e,
+      ap (λ t. t ++ ys) (halves h l ∙ ap (λ t. t ++ size) (same_tag (take 4 h) data_tag is))
+          ∙ append_assoc data_tag size ys ∙ ap (λ t. data_tag ++ (size ++ t)) e,
     )
 chunk_from c found h (Other next taken) ys zs l room (content, n, other, sound, limit, f, k, e) =
     let size = slice_range h 4 8 in
@@ -69,42 +66,60 @@ chunk_from c found h (Other next taken) ys zs l room (content, n, other, sound, 
       limit,
       f,
       omega (arith, k, length-append (take 4 h) (size ++ content), length-append size content),
-      ap (λ t. h ++ t) e ∙ ap (λ t. t ++ (content ++ zs)) (halves h l) ∙ append_assoc (take 4 h) size (content ++ zs) ∙ ap (λ t. take 4 h ++ t) (sym (append_assoc size content zs)) ∙ sym (append_assoc (take 4 h) (size ++ content) zs),
+      ap (λ t. h ++ t) e ∙ ap (λ t. t ++ (content ++ zs)) (halves h l)
+          ∙ append_assoc (take 4 h) size (content ++ zs)
+          ∙ ap (λ t. take 4 h ++ t) (sym (append_assoc size content zs))
+          ∙ sym (append_assoc (take 4 h) (size ++ content) zs),
     )
 
-Chunks-more : (c : ℕ) (ps : List Chunk) (p : Chunk) → Chunks c ps → IsChunk p → c + length (joined ps) + 8 + bound_of p.tag (number p.size) ≤ 4294967295 → Chunks c (ps ++ p ∷ [])
+Chunks-more : (c : ℕ) (ps : List Chunk) (p : Chunk) → Chunks c ps → IsChunk p
+    → c + length (joined ps) + 8 + bound_of p.tag (number p.size) ≤ greatest_u32
+    → Chunks c (ps ++ p ∷ [])
 Chunks-more c [] p each is limit = (is, omega arith, tt)
 Chunks-more c (q ∷ ps) p (first, room, each) is limit =
     (first, room, Chunks-more (c + length (chunk_bytes q)) ps p each is (omega (arith, length-append (chunk_bytes q) (joined ps))))
 
-last_spec-more : (found : Option WavSpecEx) (ps : List Chunk) (p : Chunk) → last_spec found (ps ++ p ∷ []) ≡ spec_after (last_spec found ps) p
+last_spec-more : (found : Option WavSpecEx) (ps : List Chunk) (p : Chunk)
+    → last_spec found (ps ++ p ∷ []) ≡ spec_after (last_spec found ps) p.tag (number p.size) p.content
 last_spec-more found [] p = refl
-last_spec-more found (q ∷ ps) p = last_spec-more (spec_after found q) ps p
+last_spec-more found (q ∷ ps) p = last_spec-more (spec_after found q.tag (number q.size) q.content) ps p
 
-joined-more : (ps : List Chunk) (p : Chunk) (rest : List ℕ) → joined (ps ++ p ∷ []) ++ rest ≡ joined ps ++ (chunk_bytes p ++ rest)
+joined-more : (ps : List Chunk) (p : Chunk) (rest : List ℕ)
+    → joined (ps ++ p ∷ []) ++ rest ≡ joined ps ++ (chunk_bytes p ++ rest)
 joined-more [] p rest = ap (λ t. t ++ rest) (append-nil (chunk_bytes p))
-joined-more (q ∷ ps) p rest = append_assoc (chunk_bytes q) (joined (ps ++ p ∷ [])) rest ∙ ap (λ t. chunk_bytes q ++ t) (joined-more ps p rest) ∙ sym (append_assoc (chunk_bytes q) (joined ps) (chunk_bytes p ++ rest))
+joined-more (q ∷ ps) p rest = append_assoc (chunk_bytes q) (joined (ps ++ p ∷ [])) rest
+    ∙ ap (λ t. chunk_bytes q ++ t) (joined-more ps p rest)
+    ∙ sym (append_assoc (chunk_bytes q) (joined ps) (chunk_bytes p ++ rest))
 
-length-joined-more : (ps : List Chunk) (p : Chunk) → length (joined (ps ++ p ∷ [])) ≡ length (joined ps) + length (chunk_bytes p)
+length-joined-more : (ps : List Chunk) (p : Chunk)
+    → length (joined (ps ++ p ∷ [])) ≡ length (joined ps) + length (chunk_bytes p)
 length-joined-more ps p =
-    ap length (sym (append-nil (joined (ps ++ p ∷ [])))) ∙ ap length (joined-more ps p []) ∙ length-append (joined ps) (chunk_bytes p ++ []) ∙ ap (λ t. length (joined ps) + length t) (append-nil (chunk_bytes p))
+    ap length (sym (append-nil (joined (ps ++ p ∷ [])))) ∙ ap length (joined-more ps p [])
+    ∙ length-append (joined ps) (chunk_bytes p ++ [])
+    ∙ ap (λ t. length (joined ps) + length t) (append-nil (chunk_bytes p))
 
 -- one more chunk
-pub walked_more : (xs ys zs : List ℕ) (c taken : ℕ) (found next : Option WavSpecEx) → Walked xs ys found c → ReadsChunk c found (Other next taken) ys zs → Walked xs zs next taken
+pub walked_more : (xs ys zs : List ℕ) (c taken : ℕ) (found next : Option WavSpecEx)
+    → Walked xs ys found c → ReadsChunk c found (Other next taken) ys zs → Walked xs zs next taken
 walked_more xs ys zs c taken found next w (p, is, limit, f, k, e) = record {
   chunks = w.chunks ++ p ∷ [];
   each = Chunks-more 0 w.chunks p w.each is (omega (arith, w.taken_is));
   whole = w.whole ∙ ap (λ t. joined w.chunks ++ t) e ∙ sym (joined-more w.chunks p zs);
-  found_is = f ∙ ap (λ g. spec_after g p) w.found_is ∙ sym (last_spec-more None w.chunks p);
-  taken_is = k ∙ ap (λ i. i + length (chunk_bytes p)) w.taken_is ∙ sym (length-joined-more w.chunks p);
+  found_is = f ∙ ap (λ g. spec_after g p.tag (number p.size) p.content) w.found_is
+      ∙ sym (last_spec-more None w.chunks p);
+  taken_is = k ∙ ap (λ i. i + length (chunk_bytes p)) w.taken_is
+      ∙ sym (length-joined-more w.chunks p);
 }
 
 -- the first twelve bytes, chunks, and the header of the data
-pub head_from : (xs ys zs size : List ℕ) (spec : WavSpecEx) (len : ℕ) → length size ≡ 4 → xs ≡ riff_tag ++ (size ++ (wave_tag ++ ys)) → (taken : ℕ) → ReachesData ys zs spec len taken → (h : ℕ) → h ≡ 12 + taken + 8 → Head xs spec len h × (zs ≡ drop h xs)
+pub head_from : (xs ys zs size : List ℕ) (spec : WavSpecEx) (len : ℕ) → length size ≡ 4
+    → xs ≡ riff_tag ++ (size ++ (wave_tag ++ ys)) → (taken : ℕ) → ReachesData ys zs spec len taken
+    → (h : ℕ) → h ≡ 12 + taken + 8 → Head xs spec len h × (zs ≡ drop h xs)
 head_from xs ys zs size spec len four e taken r h at =
     let w = r.walked in
     let body = joined w.chunks in
-    let all : xs ≡ riff_tag ++ (size ++ (wave_tag ++ (body ++ (data_tag ++ (r.size ++ zs))))) = e ∙ ap (λ t. riff_tag ++ (size ++ (wave_tag ++ t))) w.whole in
+    let all : xs ≡ riff_tag ++ (size ++ (wave_tag ++ (body ++ (data_tag ++ (r.size ++ zs))))) = e
+    ∙ ap (λ t. riff_tag ++ (size ++ (wave_tag ++ t))) w.whole in
     let front = riff_tag ++ (size ++ (wave_tag ++ (body ++ (data_tag ++ r.size)))) in
     let parted : riff_tag ++ (size ++ (wave_tag ++ (body ++ (data_tag ++ (r.size ++ zs))))) ≡ front ++ zs = simp append_assoc in
     let n : length front ≡ 12 + length body + 8 = omega (arith, four, r.four, length-append size (wave_tag ++ (body ++ (data_tag ++ r.size))), length-append body (data_tag ++ r.size)) in let place : h ≡ 12 + length body + 8 = omega (arith, at, w.taken_is) in (

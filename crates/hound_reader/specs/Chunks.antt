@@ -1,8 +1,9 @@
 -- A file as chunks (RIFF): what stands before the data, and what is wrong where it can't be read.
-use Rattle.std.specs.Prelude.{◌≡◌, ℕ, ◌+◌, ◌≤◌, ◌/◌, ◌%◌, ◌==◌, ◌⊎◌, min, true, false, not, List, [], ◌∷◌, ◌++◌, length, take, drop, slice_range, Option, Some, None, is_none, Result, Ok, Err, nat_lt, if◌then◌else◌}
+use Rattle.std.specs.Prelude.{◌≡◌, ℕ, ◌+◌, ◌≤◌, ◌/◌, ◌%◌, ◌==◌, ◌⊎◌, min, false, not, List, [], ◌∷◌, ◌++◌, codes, length, take, drop, slice_range, Option, Some, None, is_none, Result, Ok, Err, nat_lt, if◌then◌else◌}
 use Rattle.std.specs.Str.{bytes_eq}
 use Rattle.std.specs.List.{flat_map}
 use Rattle.hound_number.specs.Number.{number}
+use Rattle.hound_spec.specs.Fmt.{greatest_u32}
 use Rattle.hound_spec.specs.Header.{riff_tag, wave_tag, fmt_tag, data_tag}
 use Rattle.hound_reader.specs.Fmt.{fmt_of}
 use Rattle.hound_spec.specs.declared.spec.WavSpecEx.{WavSpecEx}
@@ -12,9 +13,10 @@ use Rattle.hound_reader.specs.declared.fault.Reason.TheVariants.{NoRiffTag, NoWa
 
 -- the tag of a fact chunk
 abbrev pub fact_tag : List ℕ
-fact_tag = 0x66 ∷ 0x61 ∷ 0x63 ∷ 0x74 ∷ []
+fact_tag = codes "fact"
 
--- A chunk as it stands in the file: the tag, the length as four bytes, and what is taken of the content.
+-- A chunk as it stands in the file: the tag, the length as four bytes, and what is taken of the
+-- content (RIFF, "Chunks").
 pub record Chunk : Type 0 where
   pub tag : List ℕ
   pub size : List ℕ
@@ -28,9 +30,11 @@ chunk_bytes p = p.tag ++ (p.size ++ p.content)
 abbrev pub joined : List Chunk → List ℕ
 joined ps = flat_map chunk_bytes ps
 
--- How many bytes of the content are taken: of a fmt chunk at most forty, of a fact chunk four, else as many as its length says.
+-- How many bytes of the content are taken: of a fmt chunk at most forty, of a fact chunk four, else
+-- as many as its length says.
 unfoldable pub taken_of : List ℕ → ℕ → ℕ
-taken_of tag len = if bytes_eq tag fmt_tag then min len 40 else if bytes_eq tag fact_tag then 4 else len
+taken_of tag len =
+    if bytes_eq tag fmt_tag then min len 40 else if bytes_eq tag fact_tag then 4 else len
 
 -- What the limit counts for the content, before it is taken: for a fmt chunk always forty.
 unfoldable pub bound_of : List ℕ → ℕ → ℕ
@@ -45,26 +49,33 @@ abbrev pub fault_of : Result WavSpecEx Cause → Option Cause
 fault_of (Ok found) = None
 fault_of (Err c) = Some c
 
--- A chunk before the data: its tag isn't "data", its content is whole, and a fmt chunk has no fault.
+-- the fault of the content that is taken, if it is that of a fmt chunk and has one
+abbrev pub fmt_fault : List ℕ → ℕ → List ℕ → Option Cause
+fmt_fault tag len content = if bytes_eq tag fmt_tag then fault_of (fmt_of len content) else None
+
+-- A chunk before the data: its tag isn't "data", its content is whole, and a fmt chunk has no
+-- fault.
 pub record IsChunk (p : Chunk) : Type 0 where
   pub tag : length p.tag ≡ 4
   pub size : length p.size ≡ 4
   pub content : length p.content ≡ taken_of p.tag (number p.size)
   pub other : bytes_eq p.tag data_tag ≡ false
-  pub sound : bytes_eq p.tag fmt_tag ≡ true → fault_of (fmt_of (number p.size) p.content) ≡ None
+  pub sound : fmt_fault p.tag (number p.size) p.content ≡ None
 
 -- Chunks from c bytes behind the WAVE tag on, each within the limit of 32 bits.
 abbrev pub Chunks : ℕ → List Chunk → Type 0
 Chunks c [] = Unit {0}
-Chunks c (p ∷ ps) = IsChunk p × (c + 8 + bound_of p.tag (number p.size) ≤ 4294967295) × Chunks (c + length (chunk_bytes p)) ps
+Chunks c (p ∷ ps) = IsChunk p × (c + 8 + bound_of p.tag (number p.size) ≤ greatest_u32)
+    × Chunks (c + length (chunk_bytes p)) ps
 
 -- the spec behind a chunk, and behind chunks: that of the last fmt chunk
-unfoldable pub spec_after : Option WavSpecEx → Chunk → Option WavSpecEx
-spec_after found p = if bytes_eq p.tag fmt_tag then ok_of (fmt_of (number p.size) p.content) else found
+unfoldable pub spec_after : Option WavSpecEx → List ℕ → ℕ → List ℕ → Option WavSpecEx
+spec_after found tag len content =
+    if bytes_eq tag fmt_tag then ok_of (fmt_of len content) else found
 
 abbrev pub last_spec : Option WavSpecEx → List Chunk → Option WavSpecEx
 last_spec found [] = found
-last_spec found (p ∷ ps) = last_spec (spec_after found p) ps
+last_spec found (p ∷ ps) = last_spec (spec_after found p.tag (number p.size) p.content) ps
 
 -- The bytes are RIFF, a size, WAVE, these chunks within the limit, and the rest.
 pub record Walk (bytes : List ℕ) (chunks : List Chunk) (rest : List ℕ) : Type 0 where
@@ -73,7 +84,8 @@ pub record Walk (bytes : List ℕ) (chunks : List Chunk) (rest : List ℕ) : Typ
   pub whole : bytes ≡ riff_tag ++ (size ++ (wave_tag ++ (joined chunks ++ rest)))
   pub each : Chunks 0 chunks
 
--- The first h bytes are a head: chunks, and the tag and length of a data chunk. The last fmt chunk has this spec.
+-- The first h bytes are a head: chunks, and the tag and length of a data chunk. The last fmt chunk
+-- has this spec.
 pub record Head (bytes : List ℕ) (spec : WavSpecEx) (len h : ℕ) : Type 0 where
   pub chunks : List Chunk
   pub size : List ℕ
@@ -81,7 +93,7 @@ pub record Head (bytes : List ℕ) (spec : WavSpecEx) (len h : ℕ) : Type 0 whe
   pub walk : Walk bytes chunks (data_tag ++ (size ++ rest))
   pub four : length size ≡ 4
   pub data_len : number size ≡ len
-  pub limit : length (joined chunks) + 8 ≤ 4294967295
+  pub limit : length (joined chunks) + 8 ≤ greatest_u32
   pub spec_is : last_spec None chunks ≡ Some spec
   pub place : h ≡ 12 + length (joined chunks) + 8
 
@@ -94,31 +106,40 @@ front_fault bytes =
     else if not (bytes_eq (slice_range bytes 8 12) wave_tag) then Some (Format NoWaveTag)
     else None
 
--- The fault of a chunk with this tag and length, and the rest behind them, where c bytes and a spec so far came before.
+-- the first of two faults
+abbrev pub first_fault : Option Cause → Option Cause → Option Cause
+first_fault None second = second
+first_fault (Some c) second = Some c
+
+-- The fault of a chunk with this tag and length, and the rest behind them, where c bytes and a spec
+-- so far came before.
 unfoldable pub content_fault : ℕ → Option WavSpecEx → List ℕ → ℕ → List ℕ → Option Cause
 content_fault c found tag len rest =
     if bytes_eq tag data_tag then (if is_none found then Some (Format NoFmtChunk) else None)
-    else if nat_lt 4294967295 (c + 8 + bound_of tag len) then Some (Format NoDataChunk)
-    else if bytes_eq tag fmt_tag then fault_of (fmt_of len (take (min len 40) rest))
-    else if nat_lt (length rest) (bound_of tag len) then Some Ended
-    else None
+    else if nat_lt greatest_u32 (c + 8 + bound_of tag len) then Some (Format NoDataChunk)
+    else first_fault (fmt_fault tag len (take (taken_of tag len) rest))
+    (if nat_lt (length rest) (taken_of tag len) then Some Ended else None)
 
 -- The fault of a chunk that begins here, if it has one.
 unfoldable pub chunk_fault : ℕ → Option WavSpecEx → List ℕ → Option Cause
 chunk_fault c found bytes =
-    if nat_lt 4294967295 (c + 8) then Some (Format NoDataChunk)
+    if nat_lt greatest_u32 (c + 8) then Some (Format NoDataChunk)
     else if nat_lt (length bytes) 8 then Some Ended
     else content_fault c found (take 4 bytes) (number (slice_range bytes 4 8)) (drop 8 bytes)
 
--- The bytes have no head for this cause: the first twelve bytes have it, or what stands behind whole chunks does.
+-- The bytes have no head for this cause: the first twelve bytes have it, or what stands behind
+-- whole chunks does.
 abbrev pub Refused : List ℕ → Cause → Type 0
-Refused bytes cause = (front_fault bytes ≡ Some cause) ⊎ ((chunks : List Chunk) × (rest : List ℕ) × Walk bytes chunks rest × (chunk_fault (length (joined chunks)) (last_spec None chunks) rest ≡ Some cause))
+Refused bytes cause = (front_fault bytes ≡ Some cause)
+    ⊎ ((chunks : List Chunk) × (rest : List ℕ) × Walk bytes chunks rest
+    × (chunk_fault (length (joined chunks)) (last_spec None chunks) rest ≡ Some cause))
 
 -- The fault of a data length, if it has one: no whole samples, or no whole frames.
 abbrev pub data_fault : WavSpecEx → ℕ → Option Cause
 data_fault spec len =
     if not (len % spec.bytes_per_sample == 0) then Some (Format DataLength)
-    else if not ((len / spec.bytes_per_sample) % spec.spec.channels == 0) then Some (Format FrameLength)
+    else if not ((len / spec.bytes_per_sample) % spec.spec.channels == 0)
+    then Some (Format FrameLength)
     else None
 
 -- A head with whole frames: so many samples follow it.
@@ -130,4 +151,6 @@ pub record Readable (bytes : List ℕ) (spec : WavSpecEx) (samples h : ℕ) : Ty
 
 -- The bytes can't be read for this cause: they have no head, or its data length is at fault.
 abbrev pub Unreadable : List ℕ → Cause → Type 0
-Unreadable bytes cause = Refused bytes cause ⊎ ((spec : WavSpecEx) × (len : ℕ) × (h : ℕ) × Head bytes spec len h × (data_fault spec len ≡ Some cause))
+Unreadable bytes cause = Refused bytes cause
+    ⊎ ((spec : WavSpecEx) × (len : ℕ) × (h : ℕ) × Head bytes spec len h
+    × (data_fault spec len ≡ Some cause))

@@ -1,31 +1,41 @@
 -- The walk over chunks, step by step.
-use Rattle.std.specs.Prelude.{◌≡◌, ℕ, ◌+◌, ◌≤◌, List, ◌++◌, length, ⊤, Option, Some, None, true, false, if◌then◌else◌}
+use Rattle.std.specs.Prelude.{◌≡◌, ℕ, ◌+◌, ◌≤◌, List, ◌++◌, length, ⊤, Option, Some, None, true, false}
 use Rattle.hound_number.specs.Number.{number}
-use Rattle.hound_spec.specs.Header.{fmt_tag, data_tag}
-use Rattle.hound_reader.specs.Chunks.{Chunks, joined, last_spec, chunk_fault, Chunk, IsChunk, chunk_bytes, bound_of, spec_after, taken_of, ok_of, fault_of}
-use Rattle.hound_reader.specs.Fmt.{fmt_of, IsSoundSpec}
+use Rattle.hound_spec.specs.Fmt.{greatest_u32}
+use Rattle.hound_spec.specs.Header.{data_tag}
+use Rattle.hound_reader.specs.Chunks.{Chunks, joined, last_spec, chunk_fault, Chunk, IsChunk, chunk_bytes, bound_of, spec_after, taken_of, fmt_fault}
+use Rattle.hound_reader.specs.Fmt.{IsSoundSpec}
 use Rattle.std.specs.Str.{bytes_eq}
 use Rattle.hound_spec.specs.declared.spec.WavSpecEx.{WavSpecEx}
 use Rattle.hound_reader.specs.declared.fault.Cause.{Cause}
 use Rattle.hound_reader.specs.declared.chunks.ChunkRead.{ChunkRead}
 use Rattle.hound_reader.specs.declared.chunks.ChunkRead.TheVariants.{Data, Other}
 
--- What was taken of xs, of which ys are left, where a chunk was read that began c bytes behind the WAVE tag.
+-- What was taken of xs, of which ys are left, where a chunk was read that began c bytes behind the
+-- WAVE tag.
 abbrev pub ReadsChunk : ℕ → Option WavSpecEx → ChunkRead → List ℕ → List ℕ → Type 0
-ReadsChunk c found (Data spec len) xs ys = (found ≡ Some spec) × (c + 8 ≤ 4294967295) × (size : List ℕ) × (length size ≡ 4) × (number size ≡ len) × (xs ≡ data_tag ++ (size ++ ys))
-ReadsChunk c found (Other next taken) xs ys = (p : Chunk) × IsChunk p × (c + 8 + bound_of p.tag (number p.size) ≤ 4294967295) × (next ≡ spec_after found p) × (taken ≡ c + length (chunk_bytes p)) × (xs ≡ chunk_bytes p ++ ys)
+ReadsChunk c found (Data spec len) xs ys = (found ≡ Some spec) × (c + 8 ≤ greatest_u32)
+    × (size : List ℕ) × (length size ≡ 4) × (number size ≡ len) × (xs ≡ data_tag ++ (size ++ ys))
+ReadsChunk c found (Other next taken) xs ys = (p : Chunk) × IsChunk p
+    × (c + 8 + bound_of p.tag (number p.size) ≤ greatest_u32)
+    × (next ≡ spec_after found p.tag (number p.size) p.content)
+    × (taken ≡ c + length (chunk_bytes p)) × (xs ≡ chunk_bytes p ++ ys)
 
 -- The same behind the tag and the length.
 abbrev pub ReadsContent : ℕ → Option WavSpecEx → List ℕ → ℕ → ChunkRead → List ℕ → List ℕ → Type 0
-ReadsContent c found tag len (Data spec n) xs ys = (bytes_eq tag data_tag ≡ true) × (found ≡ Some spec) × (n ≡ len) × (xs ≡ ys)
-ReadsContent c found tag len (Other next taken) xs ys = (content : List ℕ) × (length content ≡ taken_of tag len) × (bytes_eq tag data_tag ≡ false)
-    × (bytes_eq tag fmt_tag ≡ true → fault_of (fmt_of len content) ≡ None) × (c + 8 + bound_of tag len ≤ 4294967295)
-    × (next ≡ (if bytes_eq tag fmt_tag then ok_of (fmt_of len content) else found)) × (taken ≡ c + 8 + length content) × (xs ≡ content ++ ys)
+ReadsContent c found tag len (Data spec n) xs ys = (bytes_eq tag data_tag ≡ true)
+    × (found ≡ Some spec) × (n ≡ len) × (xs ≡ ys)
+ReadsContent c found tag len (Other next taken) xs ys = (content : List ℕ)
+    × (length content ≡ taken_of tag len)
+    × (bytes_eq tag data_tag ≡ false)
+    × (fmt_fault tag len content ≡ None) × (c + 8 + bound_of tag len ≤ greatest_u32)
+    × (next ≡ spec_after found tag len content) × (taken ≡ c + 8 + length content)
+    × (xs ≡ content ++ ys)
 
 -- A chunk before the data takes at least its header's eight bytes, and stays within the limit.
 abbrev pub Advances : ℕ → ChunkRead → Type 0
 Advances c (Data spec len) = ⊤
-Advances c (Other next taken) = (c + 8 ≤ taken) × (taken ≤ 4294967295)
+Advances c (Other next taken) = (c + 8 ≤ taken) × (taken ≤ greatest_u32)
 
 -- Chunks from the WAVE tag on, and then ys: the spec so far, and how many bytes they take.
 pub record Walked (xs ys : List ℕ) (found : Option WavSpecEx) (taken : ℕ) : Type 0 where
@@ -41,7 +51,7 @@ pub record ReachesData (xs ys : List ℕ) (spec : WavSpecEx) (len taken : ℕ) :
   pub walked : Walked xs (data_tag ++ (size ++ ys)) (Some spec) taken
   pub four : length size ≡ 4
   pub data_len : number size ≡ len
-  pub limit : taken + 8 ≤ 4294967295
+  pub limit : taken + 8 ≤ greatest_u32
 
 -- Chunks, and then a fault.
 pub record MeetsFault (xs : List ℕ) (cause : Cause) : Type 0 where

@@ -4,10 +4,11 @@ ghost use Rattle.std.specs.Prelude.{◌≡◌, ℕ, ◌+◌, ◌++◌, ◌<◌, 
 ghost use Rattle.std.specs.Io.KnownBytes.{Consumes};
 ghost use Rattle.hound_number.specs.Input.{Known};
 ghost use Rattle.hound_number.specs.Number.{number};
+ghost use Rattle.hound_spec.specs.Fmt.{greatest_u32};
 ghost use Rattle.hound_spec.specs.Header.{riff_tag, wave_tag};
 ghost use Rattle.hound_reader.specs.Outcome.{CountsFailed, Refuses, UnlessReadFailed};
 ghost use Rattle.hound_reader.specs.Fmt.{IsSoundSpec};
-ghost use Rattle.hound_reader.specs.Chunks.{Head, Refused, bound_of, front_fault, content_fault, chunk_fault};
+ghost use Rattle.hound_reader.specs.Chunks.{Head, Refused, taken_of, bound_of, front_fault, content_fault, chunk_fault};
 ghost use Rattle.hound_reader.specs.Sources.{FindsData};
 ghost use Rattle.hound_reader.specs.Front.{TakesFront};
 ghost use Rattle.hound_reader.specs.Answer.{Answer, Answers, ReportsAnswer};
@@ -107,8 +108,22 @@ fn bound(tag: &[u8], chunk_len: u32) -> u32
     }
 }
 
-// Takes the content of a chunk, after the eight bytes of its header. So many bytes were taken
-// before it.
+// How many bytes of the content are taken.
+#[tactic(auto, unfolding(crate::specs::Chunks::taken_of, crate::specs::Chunks::bound_of))]
+fn content_len(tag: &[u8], chunk_len: u32) -> u32
+    ensures taken { result ≡ taken_of tag.now chunk_len }
+    ensures within { result ≤ bound_of tag.now chunk_len }
+{
+    if tag == FMT.as_slice() {
+        chunk_len.min(40)
+    } else if tag == FACT.as_slice() {
+        4
+    } else {
+        chunk_len
+    }
+}
+
+// Takes the content of a chunk, after the eight bytes of its header.
 #[tactic(auto, unfolding(crate::specs::Chunks::content_fault))]
 fn read_content<R: Input>(
     reader: &mut R,
@@ -117,7 +132,7 @@ fn read_content<R: Input>(
     found: Option<WavSpecEx>,
     taken: u32,
 ) -> Result<ChunkRead, HeadError>
-    requires taken { taken + 8 ≤ 4294967295 }
+    requires taken { taken + 8 ≤ greatest_u32 }
     requires sound { IsSoundOption found }
     ensures sound { IfOk result IsSoundChunk }
     ensures failures { CountsFailed (R.account reader.old) (R.account reader.new) result }
@@ -135,12 +150,13 @@ fn read_content<R: Input>(
     if most > 4_294_967_287 - taken {
         return Err(HeadError::Refused(Cause::Format(Reason::NoDataChunk)));
     }
+    let content = content_len(tag, chunk_len);
     if tag == FMT.as_slice() {
         let spec_ex = read_fmt_chunk(reader, chunk_len)?;
-        return Ok(ChunkRead::Other(Some(spec_ex), taken + 8 + chunk_len.min(40)));
+        return Ok(ChunkRead::Other(Some(spec_ex), taken + 8 + content));
     }
-    skip_bytes(reader, most)?;
-    Ok(ChunkRead::Other(found, taken + 8 + most))
+    skip_bytes(reader, content)?;
+    Ok(ChunkRead::Other(found, taken + 8 + content))
 }
 
 // Takes one chunk, or the tag and length of the data chunk.

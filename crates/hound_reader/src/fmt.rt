@@ -1,28 +1,29 @@
 // The content of a fmt chunk.
-ghost use Rattle.std.specs.Prelude.{◌≡◌, ◌-◌, ◌≤◌, min, length, take, IfOk};
+ghost use Rattle.std.specs.Prelude.{◌≡◌, ◌-◌, ◌≤◌, length, take, IfOk};
+ghost use Rattle.hound_spec.specs.Fmt.{fmt_fields, extension};
+ghost use Rattle.hound_spec.specs.Header.{fmt_tag};
+ghost use Rattle.hound_reader.specs.Chunks.{taken_of};
 ghost use Rattle.hound_reader.specs.Outcome.{Gives, CountsFailed};
 ghost use Rattle.hound_reader.specs.Fmt.{wave_format, wave_format_pcm, wave_format_ieee_float, wave_format_extensible, by_subformat, by_tag, fmt_of, IsSoundSpec};
 
 use crate::fault::{Cause, HeadError, Reason};
 use crate::input::fill;
 use hound_number::{Input, u16_at, u32_at};
-use hound_spec::{SampleFormat, WavSpec, WavSpecEx};
+use hound_spec::{
+    KSDATAFORMAT_SUBTYPE_IEEE_FLOAT, KSDATAFORMAT_SUBTYPE_PCM, SampleFormat, WavSpec, WavSpecEx,
+};
 
-// The subformats of WAVEFORMATEXTENSIBLE, as GUIDs of mmreg.h: the first three groups are
-// little-endian numbers.
-const KSDATAFORMAT_SUBTYPE_PCM: [u8; 16] = [
-    0x01, 0x00, 0x00, 0x00, 0x00, 0x00, 0x10, 0x00, 0x80, 0x00, 0x00, 0xaa, 0x00, 0x38, 0x9b, 0x71,
-];
+const PCM: u16 = 0x0001;
 
-const KSDATAFORMAT_SUBTYPE_IEEE_FLOAT: [u8; 16] = [
-    0x03, 0x00, 0x00, 0x00, 0x00, 0x00, 0x10, 0x00, 0x80, 0x00, 0x00, 0xaa, 0x00, 0x38, 0x9b, 0x71,
-];
+const IEEE_FLOAT: u16 = 0x0003;
+
+const EXTENSIBLE: u16 = 0xfffe;
 
 // The fields of the first sixteen bytes, and the checks of every format tag, in order.
 #[tactic(auto, unfolding(crate::specs::Fmt::wave_format))]
 fn check_wave_format(head: &[u8]) -> Result<WavSpecEx, Cause>
     requires { length head.now ≡ 16 }
-    ensures fields { result ≡ wave_format head.now }
+    ensures fields { result ≡ wave_format (fmt_fields head.now) }
     ensures sound { IfOk result IsSoundSpec }
 {
     let channels = u16_at(head, 2);
@@ -61,7 +62,7 @@ fn check_wave_format(head: &[u8]) -> Result<WavSpecEx, Cause>
 }
 
 // Behind the first sixteen bytes of integers: nothing, or bytes that say nothing more.
-#[tactic(auto, unfolding(crate::specs::Fmt::wave_format_pcm))]
+#[tactic(auto, unfolding(crate::specs::Fmt::wave_format_pcm, crate::specs::Chunks::taken_of))]
 fn read_wave_format_pcm<R: Input>(
     reader: &mut R,
     chunk_len: u32,
@@ -71,8 +72,9 @@ fn read_wave_format_pcm<R: Input>(
     requires sound { IsSoundSpec found }
     ensures sound { IfOk result IsSoundSpec }
     ensures failures { CountsFailed (R.account reader.old) (R.account reader.new) result }
-    ensures gives { Gives (R.left reader.old) (R.left reader.new) (min chunk_len 40 - 16) result
-        (λ xs. wave_format_pcm chunk_len found (take (min chunk_len 40 - 16) xs)) }
+    ensures gives { Gives (R.left reader.old) (R.left reader.new)
+        (taken_of fmt_tag chunk_len - 16) result
+        (λ xs. wave_format_pcm chunk_len found (take (taken_of fmt_tag chunk_len - 16) xs)) }
 {
     if chunk_len == 16 {
         return Ok(found);
@@ -92,7 +94,7 @@ fn read_wave_format_pcm<R: Input>(
 }
 
 // Behind the first sixteen bytes of floats: nothing, or the size of nothing more.
-#[tactic(auto, unfolding(crate::specs::Fmt::wave_format_ieee_float))]
+#[tactic(auto, unfolding(crate::specs::Fmt::wave_format_ieee_float, crate::specs::Chunks::taken_of))]
 fn read_wave_format_ieee_float<R: Input>(
     reader: &mut R,
     chunk_len: u32,
@@ -102,8 +104,9 @@ fn read_wave_format_ieee_float<R: Input>(
     requires sound { IsSoundSpec found }
     ensures sound { IfOk result IsSoundSpec }
     ensures failures { CountsFailed (R.account reader.old) (R.account reader.new) result }
-    ensures gives { Gives (R.left reader.old) (R.left reader.new) (min chunk_len 40 - 16) result
-        (λ xs. wave_format_ieee_float chunk_len found (take (min chunk_len 40 - 16) xs)) }
+    ensures gives { Gives (R.left reader.old) (R.left reader.new)
+        (taken_of fmt_tag chunk_len - 16) result
+        (λ xs. wave_format_ieee_float chunk_len found (take (taken_of fmt_tag chunk_len - 16) xs)) }
 {
     if chunk_len != 16 && chunk_len != 18 {
         return Err(HeadError::Refused(Cause::Format(Reason::UnexpectedFmtSize)));
@@ -129,7 +132,7 @@ fn read_wave_format_ieee_float<R: Input>(
 fn choose_subformat(found: WavSpecEx, rest: &[u8]) -> Result<WavSpecEx, Cause>
     requires rest { length rest.now ≡ 22 }
     requires sound { IsSoundSpec found }
-    ensures subformat { result ≡ by_subformat found rest.now }
+    ensures subformat { result ≡ by_subformat found (extension rest.now) }
     ensures sound { IfOk result IsSoundSpec }
 {
     let valid_bits_per_sample = u16_at(rest, 0);
@@ -155,7 +158,7 @@ fn choose_subformat(found: WavSpecEx, rest: &[u8]) -> Result<WavSpecEx, Cause>
 }
 
 // Behind the first sixteen bytes of an extensible chunk: its size, and 22 bytes.
-#[tactic(auto, unfolding(crate::specs::Fmt::wave_format_extensible))]
+#[tactic(auto, unfolding(crate::specs::Fmt::wave_format_extensible, crate::specs::Chunks::taken_of))]
 fn read_wave_format_extensible<R: Input>(
     reader: &mut R,
     chunk_len: u32,
@@ -165,8 +168,9 @@ fn read_wave_format_extensible<R: Input>(
     requires sound { IsSoundSpec found }
     ensures sound { IfOk result IsSoundSpec }
     ensures failures { CountsFailed (R.account reader.old) (R.account reader.new) result }
-    ensures gives { Gives (R.left reader.old) (R.left reader.new) (min chunk_len 40 - 16) result
-        (λ xs. wave_format_extensible chunk_len found (take (min chunk_len 40 - 16) xs)) }
+    ensures gives { Gives (R.left reader.old) (R.left reader.new)
+        (taken_of fmt_tag chunk_len - 16) result
+        (λ xs. wave_format_extensible chunk_len found (take (taken_of fmt_tag chunk_len - 16) xs)) }
 {
     if chunk_len < 40 {
         return Err(HeadError::Refused(Cause::Format(Reason::UnexpectedFmtSize)));
@@ -182,7 +186,7 @@ fn read_wave_format_extensible<R: Input>(
     Ok(found)
 }
 
-#[tactic(auto, unfolding(crate::specs::Fmt::by_tag))]
+#[tactic(auto, unfolding(crate::specs::Fmt::by_tag, crate::specs::Chunks::taken_of))]
 fn read_by_tag<R: Input>(
     reader: &mut R,
     tag: u16,
@@ -193,28 +197,30 @@ fn read_by_tag<R: Input>(
     requires sound { IsSoundSpec found }
     ensures sound { IfOk result IsSoundSpec }
     ensures failures { CountsFailed (R.account reader.old) (R.account reader.new) result }
-    ensures gives { Gives (R.left reader.old) (R.left reader.new) (min chunk_len 40 - 16) result
-        (λ xs. by_tag tag chunk_len found (take (min chunk_len 40 - 16) xs)) }
+    ensures gives { Gives (R.left reader.old) (R.left reader.new)
+        (taken_of fmt_tag chunk_len - 16) result
+        (λ xs. by_tag tag chunk_len found (take (taken_of fmt_tag chunk_len - 16) xs)) }
 {
     match tag {
-        1 => read_wave_format_pcm(reader, chunk_len, found),
-        3 => read_wave_format_ieee_float(reader, chunk_len, found),
-        0xfffe => read_wave_format_extensible(reader, chunk_len, found),
+        PCM => read_wave_format_pcm(reader, chunk_len, found),
+        IEEE_FLOAT => read_wave_format_ieee_float(reader, chunk_len, found),
+        EXTENSIBLE => read_wave_format_extensible(reader, chunk_len, found),
         _ => Err(HeadError::Refused(Cause::Unsupported)),
     }
 }
 
 /// Reads the content of a fmt chunk of this length: of a longer one than forty bytes the first
 /// forty.
-#[tactic(auto, unfolding(crate::specs::Fmt::fmt_of))]
+#[tactic(auto, unfolding(crate::specs::Fmt::fmt_of, crate::specs::Chunks::taken_of))]
 pub(crate) fn read_fmt_chunk<R: Input>(
     reader: &mut R,
     chunk_len: u32,
 ) -> Result<WavSpecEx, HeadError>
     ensures sound { IfOk result IsSoundSpec }
     ensures failures { CountsFailed (R.account reader.old) (R.account reader.new) result }
-    ensures gives { Gives (R.left reader.old) (R.left reader.new) (min chunk_len 40) result
-        (λ xs. fmt_of chunk_len (take (min chunk_len 40) xs)) }
+    ensures gives { Gives (R.left reader.old) (R.left reader.new)
+        (taken_of fmt_tag chunk_len) result
+        (λ xs. fmt_of chunk_len (take (taken_of fmt_tag chunk_len) xs)) }
 {
     if chunk_len < 16 {
         return Err(HeadError::Refused(Cause::Format(Reason::FmtSize)));

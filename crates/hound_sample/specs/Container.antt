@@ -1,8 +1,11 @@
 -- The container of a sample: its bytes in the file (WAVEFORMATEX, "wBitsPerSample", "nBlockAlign").
-use Rattle.std.specs.Prelude.{ℕ, zero, suc, ℤ, pos, negsuc, ◌+◌, ◌-◌, ◌^◌, Bool, ◌&&◌, ◌==◌, nat_lt, if◌then◌else◌, List, [], ◌∷◌, ◌++◌, take, drop, Result, Ok, Err}
+use Rattle.std.specs.Prelude.{ℕ, zero, suc, ℤ, pos, negsuc, ◌+◌, ◌-◌, ◌/◌, ◌^◌, Bool, ◌==◌, nat_lt, if◌then◌else◌, List, [], ◌∷◌, ◌++◌, take, drop, replicate, Result, Ok, Err}
 use Rattle.hound_number.specs.Number.{bytes_of, signed_bytes_of}
+use Rattle.hound_spec.specs.Writable.{is_pair}
+use Rattle.hound_spec.specs.declared.spec.SampleFormat.TheVariants.{Int, Float}
 
--- why a value has no container: it needs more bits, or its type is not written with these bits and bytes
+-- why a value has no container: it needs more bits, or its type is not written with these bits and
+-- bytes
 pub data Refusal : Type 0 where
   too_wide : Refusal
   unsupported : Refusal
@@ -20,19 +23,22 @@ offset_byte (negsuc n) = bytes_of 1 (127 - n)
 abbrev pub if_fits : ℕ → ℤ → List ℕ → Result (List ℕ) Refusal
 if_fits bits v container = if fits bits v then Ok container else Err too_wide
 
--- the container of an integer of up to 32 bits, by the used bits and the bytes
+-- an integer in so many used bits and bytes: one byte counts from -128; more are signed, with zeros
+-- behind the used bits
+abbrev pub int_bytes : ℤ → ℕ → ℕ → List ℕ
+int_bytes v bits width =
+    if width == 1 then offset_byte v
+    else (signed_bytes_of (bits / 8) v ++ replicate (width - bits / 8) 0)
+
+-- the container of an integer, by the used bits and the bytes; these are looked at before the value
 unfoldable pub int_container : ℤ → ℕ → ℕ → Result (List ℕ) Refusal
 int_container v bits width =
-    if bits == 8 && width == 1 then if_fits 8 v (offset_byte v)
-    else if bits == 16 && width == 2 then if_fits 16 v (signed_bytes_of 2 v)
-    else if bits == 24 && width == 3 then if_fits 24 v (signed_bytes_of 3 v)
-    else if bits == 24 && width == 4 then if_fits 24 v (signed_bytes_of 3 v ++ 0 ∷ [])
-    else if bits == 32 && width == 4 then Ok (signed_bytes_of 4 v)
-    else Err unsupported
+    if is_pair Int bits width then if_fits bits v (int_bytes v bits width) else Err unsupported
 
 -- the container of a pattern of 32 bits, by the used bits and the bytes
 unfoldable pub pattern_container : ℕ → ℕ → ℕ → Result (List ℕ) Refusal
-pattern_container pattern bits width = if bits == 32 && width == 4 then Ok (bytes_of 4 pattern) else Err unsupported
+pattern_container pattern bits width =
+    if is_pair Float bits width then Ok (bytes_of 4 pattern) else Err unsupported
 
 -- the first containers of data, so many of this width
 abbrev pub containers : ℕ → ℕ → List ℕ → List (List ℕ)

@@ -4,12 +4,12 @@ ghost use Rattle.hound_sample.specs.Container.{fits, int_container};
 ghost use Rattle.hound_sample.specs.Meaning.{int_meaning, int_refusal, low_short};
 ghost use Rattle.hound_spec.specs.declared.spec.SampleFormat.TheVariants.{Int};
 
-/// Each integer of 32 bits that has a container is read from it as `i32`, as the same number.
+/// Each integer that has a container is read from it as `i32`, as the same number.
 pub fn integers_come_back()
     ensures taken { (v : ℤ) (bits width : ℕ) (c : List ℕ) → int_container v bits width ≡ Ok c →
         int_refusal 4 Int width bits ≡ None }
     ensures same { (v : ℤ) (bits width : ℕ) (c : List ℕ) → int_container v bits width ≡ Ok c →
-        IsTrue (fits 32 v) → int_meaning width bits c ≡ v }
+        int_meaning width bits c ≡ v }
 {}
 
 /// An integer of sixteen bits is its own lowest sixteen bits.

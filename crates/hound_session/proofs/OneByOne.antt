@@ -1,9 +1,11 @@
 -- The values of a batch, written one by one.
 use Rattle.std.proofs.Common.{◌≡◌, ℕ, ℤ, eqb, Bool, true, false, cond, List, [], ◌∷◌, ◌++◌, length, map, replicate, Result, Ok, Err, Bor, IsTrue, ◌≤◌, refl, sym, ◌∙◌, ap, subst, arith, inl, inr}
-use Rattle.std.proofs.lemmas.Bool.{cases_Bool, and_parts, eqb-true}
+use Rattle.std.proofs.lemmas.Bool.{and_parts, eqb-true}
+use Rattle.std.proofs.lemmas.Bool.Decides.{nat_tests}
 use Rattle.hound_number.specs.Number.{signed_bytes_of}
 use Rattle.hound_spec.specs.declared.spec.WavSpecEx.{WavSpecEx}
-use Rattle.hound_sample.specs.Container.{Refusal, unsupported, too_wide, fits, int_container}
+use Rattle.hound_sample.specs.Container.{Refusal, unsupported, int_bytes, int_container}
+use Rattle.hound_sample.specs.ContainerLaws.{contained}
 use Rattle.hound_medium.specs.State.{MediumState}
 use Rattle.hound_writer.specs.Answers.{AcceptAnswer, if_marked, mark_of, one}
 use Rattle.hound_writer.specs.Writer.{WriterState, IsWhole, accepted_samples, data_length}
@@ -24,15 +26,10 @@ taken_whole memory w (Err refusal) list answers same = cc
 
 -- a number that fits in sixteen bits has its two bytes as its container
 short_container : (v : ℤ) (width : ℕ) (c : List ℕ) → int_container v 16 width ≡ Ok c → c ≡ signed_bytes_of 2 v
-unfolding int_container
-short_container v width c is = elim (cases_Bool (eqb width 2)) [
-  | inl two ↦ fitted (fits 16 v) (rw two at is)
-  | inr other ↦ let no : Err unsupported ≡ Ok c = rw other at is in cc
-]
-  where
-    fitted : (b : Bool) → cond b (Ok (signed_bytes_of 2 v)) (Err too_wide) ≡ Ok c → c ≡ signed_bytes_of 2 v
-    fitted true is = cc
-    fitted false is = cc
+short_container v width c is =
+    let (pair, _, same) = contained v 16 width c is in
+    let two : width ≡ 2 = grind (arith, nat_tests) in
+    same ∙ ap (int_bytes v 16) two
 
 one_short : (r : Result (List ℕ) Refusal) (v : ℤ) → ((c : List ℕ) → r ≡ Ok c → c ≡ signed_bytes_of 2 v) → (l : List (List ℕ)) → one r ≡ Ok l → l ≡ signed_bytes_of 2 v ∷ []
 one_short (Ok c) v same l is = let e : l ≡ c ∷ [] = cc in e ∙ ap (λ (x : List ℕ). x ∷ []) (same c refl)

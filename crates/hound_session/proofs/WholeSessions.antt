@@ -8,10 +8,8 @@ use Rattle.std.specs.Io.{StartsWith}
 use Rattle.hound_number.specs.Number.{AreBytes}
 use Rattle.hound_spec.specs.declared.error.Error.{Error}
 use Rattle.hound_spec.specs.declared.error.Error.TheVariants.{IoError, UnfinishedSample}
-use Rattle.hound_spec.specs.declared.spec.SampleFormat.{SampleFormat}
-use Rattle.hound_spec.specs.declared.spec.SampleFormat.TheVariants.{Int, Float}
 use Rattle.hound_spec.specs.declared.spec.WavSpecEx.{WavSpecEx}
-use Rattle.hound_spec.specs.Writable.{IsWritable, IsPair}
+use Rattle.hound_spec.specs.Writable.{IsWritable}
 use Rattle.hound_spec.specs.Header.{header, data_start, canonical, riff_size}
 use Rattle.hound_spec.proofs.HeaderLemmas.{length-header, data_start_least}
 use Rattle.hound_medium.specs.State.{MediumState, one_more, Goes}
@@ -26,7 +24,7 @@ use Rattle.hound_writer.proofs.Samples.{length_out, samples_out}
 use Rattle.hound_reader.proofs.WrittenLemmas.{header_head}
 use Rattle.hound_reader.proofs.Unique.{heads_agree, head_no_fault}
 use Rattle.hound_writer.specs.Answers.{AcceptAnswer, FitAnswer, IsIoError, faults_told, if_marked, mark_of}
-use Rattle.hound_writer.specs.Appending.{Appends, IsNotAppended, IsAppendFault, AppendFault, head_fault, is_written_pair}
+use Rattle.hound_writer.specs.Appending.{Appends, IsNotAppended, IsAppendFault, AppendFault, head_fault}
 use Rattle.hound_writer.specs.Beginning.{Begins as BeginsFile}
 use Rattle.hound_writer.specs.Publishing.{Finishes, ReadsAs}
 use Rattle.hound_writer.specs.Sizes.{field}
@@ -78,21 +76,12 @@ error_accepts_none tells keeps state Flush e old new t = nothing (mark_of {T = U
     nothing true = refl
     nothing false = refl
 
--- a pair that can be written
-written_pair : (format : SampleFormat) (bits width : ℕ) → IsPair format bits width → is_written_pair format bits width ≡ true
-written_pair Int bits width (inl (b, w)) = (λ i. is_written_pair Int (b i) (w i))
-written_pair Int bits width (inr (inl (b, w))) = (λ i. is_written_pair Int (b i) (w i))
-written_pair Int bits width (inr (inr (inl (b, w)))) = (λ i. is_written_pair Int (b i) (w i))
-written_pair Int bits width (inr (inr (inr (inl (b, w))))) = (λ i. is_written_pair Int (b i) (w i))
-written_pair Int bits width (inr (inr (inr (inr (b, w))))) = (λ i. is_written_pair Int (b i) (w i))
-written_pair Float bits width (b, w) = (λ i. is_written_pair Float (b i) (w i))
-
 -- a head that can be appended to
 no_head_fault : (s : WavSpecEx) (len h : ℕ) → IsWritable s → len % s.bytes_per_sample ≡ 0 → len / s.bytes_per_sample % s.spec.channels ≡ 0 → riff_size h len ≤ 4294967295 → head_fault s len h ≡ None
 unfolding head_fault
 no_head_fault s len h writable samples frames fits =
     let a = eq-eqb (len % s.bytes_per_sample) 0 samples in
-    let b = written_pair s.spec.sample_format s.spec.bits_per_sample s.bytes_per_sample writable.pair in
+    let b = writable.pair in
     let c = eq-eqb (len / s.bytes_per_sample % s.spec.channels) 0 frames in
     let d = le-ltb 4294967295 (riff_size h len) fits in
     rw (a, b, c, d) refl

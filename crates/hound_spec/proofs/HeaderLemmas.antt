@@ -5,7 +5,8 @@ use Rattle.hound_number.specs.Number.{bytes_of}
 use Rattle.hound_spec.specs.declared.spec.SampleFormat.{SampleFormat}
 use Rattle.hound_spec.specs.declared.spec.SampleFormat.TheVariants.{Int, Float}
 use Rattle.hound_spec.specs.declared.spec.WavSpecEx.{WavSpecEx}
-use Rattle.hound_spec.specs.Header.{is_short, riff_tag, wave_tag, fmt_tag, data_tag, short_fmt, long_fmt, sized_fmt, subformat, header, data_start}
+use Rattle.hound_spec.specs.Fmt.{subformat}
+use Rattle.hound_spec.specs.Header.{is_short, riff_tag, wave_tag, fmt_tag, data_tag, short_fmt, long_fmt, sized_fmt, header, data_start}
 
 pub length-subformat : (f : SampleFormat) → length (subformat f) ≡ 16
 length-subformat Int = refl
@@ -15,11 +16,13 @@ pub length-long_fmt : (s : WavSpecEx) → length (long_fmt s) ≡ 40
 length-long_fmt s = simp length-append (omega (arith, length-subformat s.spec.sample_format))
 
 -- the fmt chunk behind its tag, in both forms
-pub sized_fmt-short : (s : WavSpecEx) → is_short s ≡ true → sized_fmt s ≡ bytes_of 4 16 ++ short_fmt s
+pub sized_fmt-short : (s : WavSpecEx) → is_short s ≡ true
+    → sized_fmt s ≡ bytes_of 4 16 ++ short_fmt s
 unfolding sized_fmt
 sized_fmt-short s short = rw short refl
 
-pub sized_fmt-long : (s : WavSpecEx) → is_short s ≡ false → sized_fmt s ≡ bytes_of 4 40 ++ long_fmt s
+pub sized_fmt-long : (s : WavSpecEx) → is_short s ≡ false
+    → sized_fmt s ≡ bytes_of 4 40 ++ long_fmt s
 unfolding sized_fmt
 sized_fmt-long s long = rw long refl
 
@@ -27,16 +30,21 @@ length-sized_fmt-short : (s : WavSpecEx) → is_short s ≡ true → length (siz
 length-sized_fmt-short s short = ap length (sized_fmt-short s short)
 
 length-sized_fmt-long : (s : WavSpecEx) → is_short s ≡ false → length (sized_fmt s) ≡ 44
-length-sized_fmt-long s long = ap length (sized_fmt-long s long) ∙ length-append (bytes_of 4 40) (long_fmt s) ∙ ap (λ n. 4 + n) (length-long_fmt s)
+length-sized_fmt-long s long = ap length (sized_fmt-long s long)
+    ∙ length-append (bytes_of 4 40) (long_fmt s) ∙ ap (λ n. 4 + n) (length-long_fmt s)
 
-length-around : (fmt : List ℕ) (size data_length : ℕ) → length (riff_tag ++ bytes_of 4 size ++ wave_tag ++ fmt_tag ++ fmt ++ data_tag ++ bytes_of 4 data_length) ≡ 24 + length fmt
+length-around : (fmt : List ℕ) (size data_length : ℕ)
+    → length (riff_tag ++ bytes_of 4 size ++ wave_tag ++ fmt_tag ++ fmt ++ data_tag ++ bytes_of 4 data_length) ≡ 24 + length fmt
 length-around fmt size data_length = simp length-append (omega arith)
 
-pub length-header : (s : WavSpecEx) (size data_length : ℕ) → length (header s size data_length) ≡ data_start s
+pub length-header : (s : WavSpecEx) (size data_length : ℕ)
+    → length (header s size data_length) ≡ data_start s
 unfolding header
 length-header s size data_length = elim (cases_Bool (is_short s)) [
-  | inl short ↦ rw short (length-around (sized_fmt s) size data_length ∙ ap (λ n. 24 + n) (length-sized_fmt-short s short))
-  | inr long ↦ rw long (length-around (sized_fmt s) size data_length ∙ ap (λ n. 24 + n) (length-sized_fmt-long s long))
+  | inl short ↦ rw short (length-around (sized_fmt s) size data_length
+      ∙ ap (λ n. 24 + n) (length-sized_fmt-short s short))
+  | inr long ↦ rw long (length-around (sized_fmt s) size data_length
+      ∙ ap (λ n. 24 + n) (length-sized_fmt-long s long))
 ]
 
 -- what was written so far, and bytes behind it
@@ -54,7 +62,8 @@ abbrev pub described : WavSpecEx → List ℕ
 described s = wave_tag ++ (fmt_tag ++ (sized_fmt s ++ data_tag))
 
 -- a header, part by part
-pub header-parts : (s : WavSpecEx) (size data_length : ℕ) → header s size data_length ≡ riff_tag ++ (bytes_of 4 size ++ (described s ++ bytes_of 4 data_length))
+pub header-parts : (s : WavSpecEx) (size data_length : ℕ)
+    → header s size data_length ≡ riff_tag ++ (bytes_of 4 size ++ (described s ++ bytes_of 4 data_length))
 unfolding header
 header-parts s size data_length =
     append_assoc (riff_tag ++ bytes_of 4 size ++ wave_tag ++ fmt_tag ++ sized_fmt s) data_tag (bytes_of 4 data_length)

@@ -1,2 +1,3 @@
+pub mod FmtLemmas
 pub mod HeaderLemmas
 pub mod WritableLemmas

@@ -1,8 +1,26 @@
--- What holds of every writable spec.
-use Rattle.std.proofs.Common.{◌≡◌, ℕ, ◌*◌, ◌%◌, ◌<◌, ◌≤◌, refl, inl, inr, arith}
+-- What holds of every pair of used bits and bytes.
+use Rattle.std.proofs.Common.{◌≡◌, ℕ, ◌*◌, ◌%◌, ◌<◌, ◌≤◌, true, ◌&&◌, ◌==◌, List, [], ◌∷◌, sym, subst, inl, inr, arith, eqb-true, lit≤}
+use Rattle.std.proofs.lemmas.Bool.{or_cases, and_parts}
+use Rattle.std.specs.List.{list_any, AllByRecursion}
 use Rattle.hound_spec.specs.declared.spec.SampleFormat.{SampleFormat}
 use Rattle.hound_spec.specs.declared.spec.SampleFormat.TheVariants.{Int, Float}
-use Rattle.hound_spec.specs.Writable.{IsPair}
+use Rattle.hound_spec.specs.Writable.{pairs, IsPair}
+
+-- what holds of each row of a list of pairs holds of the pairs that are in it
+of_row : (P : ℕ → ℕ → Type 0) (rows : List (ℕ × ℕ)) (bits width : ℕ)
+    → AllByRecursion (λ (b, w). P b w) rows
+    → list_any (λ (b, w). bits == b && width == w) rows ≡ true → P bits width
+of_row P [] bits width each is = cc
+of_row P ((b, w) ∷ rows) bits width (here, each) is = elim (or_cases (bits == b && width == w) _ is) [
+  | inl same ↦ let (is_bits, is_width) = and_parts (bits == b) (width == w) same in
+      subst (λ (x : ℕ × ℕ). P x.0 x.1) (λ i. (sym (eqb-true bits b is_bits) i, sym (eqb-true width w is_width) i)) here
+  | inr more ↦ of_row P rows bits width each more
+]
+
+-- what holds of each pair of the one list
+pub of_pair : (P : ℕ → ℕ → Type 0) (f : SampleFormat) (bits width : ℕ)
+    → AllByRecursion (λ (b, w). P b w) (pairs f) → IsPair f bits width → P bits width
+of_pair P f bits width each is = of_row P (pairs f) bits width each is
 
 -- the used bits are whole bytes, some, and fit in the container, which has one to four bytes
 pub record PairFacts (bits width : ℕ) : Type 0 where
@@ -12,19 +30,30 @@ pub record PairFacts (bits width : ℕ) : Type 0 where
   pub some : 1 ≤ width
   pub few : width ≤ 4
 
-facts : (bits width : ℕ) → 0 < bits → bits % 8 ≡ 0 → bits ≤ 8 * width → 1 ≤ width → width ≤ 4 → PairFacts bits width
-facts bits width some_bits whole_bytes in_width some few = record {
-  some_bits = some_bits;
-  whole_bytes = whole_bytes;
-  in_width = in_width;
-  some = some;
-  few = few;
-}
-
 pub pair_facts : (f : SampleFormat) (bits width : ℕ) → IsPair f bits width → PairFacts bits width
-pair_facts Int bits width (inl p) = facts bits width (rw p.0 (omega arith)) (rw p.0 refl) (omega arith) (omega arith) (omega arith)
-pair_facts Int bits width (inr (inl p)) = facts bits width (rw p.0 (omega arith)) (rw p.0 refl) (omega arith) (omega arith) (omega arith)
-pair_facts Int bits width (inr (inr (inl p))) = facts bits width (rw p.0 (omega arith)) (rw p.0 refl) (omega arith) (omega arith) (omega arith)
-pair_facts Int bits width (inr (inr (inr (inl p)))) = facts bits width (rw p.0 (omega arith)) (rw p.0 refl) (omega arith) (omega arith) (omega arith)
-pair_facts Int bits width (inr (inr (inr (inr p)))) = facts bits width (rw p.0 (omega arith)) (rw p.0 refl) (omega arith) (omega arith) (omega arith)
-pair_facts Float bits width p = facts bits width (rw p.0 (omega arith)) (rw p.0 refl) (omega arith) (omega arith) (omega arith)
+pair_facts f bits width is = of_pair PairFacts f bits width (each f) is
+  where
+    row : (k w : ℕ) → 1 ≤ k → k ≤ w → w ≤ 4 → PairFacts (8 * k) w
+    row k w some fits few = record {
+      some_bits = omega arith;
+      whole_bytes = omega arith;
+      in_width = omega arith;
+      some = omega arith;
+      few = few;
+    }
+
+    each : (f : SampleFormat) → AllByRecursion (λ (b, w). PairFacts b w) (pairs f)
+    each Int = (
+      row 1 1 (lit≤ tt) (lit≤ tt) (lit≤ tt),
+      (
+        row 2 2 (lit≤ tt) (lit≤ tt) (lit≤ tt),
+        (
+          row 3 3 (lit≤ tt) (lit≤ tt) (lit≤ tt),
+          (
+            row 3 4 (lit≤ tt) (lit≤ tt) (lit≤ tt),
+            (row 4 4 (lit≤ tt) (lit≤ tt) (lit≤ tt), tt),
+          ),
+        ),
+      ),
+    )
+    each Float = (row 4 4 (lit≤ tt) (lit≤ tt) (lit≤ tt), tt)

@@ -1,2 +1,3 @@
+pub mod Fmt
 pub mod Writable
 pub mod Header

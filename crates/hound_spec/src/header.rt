@@ -2,20 +2,22 @@
 ghost use Rattle.std.specs.Prelude.{◌≡◌, ◌+◌, ◌-◌, ◌*◌, ◌^◌, ◌≤◌, ◌++◌, [], List, ℕ, length, take, min};
 ghost use Rattle.hound_spec.specs.Writable.{IsWritable};
 ghost use Rattle.hound_number.specs.Number.{bytes_of};
-ghost use Rattle.hound_spec.specs.Header.{is_short, fields, header, mask, short_fmt, long_fmt, sized_fmt, subformat};
+ghost use Rattle.hound_spec.specs.Fmt.{fmt_bytes, subformat};
+ghost use Rattle.hound_spec.specs.Header.{is_short, fields, header, mask, short_fmt, long_fmt, sized_fmt};
 
 use crate::{Error, Result, SampleFormat, WavSpec, WavSpecEx, with_default_width};
 use hound_number::{le_u16, le_u32};
 use std::alloc::Global;
 use std::marker::Model;
 
-// The subformats of WAVEFORMATEXTENSIBLE, as GUIDs of mmreg.h: the first three groups are
-// little-endian numbers.
-const KSDATAFORMAT_SUBTYPE_PCM: [u8; 16] = [
+/// The subformat of integers in a WAVEFORMATEXTENSIBLE: a GUID of mmreg.h, whose first three groups
+/// are little-endian numbers.
+pub const KSDATAFORMAT_SUBTYPE_PCM: [u8; 16] = [
     0x01, 0x00, 0x00, 0x00, 0x00, 0x00, 0x10, 0x00, 0x80, 0x00, 0x00, 0xaa, 0x00, 0x38, 0x9b, 0x71,
 ];
 
-const KSDATAFORMAT_SUBTYPE_IEEE_FLOAT: [u8; 16] = [
+/// The subformat of floats.
+pub const KSDATAFORMAT_SUBTYPE_IEEE_FLOAT: [u8; 16] = [
     0x03, 0x00, 0x00, 0x00, 0x00, 0x00, 0x10, 0x00, 0x80, 0x00, 0x00, 0xaa, 0x00, 0x38, 0x9b, 0x71,
 ];
 
@@ -96,7 +98,7 @@ fn is_short(spec_ex: WavSpecEx) -> bool
 fn write_waveformat(header: &mut Header, tag: u16, bits: u16, spec_ex: WavSpecEx)
     requires writable { IsWritable spec_ex }
     requires room { length header.old + 16 ≤ 68 }
-    ensures { header.new ≡ header.old ++ fields tag bits spec_ex }
+    ensures { header.new ≡ header.old ++ fmt_bytes (fields tag bits spec_ex) }
 {
     let spec = spec_ex.spec;
     let block_align = spec.channels as u32 * spec_ex.bytes_per_sample as u32;
@@ -181,6 +183,7 @@ pub fn header_of(spec_ex: WavSpecEx, riff_size: u32, data_length: u32) -> Header
 impl WavSpec {
     ghost use Rattle.std.specs.Prelude.{◌≡◌, IfOk, IfErr, OnOk, Err};
     ghost use Rattle.hound_spec.specs.declared.error.Error.TheVariants.{OutOfMemory, Unsupported};
+    ghost use Rattle.hound_spec.specs.Fmt.{greatest_u32};
     ghost use Rattle.hound_spec.specs.Header.{header};
     ghost use Rattle.hound_spec.specs.Writable.{IsWritable, with_default_width};
 
@@ -192,10 +195,13 @@ impl WavSpec {
     ///
     /// The errors, in their order: `Unsupported`, for a spec that can't be written; `OutOfMemory`.
     pub fn into_header_for_infinite_file(self, alloc: Global) -> Result<Vec<u8>>
-        ensures unsupported { (IsWritable (with_default_width self) → ⊥) → result ≡ Err Unsupported }
+        ensures unsupported { (IsWritable (with_default_width self) → ⊥) →
+            result ≡ Err Unsupported }
         ensures only_writable { OnOk result (IsWritable (with_default_width self)) }
-        ensures header { IfOk result (λ bytes. bytes.items ≡ header (with_default_width self) 4294967295 4294967295) }
-        ensures writable { IsWritable (with_default_width self) → IfErr result (λ e. e ≡ OutOfMemory) }
+        ensures header { IfOk result (λ bytes.
+            bytes.items ≡ header (with_default_width self) greatest_u32 greatest_u32) }
+        ensures writable { IsWritable (with_default_width self) →
+            IfErr result (λ e. e ≡ OutOfMemory) }
     {
         let spec_ex = with_default_width(self);
         if !spec_ex.is_writable() {

@@ -59,8 +59,8 @@ impl WavSpecEx {
     }
 }
 
-ghost use Rattle.std.specs.Prelude.{◌≡◌, ◌↔◌, IsTrue};
-ghost use Rattle.hound_spec.specs.Writable.{IsPair, with_default_width};
+ghost use Rattle.std.specs.Prelude.{◌≡◌};
+ghost use Rattle.hound_spec.specs.Writable.{is_pair, with_default_width};
 
 /// The spec with as many bytes to a sample as its bits need, rounded down: `(bits + 7) / 8`.
 pub fn with_default_width(spec: WavSpec) -> WavSpecEx
@@ -75,7 +75,7 @@ pub fn with_default_width(spec: WavSpec) -> WavSpecEx
 /// Whether samples of this format are written with so many used bits in so many bytes: (8, 1),
 /// (16, 2), (24, 3), (24, 4) and (32, 4) for integers, and (32, 4) for floats.
 pub fn is_pair(format: SampleFormat, bits: u16, width: u16) -> bool
-    ensures { IsTrue result ↔ IsPair format bits width }
+    ensures { result ≡ is_pair format bits width }
 {
     match format {
         SampleFormat::Int => match (bits, width) {

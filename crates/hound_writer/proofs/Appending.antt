@@ -20,7 +20,7 @@ use Rattle.hound_writer.specs.Answers.{IsIoError}
 use Rattle.hound_writer.specs.Parts.{IsStanding, of_fields}
 use Rattle.hound_writer.specs.Sizes.{field}
 use Rattle.hound_writer.specs.Writer.{WriterState, IsSound, data_length}
-use Rattle.hound_writer.specs.Appending.{Appends, FollowsData, IsAppendFault, by_bytes, head_fault, is_written_pair, IsNotAppended, PutsNothing}
+use Rattle.hound_writer.specs.Appending.{Appends, FollowsData, IsAppendFault, by_bytes, head_fault, IsNotAppended, PutsNothing}
 use Rattle.hound_writer.proofs.Heads.{head_field}
 use Rattle.hound_writer.proofs.Samples.{counts_at}
 
@@ -33,11 +33,6 @@ holds : (b : Bool) → not b ≡ false → b ≡ true
 holds true e = refl
 holds false e = cc
 
--- samples of a pair that is written
-pub pair_of : (format : SampleFormat) (bits width : ℕ) → is_written_pair format bits width ≡ true → IsPair format bits width
-pair_of Int bits width e = grind (arith, nat_tests)
-pair_of Float bits width e = grind (arith, nat_tests)
-
 -- a head with no fault
 pub sound_head : {W : Type 0} (medium : W) (s : WavSpecEx) (len h : ℕ) → IsSoundHead s → 20 ≤ h → head_fault s len h ≡ None → IsSound (of_fields medium s h len [] 0 0)
 unfolding head_fault
@@ -48,7 +43,7 @@ sound_head medium s len h sound after none =
     let fits = none_behind _ _ _ frames.1 in
     let le : riff_size h len ≤ 4294967295 = lt_false _ _ fits.0 in
     record {
-      pair = pair_of s.spec.sample_format s.spec.bits_per_sample s.bytes_per_sample (holds _ pair.0);
+      pair = holds _ pair.0;
       channels = omega (arith, sound.0);
       width = omega (arith, sound.1);
       whole = ap (λ n. n % s.bytes_per_sample) (let e : len + 0 ≡ len = omega arith in e) ∙ eqb-true _ _ (holds _ samples.0);

@@ -1,12 +1,11 @@
 -- Appending to a file that is there.
-use Rattle.std.specs.Prelude.{◌≡◌, ℕ, ◌+◌, ◌/◌, ◌%◌, ◌==◌, ◌&&◌, ◌⊎◌, not, nat_lt, if◌then◌else◌, Bool, List, [], Option, None, Some, Result, Ok, Err}
+use Rattle.std.specs.Prelude.{◌≡◌, ℕ, ◌+◌, ◌/◌, ◌%◌, ◌==◌, ◌⊎◌, not, nat_lt, if◌then◌else◌, List, [], Option, None, Some, Result, Ok, Err}
 use Rattle.hound_spec.specs.declared.error.Error.{Error}
 use Rattle.hound_spec.specs.declared.error.Error.TheVariants.{TooLong}
-use Rattle.hound_spec.specs.declared.spec.SampleFormat.{SampleFormat}
-use Rattle.hound_spec.specs.declared.spec.SampleFormat.TheVariants.{Int, Float}
 use Rattle.hound_spec.specs.declared.spec.WavSpecEx.{WavSpecEx}
+use Rattle.hound_spec.specs.Fmt.{greatest_u32}
 use Rattle.hound_spec.specs.Header.{riff_size}
-use Rattle.hound_sample.specs.Meaning.{is_int_pair}
+use Rattle.hound_spec.specs.Writable.{is_pair}
 use Rattle.hound_medium.specs.State.{MediumState, Stays, WhereTells, one_more}
 use Rattle.hound_reader.specs.declared.fault.Cause.{Cause}
 use Rattle.hound_reader.specs.declared.fault.Cause.TheVariants.{Format, Unsupported}
@@ -21,18 +20,14 @@ pub data AppendFault : Type 0 where
   by_bytes : Cause → AppendFault
   too_long : AppendFault
 
--- the used bits and the bytes that samples of a format are written with
-abbrev pub is_written_pair : SampleFormat → ℕ → ℕ → Bool
-is_written_pair Int bits width = is_int_pair width bits
-is_written_pair Float bits width = width == 4 && bits == 32
-
 -- The first check that a head fails: whole samples, samples that are written, whole frames, a RIFF size that fits.
 unfoldable pub head_fault : WavSpecEx → ℕ → ℕ → Option AppendFault
 head_fault s len h =
     if not (len % s.bytes_per_sample == 0) then Some (by_bytes (Format DataLength))
-    else if not (is_written_pair s.spec.sample_format s.spec.bits_per_sample s.bytes_per_sample) then Some (by_bytes Unsupported)
+    else if not (is_pair s.spec.sample_format s.spec.bits_per_sample s.bytes_per_sample)
+    then Some (by_bytes Unsupported)
     else if not (len / s.bytes_per_sample % s.spec.channels == 0) then Some (by_bytes (Format FrameLength))
-    else if nat_lt 4294967295 (riff_size h len) then Some too_long
+    else if nat_lt greatest_u32 (riff_size h len) then Some too_long
     else None
 
 -- the bytes have this fault: they have no head for this cause, or their head fails a check

@@ -17,7 +17,7 @@ returns-clause-four_samples c = record {
   chunks = fmt_chunk ∷ [];
   size = 0x08 ∷ 0x00 ∷ 0x00 ∷ 0x00 ∷ [];
   rest = 0x02 ∷ 0x00 ∷ 0xfd ∷ 0xff ∷ 0x05 ∷ 0x00 ∷ 0xf9 ∷ 0xff ∷ [];
-  walk = record { size = 0x2c ∷ 0x00 ∷ 0x00 ∷ 0x00 ∷ []; four = refl; whole = refl; each = (record { tag = refl; size = refl; content = refl; other = refl; sound = λ _. refl }, omega arith, tt) };
+  walk = record { size = 0x2c ∷ 0x00 ∷ 0x00 ∷ 0x00 ∷ []; four = refl; whole = refl; each = (record { tag = refl; size = refl; content = refl; other = refl; sound = refl }, omega arith, tt) };
   four = refl;
   data_len = refl;
   limit = omega arith;
@@ -26,7 +26,7 @@ returns-clause-four_samples c = record {
 }
 
 pub returns-clause-cut : goal.returns-clause-cut
-unfolding chunk_fault content_fault fmt_of bound_of
+unfolding chunk_fault content_fault fmt_of bound_of taken_of
 returns-clause-cut c = inr ([], _, record { size = 0x2c ∷ 0x00 ∷ 0x00 ∷ 0x00 ∷ []; four = refl; whole = refl; each = tt }, refl)
 
 pub returns-clause-limit : goal.returns-clause-limit
@@ -43,9 +43,9 @@ returns-clause-fact c = inr (
     four = refl;
     whole = refl;
     each = (
-      record { tag = refl; size = refl; content = refl; other = refl; sound = λ _. refl },
+      record { tag = refl; size = refl; content = refl; other = refl; sound = refl },
       omega arith,
-      (record { tag = refl; size = refl; content = refl; other = refl; sound = λ e. absurd (let h : ⊥ = cc in h) }, omega arith, tt),
+      (record { tag = refl; size = refl; content = refl; other = refl; sound = refl }, omega arith, tt),
     );
   },
   refl,
