@@ -54,11 +54,12 @@ pub record FieldsFit (f : FmtFields) : Type 0 where
   pub align : f.align < 256 ^ 2
   pub bits : f.bits < 256 ^ 2
 
--- What an extensible chunk has behind those fields and the size of this (WAVEFORMATEXTENSIBLE: the
--- valid bits, the mask of speakers, the subformat).
+-- The size of what an extensible chunk has behind those fields (WAVEFORMATEX, "cbSize").
 abbrev pub extension_size : ℕ
 extension_size = 22
 
+-- What stands there, behind the size (WAVEFORMATEXTENSIBLE: the valid bits, the mask of speakers,
+-- the subformat).
 pub record Extension : Type 0 where
   pub valid_bits : ℕ
   pub mask : ℕ
