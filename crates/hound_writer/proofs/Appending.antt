@@ -13,7 +13,7 @@ use Rattle.hound_reader.specs.declared.fault.HeadError.{HeadError}
 use Rattle.hound_reader.specs.declared.fault.HeadError.TheVariants.{Failed, Refused}
 use Rattle.hound_reader.specs.Fmt.{IsSoundSpec as IsSoundHead}
 use Rattle.hound_reader.specs.Chunks.{Head, Refused as RefusedFor}
-use Rattle.hound_reader.specs.Refusals.{TellsError}
+use Rattle.hound_reader.specs.Refusals.{ReportsError}
 use Rattle.hound_reader.specs.Sources.{FindsData}
 use Rattle.std.specs.declared.io.Error.{Error as IoFault}
 use Rattle.hound_writer.specs.Answers.{IsIoError}
@@ -130,7 +130,7 @@ answer_after tells state head old mid (Ok w) finds on = appends_after tells stat
 answer_after tells state head old mid (Err refused) finds on = λ told. refused_after head old mid (state refused.0) refused.1 (finds told) (on told)
 
 -- a walk that found none
-pub walk_fails : (error : HeadError) (e : Error) (old new : MediumState) → old.place ≡ 0 → TellsError error e → FindsData (Err error) old new → IsNotAppended old new e
+pub walk_fails : (error : HeadError) (e : Error) (old new : MediumState) → old.place ≡ 0 → ReportsError error e → FindsData (Err error) old new → IsNotAppended old new e
 walk_fails (Failed x) e old new begins told finds = record {
   puts = walk_puts_nothing (Err (Failed x)) old new finds;
   why = inr (subst IsIoError (sym told) tt, finds.faults);
