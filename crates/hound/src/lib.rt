@@ -8,9 +8,6 @@ pub use hound_reader::{
     written_is_head, written_is_read,
 };
 pub use hound_sample::{FloatBits, Sample, integers_come_back, short_integers_are_kept};
-pub use hound_session::{
-    Begin, End, Step, a_batch_is_its_values, run_session,
-    run_sessions,
-};
+pub use hound_session::{Begin, End, Step, a_batch_is_its_values, run_session, run_sessions};
 pub use hound_spec::{Error, Result, SampleFormat, WavSpec, WavSpecEx};
 pub use hound_writer::{SampleWriter16, WavWriter};

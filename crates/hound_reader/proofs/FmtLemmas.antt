@@ -3,7 +3,7 @@ use Rattle.std.proofs.Common.{◌≡◌, ℕ, ◌-◌, ◌≤◌, true, ◌||◌
 use Rattle.std.proofs.Common.{◌==◌}
 use Rattle.hound_spec.specs.declared.spec.WavSpecEx.{WavSpecEx}
 use Rattle.hound_number.specs.Number.{number}
-use Rattle.hound_spec.specs.Fmt.{fmt_fields, extension}
+use Rattle.hound_spec.specs.FmtChunk.{fmt_fields, extension}
 use Rattle.hound_reader.specs.Fmt.{◌>>=◌, wave_format, fmt_of, wave_format_pcm, wave_format_extensible, by_subformat, by_tag}
 use Rattle.hound_reader.proofs.Gives.{take_over}
 

@@ -8,7 +8,7 @@ use Rattle.hound_spec.specs.declared.spec.WavSpecEx.{WavSpecEx}
 use Rattle.hound_reader.specs.declared.fault.Cause.{Cause}
 use Rattle.hound_number.specs.Number.{number}
 use Rattle.hound_reader.specs.Chunks.{Chunk, IsChunk, chunk_bytes, taken_of, bound_of, Chunks, joined, last_spec, Walk, Head, Refused, front_fault, content_fault, chunk_fault}
-use Rattle.hound_spec.specs.Fmt.{greatest_u32}
+use Rattle.hound_spec.specs.FmtChunk.{greatest_u32}
 use Rattle.hound_spec.specs.Header.{riff_tag, wave_tag, data_tag}
 
 -- fronts of one length

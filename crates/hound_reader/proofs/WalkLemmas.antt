@@ -10,7 +10,7 @@ use Rattle.hound_reader.specs.declared.chunks.ChunkRead.{ChunkRead}
 use Rattle.hound_reader.specs.declared.chunks.ChunkRead.TheVariants.{Data, Other}
 use Rattle.hound_number.specs.Number.{number}
 use Rattle.hound_reader.specs.Chunks.{Chunk, IsChunk, chunk_bytes, bound_of, Chunks, joined, last_spec, Head, spec_after, front_fault}
-use Rattle.hound_spec.specs.Fmt.{greatest_u32}
+use Rattle.hound_spec.specs.FmtChunk.{greatest_u32}
 use Rattle.hound_spec.specs.Header.{riff_tag, wave_tag, data_tag}
 use Rattle.hound_reader.specs.Walk.{ReadsChunk, ReadsContent, Walked, ReachesData}
 

@@ -10,7 +10,7 @@ use Rattle.hound_spec.specs.declared.spec.SampleFormat.{SampleFormat}
 use Rattle.hound_spec.specs.declared.spec.SampleFormat.TheVariants.{Int, Float}
 use Rattle.hound_spec.specs.declared.spec.WavSpecEx.{WavSpecEx}
 use Rattle.hound_spec.specs.Writable.{IsPair, IsWritable}
-use Rattle.hound_spec.specs.Fmt.{FieldsFit, fmt_bytes, fmt_fields, Extension, extension_bytes, subformat, pcm, extensible, greatest_u16, greatest_u32}
+use Rattle.hound_spec.specs.FmtChunk.{FieldsFit, fmt_bytes, fmt_fields, Extension, extension_bytes, subformat, pcm, extensible, greatest_u16, greatest_u32}
 use Rattle.hound_spec.specs.Header.{riff_tag, wave_tag, fmt_tag, data_tag, is_short, mask, fields, short_fmt, long_fmt, sized_fmt, header, data_start, canonical}
 use Rattle.hound_spec.proofs.FmtLemmas.{number-bytes_of, fields_written}
 use Rattle.hound_spec.proofs.WritableLemmas.{PairFacts, pair_facts}

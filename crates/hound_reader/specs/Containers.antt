@@ -1,7 +1,7 @@
 -- The containers of a file.
 use Rattle.std.specs.Prelude.{◌≡◌, ℕ, ◌*◌, ◌%◌, ◌≤◌, List, length}
 use Rattle.std.specs.List.{AllByRecursion}
-use Rattle.hound_spec.specs.Fmt.{greatest_u32}
+use Rattle.hound_spec.specs.FmtChunk.{greatest_u32}
 use Rattle.hound_spec.specs.declared.spec.WavSpecEx.{WavSpecEx}
 
 -- containers of the width of a spec, in whole frames, whose bytes 32 bits can count

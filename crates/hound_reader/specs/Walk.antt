@@ -1,7 +1,7 @@
 -- The walk over chunks, step by step.
 use Rattle.std.specs.Prelude.{◌≡◌, ℕ, ◌+◌, ◌≤◌, List, ◌++◌, length, ⊤, Option, Some, None, true, false}
 use Rattle.hound_number.specs.Number.{number}
-use Rattle.hound_spec.specs.Fmt.{greatest_u32}
+use Rattle.hound_spec.specs.FmtChunk.{greatest_u32}
 use Rattle.hound_spec.specs.Header.{data_tag}
 use Rattle.hound_reader.specs.Chunks.{Chunks, joined, last_spec, chunk_fault, Chunk, IsChunk, chunk_bytes, bound_of, spec_after, taken_of, fmt_fault}
 use Rattle.hound_reader.specs.Fmt.{IsSoundSpec}

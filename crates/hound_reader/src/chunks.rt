@@ -4,7 +4,7 @@ ghost use Rattle.std.specs.Prelude.{◌≡◌, ℕ, ◌+◌, ◌++◌, ◌<◌, 
 ghost use Rattle.std.specs.Io.KnownBytes.{Consumes};
 ghost use Rattle.hound_number.specs.Input.{Known};
 ghost use Rattle.hound_number.specs.Number.{number};
-ghost use Rattle.hound_spec.specs.Fmt.{greatest_u32};
+ghost use Rattle.hound_spec.specs.FmtChunk.{greatest_u32};
 ghost use Rattle.hound_spec.specs.Header.{riff_tag, wave_tag};
 ghost use Rattle.hound_reader.specs.Outcome.{CountsFailed, Refuses, UnlessReadFailed};
 ghost use Rattle.hound_reader.specs.Fmt.{IsSoundSpec};

@@ -1,6 +1,6 @@
 // The content of a fmt chunk.
 ghost use Rattle.std.specs.Prelude.{◌≡◌, ◌-◌, ◌≤◌, length, take, IfOk};
-ghost use Rattle.hound_spec.specs.Fmt.{fmt_fields, extension};
+ghost use Rattle.hound_spec.specs.FmtChunk.{fmt_fields, extension};
 ghost use Rattle.hound_spec.specs.Header.{fmt_tag};
 ghost use Rattle.hound_reader.specs.Chunks.{taken_of};
 ghost use Rattle.hound_reader.specs.Outcome.{Gives, CountsFailed};

@@ -2,7 +2,7 @@
 use Rattle.std.proofs.Common.{◌≡◌, ℕ, zero, suc, ◌+◌, ◌*◌, ◌/◌, ◌%◌, ◌^◌, ◌<◌, ◌≤◌, List, [], ◌∷◌, ◌++◌, length, take, drop, refl, sym, ap, ◌∙◌, arith, length-drop, take_all}
 use Rattle.std.proofs.lemmas.List.{drop-drop, drop_all}
 use Rattle.hound_number.specs.Number.{number, bytes_of, AreBytes}
-use Rattle.hound_spec.specs.Fmt.{FmtFields, FieldsFit, fmt_bytes, fmt_fields, Extension, extension, extension_bytes}
+use Rattle.hound_spec.specs.FmtChunk.{FmtFields, FieldsFit, fmt_bytes, fmt_fields, Extension, extension, extension_bytes}
 
 -- the number of the bytes of a number
 pub number-bytes_of : (k n : ℕ) → n < 256 ^ k → number (bytes_of k n) ≡ n

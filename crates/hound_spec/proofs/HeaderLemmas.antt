@@ -5,7 +5,7 @@ use Rattle.hound_number.specs.Number.{bytes_of}
 use Rattle.hound_spec.specs.declared.spec.SampleFormat.{SampleFormat}
 use Rattle.hound_spec.specs.declared.spec.SampleFormat.TheVariants.{Int, Float}
 use Rattle.hound_spec.specs.declared.spec.WavSpecEx.{WavSpecEx}
-use Rattle.hound_spec.specs.Fmt.{subformat}
+use Rattle.hound_spec.specs.FmtChunk.{subformat}
 use Rattle.hound_spec.specs.Header.{is_short, riff_tag, wave_tag, fmt_tag, data_tag, short_fmt, long_fmt, sized_fmt, header, data_start}
 
 pub length-subformat : (f : SampleFormat) → length (subformat f) ≡ 16

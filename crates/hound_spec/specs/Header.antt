@@ -2,7 +2,7 @@
 use Rattle.std.specs.Prelude.{ℕ, ◌+◌, ◌-◌, ◌*◌, ◌^◌, min, Bool, ◌&&◌, nat_le, if◌then◌else◌, List, ◌++◌, length, codes}
 use Rattle.std.specs.List.{concat}
 use Rattle.hound_number.specs.Number.{bytes_of}
-use Rattle.hound_spec.specs.Fmt.{FmtFields, fmt_bytes, Extension, extension_bytes, extension_size, subformat, pcm, extensible}
+use Rattle.hound_spec.specs.FmtChunk.{FmtFields, fmt_bytes, Extension, extension_bytes, extension_size, subformat, pcm, extensible}
 use Rattle.hound_spec.specs.declared.spec.WavSpecEx.{WavSpecEx}
 
 -- The chunk identifiers (RIFF, "Chunks": four characters, a size, the content).

@@ -1,3 +1,3 @@
-pub mod Fmt
+pub mod FmtChunk
 pub mod Writable
 pub mod Header

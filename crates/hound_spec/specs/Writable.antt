@@ -1,7 +1,7 @@
 -- The specs that can be written.
 use Rattle.std.specs.Prelude.{ℕ, ◌+◌, ◌*◌, ◌/◌, ◌≤◌, Bool, ◌==◌, ◌&&◌, IsTrue, List, [], ◌∷◌}
 use Rattle.std.specs.List.{list_any}
-use Rattle.hound_spec.specs.Fmt.{greatest_u16, greatest_u32}
+use Rattle.hound_spec.specs.FmtChunk.{greatest_u16, greatest_u32}
 use Rattle.hound_spec.specs.declared.spec.SampleFormat.{SampleFormat}
 use Rattle.hound_spec.specs.declared.spec.SampleFormat.TheVariants.{Int, Float}
 use Rattle.hound_spec.specs.declared.spec.WavSpec.{WavSpec}

@@ -2,7 +2,7 @@
 ghost use Rattle.std.specs.Prelude.{◌≡◌, ◌+◌, ◌-◌, ◌*◌, ◌^◌, ◌≤◌, ◌++◌, [], List, ℕ, length, take, min};
 ghost use Rattle.hound_spec.specs.Writable.{IsWritable};
 ghost use Rattle.hound_number.specs.Number.{bytes_of};
-ghost use Rattle.hound_spec.specs.Fmt.{fmt_bytes, subformat};
+ghost use Rattle.hound_spec.specs.FmtChunk.{fmt_bytes, subformat};
 ghost use Rattle.hound_spec.specs.Header.{is_short, fields, header, mask, short_fmt, long_fmt, sized_fmt};
 
 use crate::{Error, Result, SampleFormat, WavSpec, WavSpecEx, with_default_width};
@@ -183,7 +183,7 @@ pub fn header_of(spec_ex: WavSpecEx, riff_size: u32, data_length: u32) -> Header
 impl WavSpec {
     ghost use Rattle.std.specs.Prelude.{◌≡◌, IfOk, IfErr, OnOk, Err};
     ghost use Rattle.hound_spec.specs.declared.error.Error.TheVariants.{OutOfMemory, Unsupported};
-    ghost use Rattle.hound_spec.specs.Fmt.{greatest_u32};
+    ghost use Rattle.hound_spec.specs.FmtChunk.{greatest_u32};
     ghost use Rattle.hound_spec.specs.Header.{header};
     ghost use Rattle.hound_spec.specs.Writable.{IsWritable, with_default_width};
 

@@ -1,7 +1,7 @@
 // What holds of the fields of every fmt chunk.
 ghost use Rattle.std.specs.Prelude.{◌≡◌, ◌<◌, ◌^◌, ◌++◌, List, ℕ, length};
 ghost use Rattle.hound_number.specs.Number.{AreBytes};
-ghost use Rattle.hound_spec.specs.Fmt.{FmtFields, FieldsFit, fmt_bytes, fmt_fields, Extension, extension_bytes, extension_size, extension};
+ghost use Rattle.hound_spec.specs.FmtChunk.{FmtFields, FieldsFit, fmt_bytes, fmt_fields, Extension, extension_bytes, extension_size, extension};
 
 /// To write the fields of a fmt chunk and to read them are inverse, both ways.
 pub fn fields_come_back()

@@ -5,8 +5,8 @@ ghost use Rattle.std.specs.Prelude.{◌≡◌};
 struct NumberWords;
 
 impl NumberWords {
-    ghost use Rattle.hound.specs.Ending.{Tells};
-    ghost use Rattle.hound.specs.Input.{Account, Counts, CountsReads, IfEnded, Known};
+    ghost use Rattle.hound.specs.Ending.{ReportsEnding};
+    ghost use Rattle.hound.specs.Input.{Account, CountsRead, CountsReads, IfEnded, Known};
     ghost use Rattle.hound.specs.Number.{AreBytes, bytes_of, number, signed_bytes_of, signed_number};
     ghost use Rattle.hound.specs.Writing.{Writes};
 
@@ -20,8 +20,9 @@ impl NumberWords {
 struct SpecWords;
 
 impl SpecWords {
-    ghost use Rattle.hound.specs.Header.{canonical, data_start, fields, header, is_short, long_fmt, mask, riff_size, riff_tag, short_fmt, sized_fmt, subformat, wave_tag};
-    ghost use Rattle.hound.specs.Writable.{IsPair, IsWritable, with_default_width};
+    ghost use Rattle.hound.specs.FmtChunk.{Extension, FieldsFit, FmtFields, extension, extension_bytes, extension_size, fmt_bytes, fmt_fields, greatest_u32, subformat};
+    ghost use Rattle.hound.specs.Header.{canonical, data_start, fields, fmt_tag, header, is_short, long_fmt, mask, riff_size, riff_tag, short_fmt, sized_fmt, wave_tag};
+    ghost use Rattle.hound.specs.Writable.{IsWritable, is_pair, with_default_width};
     ghost use Rattle.hound.specs.declared.Error.{Error};
     ghost use Rattle.hound.specs.declared.SampleFormat.{SampleFormat};
     ghost use Rattle.hound.specs.declared.WavSpecEx.{WavSpecEx};
@@ -79,18 +80,20 @@ impl MediumWords {
 struct ReaderWords;
 
 impl ReaderWords {
-    ghost use Rattle.hound.specs.Answer.{Answer, Answers, HasOneAnswer, Tells};
+    ghost use Rattle.hound.specs.Answer.{Answer, Answers, HasOneAnswer, HasOneFileAnswer, ReportsAnswer};
     ghost use Rattle.hound.specs.Cause.{Cause};
-    ghost use Rattle.hound.specs.Chunks.{Head, Readable, Refused, Unreadable, bound_of, chunk_fault, content_fault, front_fault};
+    ghost use Rattle.hound.specs.Chunks.{Head, Readable, Refused, Unreadable, bound_of, chunk_fault, content_fault, front_fault, taken_of};
     ghost use Rattle.hound.specs.Containers.{AreContainers};
-    ghost use Rattle.hound.specs.Fmt.{IsSound, by_subformat, by_tag, fmt_of, wave_format, wave_format_extensible, wave_format_ieee_float, wave_format_pcm};
+    ghost use Rattle.hound.specs.Counting.{HasGiven, HasGiven-prop, bytes_taken};
+    ghost use Rattle.hound.specs.Fmt.{IsSoundSpec, by_subformat, by_tag, fmt_of, wave_format, wave_format_extensible, wave_format_ieee_float, wave_format_pcm};
+    ghost use Rattle.hound.specs.Front.{ReportsFront, TakesFront};
     ghost use Rattle.hound.specs.Items.{AreItems, GivesItems};
-    ghost use Rattle.hound.specs.Outcome.{CountsFailed, Gives, Refuses, UnlessFailed};
-    ghost use Rattle.hound.specs.Reader.{IsCounted, IsNext, ReaderState, meaning_at, refusal_at, samples_left};
-    ghost use Rattle.hound.specs.Refusals.{FailsAs, IsRefusal, Names, OpensAs, TellsError, reason_text};
+    ghost use Rattle.hound.specs.Outcome.{CountsFailed, Gives, Refuses, UnlessReadFailed};
+    ghost use Rattle.hound.specs.Reader.{HasSoundCounts, HasWholeFrames, IsNext, ReaderState, meaning_at, refusal_at, samples_left};
+    ghost use Rattle.hound.specs.Refusals.{FailsAs, IsRefusal, Names, OpensAs, ReportsError, reason_text};
     ghost use Rattle.hound.specs.Samples.{LendsNext, TakesNext, lender, lent_reader, taken_reader};
-    ghost use Rattle.hound.specs.Seeking.{HasSought, IsMeaningOf, Recounts, container_at, samples_before, way_to};
-    ghost use Rattle.hound.specs.Sources.{FindsData, account_of, unread};
+    ghost use Rattle.hound.specs.Seeking.{Follows, HasSought, IsAtCount, IsMeaningOf, PassesItem, ReadsInPlace, Recounts, Seeks, StandsAsCounted, bytes_before, container_at, samples_before, way_to};
+    ghost use Rattle.hound.specs.Sources.{FindsData, Untouched, account_of, unread};
     ghost use Rattle.hound.specs.Walk.{Advances, IsSoundChunk, IsSoundOption, MeetsFault, ReachesData, ReadsChunk, ReadsContent};
 
     fn read() -> bool
@@ -117,12 +120,15 @@ impl ReaderVariants {
 struct WriterWords;
 
 impl WriterWords {
-    ghost use Rattle.hound.specs.Appending.{FailsCheck, GoesOn, IsAppendRefusal, IsNotAppended, head_fault};
-    ghost use Rattle.hound.specs.Batch.{batch_bytes, batch_lender, batch_writer, left, remaining, written};
-    ghost use Rattle.hound.specs.Moments.{AcceptsAtEach, HasSize, IsPatched, PatchesAtEach, PublishesAtEach};
-    ghost use Rattle.hound.specs.Parts.{IsStanding, IsTold, Patches, PutsAt, Stands, bytes_kept, field};
-    ghost use Rattle.hound.specs.Room.{HasRoom, IsRoom, IsSixteen};
-    ghost use Rattle.hound.specs.Writer.{AcceptsBytes, AcceptsSample, AreFrames, HasBegun, HasHeader, IsCounted, IsIoError, IsOkOrIoError, IsPublishing, IsSameFile, IsSound, IsWhole, Publishes, PutsHeader, StaysInPlace, WriterState, accepted, faults_told, medium_of, sample_count, sample_refusal};
+    ghost use Rattle.hound.specs.Accepting.{Accepts};
+    ghost use Rattle.hound.specs.Answers.{IsIoError, mark_of, one};
+    ghost use Rattle.hound.specs.Appending.{Appends, FailsCheck, IsNotAppended, head_fault};
+    ghost use Rattle.hound.specs.Batch.{IsSameFile, batch_bytes, batch_lender, batch_writer, left, remaining, written};
+    ghost use Rattle.hound.specs.Beginning.{Begins, HasBegun, IsNotBegun};
+    ghost use Rattle.hound.specs.Parts.{HasSize, IsConsistent, IsPatched, IsStanding, IsTold, Patches, PatchesAtEach, PutsAt, bytes_kept, of_fields};
+    ghost use Rattle.hound.specs.Publishing.{Checkpoints, Finishes};
+    ghost use Rattle.hound.specs.Room.{IsSixteen};
+    ghost use Rattle.hound.specs.Writer.{AreFrames, HasRoom, IsCounted, IsSound, IsWhole, WriterState, accepted_samples, data_length, sample_count};
 
     fn read() -> bool
         ensures { result ≡ result }
@@ -134,11 +140,9 @@ impl WriterWords {
 struct SessionWords;
 
 impl SessionWords {
-    ghost use Rattle.hound.specs.AtEach.{EndsAtEach, HoldsNoFlush, IsMarkedRunAtEach, IsSessionAtEach, StepAtEach, TakesAtEach};
-    ghost use Rattle.hound.specs.Run.{AcceptsAs, Begins, Ends, IsMarkedRun, IsNotBegun, IsSession, IsStrictRun, NoFault, Runs, RunsBy, StopsIn, Takes};
-    ghost use Rattle.hound.specs.Sessions.{HoldsFile, IsReady, LeadsOn, StopsAt, containers_of, events, session_events};
-    ghost use Rattle.hound.specs.Steps.{accepted_by_all, batch_containers, is_sixteen, mark_of, wants_memory};
-    ghost use Rattle.hound.specs.declared.Step.{Step};
+    ghost use Rattle.hound.specs.Run.{Begins, Ends, IsNotBegun, IsSession, NoFault, Runs, Takes};
+    ghost use Rattle.hound.specs.Sessions.{AreSessions, RunsAgain, RunsOk, RunsOn, RunsOnce, StopsIn, StopsShort, all_steps};
+    ghost use Rattle.hound.specs.Steps.{accepted_by_all, batch_containers, containers_of, is_sixteen, wants_memory};
 
     fn read() -> bool
         ensures { result ≡ result }
@@ -152,7 +156,7 @@ struct SessionVariants;
 impl SessionVariants {
     ghost use Rattle.hound.specs.declared.Begin.TheVariants.{New};
     ghost use Rattle.hound.specs.declared.End.TheVariants.{Finalize};
-    ghost use Rattle.hound.specs.declared.Step.TheVariants.{Batch, Flush, Whole};
+    ghost use Rattle.hound.specs.declared.Step.TheVariants.{Batch, Whole};
 
     fn read() -> bool
         ensures { result ≡ result }

@@ -1,6 +1,6 @@
 use Rattle.std.proofs.Common.{◌-◌, take, arith, sym, ap, ◌∙◌}
 use Rattle.std.proofs.lemmas.Result.{err_from_is_err_and}
-use Rattle.hound_spec.specs.Fmt.{fmt_fields}
+use Rattle.hound_spec.specs.FmtChunk.{fmt_fields}
 use Rattle.hound_spec.specs.Header.{fmt_tag}
 use Rattle.hound_reader.specs.Chunks.{taken_of}
 use Rattle.hound_reader.specs.Fmt.{◌>>=◌, fmt_of, by_tag}
