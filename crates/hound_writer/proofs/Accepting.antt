@@ -230,17 +230,17 @@ module _ {W : Type 0} (tells keeps : Bool) (state : W → MediumState) (w : Writ
           let samples = drop w.data_start (state m).contents in
           let more : IsWhole state w → accepted_samples state last ≡ accepted_samples state w ++ list =
           λ whole.
-              samples_out state last none sound_more
-              ∙ ap (λ k. containers width k samples) (count_append w.out (length bytes) width sound.width (whole_out state w none sound))
-              ∙ containers_append width (w.out / width) (length bytes / width) samples
-              ∙ (λ i. samples_same state w none sound (state m).contents (data_stays m bytes (Ok tt) told p whole) i
-              ++ containers width (length bytes / width) (drop (count_bytes w.out width (whole_out state w none sound) i) samples))
-              ∙ ap (λ l. accepted_samples state w ++ l)
-              (containers_front width (length bytes / width) (drop w.out samples) bytes
-              (ap (λ k. take k (drop w.out samples)) (count_bytes (length bytes) width whole_bytes)
-              ∙ ap (take (length bytes)) (drop-drop w.out w.data_start (state m).contents)
-              ∙ bytes_stand m bytes (Ok tt) told p p.whole whole
-              ∙ sym (take_all (length bytes / width * width) bytes (omega (arith, count_bytes (length bytes) width whole_bytes))))) in
+          samples_out state last none sound_more
+          ∙ ap (λ k. containers width k samples) (count_append w.out (length bytes) width sound.width (whole_out state w none sound))
+          ∙ containers_append width (w.out / width) (length bytes / width) samples
+          ∙ (λ i. samples_same state w none sound (state m).contents (data_stays m bytes (Ok tt) told p whole) i
+          ++ containers width (length bytes / width) (drop (count_bytes w.out width (whole_out state w none sound) i) samples))
+          ∙ ap (λ l. accepted_samples state w ++ l)
+          (containers_front width (length bytes / width) (drop w.out samples) bytes
+          (ap (λ k. take k (drop w.out samples)) (count_bytes (length bytes) width whole_bytes)
+          ∙ ap (take (length bytes)) (drop-drop w.out w.data_start (state m).contents)
+          ∙ bytes_stand m bytes (Ok tt) told p p.whole whole
+          ∙ sym (take_all (length bytes / width * width) bytes (omega (arith, count_bytes (length bytes) width whole_bytes))))) in
           let stands_now = stands_more w.spec_ex w.data_start w.out (w.out + length bytes) (state m).contents (omega arith) (still m bytes (Ok tt) told p) in
           record {
             faults = p.faults;
