@@ -122,7 +122,7 @@ struct WriterWords;
 impl WriterWords {
     ghost use Rattle.hound.specs.Accepting.{Accepts};
     ghost use Rattle.hound.specs.Answers.{IsIoError, mark_of, one};
-    ghost use Rattle.hound.specs.Appending.{Appends, FailsCheck, IsNotAppended, head_fault};
+    ghost use Rattle.hound.specs.Appending.{Appends, FailsCheck, HasOneAppendAnswer, IsNotAppended, head_fault};
     ghost use Rattle.hound.specs.Batch.{IsSameFile, batch_bytes, batch_lender, batch_writer, left, remaining, written};
     ghost use Rattle.hound.specs.Beginning.{Begins, HasBegun, IsNotBegun};
     ghost use Rattle.hound.specs.Parts.{HasSize, IsConsistent, IsPatched, IsStanding, IsTold, Patches, PatchesAtEach, PutsAt, bytes_kept, of_fields};

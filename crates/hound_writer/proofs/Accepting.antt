@@ -5,7 +5,7 @@ use Rattle.std.proofs.lemmas.Bool.{true≢false, false≢true}
 use Rattle.std.specs.List.{concat}
 use Rattle.std.specs.declared.io.Error.{Error as IoFault}
 use Rattle.hound_medium.specs.Bytes.{put_at, placed, overlay}
-use Rattle.hound_medium.specs.State.{MediumState, WhereTells, WhereKeeps, faults_after}
+use Rattle.hound_medium.specs.State.{MediumState, WhereTells, WhereKeeps}
 use Rattle.hound_medium.proofs.Overlays.{overlay_is, length-put_at, take_overlay_before, length_overlay_le, front_part}
 use Rattle.hound_medium.proofs.Spans.{span_puts, span_still}
 use Rattle.hound_spec.specs.declared.error.Error.{Error}
@@ -13,7 +13,7 @@ use Rattle.hound_spec.specs.declared.error.Error.TheVariants.{IoError, OutOfMemo
 use Rattle.hound_spec.specs.Header.{riff_size}
 use Rattle.hound_sample.specs.Container.{Refusal, containers}
 use Rattle.hound_sample.specs.Encoding.{IsEncoded}
-use Rattle.hound_writer.specs.Accepting.{Accepts, Adds, AddsToFile, AddsAtEach}
+use Rattle.hound_writer.specs.Accepting.{Accepts, AddsAtEach}
 use Rattle.hound_writer.specs.Answers.{AcceptAnswer, FitAnswer, IsIoError, OnRefused, faults_told, if_marked, mark_of}
 use Rattle.hound_writer.specs.Counts.{Counts}
 use Rattle.hound_writer.specs.Parts.{IsConsistent, PutsAt, IsStanding}
@@ -21,7 +21,7 @@ use Rattle.hound_writer.specs.Room.{HasBatch}
 use Rattle.hound_writer.specs.Writer.{WriterState, HasRoom, IsCounted, IsSound, IsWhole, accepted_samples, data_length}
 use Rattle.hound_writer.proofs.Answers.{on_refused, unless_failed}
 use Rattle.hound_writer.proofs.Containers.{concat-containers, containers_append, containers_front, count_append, count_bytes, whole_more}
-use Rattle.hound_writer.proofs.Samples.{counts_at, length_out, samples_out, samples_same, whole_out}
+use Rattle.hound_writer.proofs.Samples.{counts_at, samples_out, samples_same, whole_out}
 use Rattle.hound_writer.proofs.Standing.{inside, stands_front, stands_more}
 
 -- bytes at a place reach no further than the old end or their own

@@ -11,4 +11,5 @@ pub mod PatchMoments
 pub mod Publishing
 pub mod Beginning
 pub mod Appending
+pub mod AppendAnswers
 pub mod Writing

@@ -1,12 +1,12 @@
 -- The accepted samples of a writer in which nothing waits.
-use Rattle.std.proofs.Common.{◌≡◌, ℕ, ◌+◌, ◌*◌, ◌/◌, ◌%◌, ◌≤◌, List, [], ◌++◌, length, take, drop, refl, sym, ◌∙◌, ap, subst, arith}
-use Rattle.std.proofs.lemmas.List.{append-nil, take-take}
+use Rattle.std.proofs.Common.{◌≡◌, ℕ, ◌*◌, ◌/◌, ◌%◌, List, [], ◌++◌, length, take, drop, sym, ◌∙◌, ap, subst, arith}
+use Rattle.std.proofs.lemmas.List.{append-nil}
 use Rattle.std.specs.List.{concat}
 use Rattle.hound_medium.specs.State.{MediumState}
 use Rattle.hound_sample.specs.Container.{containers}
 use Rattle.hound_writer.specs.Counts.{Counts}
 use Rattle.hound_writer.specs.Parts.{IsStanding}
-use Rattle.hound_writer.specs.Writer.{WriterState, IsSound, accepted_bytes, accepted_samples, data_length, sample_count}
+use Rattle.hound_writer.specs.Writer.{WriterState, IsSound, accepted_samples, data_length}
 use Rattle.hound_writer.proofs.Containers.{concat-containers, containers_cut, containers_front, count_bytes, length-containers}
 use Rattle.hound_writer.proofs.Counted.{counts_standing}
 

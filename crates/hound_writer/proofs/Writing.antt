@@ -1,15 +1,14 @@
 -- A sample, as a writer is asked to accept it.
-use Rattle.std.proofs.Common.{◌≡◌, ℕ, ◌+◌, ◌-◌, ◌/◌, ◌≤◌, nat_le, Bool, true, false, List, [], ◌∷◌, ◌++◌, length, take, replicate, Result, Ok, Err, IsTrue, refl, sym, subst, ◌∙◌, ap, arith, inl, inr}
+use Rattle.std.proofs.Common.{◌≡◌, ℕ, ◌+◌, ◌/◌, ◌≤◌, nat_le, Bool, false, List, [], ◌∷◌, length, Result, Ok, Err, refl, sym, subst, ◌∙◌, ap, arith}
 use Rattle.std.proofs.lemmas.Bool.Decides.{nat_tests}
-use Rattle.std.proofs.lemmas.List.{append-nil, take_at}
-use Rattle.std.specs.List.{concat}
+use Rattle.std.proofs.lemmas.List.{append-nil}
 use Rattle.hound_medium.specs.Bytes.{overlay}
 use Rattle.hound_medium.specs.State.{MediumState, WhereTells, WhereKeeps}
 use Rattle.hound_spec.specs.declared.error.Error.{Error}
 use Rattle.hound_spec.specs.declared.error.Error.TheVariants.{TooLong, TooWide, Unsupported}
 use Rattle.hound_spec.specs.Header.{riff_size}
 use Rattle.hound_sample.specs.Container.{Refusal, too_wide, unsupported, containers}
-use Rattle.hound_sample.specs.Encoding.{IsEncoded, error_of}
+use Rattle.hound_sample.specs.Encoding.{IsEncoded}
 use Rattle.hound_writer.specs.Accepting.{Accepts}
 use Rattle.hound_writer.specs.Answers.{FitAnswer, one}
 use Rattle.hound_writer.specs.Parts.{IsConsistent}

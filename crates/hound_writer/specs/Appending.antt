@@ -1,5 +1,5 @@
 -- Appending to a file that is there.
-use Rattle.std.specs.Prelude.{◌≡◌, ℕ, ◌+◌, ◌/◌, ◌%◌, ◌==◌, ◌⊎◌, not, nat_lt, if◌then◌else◌, Bool, List, [], Option, None, Some, Result, Ok, Err}
+use Rattle.std.specs.Prelude.{◌≡◌, ℕ, ◌/◌, ◌%◌, ◌==◌, ◌⊎◌, not, nat_lt, if◌then◌else◌, Bool, List, [], Option, None, Some, Result, Ok, Err}
 use Rattle.hound_spec.specs.declared.error.Error.{Error}
 use Rattle.hound_spec.specs.declared.error.Error.TheVariants.{TooLong}
 use Rattle.hound_spec.specs.declared.spec.WavSpecEx.{WavSpecEx}
@@ -35,6 +35,20 @@ abbrev pub IsAppendFault : List ℕ → AppendFault → Type 0
 IsAppendFault bytes fault =
     ((cause : Cause) × (fault ≡ by_bytes cause) × Refused bytes cause)
     ⊎ ((s : WavSpecEx) × (len : ℕ) × (h : ℕ) × Head bytes s len h × (head_fault s len h ≡ Some fault))
+
+-- the spec, the data's length and the place of the data, where the bytes can be appended to; or the fault
+pub data AppendAnswer : Type 0 where
+  appendable : WavSpecEx → ℕ → ℕ → AppendAnswer
+  faulty : AppendFault → AppendAnswer
+
+-- the bytes have this head, which fails no check, or this fault
+abbrev pub AnswersAppend : List ℕ → AppendAnswer → Type 0
+AnswersAppend bytes (appendable s len h) = Head bytes s len h × (head_fault s len h ≡ None)
+AnswersAppend bytes (faulty fault) = IsAppendFault bytes fault
+
+-- the bytes can be appended to, with exactly one head, or not, for exactly one fault
+abbrev pub HasOneAppendAnswer : List ℕ → Type 0
+HasOneAppendAnswer bytes = (a : AppendAnswer) × AnswersAppend bytes a × ((b : AppendAnswer) → AnswersAppend bytes b → b ≡ a)
 
 -- the error that callers are told
 abbrev pub NamesFault : Error → AppendFault → Type 0

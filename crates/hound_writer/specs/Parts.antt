@@ -1,6 +1,6 @@
 -- What the parts of a writer's calls do to its medium, and what a writer's fields keep.
-use Rattle.std.specs.Prelude.{◌≡◌, ℕ, ◌+◌, ◌-◌, ◌≤◌, List, [], ◌++◌, length, take, drop, Bool, true, false, IsTrue, Option, None, Some, Result, Ok, Err, OnOk}
-use Rattle.hound_number.specs.Number.{AreBytes, bytes_of, mix}
+use Rattle.std.specs.Prelude.{◌≡◌, ℕ, ◌+◌, ◌-◌, ◌≤◌, List, [], ◌++◌, length, take, Bool, true, false, IsTrue, Option, None, Some, Result, Ok, Err, OnOk}
+use Rattle.hound_number.specs.Number.{AreBytes, mix}
 use Rattle.std.specs.declared.io.Error.{Error as IoFault}
 use Rattle.hound_spec.specs.declared.error.Error.{Error}
 use Rattle.hound_spec.specs.declared.error.Error.TheVariants.{IoError, UnfinishedSample}

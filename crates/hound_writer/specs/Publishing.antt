@@ -14,7 +14,7 @@ use Rattle.hound_reader.specs.Chunks.{Readable}
 use Rattle.hound_writer.specs.Answers.{IsPublishing, OnPublished, faults_told}
 use Rattle.hound_writer.specs.Counts.{Counts}
 use Rattle.hound_writer.specs.Sizes.{ChangesSizesOnly, field}
-use Rattle.hound_writer.specs.Writer.{WriterState, KeepsSamples, IsWhole, IsBegun, HasHeader, accepted_samples, data_length, data_end, sample_count}
+use Rattle.hound_writer.specs.Writer.{WriterState, KeepsSamples, IsWhole, IsBegun, HasHeader, accepted_samples, data_length, data_end}
 
 -- The contents are read as exactly these samples, with this spec, from this place on.
 pub record ReadsAs (s : WavSpecEx) (start : ℕ) (samples : List (List ℕ)) (contents : List ℕ) : Type 0 where

@@ -5,8 +5,10 @@ mod append;
 mod batch;
 mod batching;
 mod file;
+mod laws;
 mod patch;
 mod write;
 
 pub use batch::SampleWriter16;
+pub use laws::one_append_answer;
 pub use write::WavWriter;

@@ -1,4 +1,4 @@
-use Rattle.std.proofs.Common.{◌≡◌, [], Ok, length, arith, ◌∙◌, ap, sym, subst, rules, refl, inl, inr}
+use Rattle.std.proofs.Common.{◌≡◌, length, ◌∙◌, ap, sym, subst, rules, refl, inr}
 use Rattle.hound_spec.proofs.HeaderLemmas.{length-header}
 use Rattle.hound_spec.specs.Header.{data_start}
 use Rattle.hound_spec.specs.Writable.{IsWritable}
