@@ -1,5 +1,5 @@
 -- What a batch accepts.
-use Rattle.std.proofs.Common.{◌≡◌, ℕ, ℤ, ◌+◌, ◌*◌, ◌/◌, ◌<◌, ◌≤◌, true, false, nat_le, Bool, cond, List, [], ◌∷◌, ◌++◌, length, take, drop, map, Result, Ok, Err, IfErr, IsTrue, OnOk, refl, sym, ◌∙◌, ap, subst, arith, inl, inr, length-append, le-leb, lt-ltb, max}
+use Rattle.std.proofs.Common.{◌≡◌, ℕ, ℤ, ◌+◌, ◌*◌, ◌/◌, ◌<◌, ◌≤◌, true, false, nat_le, Bool, cond, List, [], ◌∷◌, ◌++◌, length, map, Result, Ok, Err, refl, sym, ◌∙◌, ap, subst, arith, inl, inr, length-append, le-leb, lt-ltb}
 use Rattle.std.proofs.lemmas.Bool.{cases_Bool, true≢false}
 use Rattle.std.proofs.lemmas.Bool.Decides.{nat_tests}
 use Rattle.std.proofs.lemmas.List.{take_at, drop_at}
@@ -8,7 +8,7 @@ use Rattle.hound_number.specs.Number.{signed_bytes_of}
 use Rattle.hound_spec.specs.declared.error.Error.{Error}
 use Rattle.hound_spec.specs.declared.error.Error.TheVariants.{TooLong, OutOfMemory, Unsupported}
 use Rattle.hound_spec.specs.Header.{riff_size}
-use Rattle.hound_sample.specs.Container.{Refusal, containers, unsupported}
+use Rattle.hound_sample.specs.Container.{containers, unsupported}
 use Rattle.hound_medium.specs.Bytes.{overlay}
 use Rattle.hound_medium.specs.State.{MediumState, WhereTells, WhereKeeps}
 use Rattle.hound_writer.specs.Accepting.{Accepts}

@@ -1,18 +1,18 @@
 -- A run at each moment.
-use Rattle.std.proofs.Common.{◌≡◌, ℕ, zero, suc, ◌+◌, ◌-◌, ◌<◌, ◌≤◌, Bool, true, false, List, [], ◌∷◌, ◌++◌, length, take, drop, map, slice_index_or, Result, Ok, Err, IsTrue, refl, sym, ◌∙◌, ap, subst, arith, inl, inr, append_assoc}
+use Rattle.std.proofs.Common.{◌≡◌, ℕ, zero, suc, ◌+◌, ◌-◌, ◌≤◌, Bool, true, List, [], ◌∷◌, ◌++◌, length, take, map, Result, Ok, Err, IsTrue, refl, sym, ◌∙◌, ap, subst, arith, inl, inr, append_assoc}
 use Rattle.std.proofs.lemmas.Bool.{cases_lt, false≢true}
 use Rattle.std.proofs.lemmas.List.{append-nil}
 use Rattle.std.specs.List.{concat}
 use Rattle.hound_number.specs.Number.{number}
 use Rattle.hound_spec.specs.declared.error.Error.{Error}
-use Rattle.hound_spec.specs.declared.error.Error.TheVariants.{IoError, UnfinishedSample}
+use Rattle.hound_spec.specs.declared.error.Error.TheVariants.{UnfinishedSample}
 use Rattle.hound_spec.specs.declared.spec.WavSpecEx.{WavSpecEx}
 use Rattle.hound_medium.specs.Bytes.{moment, overlay}
 use Rattle.hound_medium.specs.State.{MediumState}
 use Rattle.hound_medium.specs.Spans.{Span}
 use Rattle.hound_medium.proofs.Overlays.{front_part}
 use Rattle.hound_medium.proofs.Spans.{moment_before, moment_last}
-use Rattle.hound_writer.specs.Accepting.{AddsAtEach, AddsToFile}
+use Rattle.hound_writer.specs.Accepting.{AddsAtEach}
 use Rattle.hound_writer.specs.Answers.{mark_of}
 use Rattle.hound_writer.specs.Counts.{Counts}
 use Rattle.hound_writer.specs.Publishing.{Checkpoints}

@@ -1,5 +1,5 @@
 -- The values of a batch, written one by one.
-use Rattle.std.proofs.Common.{◌≡◌, ℕ, ℤ, eqb, Bool, true, false, cond, List, [], ◌∷◌, ◌++◌, length, map, replicate, Result, Ok, Err, Bor, IsTrue, ◌≤◌, refl, sym, ◌∙◌, ap, subst, arith, inl, inr}
+use Rattle.std.proofs.Common.{◌≡◌, ℕ, ℤ, eqb, Bool, true, false, cond, List, [], ◌∷◌, ◌++◌, length, map, replicate, Result, Ok, Err, Bor, IsTrue, ◌≤◌, refl, sym, ◌∙◌, ap, subst, arith}
 use Rattle.std.proofs.lemmas.Bool.{and_parts, eqb-true}
 use Rattle.std.proofs.lemmas.Bool.Decides.{nat_tests}
 use Rattle.hound_number.specs.Number.{signed_bytes_of}

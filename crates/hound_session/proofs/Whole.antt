@@ -1,5 +1,5 @@
 -- A whole run, from its beginning to its end.
-use Rattle.std.proofs.Common.{◌≡◌, ℕ, zero, suc, ◌+◌, ◌-◌, ◌*◌, ◌/◌, ◌%◌, ◌<◌, ◌≤◌, max, Bool, List, [], ◌++◌, length, take, drop, map, Result, Ok, Err, OnOk, IsTrue, refl, sym, ◌∙◌, ap, subst, arith, length-append, length-drop}
+use Rattle.std.proofs.Common.{◌≡◌, ℕ, zero, suc, ◌+◌, ◌/◌, ◌<◌, ◌≤◌, Bool, List, [], ◌++◌, length, take, drop, map, Result, Ok, Err, OnOk, IsTrue, refl, sym, ◌∙◌, ap, subst, arith, length-append, length-drop}
 use Rattle.std.proofs.lemmas.List.{take_all, length-take-le}
 use Rattle.std.specs.List.{concat}
 use Rattle.std.specs.Io.{StartsWith}
@@ -16,7 +16,7 @@ use Rattle.hound_writer.specs.Answers.{IsPublishing, OnPublished, faults_told, m
 use Rattle.hound_writer.specs.Counts.{Counts}
 use Rattle.hound_writer.specs.Publishing.{Finishes}
 use Rattle.hound_writer.specs.Sizes.{ChangesSizesOnly}
-use Rattle.hound_writer.specs.Writer.{WriterState, IsSound, IsWhole, IsBegun, accepted_samples, data_length, sample_count}
+use Rattle.hound_writer.specs.Writer.{WriterState, IsSound, IsWhole, IsBegun, accepted_samples, data_length}
 use Rattle.hound_writer.proofs.Answers.{on_published_then}
 use Rattle.hound_writer.proofs.Samples.{concat-samples, length_out, samples_out}
 use Rattle.hound_session.specs.declared.session.Step.{Step}
@@ -27,7 +27,7 @@ use Rattle.hound_session.specs.declared.session.End.TheVariants.{Finalize, Drop}
 use Rattle.hound_session.specs.Headline.{CanonicalAtEnd}
 use Rattle.hound_session.specs.Run.{Begins, Ends, Leaves, LeavesAtEach, NoFault, Ran, Runs}
 use Rattle.hound_session.specs.Steps.{accepted_by_all}
-use Rattle.hound_session.proofs.Leading.{Leads, leads, grows_told, no_fault_parts, told_grows, length-concat-append}
+use Rattle.hound_session.proofs.Leading.{Leads, leads, grows_told, no_fault_parts, length-concat-append}
 use Rattle.hound_session.proofs.Moments.{counted, published, span_later}
 use Rattle.hound_session.proofs.Stepping.{sizes_then}
 

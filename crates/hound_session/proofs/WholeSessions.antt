@@ -1,8 +1,6 @@
 -- Sessions one after the other: the file that they leave.
-use Rattle.std.proofs.Common.{◌≡◌, ℕ, zero, suc, ◌+◌, ◌-◌, ◌*◌, ◌/◌, ◌%◌, ◌<◌, ◌≤◌, max, Bool, true, false, IsTrue, Bor, List, [], ◌∷◌, ◌++◌, length, take, drop, replicate, map, Some, None, Result, Ok, Err, OnOk, IfErr, refl, sym, ◌∙◌, ap, subst, arith, inl, inr, length-append, length-drop, length-take, append_assoc, take-append-drop, le-ltb, eq-eqb, eqb, eqb-true, not, cond, nat_le}
-use Rattle.std.proofs.lemmas.List.{append-nil, take_all, length-take-le}
-use Rattle.std.proofs.lemmas.Nat.{div-add-mod'}
-use Rattle.std.proofs.Math.Nat.{div-mul-le_self}
+use Rattle.std.proofs.Common.{◌≡◌, ℕ, ◌+◌, ◌-◌, ◌/◌, ◌%◌, ◌<◌, ◌≤◌, max, Bool, true, false, IsTrue, Bor, List, [], ◌∷◌, ◌++◌, length, take, drop, replicate, map, Some, None, Result, Ok, Err, OnOk, IfErr, refl, sym, ◌∙◌, ap, subst, arith, inl, inr, length-drop, length-take, append_assoc, le-ltb, eq-eqb, eqb, eqb-true, not, cond, nat_le}
+use Rattle.std.proofs.lemmas.List.{append-nil, take_all}
 use Rattle.std.specs.List.{concat}
 use Rattle.std.specs.Io.{StartsWith}
 use Rattle.hound_number.specs.Number.{AreBytes}
@@ -12,7 +10,7 @@ use Rattle.hound_spec.specs.declared.spec.WavSpecEx.{WavSpecEx}
 use Rattle.hound_spec.specs.Writable.{IsWritable}
 use Rattle.hound_spec.specs.Header.{header, data_start, canonical, riff_size}
 use Rattle.hound_spec.proofs.HeaderLemmas.{length-header, data_start_least}
-use Rattle.hound_medium.specs.State.{MediumState, one_more, Goes}
+use Rattle.hound_medium.specs.State.{MediumState, one_more}
 use Rattle.hound_medium.specs.Bytes.{placed, overlay}
 use Rattle.hound_reader.specs.Chunks.{Head, data_fault}
 use Rattle.hound_reader.specs.declared.fault.Cause.TheVariants.{Format}
@@ -21,23 +19,22 @@ use Rattle.hound_sample.specs.Container.{Refusal, too_wide, unsupported, contain
 use Rattle.hound_medium.proofs.Torn.{number_at_small}
 use Rattle.hound_writer.proofs.Heads.{head_field, head_inside}
 use Rattle.hound_writer.proofs.Samples.{length_out, samples_out}
-use Rattle.hound_reader.proofs.WrittenLemmas.{header_head}
 use Rattle.hound_reader.proofs.Unique.{heads_agree, head_no_fault}
 use Rattle.hound_writer.specs.Answers.{AcceptAnswer, FitAnswer, IsIoError, faults_told, if_marked, mark_of}
-use Rattle.hound_writer.specs.Appending.{Appends, IsNotAppended, IsAppendFault, AppendFault, head_fault}
+use Rattle.hound_writer.specs.Appending.{Appends, IsAppendFault, AppendFault, head_fault}
 use Rattle.hound_writer.specs.Beginning.{Begins as BeginsFile}
 use Rattle.hound_writer.specs.Publishing.{Finishes, ReadsAs}
 use Rattle.hound_writer.specs.Sizes.{field}
-use Rattle.hound_writer.specs.Writer.{WriterState, HasHeader, IsSound, IsWhole, IsBegun, accepted_samples, data_length, data_end}
+use Rattle.hound_writer.specs.Writer.{WriterState, HasHeader, IsWhole, IsBegun, accepted_samples, data_length}
 use Rattle.hound_writer.proofs.Accepting.{length_overlay_max}
 use Rattle.hound_session.specs.declared.session.Step.{Step}
 use Rattle.hound_session.specs.declared.session.Step.TheVariants.{Whole, Bits, Batch, Flush}
 use Rattle.hound_session.specs.declared.session.Begin.{Begin}
 use Rattle.hound_session.specs.declared.session.Begin.TheVariants.{New, Append}
 use Rattle.hound_session.specs.Run.{Begins, IsNotBegun, Takes, NoFault}
-use Rattle.hound_session.specs.Sessions.{AreSessions, IsFinished, IsStopped, RunsAgain, RunsOk, RunsOn, RunsOnce, StopsIn, StopsShort, all_steps}
+use Rattle.hound_session.specs.Sessions.{AreSessions, RunsAgain, RunsOk, RunsOn, RunsOnce, StopsIn, StopsShort, all_steps}
 use Rattle.hound_session.specs.Steps.{accepted_by_all, accepted_by, containers_of, step_containers}
-use Rattle.hound_session.proofs.Leading.{FaultsGrow, Leads, leads, grow_then, grows_told, length-concat-append, no_fault_parts, told_grows, unless_told}
+use Rattle.hound_session.proofs.Leading.{FaultsGrow, leads, grow_then, grows_told, length-concat-append, no_fault_parts, unless_told}
 use Rattle.hound_session.proofs.Stepping.{did}
 use Rattle.hound_session.proofs.Whole.{all_published, length-canonical, none_accepted}
 

@@ -1,6 +1,6 @@
 use Rattle.std.proofs.Common.{arith, Ok, subst}
 use Rattle.std.proofs.lemmas.List.{take_all}
-use Rattle.hound_session.specs.Sessions.{RunsAgain, RunsOn}
+use Rattle.hound_session.specs.Sessions.{RunsOn}
 use Rattle.hound_session.proofs.Chaining.{is_ok, session_more, session_failed}
 use Rattle.hound_session.proofs.sessions.append_sessions.Goals as goal
 

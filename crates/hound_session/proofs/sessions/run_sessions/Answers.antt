@@ -1,4 +1,4 @@
-use Rattle.std.proofs.Common.{Err, Ok, inl, inr, refl, subst, sym}
+use Rattle.std.proofs.Common.{Err, inl, inr, refl, subst, sym}
 use Rattle.hound_session.specs.declared.session.Begin.TheVariants.{New}
 use Rattle.hound_session.specs.Sessions.{AreSessions, RunsOnce}
 use Rattle.hound_session.proofs.Chaining.{is_ok}

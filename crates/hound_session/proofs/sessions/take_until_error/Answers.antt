@@ -1,7 +1,5 @@
 use Rattle.std.proofs.Common.{arith}
 use Rattle.hound_session.proofs.Running.{stops_in, ok_more}
-use Rattle.hound_session.proofs.WholeSessions.{sessions_stop}
-use Rattle.hound_session.proofs.Chaining.{session_failed}
 use Rattle.hound_session.proofs.sessions.take_until_error.Goals as goal
 
 pub returns-in-Err : goal.returns-in-Err
