@@ -1,8 +1,10 @@
 //! Tests over the public items of `hound` alone, as a user of the library has them.
 #![tactic(auto)]
 
+mod callers;
 mod twelve;
 
+pub use callers::{convert, open_written, record_checkpoint};
 pub use twelve::Twelve;
 
 #[cfg(test)]
