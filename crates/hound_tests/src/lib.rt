@@ -12,6 +12,8 @@ mod appending;
 #[cfg(test)]
 mod batches;
 #[cfg(test)]
+mod calling;
+#[cfg(test)]
 mod channels;
 #[cfg(test)]
 mod checkpoints;
