@@ -14,7 +14,7 @@ ghost use Rattle.hound.specs.declared.WavSpecEx.{WavSpecEx};
 use hound::{Medium, Sample, WavReader, WavWriter, one_answer, written_is_read};
 use std::io;
 
-// Writes a sample and publishes it: the file is then read as the samples before and this one.
+/// Writes a sample and publishes it: the file is then read as the samples before and this one.
 pub fn record_checkpoint<S: Sample, M: Medium>(
     writer: &mut WavWriter<M>,
     sample: S,
@@ -28,7 +28,7 @@ pub fn record_checkpoint<S: Sample, M: Medium>(
     writer.flush()
 }
 
-// Writes all samples that a reader has left, whatever the widths of the two are.
+/// Writes all samples that a reader has left, whatever the widths of the two are.
 pub fn convert<R: io::Read + Drop, M: Medium>(
     reader: &mut WavReader<R>,
     writer: &mut WavWriter<M>,
@@ -41,7 +41,7 @@ pub fn convert<R: io::Read + Drop, M: Medium>(
     Ok(())
 }
 
-// Opens a file that was written: what is left in the reader are the containers.
+/// Opens a file that was written: what is left in the reader are the containers.
 pub fn open_written(bytes: &[u8]) -> hound::Result<WavReader<&[u8]>>
     ensures { (s : WavSpecEx) (list : List (List ℕ)) → IsWritable s → AreContainers s list → bytes.now ≡ canonical s list →
         OpensAs result (λ r. (r.spec_ex ≡ s) × (r.num_samples ≡ length list)

@@ -1,4 +1,5 @@
-//! Tests over the public items of `hound` alone, as a user of the library has them.
+//! Tests over the public items of `hound` alone, as a user of the library has them, and functions over
+//! them.
 #![tactic(auto)]
 
 mod callers;
