@@ -22,7 +22,8 @@ pub fn record_checkpoint<S: Sample, M: Medium>(
     ensures { WhereTells M.tells (IsWhole M.state writer.old → OnOk result (
         let s = writer.old.spec_ex in (container : List ℕ)
         × (S.container sample s.spec.bits_per_sample s.bytes_per_sample ≡ Ok container)
-        × ReadsAs s writer.old.data_start (accepted_samples M.state writer.old ++ (container ∷ [])) (M.state writer.new.medium).contents)) }
+        × ReadsAs s writer.old.data_start (accepted_samples M.state writer.old ++ (container ∷ [])) (M.state writer.new.medium).contents
+        × IsWhole M.state writer.new × (accepted_samples M.state writer.new ≡ accepted_samples M.state writer.old ++ (container ∷ [])))) }
 {
     writer.write_sample(sample)?;
     writer.flush()
