@@ -1,14 +1,19 @@
-//! Tests over the public items of `hound` alone, as a user of the library has them.
+//! Tests over the public items of `hound` alone, as a user of the library has them, and functions over
+//! them.
 #![tactic(auto)]
 
+mod callers;
 mod twelve;
 
+pub use callers::{convert, open_written, record_checkpoint};
 pub use twelve::Twelve;
 
 #[cfg(test)]
 mod appending;
 #[cfg(test)]
 mod batches;
+#[cfg(test)]
+mod calling;
 #[cfg(test)]
 mod channels;
 #[cfg(test)]

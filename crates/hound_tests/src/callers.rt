@@ -1,0 +1,54 @@
+// Functions of a user of the library, whose contracts follow from its public ones.
+ghost use Rattle.std.specs.Prelude.{◌≡◌, ℕ, ◌+◌, ◌++◌, List, length, [], ◌∷◌, Ok, OnOk};
+ghost use Rattle.hound.specs.Container.{containers};
+ghost use Rattle.hound.specs.Containers.{AreContainers};
+ghost use Rattle.hound.specs.Header.{canonical};
+ghost use Rattle.hound.specs.Publishing.{ReadsAs};
+ghost use Rattle.hound.specs.Reader.{samples_left};
+ghost use Rattle.hound.specs.Refusals.{OpensAs};
+ghost use Rattle.hound.specs.State.{WhereTells};
+ghost use Rattle.hound.specs.Writable.{IsWritable};
+ghost use Rattle.hound.specs.Writer.{IsWhole, accepted_samples, sample_count};
+ghost use Rattle.hound.specs.declared.WavSpecEx.{WavSpecEx};
+
+use hound::{Medium, Sample, WavReader, WavWriter, one_answer, written_is_read};
+use std::io;
+
+/// Writes a sample and publishes it: the file is then read as the samples before and this one.
+pub fn record_checkpoint<S: Sample, M: Medium>(
+    writer: &mut WavWriter<M>,
+    sample: S,
+) -> hound::Result<()>
+    ensures { WhereTells M.tells (IsWhole M.state writer.old → OnOk result (
+        let s = writer.old.spec_ex in (container : List ℕ)
+        × (S.container sample s.spec.bits_per_sample s.bytes_per_sample ≡ Ok container)
+        × ReadsAs s writer.old.data_start (accepted_samples M.state writer.old ++ (container ∷ [])) (M.state writer.new.medium).contents
+        × IsWhole M.state writer.new × (accepted_samples M.state writer.new ≡ accepted_samples M.state writer.old ++ (container ∷ [])))) }
+{
+    writer.write_sample(sample)?;
+    writer.flush()
+}
+
+/// Writes all samples that a reader has left, whatever the widths of the two are.
+pub fn convert<R: io::Read + Drop, M: Medium>(
+    reader: &mut WavReader<R>,
+    writer: &mut WavWriter<M>,
+) -> hound::Result<()>
+    ensures { OnOk result (sample_count writer.new ≡ sample_count writer.old + samples_left reader.old) }
+{
+    for sample in reader.samples::<i32>() {
+        writer.write_sample(sample?)?;
+    }
+    Ok(())
+}
+
+/// Opens a file that was written: what is left in the reader are the containers.
+pub fn open_written(bytes: &[u8]) -> hound::Result<WavReader<&[u8]>>
+    ensures { (s : WavSpecEx) (list : List (List ℕ)) → IsWritable s → AreContainers s list → bytes.now ≡ canonical s list →
+        OpensAs result (λ r. (r.spec_ex ≡ s) × (r.num_samples ≡ length list)
+        × (containers s.bytes_per_sample (length list) r.reader.now ≡ list)) }
+{
+    written_is_read();
+    one_answer();
+    WavReader::new(bytes)
+}
