@@ -1,11 +1,12 @@
 -- What bytes after the accepted ones change.
-use Rattle.std.proofs.Common.{◌≡◌, ℕ, zero, suc, ◌+◌, ◌*◌, ◌-◌, ◌/◌, ◌%◌, ◌≤◌, max, nat_le, Bool, true, false, List, [], ◌∷◌, ◌++◌, length, take, drop, replicate, Result, Ok, Err, IfErr, inl, IsTrue, refl, sym, subst, ◌∙◌, ap, arith, length-append, length-take, le-leb}
+use Rattle.std.proofs.Common.{◌≡◌, ℕ, zero, suc, ◌+◌, ◌*◌, ◌-◌, ◌/◌, ◌%◌, ◌≤◌, max, nat_le, Bool, true, false, List, [], ◌∷◌, ◌++◌, length, take, drop, replicate, Result, Ok, Err, IfErr, IsTrue, refl, sym, subst, ◌∙◌, ap, arith, length-append, length-take, le-leb}
 use Rattle.std.proofs.lemmas.List.{take_at, take_all, drop_at, drop-drop, append-nil, length-take-le, take-take}
-use Rattle.std.proofs.lemmas.Bool.{true≢false, false≢true}
+use Rattle.std.proofs.lemmas.Bool.{false≢true}
 use Rattle.std.specs.List.{concat}
 use Rattle.std.specs.declared.io.Error.{Error as IoFault}
 use Rattle.hound_medium.specs.Bytes.{put_at, placed, overlay}
 use Rattle.hound_medium.specs.State.{MediumState, WhereTells, WhereKeeps}
+use Rattle.hound_medium.specs.Spans.{Span}
 use Rattle.hound_medium.proofs.Overlays.{overlay_is, length-put_at, take_overlay_before, length_overlay_le, front_part}
 use Rattle.hound_medium.proofs.Spans.{span_puts, span_still}
 use Rattle.hound_spec.specs.declared.error.Error.{Error}
@@ -15,12 +16,12 @@ use Rattle.hound_sample.specs.Container.{Refusal, containers}
 use Rattle.hound_sample.specs.Encoding.{IsEncoded}
 use Rattle.hound_writer.specs.Accepting.{Accepts, AddsAtEach}
 use Rattle.hound_writer.specs.Answers.{AcceptAnswer, FitAnswer, IsIoError, OnRefused, faults_told, if_marked, mark_of}
+use Rattle.hound_writer.specs.Block.{all_out}
 use Rattle.hound_writer.specs.Counts.{Counts}
-use Rattle.hound_writer.specs.Parts.{IsConsistent, PutsAt, IsStanding}
-use Rattle.hound_writer.specs.Room.{HasBatch}
+use Rattle.hound_writer.specs.Parts.{PutsAt, IsStanding}
 use Rattle.hound_writer.specs.Writer.{WriterState, HasRoom, IsCounted, IsSound, IsWhole, accepted_samples, data_length}
 use Rattle.hound_writer.proofs.Answers.{on_refused, unless_failed}
-use Rattle.hound_writer.proofs.Containers.{concat-containers, containers_append, containers_front, count_append, count_bytes, whole_more}
+use Rattle.hound_writer.proofs.Containers.{containers_append, containers_front, count_append, count_bytes, joined_bytes, whole_more}
 use Rattle.hound_writer.proofs.Samples.{counts_at, samples_out, samples_same, whole_out}
 use Rattle.hound_writer.proofs.Standing.{inside, stands_front, stands_more}
 
@@ -78,6 +79,13 @@ accepts_refused tells keeps state w memory asked e counts replays mark faults an
       };
     }
 
+-- whole containers for which there is room fit
+pub room_fits : {W : Type 0} (w : WriterState W) (bytes : List ℕ) → HasRoom w (length bytes) → length bytes % w.spec_ex.bytes_per_sample ≡ 0
+    → nat_le (riff_size w.data_start (data_length w + length (concat (containers w.spec_ex.bytes_per_sample (length bytes / w.spec_ex.bytes_per_sample) bytes)))) 4294967295 ≡ true
+room_fits w bytes room whole =
+    let width = w.spec_ex.bytes_per_sample in
+    le-leb (riff_size w.data_start (data_length w + length (concat (containers width (length bytes / width) bytes)))) 4294967295 (omega (arith, room, ap length (joined_bytes width bytes whole)))
+
 -- a writer in which nothing waits, and a medium with bytes put after its data
 module _ {W : Type 0} (tells keeps : Bool) (state : W → MediumState) (w : WriterState W) (none : w.waiting ≡ []) (sound : IsSound w)
     (stands : WhereTells tells (IsStanding w.spec_ex w.data_start w.out (state w.medium).contents)) where
@@ -96,33 +104,46 @@ module _ {W : Type 0} (tells keeps : Bool) (state : W → MediumState) (w : Writ
   counts_front told whole c same =
       let first : take w.data_start c ≡ take w.data_start old.contents = sym (take-take w.data_start end c (omega arith)) ∙ ap (take w.data_start) same ∙ take-take w.data_start end old.contents (omega arith) in
       let long : w.data_start ≤ length c = omega (arith, ap length same, length-take end c, length-take-le end old.contents whole) in
-      counts_at state w none sound c (stands_front w.spec_ex w.data_start w.out old.contents c (stands told) first long)
+      counts_at state w sound (whole_out state w none sound) c whole (stands_front w.spec_ex w.data_start w.out old.contents c (stands told) first long)
       (front_part end w.data_start w.out c old.contents (omega arith) same)
 
   -- bytes that are put, all or a beginning
-  module _ (m : W) (bytes : List ℕ) (result : Result (Unit {0}) IoFault) (told : IsTrue tells) (puts : PutsAt keeps (w.data_start + w.out) bytes result (state w.medium) (state m)) where
+  module _ {T E : Type 0} (m : W) (bytes : List ℕ) (result : Result T E) (told : IsTrue tells) (puts : PutsAt keeps (w.data_start + w.out) bytes result (state w.medium) (state m)) where
     abbrev new : MediumState
     new = state m
 
-    front_stays : (n : ℕ) → n ≤ end → n ≤ length old.contents → take n new.contents ≡ take n old.contents
+    pub front_stays : (n : ℕ) → n ≤ end → n ≤ length old.contents → take n new.contents ≡ take n old.contents
     front_stays n before there = ap (take n) puts.contents ∙ take_overlay_before (take puts.count bytes) n end old.contents before there
 
-    grows : length old.contents ≤ length new.contents
+    pub grows : length old.contents ≤ length new.contents
     grows = omega (arith, ap length puts.contents, length_overlay_le (take puts.count bytes) end old.contents)
 
     there : w.data_start ≤ length old.contents
     there = inside w.spec_ex w.data_start w.out old.contents old.contents (stands told)
 
-    front : take w.data_start new.contents ≡ take w.data_start old.contents
+    pub front : take w.data_start new.contents ≡ take w.data_start old.contents
     front = front_stays w.data_start (omega arith) there
 
-    data_stays : IsWhole state w → take w.out (drop w.data_start new.contents) ≡ take w.out (drop w.data_start old.contents)
+    pub data_stays : IsWhole state w → take w.out (drop w.data_start new.contents) ≡ take w.out (drop w.data_start old.contents)
     data_stays whole = front_part end w.data_start w.out new.contents old.contents (omega arith) (front_stays end (omega arith) whole)
 
-    still : IsStanding w.spec_ex w.data_start w.out new.contents
+    pub still : IsStanding w.spec_ex w.data_start w.out new.contents
     still = stands_front w.spec_ex w.data_start w.out old.contents new.contents (stands told) front (omega (arith, there, grows))
 
-    at_each : IsTrue keeps → old.contents ≡ overlay old.start old.past → AddsAtEach state w new
+    pub rest : drop (end + length bytes) new.contents ≡ drop (end + length bytes) old.contents
+    rest = ap (drop (end + length bytes)) puts.contents
+        ∙ drop_overlay_after (take puts.count bytes) (end + length bytes) end old.contents (omega (arith, length-take puts.count bytes))
+
+    pub reach : length new.contents ≤ max (length old.contents) (end + length bytes)
+    reach = omega (arith, ap length puts.contents, length_overlay_max (take puts.count bytes) end old.contents, length-take puts.count bytes)
+
+    pub front_at_each : IsTrue keeps → old.contents ≡ overlay old.start old.past → Span (λ _ c. take w.data_start c ≡ take w.data_start (state w.medium).contents) 0 (state w.medium) (state m)
+    front_at_each kept replays =
+        let bs = take puts.count bytes in
+        span_puts (λ _ c. take w.data_start c ≡ take w.data_start old.contents) 0 old new end bs replays puts.start (puts.past kept)
+        (λ k within. take_overlay_before (take k bs) w.data_start end old.contents (omega arith) there)
+
+    pub at_each : IsTrue keeps → old.contents ≡ overlay old.start old.past → AddsAtEach state w new
     at_each kept replays =
         let bs = take puts.count bytes in
         let same : end ≤ length old.contents → (k : ℕ) → take end (overlay old.contents (placed end (take k bs))) ≡ take end old.contents =
@@ -147,37 +168,28 @@ module _ {W : Type 0} (tells keeps : Bool) (state : W → MediumState) (w : Writ
           ∙ ap (take (length bytes)) (drop_at (take end old.contents) (bytes ++ drop (end + length bytes) old.contents) end (length-take-le end old.contents whole))
           ∙ take_at bytes (drop (end + length bytes) old.contents) (length bytes) refl
 
-      bytes_inside : IsWhole state w → w.data_start + (w.out + length bytes) ≤ length new.contents
+      pub bytes_inside : IsWhole state w → w.data_start + (w.out + length bytes) ≤ length new.contents
       bytes_inside whole =
           omega (arith, ap length (parts whole), length-append (take end old.contents) (bytes ++ drop (end + length bytes) old.contents), length-append bytes (drop (end + length bytes) old.contents), length-take-le end old.contents whole)
 
   -- the same file with other bytes in it and another batch
   abbrev pub after_put : W → ℕ → WriterState W
-  after_put m out = record w { medium = m; out = out; batch_length = 0; batch_written = 0 }
+  after_put m out = record w { medium = m; out = out }
 
   sound_put : (m : W) → IsSound (after_put m w.out)
   sound_put m = record { pair = sound.pair; channels = sound.channels; width = sound.width; whole = sound.whole; after_head = sound.after_head; fits = sound.fits }
-
-  batch_over : (m : W) (out : ℕ) → IsSound (after_put m out) → HasBatch (after_put m out)
-  batch_over m out s = record { room = omega (arith, s.fits); memory = omega arith; written = omega arith; samples = refl; whole = refl; width = inl refl }
 
   module _ (m : W) (bytes : List ℕ) (room : HasRoom w (length bytes)) (whole_bytes : length bytes % w.spec_ex.bytes_per_sample ≡ 0) where
     abbrev list : List (List ℕ)
     list = containers width (length bytes / width) bytes
 
-    size : concat (containers w.spec_ex.bytes_per_sample (length bytes / w.spec_ex.bytes_per_sample) bytes) ≡ bytes
-    size = concat-containers width (length bytes / width) bytes ∙ take_all (length bytes / width * width) bytes (omega (arith, count_bytes (length bytes) width whole_bytes))
-
-    fits : nat_le (riff_size w.data_start (data_length w + length (concat (containers w.spec_ex.bytes_per_sample (length bytes / w.spec_ex.bytes_per_sample) bytes)))) 4294967295 ≡ true
-    fits = le-leb (riff_size w.data_start (data_length w + length (concat list))) 4294967295 (omega (arith, room, ap length size))
-
     -- where the medium failed nothing is accepted
-    pub accepts_none : (e : IoFault) → WhereTells tells (PutsAt {T = Unit {0}} keeps (w.data_start + w.out) bytes (Err e) (state w.medium) (state m))
+    pub accepts_none : (e : IoFault) → WhereTells tells (PutsAt keeps (w.data_start + w.out) bytes (all_out false) (state w.medium) (state m))
         → WhereKeeps tells keeps ((state w.medium).contents ≡ overlay (state w.medium).start (state w.medium).past)
         → Accepts tells keeps state false (Ok (containers w.spec_ex.bytes_per_sample (length bytes / w.spec_ex.bytes_per_sample) bytes)) (Err (IoError e)) w (after_put m w.out)
     accepts_none e puts replays = record {
       adds = record {
-        answers = subst (λ b. FitAnswer {T = Unit {0}} b false (Err (IoError e))) (sym fits) tt;
+        answers = subst (λ b. FitAnswer {T = Unit {0}} b false (Err (IoError e))) (sym (room_fits w bytes room whole_bytes)) tt;
         refused = tt;
         spec_ex = refl;
         data_start = refl;
@@ -187,18 +199,18 @@ module _ {W : Type 0} (tells keeps : Bool) (state : W → MediumState) (w : Writ
       file = λ told.
           let p = puts told in
           let same : IsWhole state w → accepted_samples state (after_put m w.out) ≡ accepted_samples state w =
-          λ whole. samples_out state (after_put m w.out) none (sound_put m) ∙ samples_same state w none sound (state m).contents (data_stays m bytes (Err e) told p whole) in
+          λ whole. samples_out state (after_put m w.out) none (sound_put m) ∙ samples_same state w none sound (state m).contents (data_stays m bytes (all_out false) told p whole) in
           record {
             faults = p.faults;
-            front = front m bytes (Err e) told p;
+            front = front m bytes (all_out false) told p;
             rest = tt;
             reach = tt;
-            whole = λ whole. omega (arith, whole, grows m bytes (Err e) told p);
+            whole = λ whole. omega (arith, whole, grows m bytes (all_out false) told p);
             accepted = λ whole. same whole ∙ sym (append-nil (accepted_samples state w));
             counts = λ whole. subst (λ l. Counts w.spec_ex w.data_start l (state m).contents) (sym (same whole))
-                (counts_at state w none sound (state m).contents (still m bytes (Err e) told p) (data_stays m bytes (Err e) told p whole));
+                (counts_at state w sound (whole_out state w none sound) (state m).contents whole (still m bytes (all_out false) told p) (data_stays m bytes (all_out false) told p whole));
           };
-      moments = λ told kept. at_each m bytes (Err e) told (puts told) kept (replays told kept);
+      moments = λ told kept. at_each m bytes (all_out false) told (puts told) kept (replays told kept);
     }
 
     -- else all of it
@@ -212,16 +224,16 @@ module _ {W : Type 0} (tells keeps : Bool) (state : W → MediumState) (w : Writ
       fits = omega (arith, room, ap length none);
     }
 
-    pub accepts_all : WhereTells tells (PutsAt {E = IoFault} keeps (w.data_start + w.out) bytes (Ok (tt {0})) (state w.medium) (state m))
+    pub accepts_all : WhereTells tells (PutsAt keeps (w.data_start + w.out) bytes (all_out true) (state w.medium) (state m))
         → WhereKeeps tells keeps ((state w.medium).contents ≡ overlay (state w.medium).start (state w.medium).past)
         → Accepts tells keeps state false (Ok (containers w.spec_ex.bytes_per_sample (length bytes / w.spec_ex.bytes_per_sample) bytes)) (Ok tt) w (after_put m (w.out + length bytes))
     accepts_all puts replays = record {
       adds = record {
-        answers = subst (λ b. FitAnswer {T = Unit {0}} b false (Ok tt)) (sym fits) tt;
+        answers = subst (λ b. FitAnswer {T = Unit {0}} b false (Ok tt)) (sym (room_fits w bytes room whole_bytes)) tt;
         refused = tt;
         spec_ex = refl;
         data_start = refl;
-        data_length = omega (arith, ap length size);
+        data_length = omega (arith, ap length (joined_bytes width bytes whole_bytes));
         kept = omega arith;
       };
       file = λ told.
@@ -233,45 +245,26 @@ module _ {W : Type 0} (tells keeps : Bool) (state : W → MediumState) (w : Writ
           samples_out state last none sound_more
           ∙ ap (λ k. containers width k samples) (count_append w.out (length bytes) width sound.width (whole_out state w none sound))
           ∙ containers_append width (w.out / width) (length bytes / width) samples
-          ∙ (λ i. samples_same state w none sound (state m).contents (data_stays m bytes (Ok tt) told p whole) i
+          ∙ (λ i. samples_same state w none sound (state m).contents (data_stays m bytes (all_out true) told p whole) i
           ++ containers width (length bytes / width) (drop (count_bytes w.out width (whole_out state w none sound) i) samples))
           ∙ ap (λ l. accepted_samples state w ++ l)
           (containers_front width (length bytes / width) (drop w.out samples) bytes
           (ap (λ k. take k (drop w.out samples)) (count_bytes (length bytes) width whole_bytes)
           ∙ ap (take (length bytes)) (drop-drop w.out w.data_start (state m).contents)
-          ∙ bytes_stand m bytes (Ok tt) told p p.whole whole
+          ∙ bytes_stand m bytes (all_out true) told p p.whole whole
           ∙ sym (take_all (length bytes / width * width) bytes (omega (arith, count_bytes (length bytes) width whole_bytes))))) in
-          let stands_now = stands_more w.spec_ex w.data_start w.out (w.out + length bytes) (state m).contents (omega arith) (still m bytes (Ok tt) told p) in
+          let stands_now = stands_more w.spec_ex w.data_start w.out (w.out + length bytes) (state m).contents (omega arith) (still m bytes (all_out true) told p) in
           record {
             faults = p.faults;
-            front = front m bytes (Ok tt) told p;
-            rest = ap (drop (w.data_start + (w.out + length bytes + length w.waiting))) p.contents
-                ∙ drop_overlay_after (take p.count bytes) (w.data_start + (w.out + length bytes + length w.waiting)) end old.contents (omega (arith, length-take p.count bytes));
-            reach = omega (arith, ap length p.contents, length_overlay_max (take p.count bytes) end old.contents, length-take p.count bytes);
-            whole = λ whole. bytes_inside m bytes (Ok tt) told p p.whole whole;
+            front = front m bytes (all_out true) told p;
+            rest = let at : end + length bytes ≡ w.data_start + (w.out + length bytes + length w.waiting) = omega (arith, ap length none) in
+                subst (λ n. drop n (state m).contents ≡ drop n old.contents) at (rest m bytes (all_out true) told p);
+            reach = omega (arith, reach m bytes (all_out true) told p);
+            whole = λ whole. bytes_inside m bytes (all_out true) told p p.whole whole;
             accepted = more;
-            counts = λ whole. counts_at state last none sound_more (state m).contents stands_now refl;
+            counts = λ whole. counts_at state last sound_more (whole_out state last none sound_more) (state m).contents (bytes_inside m bytes (all_out true) told p p.whole whole) stands_now refl;
           };
-      moments = λ told kept. at_each m bytes (Ok tt) told (puts told) kept (replays told kept);
-    }
-
-    -- what the writer keeps, either way
-    pub consistent_none : (e : IoFault) → WhereTells tells (PutsAt {T = Unit {0}} keeps (w.data_start + w.out) bytes (Err e) (state w.medium) (state m)) → IsConsistent tells state (after_put m w.out) true
-    consistent_none e puts = record {
-      sound = sound_put m;
-      none_waits = none;
-      batch = batch_over m w.out (sound_put m);
-      stands = λ told. still m bytes (Err e) told (puts told);
-      place = λ told is. absurd (true≢false is);
-    }
-
-    pub consistent_more : WhereTells tells (PutsAt {E = IoFault} keeps (w.data_start + w.out) bytes (Ok (tt {0})) (state w.medium) (state m)) → IsConsistent tells state (after_put m (w.out + length bytes)) false
-    consistent_more puts = record {
-      sound = sound_more;
-      none_waits = none;
-      batch = batch_over m (w.out + length bytes) sound_more;
-      stands = λ told. stands_more w.spec_ex w.data_start w.out (w.out + length bytes) (state m).contents (omega arith) (still m bytes (Ok tt) told (puts told));
-      place = λ told _. omega (arith, (puts told).place);
+      moments = λ told kept. at_each m bytes (all_out true) told (puts told) kept (replays told kept);
     }
 
 -- the container that was encoded
@@ -287,17 +280,15 @@ encoded (Err refusal) array e = cc
 pub cut : (width : ℕ) (container array : List ℕ) → array ≡ container ++ replicate (4 - length container) 0 → length container ≡ width → take width array ≡ container
 cut width container array padded size = ap (take width) padded ∙ take_at container (replicate (4 - length container) 0) width size
 
--- what a writer keeps, of its value
-pub opened : {W : Type 0} (tells : Bool) (state : W → MediumState) (may_have_moved : Bool) (a b : WriterState W) → a ≡ b → IsConsistent tells state a may_have_moved → IsConsistent tells state b may_have_moved
-opened tells state may_have_moved a b same keeps = subst (λ w. IsConsistent tells state w may_have_moved) same keeps
-
-pub accepts_seen : {W : Type 0} (tells keeps : Bool) (state : W → MediumState) (bytes : List ℕ) (answer : Result (Unit {0}) Error) (a b new : WriterState W) → a ≡ b
+-- what is asked by bytes, of a writer as contracts see it
+pub accepts_seen : {W : Type 0} (tells keeps : Bool) (state : W → MediumState) (bytes : List ℕ) (answer : Result (Unit {0}) Error) (a b new seen : WriterState W) → a ≡ b → seen ≡ new
     → Accepts tells keeps state false (Ok (containers a.spec_ex.bytes_per_sample (length bytes / a.spec_ex.bytes_per_sample) bytes)) answer a new
-    → Accepts tells keeps state false (Ok (containers b.spec_ex.bytes_per_sample (length bytes / b.spec_ex.bytes_per_sample) bytes)) answer b new
-accepts_seen tells keeps state bytes answer a b new same accepts =
-    subst (λ w. Accepts tells keeps state false (Ok (containers w.spec_ex.bytes_per_sample (length bytes / w.spec_ex.bytes_per_sample) bytes)) answer w new) same accepts
+    → Accepts tells keeps state false (Ok (containers b.spec_ex.bytes_per_sample (length bytes / b.spec_ex.bytes_per_sample) bytes)) answer b seen
+accepts_seen tells keeps state bytes answer a b new seen same is accepts =
+    subst (λ w. Accepts tells keeps state false (Ok (containers w.spec_ex.bytes_per_sample (length bytes / w.spec_ex.bytes_per_sample) bytes)) answer w seen) same
+    (subst (λ w. Accepts tells keeps state false (Ok (containers a.spec_ex.bytes_per_sample (length bytes / a.spec_ex.bytes_per_sample) bytes)) answer a w) (sym is) accepts)
 
-not_refused : {T : Type 0} (P : Type 0) (answer : Result T Error) → IfErr answer IsIoError → OnRefused answer P
+pub not_refused : {T : Type 0} (P : Type 0) (answer : Result T Error) → IfErr answer IsIoError → OnRefused answer P
 not_refused P (Ok x) failed = tt
 not_refused P (Err (IoError e)) failed = tt
 not_refused P (Err e) failed = absurd failed

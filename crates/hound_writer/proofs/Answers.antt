@@ -17,6 +17,11 @@ unless_failed (Ok x) here = here
 unless_failed (Err (IoError e)) here = tt
 unless_failed (Err e) here = here
 
+pub unless_then : {T P Q : Type 0} (answer : Result T Error) → (P → Q) → UnlessFailed answer P → UnlessFailed answer Q
+unless_then (Ok x) then here = then here
+unless_then (Err (IoError e)) then here = tt
+unless_then (Err e) then here = then here
+
 pub on_published_then : {T P Q : Type 0} (answer : Result T Error) → (P → Q) → OnPublished answer P → OnPublished answer Q
 on_published_then (Ok x) then here = then here
 on_published_then (Err UnfinishedSample) then here = then here

@@ -14,12 +14,13 @@ use Rattle.hound_reader.specs.Refusals.{ReportsError}
 use Rattle.hound_reader.specs.Sources.{FindsData}
 use Rattle.std.specs.declared.io.Error.{Error as IoFault}
 use Rattle.hound_writer.specs.Answers.{IsIoError}
-use Rattle.hound_writer.specs.Parts.{IsStanding, of_fields}
+use Rattle.hound_writer.specs.Fields.{of_fields}
+use Rattle.hound_writer.specs.Parts.{IsStanding}
 use Rattle.hound_writer.specs.Sizes.{field}
 use Rattle.hound_writer.specs.Writer.{WriterState, IsSound, data_length}
 use Rattle.hound_writer.specs.Appending.{Appends, FollowsData, IsAppendFault, by_bytes, head_fault, IsNotAppended, PutsNothing}
 use Rattle.hound_writer.proofs.Heads.{head_field}
-use Rattle.hound_writer.proofs.Samples.{counts_at}
+use Rattle.hound_writer.proofs.Samples.{counts_at, whole_out}
 
 -- where a row of a table isn't met, the rows behind it decide
 none_behind : {A : Type 0} (b : Bool) (x : A) (rest : Option A) → cond b (Some x) rest ≡ None → (b ≡ false) × (rest ≡ None)
@@ -31,7 +32,7 @@ holds true e = refl
 holds false e = cc
 
 -- a head with no fault
-pub sound_head : {W : Type 0} (medium : W) (s : WavSpecEx) (len h : ℕ) → IsSoundHead s → 20 ≤ h → head_fault s len h ≡ None → IsSound (of_fields medium s h len [] 0 0)
+pub sound_head : {W : Type 0} (medium : W) (s : WavSpecEx) (len h : ℕ) → IsSoundHead s → 20 ≤ h → head_fault s len h ≡ None → IsSound (of_fields medium s h len [] [] 0 0)
 unfolding head_fault
 sound_head medium s len h sound after none =
     let samples = none_behind _ _ _ none in
@@ -62,9 +63,9 @@ stands_on s len h contents new head same =
 
 -- a writer that appends, after a `go` to the end of the data
 pub follows : {W : Type 0} (state : W → MediumState) (medium : W) (s : WavSpecEx) (len h : ℕ) (old : MediumState) → IsSoundHead s → 20 ≤ h → Head old.contents s len h → head_fault s len h ≡ None → Goes {T = Unit {0}} {E = IoFault} (h + len) (Ok tt) old (state medium)
-    → FollowsData old state (of_fields medium s h len [] 0 0)
+    → FollowsData old state (of_fields medium s h len [] [] 0 0)
 follows state medium s len h old sound after head check goes =
-    let w = of_fields medium s h len [] 0 0 in
+    let w = of_fields medium s h len [] [] 0 0 in
     let all : len ≡ len + 0 = omega arith in
     record {
       head = subst (λ n. Head old.contents s n h) all head;
@@ -72,7 +73,8 @@ follows state medium s len h old sound after head check goes =
       puts = record { stays = goes.stays; flushed = goes.flushed };
       place = goes.place ∙ ap (λ n. h + n) all;
       faults = goes.faults;
-      counts = λ _. counts_at state w refl (sound_head medium s len h sound after check) (state medium).contents (stands_on s len h old.contents (state medium).contents head goes.stays.contents) refl;
+      counts = λ whole. let sounds = sound_head medium s len h sound after check in
+          counts_at state w sounds (whole_out state w refl sounds) (state medium).contents whole (stands_on s len h old.contents (state medium).contents head goes.stays.contents) refl;
     }
 
 -- a walk changes nothing but the place and the faults

@@ -1,12 +1,12 @@
 -- A file that begins: its header is put, and nothing else.
-use Rattle.std.proofs.Common.{◌≡◌, ℕ, zero, suc, ◌+◌, ◌-◌, ◌%◌, ◌≤◌, Bool, List, [], ◌++◌, length, take, drop, Result, Ok, Err, inl, refl, sym, subst, ◌∙◌, ap, arith, append_assoc, length-append}
+use Rattle.std.proofs.Common.{◌≡◌, ℕ, ◌+◌, ◌-◌, ◌≤◌, Bool, List, [], ◌++◌, length, take, drop, Result, Ok, Err, inl, refl, sym, subst, ◌∙◌, ap, arith, append_assoc, length-append}
 use Rattle.std.proofs.lemmas.List.{take_at, take_all, drop_at}
 use Rattle.hound_number.specs.Number.{bytes_of, number}
 use Rattle.hound_medium.specs.Bytes.{placed, overlay}
 use Rattle.hound_medium.specs.State.{MediumState, PutsFirst, PutsAll}
 use Rattle.hound_medium.proofs.Overlays.{overlay_is}
 use Rattle.hound_spec.specs.declared.spec.WavSpecEx.{WavSpecEx}
-use Rattle.hound_spec.specs.Header.{riff_tag, riff_size, data_start, header}
+use Rattle.hound_spec.specs.Header.{riff_tag, data_start, header}
 use Rattle.hound_spec.specs.Writable.{IsWritable}
 use Rattle.hound_spec.proofs.HeaderLemmas.{described, header-parts, length-header, length-described, data_start_least, data_start_most}
 use Rattle.hound_spec.proofs.WritableLemmas.{pair_facts}
@@ -15,11 +15,13 @@ use Rattle.hound_reader.proofs.WrittenLemmas.{header_head}
 use Rattle.std.specs.declared.io.Error.{Error as IoFault}
 use Rattle.hound_spec.specs.declared.error.Error.{Error}
 use Rattle.hound_writer.specs.Beginning.{PutsHeader}
-use Rattle.hound_writer.specs.Parts.{IsStanding, of_fields}
+use Rattle.hound_writer.specs.Fields.{of_fields}
+use Rattle.hound_writer.specs.Parts.{IsStanding}
 use Rattle.hound_writer.specs.Room.{HasBatch}
 use Rattle.hound_writer.specs.Sizes.{field}
-use Rattle.hound_writer.specs.Writer.{IsSound, HasHeader}
-use Rattle.hound_writer.proofs.Samples.{counts_at}
+use Rattle.hound_writer.specs.Writer.{IsSound, IsWhole, HasHeader}
+use Rattle.hound_writer.proofs.Containers.{none_whole}
+use Rattle.hound_writer.proofs.Samples.{counts_at, whole_out}
 
 -- the data length of a header that says 0
 field-header : (s : WavSpecEx) (p : ℕ) (rest : List ℕ) → p + 4 ≡ data_start s → field p (header s 0 0 ++ rest) ≡ 0
@@ -31,10 +33,10 @@ field-header s p rest at =
     ap (λ l. number (take 4 (drop p l))) whole
     ∙ ap (λ l. number (take 4 l)) (drop_at front (bytes_of 4 0 ++ rest) p long)
 
--- there is room for a batch of no samples
-pub batch_none : {W : Type 0} (medium : W) (s : WavSpecEx) (start out : ℕ) (buffer : List ℕ) → riff_size start (out + 0) ≤ 4294967295 → HasBatch (of_fields medium s start out buffer 0 0)
-batch_none medium s start out buffer fits = record {
-  room = omega (arith, fits);
+-- there is memory for a batch of no samples
+pub batch_none : {W : Type 0} (medium : W) (s : WavSpecEx) (start out : ℕ) (buffer : List ℕ) → HasBatch (of_fields medium s start out [] buffer 0 0)
+batch_none medium s start out buffer = record {
+  small = omega arith;
   memory = omega arith;
   written = omega arith;
   samples = refl;
@@ -43,19 +45,15 @@ batch_none medium s start out buffer fits = record {
 }
 
 -- a writer of a writable spec that has accepted nothing
-pub sound_begin : {W : Type 0} (medium : W) (s : WavSpecEx) (start : ℕ) → IsWritable s → start ≡ data_start s → IsSound (of_fields medium s start 0 [] 0 0)
+pub sound_begin : {W : Type 0} (medium : W) (s : WavSpecEx) (start : ℕ) → IsWritable s → start ≡ data_start s → IsSound (of_fields medium s start 0 [] [] 0 0)
 sound_begin medium s start writable is = record {
   pair = writable.pair;
   channels = writable.channels;
   width = (pair_facts s.spec.sample_format s.spec.bits_per_sample s.bytes_per_sample writable.pair).some;
-  whole = zero_mod s.bytes_per_sample;
+  whole = none_whole s.bytes_per_sample;
   after_head = omega (arith, is, data_start_least s);
   fits = omega (arith, is, data_start_most s);
 }
-  where
-    zero_mod : (w : ℕ) → 0 % w ≡ 0
-    zero_mod zero = refl
-    zero_mod (suc w) = omega arith
 
 module _ {T E : Type 0} (keeps : Bool) (s : WavSpecEx) (bytes : List ℕ) (result : Result T E) (old new : MediumState) (is : bytes ≡ header s 0 0) (begins : old.place ≡ 0) (puts : PutsAll keeps bytes result old new)
     (all : puts.count ≡ length bytes) where
@@ -98,18 +96,20 @@ module _ {T E : Type 0} (keeps : Bool) (s : WavSpecEx) (bytes : List ℕ) (resul
 
 -- what a constructor has put
 pub header_file : {W : Type 0} (keeps : Bool) (state : W → MediumState) (s : WavSpecEx) (bytes : List ℕ) (old : MediumState) (medium : W) → bytes ≡ header s 0 0 → old.place ≡ 0 → IsWritable s
-    → PutsAll {T = Unit {0}} {E = IoFault} keeps bytes (Ok tt) old (state medium) → PutsHeader keeps state old (of_fields medium s (length bytes) 0 [] 0 0)
+    → PutsAll {T = Unit {0}} {E = IoFault} keeps bytes (Ok tt) old (state medium) → PutsHeader keeps state old (of_fields medium s (length bytes) 0 [] [] 0 0)
 header_file keeps state s bytes old medium is begins writable puts =
     let ok : Result (Unit {0}) IoFault = Ok tt in
     let at : length bytes ≡ data_start s = ap length is ∙ length-header s 0 0 in
-    let w = of_fields medium s (length bytes) 0 [] 0 0 in
+    let w = of_fields medium s (length bytes) 0 [] [] 0 0 in
+    let sound = sound_begin medium s (length bytes) writable at in
+    let whole : IsWhole state w = omega (arith, at, whole_begins keeps s bytes ok old (state medium) is begins puts puts.whole) in
     let stands = stands_begin keeps s bytes ok old (state medium) is begins puts puts.whole writable (length bytes) at in
     record {
       puts = header_put keeps s bytes ok old (state medium) is begins puts puts.whole;
       faults = puts.faults;
       header = header_begins keeps s bytes ok old (state medium) is begins puts puts.whole;
-      whole = omega (arith, at, whole_begins keeps s bytes ok old (state medium) is begins puts puts.whole);
-      counts = counts_at state w refl (sound_begin medium s (length bytes) writable at) (state medium).contents stands refl;
+      whole = whole;
+      counts = counts_at state w sound (whole_out state w refl sound) (state medium).contents whole stands refl;
     }
 
 -- a beginning of the header, as callers are told of it

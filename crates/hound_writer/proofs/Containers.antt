@@ -1,6 +1,6 @@
 -- Data as containers.
 use Rattle.std.proofs.Common.{◌≡◌, ℕ, zero, suc, ◌+◌, ◌*◌, ◌/◌, ◌%◌, ◌≤◌, List, [], ◌∷◌, ◌++◌, length, take, drop, refl, sym, ◌∙◌, ap, arith}
-use Rattle.std.proofs.lemmas.List.{take-take, drop-take, drop-drop, take_all}
+use Rattle.std.proofs.lemmas.List.{take-take, drop-take, drop-drop, take_all, take-append-le, drop_at}
 use Rattle.std.proofs.lemmas.Nat.{div-add-mod'}
 use Rattle.std.proofs.Math.Nat.{add-mod, add-div_right, mul-add-div_right}
 use Rattle.std.proofs.Math.Seq.{take-add}
@@ -36,6 +36,11 @@ concat-containers width (suc count) bytes =
     ∙ sym (take-add width (count * width) bytes)
     ∙ ap (λ n. take n bytes) (let e : width + count * width ≡ suc count * width = omega arith in e)
 
+-- no bytes are whole containers
+pub none_whole : (width : ℕ) → 0 % width ≡ 0
+none_whole zero = refl
+none_whole (suc width) = omega arith
+
 -- whole containers: as many bytes as their count says
 pub count_bytes : (n width : ℕ) → n % width ≡ 0 → n / width * width ≡ n
 count_bytes n width whole = omega (arith, div-add-mod' n width, whole)
@@ -49,6 +54,15 @@ whole_more n more width whole then = add-mod n more width ∙ (λ i. (whole i + 
 
 pub count_more : (n width : ℕ) → 1 ≤ width → (n + width) / width ≡ suc (n / width)
 count_more n width some = omega (arith, add-div_right n {k = width} some)
+
+-- the bytes of one container are whole
+pub one_whole : (width n : ℕ) → n ≡ width → n % width ≡ 0
+one_whole zero n is = ap (λ k. k % 0) is
+one_whole (suc width) n is =
+    let m = suc width in
+    let one : m / m ≡ 1 = ap (λ k. k / m) (let e : m ≡ 0 + m = omega arith in e) ∙ count_more 0 m (omega arith) ∙ ap suc (let e : 0 / m ≡ 0 = omega arith in e) in
+    let left : m / m * m ≡ 1 * m = ap (λ k. k * m) one in
+    ap (λ k. k % m) is ∙ (let e : m % m ≡ 0 = omega (arith, div-add-mod' m m, left) in e)
 
 -- more whole containers than one
 pub containers_append : (w few more : ℕ) (bytes : List ℕ) → containers w (few + more) bytes ≡ containers w few bytes ++ containers w more (drop (few * w) bytes)
@@ -88,3 +102,19 @@ container_alone width bytes some is =
     none : (n : ℕ) → 0 / n ≡ 0
     none zero = refl
     none (suc n) = omega arith
+
+-- whole containers of two lists of bytes, one after the other
+pub containers_join : (width : ℕ) (a b : List ℕ) → 1 ≤ width → length a % width ≡ 0
+    → containers width ((length a + length b) / width) (a ++ b) ≡ containers width (length a / width) a ++ containers width (length b / width) b
+containers_join width a b some whole =
+    let few = length a / width in
+    let size : few * width ≡ length a = count_bytes (length a) width whole in
+    let front : take (few * width) (a ++ b) ≡ take (few * width) a = take-append-le (few * width) a b (omega (arith, size)) in
+    ap (λ n. containers width n (a ++ b)) (count_append (length a) (length b) width some whole)
+    ∙ containers_append width few (length b / width) (a ++ b)
+    ∙ (λ i. containers_front width few (a ++ b) a front i ++ containers width (length b / width) (drop_at a b (few * width) (sym size) i))
+
+-- the joined containers of whole samples are their bytes
+pub joined_bytes : (width : ℕ) (bytes : List ℕ) → length bytes % width ≡ 0 → concat (containers width (length bytes / width) bytes) ≡ bytes
+joined_bytes width bytes whole =
+    concat-containers width (length bytes / width) bytes ∙ take_all (length bytes / width * width) bytes (omega (arith, count_bytes (length bytes) width whole))

@@ -1,7 +1,7 @@
 -- What the data length counts, where the head and the accepted samples stand.
-use Rattle.std.proofs.Common.{◌≡◌, ℕ, ◌-◌, ◌/◌, ◌%◌, ◌<◌, ◌≤◌, List, take, drop, Option, Some, None, inr, refl, sym, ◌∙◌, ap, arith}
-use Rattle.std.proofs.lemmas.List.{take_all}
-use Rattle.std.proofs.lemmas.Nat.{le-div}
+use Rattle.std.proofs.Common.{◌≡◌, ℕ, suc, ◌-◌, ◌/◌, ◌%◌, ◌<◌, ◌≤◌, List, ◌++◌, length, take, drop, Option, Some, None, inr, refl, sym, ◌∙◌, ap, arith, length-append}
+use Rattle.std.proofs.lemmas.List.{take_all, take-append-le}
+use Rattle.std.proofs.lemmas.Nat.{le-div, div_below}
 use Rattle.std.proofs.Math.Nat.{div-mul-le_self}
 use Rattle.std.specs.List.{concat}
 use Rattle.hound_spec.specs.declared.spec.WavSpecEx.{WavSpecEx}
@@ -36,4 +36,23 @@ counts_standing s start n contents some whole head counted =
       covers = omega (arith, counted, count_bytes n width whole);
       stand = sym (concat-containers width count bytes) ∙ ap concat (sym all);
       reads = reads_first s start (field (start - 4) contents) count contents (samples_le (field (start - 4) contents) n width some counted) head (data_fault s (field (start - 4) contents)) refl;
+    }
+
+-- what is counted stays so when more is accepted
+reads_more : (s : WavSpecEx) (start n : ℕ) (accepted more : List (List ℕ)) (contents : List ℕ) → n / s.bytes_per_sample ≤ length accepted → (fault : Option Cause)
+    → ReadsFirst fault s start n accepted contents → ReadsFirst fault s start n (accepted ++ more) contents
+reads_more s start n accepted more contents among None reads = (reads.0, reads.1 ∙ sym (take-append-le (n / s.bytes_per_sample) accepted more among))
+reads_more s start n accepted more contents among (Some cause) reads = reads
+
+pub counts_more : (s : WavSpecEx) (start : ℕ) (accepted more : List (List ℕ)) (contents : List ℕ) → 1 ≤ s.bytes_per_sample → Counts s start accepted contents → Counts s start (accepted ++ more) contents
+counts_more s start accepted more contents some counts =
+    let n = field (start - 4) contents in
+    let width = s.bytes_per_sample in
+    let few : n / width ≤ length accepted = omega (arith, counts.among, div_below n width (suc counts.samples) some (omega (arith, counts.covers, some))) in
+    record {
+      samples = counts.samples;
+      among = omega (arith, counts.among, length-append accepted more);
+      covers = counts.covers;
+      stand = counts.stand ∙ ap concat (sym (take-append-le counts.samples accepted more counts.among));
+      reads = reads_more s start n accepted more contents few (data_fault s n) counts.reads;
     }

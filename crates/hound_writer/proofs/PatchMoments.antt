@@ -21,10 +21,10 @@ use Rattle.hound_writer.specs.Parts.{HasSize, IsPatched, Patches, PatchesAtEach,
 use Rattle.hound_writer.specs.Answers.{IsPublishing}
 use Rattle.hound_writer.specs.Publishing.{Checkpoints, Finishes, Publishes, IsHalfPublished, IsOldOrNew, PublishesAtEach, PutsLast, place_of}
 use Rattle.hound_writer.specs.Sizes.{field}
-use Rattle.hound_writer.specs.Writer.{WriterState, AreFrames, IsSound, accepted_samples, data_length, sample_count}
+use Rattle.hound_writer.specs.Writer.{WriterState, AreFrames, IsSound, IsWhole, accepted_samples, data_length, sample_count}
 use Rattle.hound_writer.proofs.Answers.{published}
 use Rattle.hound_writer.proofs.Publishing.{publishes}
-use Rattle.hound_writer.proofs.Samples.{counts_at, length_out}
+use Rattle.hound_writer.proofs.Samples.{counts_at, length_out, whole_out}
 use Rattle.hound_writer.proofs.Sizes.{same_reflexive, same_transitive, same_riff, field_riff, same_length}
 use Rattle.hound_writer.proofs.Standing.{inside, stands_patched}
 
@@ -162,12 +162,12 @@ publishes_at_each state w none sound stands small end patched are_frames told is
     let has : HasSize p old = record { behind = omega (arith, sound.after_head); inside = omega (arith, start, inside w.spec_ex w.data_start w.out old old stands); small = small } in
     let samples : (c : List ℕ) → drop (p + 4) c ≡ drop (p + 4) old → take w.out (drop w.data_start c) ≡ take w.out (drop w.data_start old) =
     λ c same. ap (take w.out) ((λ i. drop (sym start i) c) ∙ same ∙ (λ i. drop (start i) old)) in
-    let counts : (j : ℕ) (c : List ℕ) → IsPatched p old w.out j c → Counts w.spec_ex w.data_start (accepted_samples state w) c =
-    λ j c at. counts_at state w none sound c (stands_patched w.spec_ex w.data_start w.out old c stands j at.same at.field) (samples c at.same.behind) in
+    let counts : IsWhole state w → (j : ℕ) (c : List ℕ) → IsPatched p old w.out j c → Counts w.spec_ex w.data_start (accepted_samples state w) c =
+    λ whole j c at. counts_at state w sound (whole_out state w none sound) c whole (stands_patched w.spec_ex w.data_start w.out old c stands j at.same at.field) (samples c at.same.behind) in
     let half : (j : ℕ) (c : List ℕ) → IsPatched p old w.out j c → IsHalfPublished w old j c =
-    λ j c at. record { front = record { front = at.same.front; middle = at.same.middle }; out = samples c at.same.behind; length_is = at.field ∙ ap (mix j (field p old)) all } in
+    λ j c at. record { front = record { front = at.same.front; middle = at.same.middle }; out = λ _. samples c at.same.behind; length_is = at.field ∙ ap (mix j (field p old)) all } in
     record {
-      counts = λ _. record { start = span.start; added = span.added; past = span.past; each = λ k from to. counts (k - split) (moment (state end).start (state end).past k) (span.each k from to) };
+      counts = λ whole. record { start = span.start; added = span.added; past = span.past; each = λ k from to. counts whole (k - split) (moment (state end).start (state end).past k) (span.each k from to) };
       split = split;
       half = record { start = span.start; added = span.added; past = span.past; each = λ k from to. half (k - split) (moment (state end).start (state end).past k) (span.each k from to) };
       puts = patches.puts;
@@ -212,7 +212,7 @@ module _ {W : Type 0} (tells keeps : Bool) (state : W → MediumState) (w : Writ
     samples = record { spec_ex = refl; data_start = refl; data_length = refl; buffer = refl };
     publishes = published_all;
     whole = λ known whole. omega (arith, whole, (published_all known).grows);
-    accepted = λ known whole. ap (λ bytes. containers w.spec_ex.bytes_per_sample (sample_count w) (bytes ++ w.waiting)) (published_all known).out;
+    accepted = λ known whole. ap (λ bytes. containers w.spec_ex.bytes_per_sample (sample_count w) (bytes ++ w.waiting)) ((published_all known).out whole);
     moments = at_each;
   }
 

@@ -12,13 +12,14 @@ use Rattle.hound_spec.specs.declared.spec.WavSpecEx.{WavSpecEx}
 use Rattle.hound_spec.specs.Header.{riff_tag, data_start, header, riff_size, canonical}
 use Rattle.hound_spec.proofs.HeaderLemmas.{described, header-parts, length-header, length-described}
 use Rattle.hound_sample.specs.Container.{containers}
-use Rattle.std.proofs.lemmas.Bool.{true≢false}
-use Rattle.hound_writer.specs.Parts.{IsTold, IsConsistent, Patches, IsStanding}
+use Rattle.hound_writer.specs.Fields.{IsConsistent}
+use Rattle.hound_writer.specs.Parts.{IsTold, Patches, IsStanding}
 use Rattle.hound_writer.specs.Sizes.{SameButSizes, with_sizes, field}
 use Rattle.hound_writer.specs.Counts.{Counts, ReadsFirst}
 use Rattle.hound_writer.specs.Publishing.{Publishes, ReadsAs}
 use Rattle.hound_writer.specs.Writer.{WriterState, AreFrames, IsSound, IsWhole, IsBegun, HasHeader, accepted_samples, data_length, data_end}
 use Rattle.hound_writer.proofs.Answers.{on_ok_then, published, told_faults, told_ok}
+use Rattle.hound_writer.proofs.Keeping.{consistent_moved}
 use Rattle.hound_writer.proofs.Samples.{concat-samples, counts_at, length-samples, length_out, whole_out}
 use Rattle.hound_reader.specs.declared.fault.Cause.{Cause}
 use Rattle.hound_reader.specs.Chunks.{Readable, data_fault}
@@ -138,16 +139,17 @@ module _ {W : Type 0} (state : W → MediumState) (w : WriterState W) (none : w.
       let long : w.data_start ≤ length (state end).contents = omega (arith, before, there, same.long) in
       let samples : drop w.data_start (state end).contents ≡ drop w.data_start old = (λ i. drop (sym before i) (state end).contents) ∙ same.behind ∙ (λ i. drop (before i) old) in
       let still = stands_patched w.spec_ex w.data_start w.out old (state end).contents stands patches.torn.0 same patches.torn.2 in
-      let counts = counts_at state w none sound (state end).contents still (ap (take w.out) samples) in
+      let counts : IsWhole state w → Counts w.spec_ex w.data_start (accepted_samples state w) (state end).contents =
+      λ whole. counts_at state w sound (whole_out state w none sound) (state end).contents whole still (ap (take w.out) samples) in
       let data_after : (c : List ℕ) → drop (data_end w) c ≡ drop (data_length w) (drop w.data_start c) = λ c. sym (drop-drop (data_length w) w.data_start c) in
       record {
         faults = told_faults patched are_frames told (state w.medium).faults (state end).faults is patches.faults;
         front = record { front = same.front; middle = same.middle };
-        out = ap (take w.out) samples;
+        out = λ _. ap (take w.out) samples;
         rest = data_after (state end).contents ∙ ap (drop (data_length w)) samples ∙ sym (data_after old);
         grows = omega (arith, same.long);
         reach = omega (arith, same.long);
-        counts = λ _. counts;
+        counts = counts;
         begun = λ (header, at). begun_still w.spec_ex w.data_start old (state end).contents (sym at) (omega (arith, sound.after_head)) long small same header;
         flushed = published ((state end).flushed ≡ length (state end).past) patched are_frames told is patches.flushed;
         riff_says = published (field 4 (state end).contents ≡ riff_size w.data_start (data_length w)) patched are_frames told is (on_ok_then patched riff_says patches.contents);
@@ -156,23 +158,16 @@ module _ {W : Type 0} (state : W → MediumState) (w : WriterState W) (none : w.
             (on_ok_then patched (λ _. (λ i. take (sym all i) (samples i)) ∙ sym (concat-samples state w none sound)) patches.contents);
         read = λ whole. told_ok (ReadsAs w.spec_ex w.data_start (accepted_samples state w) (state end).contents) patched are_frames told is
             (λ yes. on_ok_then patched (λ put. reads_all w.spec_ex w.data_start w.out (accepted_samples state w) (state end).contents (whole_out state w none sound)
-            (ap (λ n. n / w.spec_ex.bytes_per_sample % w.spec_ex.spec.channels) all ∙ frames yes) (length-samples state w none sound) (length_says put) counts) patches.contents);
+            (ap (λ n. n / w.spec_ex.bytes_per_sample % w.spec_ex.spec.channels) all ∙ frames yes) (length-samples state w none sound) (length_says put) (counts whole)) patches.contents);
         canonical = λ whole begun. published (StartsWith (state end).contents (canonical w.spec_ex (accepted_samples state w))) patched are_frames told is (on_ok_then patched (λ put. is_canonical put whole begun) patches.contents);
       }
 
 -- what a writer keeps after a patch, which a fault may have cut
-pub consistent_patched : {W : Type 0} (tells : Bool) (state : W → MediumState) (w : WriterState W) (end : W) (may_have_moved : Bool) (riff : ℕ) (result : Result (Unit {0}) IoFault) → IsConsistent tells state w may_have_moved
-    → WhereTells tells (Patches (w.data_start - 4) riff w.out result (state w.medium) (state end)) → IsConsistent tells state (record w { medium = end }) true
-consistent_patched tells state w end may_have_moved riff result keeps patches =
-    let s = keeps.sound in
-    let b = keeps.batch in
-    record {
-      sound = record { pair = s.pair; channels = s.channels; width = s.width; whole = s.whole; after_head = s.after_head; fits = s.fits };
-      none_waits = keeps.none_waits;
-      batch = record { room = b.room; memory = b.memory; written = b.written; samples = b.samples; whole = b.whole; width = b.width };
-      stands = λ told. let p = patches told in stands_patched w.spec_ex w.data_start w.out (state w.medium).contents (state end).contents (keeps.stands told) p.torn.0 p.same p.torn.2;
-      place = λ told is. absurd (true≢false is);
-    }
+pub consistent_patched : {W : Type 0} (tells : Bool) (state : W → MediumState) (w : WriterState W) (end : W) (may_have_moved : Bool) (limit : ℕ) (riff : ℕ) (result : Result (Unit {0}) IoFault) → IsConsistent tells state w may_have_moved limit
+    → WhereTells tells (Patches (w.data_start - 4) riff w.out result (state w.medium) (state end)) → IsConsistent tells state (record w { medium = end }) true limit
+consistent_patched tells state w end may_have_moved limit riff result keeps patches =
+    consistent_moved tells state w end may_have_moved limit keeps
+    (λ told. let p = patches told in stands_patched w.spec_ex w.data_start w.out (state w.medium).contents (state end).contents (keeps.stands told) p.torn.0 p.same p.torn.2)
 
 -- a patch of a writer's fields, as contracts see it
 pub patches_seen : {W : Type 0} (state : W → MediumState) (a b : WriterState W) (riff : ℕ) (result : Result (Unit {0}) IoFault) (end : MediumState) → a ≡ b → riff ≡ riff_size a.data_start a.out

@@ -1,15 +1,64 @@
--- The accepted samples of a writer in which nothing waits.
-use Rattle.std.proofs.Common.{◌≡◌, ℕ, ◌*◌, ◌/◌, ◌%◌, List, [], ◌++◌, length, take, drop, sym, ◌∙◌, ap, subst, arith}
-use Rattle.std.proofs.lemmas.List.{append-nil}
+-- The accepted samples of a writer: those that are out, and those that wait.
+use Rattle.std.proofs.Common.{◌≡◌, ℕ, ◌+◌, ◌*◌, ◌/◌, ◌%◌, List, [], ◌++◌, length, take, drop, sym, ◌∙◌, ap, subst, arith, append_assoc, length-append, length-drop}
+use Rattle.std.proofs.lemmas.List.{append-nil, length-take-le}
 use Rattle.std.specs.List.{concat}
 use Rattle.hound_medium.specs.State.{MediumState}
 use Rattle.hound_sample.specs.Container.{containers}
 use Rattle.hound_writer.specs.Counts.{Counts}
 use Rattle.hound_writer.specs.Parts.{IsStanding}
-use Rattle.hound_writer.specs.Writer.{WriterState, IsSound, accepted_samples, data_length}
-use Rattle.hound_writer.proofs.Containers.{concat-containers, containers_cut, containers_front, count_bytes, length-containers}
-use Rattle.hound_writer.proofs.Counted.{counts_standing}
+use Rattle.hound_writer.specs.Writer.{WriterState, IsSound, IsWhole, accepted_bytes, accepted_samples, data_length}
+use Rattle.hound_writer.proofs.Containers.{concat-containers, containers_cut, containers_front, containers_join, count_bytes, length-containers}
+use Rattle.hound_writer.proofs.Counted.{counts_standing, counts_more}
 
+-- so many of the bytes stand
+pub length-out : {W : Type 0} (state : W → MediumState) (w : WriterState W) → IsWhole state w → length (take w.out (drop w.data_start (state w.medium).contents)) ≡ w.out
+length-out state w whole =
+    let data_now = drop w.data_start (state w.medium).contents in
+    length-take-le w.out data_now (omega (arith, whole, length-drop w.data_start (state w.medium).contents))
+
+-- whole samples are out
+module _ {W : Type 0} (state : W → MediumState) (w : WriterState W) (sound : IsSound w) (whole_out : w.out % w.spec_ex.bytes_per_sample ≡ 0) where
+  abbrev wide : ℕ
+  wide = w.spec_ex.bytes_per_sample
+
+  abbrev first : List ℕ
+  first = take w.out (drop w.data_start (state w.medium).contents)
+
+  -- more whole samples in the writer are more accepted ones
+  pub samples_more : (bytes : List ℕ) → IsWhole state w → data_length w % w.spec_ex.bytes_per_sample ≡ 0
+      → accepted_samples state (record w { waiting = w.waiting ++ bytes }) ≡ accepted_samples state w ++ containers w.spec_ex.bytes_per_sample (length bytes / w.spec_ex.bytes_per_sample) bytes
+  samples_more bytes whole samples =
+      let size : length (accepted_bytes state w) ≡ data_length w = length-append first w.waiting ∙ ap (λ n. n + length w.waiting) (length-out state w whole) in
+      let all : w.out + length (w.waiting ++ bytes) ≡ length (accepted_bytes state w) + length bytes = omega (arith, length-append w.waiting bytes, size) in
+      (λ i. containers wide (all i / wide) (sym (append_assoc first w.waiting bytes) i))
+      ∙ containers_join wide (accepted_bytes state w) bytes sound.width (ap (λ n. n % wide) size ∙ samples)
+      ∙ (λ i. containers wide (size i / wide) (accepted_bytes state w) ++ containers wide (length bytes / wide) bytes)
+
+  -- those that are out, and those that wait
+  pub samples_parts : IsWhole state w
+      → accepted_samples state w ≡ containers w.spec_ex.bytes_per_sample (w.out / w.spec_ex.bytes_per_sample) (drop w.data_start (state w.medium).contents) ++ containers w.spec_ex.bytes_per_sample (length w.waiting / w.spec_ex.bytes_per_sample) w.waiting
+  samples_parts whole =
+      let data_now = drop w.data_start (state w.medium).contents in
+      let size = length-out state w whole in
+      (λ i. containers wide ((sym size i + length w.waiting) / wide) (first ++ w.waiting))
+      ∙ containers_join wide first w.waiting sound.width (ap (λ n. n % wide) size ∙ whole_out)
+      ∙ ap (λ l. l ++ containers wide (length w.waiting / wide) w.waiting)
+      ((λ i. containers wide (size i / wide) first) ∙ containers_cut w.out wide data_now whole_out)
+
+  -- where the head stands and the bytes that are out are the same they count
+  pub counts_at : (c : List ℕ) → IsWhole state w → IsStanding w.spec_ex w.data_start w.out c → take w.out (drop w.data_start c) ≡ take w.out (drop w.data_start (state w.medium).contents)
+      → Counts w.spec_ex w.data_start (accepted_samples state w) c
+  counts_at c whole stands same =
+      let data_now = drop w.data_start (state w.medium).contents in
+      let cut : (l : List ℕ) → take (w.out / wide * wide) l ≡ take w.out l = λ l. ap (λ k. take k l) (count_bytes w.out wide whole_out) in
+      let out_same : containers wide (w.out / wide) (drop w.data_start c) ≡ containers wide (w.out / wide) data_now =
+      containers_front wide (w.out / wide) (drop w.data_start c) data_now (cut (drop w.data_start c) ∙ same ∙ sym (cut data_now)) in
+      let waiting = containers wide (length w.waiting / wide) w.waiting in
+      subst (λ l. Counts w.spec_ex w.data_start l c) (ap (λ l. l ++ waiting) out_same ∙ sym (samples_parts whole))
+      (counts_more w.spec_ex w.data_start (containers wide (w.out / wide) (drop w.data_start c)) waiting c sound.width
+      (counts_standing w.spec_ex w.data_start w.out c sound.width whole_out stands.head stands.counted))
+
+-- a writer in which nothing waits
 module _ {W : Type 0} (state : W → MediumState) (w : WriterState W) (none : w.waiting ≡ []) where
   abbrev width : ℕ
   width = w.spec_ex.bytes_per_sample
@@ -47,10 +96,3 @@ module _ {W : Type 0} (state : W → MediumState) (w : WriterState W) (none : w.
     concat-samples =
         let bytes = drop w.data_start (state w.medium).contents in
         ap concat samples_out ∙ concat-containers width (w.out / width) bytes ∙ ap (λ k. take k bytes) (count_bytes w.out width whole_out)
-
-    -- where the head stands and the data is the same they count
-    pub counts_at : (c : List ℕ) → IsStanding w.spec_ex w.data_start w.out c → take w.out (drop w.data_start c) ≡ take w.out (drop w.data_start (state w.medium).contents)
-        → Counts w.spec_ex w.data_start (accepted_samples state w) c
-    counts_at c stands same =
-        subst (λ l. Counts w.spec_ex w.data_start l c) (samples_same c same)
-        (counts_standing w.spec_ex w.data_start w.out c sound.width whole_out stands.head stands.counted)

@@ -3,7 +3,9 @@ pub mod Answers
 pub mod Appending
 pub mod Batch
 pub mod Beginning
+pub mod Block
 pub mod Counts
+pub mod Fields
 pub mod Parts
 pub mod Publishing
 pub mod Room

@@ -1,18 +1,16 @@
--- What the parts of a writer's calls do to its medium, and what a writer's fields keep.
-use Rattle.std.specs.Prelude.{◌≡◌, ℕ, ◌+◌, ◌-◌, ◌≤◌, List, [], ◌++◌, length, take, Bool, true, false, IsTrue, Option, None, Some, Result, Ok, Err, OnOk}
+-- What the parts of a writer's calls do to its medium.
+use Rattle.std.specs.Prelude.{◌≡◌, ℕ, ◌+◌, ◌-◌, ◌≤◌, List, ◌++◌, length, take, Bool, true, false, IsTrue, Result, Ok, Err, OnOk}
 use Rattle.hound_number.specs.Number.{AreBytes, mix}
 use Rattle.std.specs.declared.io.Error.{Error as IoFault}
 use Rattle.hound_spec.specs.declared.error.Error.{Error}
 use Rattle.hound_spec.specs.declared.error.Error.TheVariants.{IoError, UnfinishedSample}
 use Rattle.hound_spec.specs.declared.spec.WavSpecEx.{WavSpecEx}
 use Rattle.hound_medium.specs.Bytes.{placed, overlay}
-use Rattle.hound_medium.specs.State.{MediumState, WhereTells, faults_after}
+use Rattle.hound_medium.specs.State.{MediumState, faults_after}
 use Rattle.hound_medium.specs.Spans.{Span}
 use Rattle.hound_reader.specs.Chunks.{Head}
 use Rattle.hound_writer.specs.Publishing.{PutsLast}
-use Rattle.hound_writer.specs.Room.{HasBatch}
 use Rattle.hound_writer.specs.Sizes.{SameButSizes, field, with_sizes}
-use Rattle.hound_writer.specs.Writer.{WriterState, IsSound}
 
 -- these bytes were put at a place, or at an Err a beginning of them
 pub record PutsAt {T E : Type 0} (keeps : Bool) (at : ℕ) (bytes : List ℕ) (result : Result T E) (old new : MediumState) : Type 0 where
@@ -57,35 +55,8 @@ pub record IsStanding (s : WavSpecEx) (start n : ℕ) (contents : List ℕ) : Ty
   pub head : Head contents s (field (start - 4) contents) start
   pub counted : field (start - 4) contents ≤ n
 
--- the value of a writer's fields, in which nothing waits
-abbrev pub of_fields : {W : Type 0} → W → WavSpecEx → ℕ → ℕ → List ℕ → ℕ → ℕ → WriterState W
-of_fields medium spec_ex start out buffer length_is written_is = record {
-  medium = medium;
-  spec_ex = spec_ex;
-  data_start = start;
-  out = out;
-  waiting = [];
-  buffer = buffer;
-  batch_length = length_is;
-  batch_written = written_is;
-}
-
--- What a writer keeps between its calls: the head of its file stands, the data length counts no more than the bytes that
--- are out, and the next sample goes to the end of the accepted data.
-pub record IsConsistent {W : Type 0} (tells : Bool) (state : W → MediumState) (w : WriterState W) (may_have_moved : Bool) : Type 0 where
-  pub sound : IsSound w
-  pub none_waits : w.waiting ≡ []
-  pub batch : HasBatch w
-  pub stands : WhereTells tells (IsStanding w.spec_ex w.data_start w.out (state w.medium).contents)
-  pub place : WhereTells tells (may_have_moved ≡ false → (state w.medium).place ≡ w.data_start + w.out)
-
 -- the answer of a call that has patched the header, or met a fault: Ok exactly for whole frames
 abbrev pub IsTold : Result (Unit {0}) IoFault → Bool → Result (Unit {0}) Error → Type 0
 IsTold (Err e) are_frames told = told ≡ Err (IoError e)
 IsTold (Ok x) true told = told ≡ Ok x
 IsTold (Ok x) false told = told ≡ Err UnfinishedSample
-
--- the bytes of the memory that a writer keeps for its batches, if it has some
-abbrev pub bytes_kept : {V : Type 0} → (V → List ℕ) → Option V → List ℕ
-bytes_kept items None = []
-bytes_kept items (Some buffer) = items buffer

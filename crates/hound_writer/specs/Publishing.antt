@@ -22,13 +22,14 @@ pub record ReadsAs (s : WavSpecEx) (start : ℕ) (samples : List (List ℕ)) (co
   pub containers : containers s.bytes_per_sample (length samples) (drop start contents) ≡ samples
 
 -- What a call that publishes leaves in the medium, by its answer. Whatever it is, before the data only the two sizes
--- changed, the bytes that were out stand, what stands after the accepted data stays, and the data length counts no more
+-- changed, the bytes that were out stand where they all did, what stands after the accepted data stays, and the data length counts no more
 -- than the accepted samples. Where all was published both sizes are right, all samples stand, the medium was flushed, and
 -- whole frames are read back; a file that was begun with its header is then the canonical one.
 pub record Publishes {W : Type 0} (state : W → MediumState) (w : WriterState W) (answer : Result (Unit {0}) Error) (end : W) : Type 0 where
   pub faults : (state end).faults ≡ faults_told answer (state w.medium).faults
   pub front : ChangesSizesOnly w.data_start (state w.medium).contents (state end).contents
-  pub out : take w.out (drop w.data_start (state end).contents) ≡ take w.out (drop w.data_start (state w.medium).contents)
+  pub out : IsWhole state w →
+      take w.out (drop w.data_start (state end).contents) ≡ take w.out (drop w.data_start (state w.medium).contents)
   pub rest : drop (data_end w) (state end).contents ≡ drop (data_end w) (state w.medium).contents
   pub grows : length (state w.medium).contents ≤ length (state end).contents
   pub reach : length (state end).contents ≤ max (length (state w.medium).contents) (data_end w)
@@ -47,7 +48,7 @@ pub record Publishes {W : Type 0} (state : W → MediumState) (w : WriterState W
 -- out, and the data length has the j low bytes of the new one, and the others from the first.
 pub record IsHalfPublished {W : Type 0} (w : WriterState W) (first : List ℕ) (j : ℕ) (contents : List ℕ) : Type 0 where
   pub front : ChangesSizesOnly w.data_start first contents
-  pub out : take w.out (drop w.data_start contents) ≡ take w.out (drop w.data_start first)
+  pub out : w.data_start + w.out ≤ length first → take w.out (drop w.data_start contents) ≡ take w.out (drop w.data_start first)
   pub length_is : field (w.data_start - 4) contents ≡ mix j (field (w.data_start - 4) first) (data_length w)
 
 -- the place of the byte with this number among all that were put, from 0

@@ -10,7 +10,7 @@ use Rattle.hound_writer.specs.Counts.{Counts}
 
 -- A writer: its medium, the spec, the place of the first data byte, how many bytes of the accepted samples are out, and
 -- the others, which wait in the writer. Then the memory that it keeps for batches, how many bytes of it the batch has
--- that was begun last, and how many of these are written; none are once samples were accepted.
+-- that was begun last, and how many of these are written.
 pub record WriterState (W : Type 0) : Type 0 where
   pub medium : W
   pub spec_ex : WavSpecEx

@@ -114,15 +114,18 @@ impl<W: Medium> WavWriter<W> {
         ensures buffer { self.new.buffer ≡ self.old.buffer }
     {
         let num_bytes = self.batch_length;
+        if !self.has_room(num_bytes as u64) {
+            return Err(Error::TooLong);
+        }
         self.batch_length = 0; // it is over, whatever becomes of it
         self.batch_written = 0;
         match self.buffer.take() {
             Some(buffer) => {
-                let accepted = self.accept(&buffer[..num_bytes]);
+                let accepted = self.accept_all(&buffer[..num_bytes]);
                 self.buffer = Some(buffer);
                 accepted
             }
-            None => self.accept(&[]),
+            None => self.accept_all(&[]),
         }
     }
 }

@@ -4,6 +4,7 @@
 mod append;
 mod batch;
 mod batching;
+mod block;
 mod file;
 mod laws;
 mod patch;

@@ -1,27 +1,53 @@
 // The parts that a writer's calls are put together from.
 ghost use Rattle.hound_medium.specs.State.{WhereKeeps, WhereTells};
-ghost use Rattle.std.specs.Prelude.{◌≡◌, ◌+◌, ◌≤◌, ◌^◌, ◌<◌, ℕ, List, length, false, IsTrue, OnOk};
+ghost use Rattle.std.specs.Prelude.{◌≡◌, ◌+◌, ◌≤◌, ◌^◌, ◌<◌, ℕ, List, length, false, IsTrue, OnOk, not};
 ghost use Rattle.hound_number.specs.Number.{bytes_of};
 ghost use Rattle.hound_medium.specs.Spans.{Span};
 ghost use Rattle.hound_writer.specs.Parts.{HasSize, IsPatched, PatchesAtEach, PutsAt, Patches};
+ghost use Rattle.hound_writer.specs.Block.{all_out};
 
 use hound_medium::{Medium, put_all};
 use hound_number::le_u32;
 use std::io;
 
-/// Puts bytes at the end of the accepted data, where the medium may stand already.
-#[inline(always)]
+/// Puts bytes at the end of the data that are out, where the medium may stand already. A fault is
+/// kept aside, and the medium may have moved then.
 pub(crate) fn put_at_end<M: Medium>(
     medium: &mut M,
-    may_have_moved: bool,
+    may_have_moved: &mut bool,
+    fault: &mut Option<io::Error>,
     end: u64,
     bytes: &[u8],
+) -> bool
+    requires { WhereTells M.tells (may_have_moved.old ≡ false → (M.state medium.old).place ≡ end) }
+    ensures puts { WhereTells M.tells (PutsAt M.keeps end bytes.now (all_out result) (M.state medium.old) (M.state medium.new)) }
+    ensures moved { may_have_moved.new ≡ not result }
+{
+    match go_and_put(medium, *may_have_moved, end, bytes) {
+        Ok(()) => {
+            *may_have_moved = false;
+            true
+        }
+        Err(error) => {
+            *may_have_moved = true;
+            *fault = Some(error);
+            false
+        }
+    }
+}
+
+// Puts bytes at a place, where the medium may stand already.
+fn go_and_put<M: Medium>(
+    medium: &mut M,
+    may_have_moved: bool,
+    at: u64,
+    bytes: &[u8],
 ) -> io::Result<()>
-    requires { WhereTells M.tells (may_have_moved ≡ false → (M.state medium.old).place ≡ end) }
-    ensures { WhereTells M.tells (PutsAt M.keeps end bytes.now result (M.state medium.old) (M.state medium.new)) }
+    requires { WhereTells M.tells (may_have_moved ≡ false → (M.state medium.old).place ≡ at) }
+    ensures { WhereTells M.tells (PutsAt M.keeps at bytes.now result (M.state medium.old) (M.state medium.new)) }
 {
     if may_have_moved {
-        medium.go(end)?;
+        medium.go(at)?;
     }
     put_all(medium, bytes)
 }

@@ -1,8 +1,10 @@
 // The writer of samples.
 ghost use Rattle.std.specs.Prelude.{◌≡◌, ◌+◌, ◌^◌, ◌≤◌, IsTrue};
 ghost use Rattle.hound_spec.specs.Header.{riff_size};
+ghost use Rattle.hound_writer.specs.Block.{IsLimit};
 ghost use Rattle.hound_writer.specs.Parts.{IsTold};
 
+use crate::block::{BLOCK_LENGTH, Block};
 use crate::patch::{patch, put_at_end};
 use hound_medium::{Medium, put_all};
 use hound_sample::Sample;
@@ -24,11 +26,20 @@ pub struct WavWriter<W: Medium> {
     // The place of the first data byte.
     data_start: u64,
 
-    // The bytes of the accepted samples.
+    // The bytes of the accepted samples that are out.
     data_bytes_written: u32,
 
-    // Whether the medium may stand elsewhere than after the accepted samples.
+    // Whether the medium may stand elsewhere than after these.
     may_have_moved: bool,
+
+    // The accepted samples that wait, which go out after these.
+    block: Block,
+
+    // Below so many waiting bytes there is room for a sample, in the block and in the file.
+    limit: usize,
+
+    // The fault that the medium had last, until it is answered.
+    fault: Option<io::Error>,
 
     // The memory that batches use, which is kept for later ones.
     pub(crate) buffer: Option<Vec<u8>>,
@@ -42,15 +53,15 @@ pub struct WavWriter<W: Medium> {
 
 impl<W: Medium> Model for WavWriter<W> {
     ghost use Rattle.hound_writer.specs.Writer.{WriterState};
-    ghost use Rattle.hound_writer.specs.Parts.{IsConsistent, of_fields, bytes_kept};
+    ghost use Rattle.hound_writer.specs.Fields.{IsConsistent, of_fields, bytes_kept};
 
     ghost Value = { WriterState W };
 
-    ghost view = { λ w. of_fields w.writer w.spec_ex w.data_start w.data_bytes_written
+    ghost view = { λ w. of_fields w.writer w.spec_ex w.data_start w.data_bytes_written w.block
         (bytes_kept (λ buffer. buffer.items) w.buffer) w.batch_length w.batch_written };
 
-    ghost invariant = { λ w. IsConsistent W.tells W.state (of_fields w.writer w.spec_ex w.data_start w.data_bytes_written
-        (bytes_kept (λ buffer. buffer.items) w.buffer) w.batch_length w.batch_written) w.may_have_moved };
+    ghost invariant = { λ w. IsConsistent W.tells W.state (of_fields w.writer w.spec_ex w.data_start w.data_bytes_written w.block
+        (bytes_kept (λ buffer. buffer.items) w.buffer) w.batch_length w.batch_written) w.may_have_moved w.limit };
 }
 
 // The RIFF size of a file whose data begin here and are so many bytes.
@@ -62,6 +73,21 @@ pub(crate) fn riff_size(data_start: u64, data_length: u64) -> u64
     ensures { result ≡ riff_size data_start data_length }
 {
     data_start - 8 + data_length
+}
+
+// Below how many waiting bytes a block has room for a sample of any width, where so many bytes are
+// out: 0 where the RIFF size may not fit a whole block more.
+fn limit_of(data_start: u64, data_bytes_written: u32) -> usize
+    requires behind { 8 ≤ data_start }
+    requires small { data_start ≤ 2 ^ 33 }
+    ensures room { IsLimit data_start data_bytes_written result }
+{
+    let size = riff_size(data_start, data_bytes_written as u64 + BLOCK_LENGTH as u64);
+    if size <= u32::MAX as u64 {
+        BLOCK_LENGTH - 3
+    } else {
+        0
+    }
 }
 
 // What a call answers that has patched the header, or met a fault.
@@ -76,7 +102,7 @@ fn told(patched: io::Result<()>, are_frames: bool) -> Result<()>
 }
 
 impl<W: Medium> WavWriter<W> {
-    ghost use Rattle.std.specs.Prelude.{◌≡◌, ◌+◌, ◌-◌, ◌/◌, ◌%◌, ◌≤◌, ◌^◌, ◌↔◌, [], false, IsTrue, Ok, Err, Result, MatchResult, IfErr, OnOk, length};
+    ghost use Rattle.std.specs.Prelude.{◌≡◌, ◌+◌, ◌-◌, ◌/◌, ◌%◌, ◌≤◌, ◌^◌, ◌↔◌, [], ◌∷◌, false, IsTrue, Ok, Err, Result, MatchResult, IfErr, OnOk, length, take};
     ghost use Rattle.hound_spec.specs.declared.error.Error.{Error};
     ghost use Rattle.hound_spec.specs.Header.{riff_size};
     ghost use Rattle.hound_spec.specs.Writable.{with_default_width};
@@ -85,7 +111,9 @@ impl<W: Medium> WavWriter<W> {
     ghost use Rattle.hound_writer.specs.Accepting.{Accepts};
     ghost use Rattle.hound_writer.specs.Answers.{IsIoError, one};
     ghost use Rattle.hound_writer.specs.Beginning.{Begins, IsNotBegun};
-    ghost use Rattle.hound_writer.specs.Parts.{IsStanding, Patches, PatchesAtEach, of_fields};
+    ghost use Rattle.hound_writer.specs.Block.{GoesOut, OnDone};
+    ghost use Rattle.hound_writer.specs.Fields.{of_fields};
+    ghost use Rattle.hound_writer.specs.Parts.{IsStanding, Patches, PatchesAtEach};
     ghost use Rattle.hound_writer.specs.Publishing.{Checkpoints, Finishes};
     ghost use Rattle.hound_writer.specs.Writer.{AreFrames, HasRoom, IsSound, IsWhole, IsCounted, data_length, sample_count};
 
@@ -147,10 +175,10 @@ impl<W: Medium> WavWriter<W> {
         data_start: u64,
         data_length: u32,
     ) -> WavWriter<W>
-        requires sound { IsSound (of_fields writer spec_ex data_start data_length [] 0 0) }
+        requires sound { IsSound (of_fields writer spec_ex data_start data_length [] [] 0 0) }
         requires stands { WhereTells W.tells (IsStanding spec_ex data_start data_length (W.state writer).contents) }
         requires place { WhereTells W.tells ((W.state writer).place ≡ data_start + data_length) }
-        ensures { result ≡ of_fields writer spec_ex data_start data_length [] 0 0 }
+        ensures { result ≡ of_fields writer spec_ex data_start data_length [] [] 0 0 }
     {
         WavWriter {
             spec_ex,
@@ -158,6 +186,9 @@ impl<W: Medium> WavWriter<W> {
             data_start,
             data_bytes_written: data_length,
             may_have_moved: false,
+            block: Block::new(),
+            limit: limit_of(data_start, data_length),
+            fault: None,
             buffer: None,
             batch_length: 0,
             batch_written: 0,
@@ -168,35 +199,140 @@ impl<W: Medium> WavWriter<W> {
     #[inline(always)]
     pub(crate) fn has_room(&self, more: u64) -> bool
         requires { more ≤ 2 ^ 33 }
-        ensures { IsTrue result ↔ HasRoom self.now more }
+        ensures room { IsTrue result ↔ HasRoom self.now more }
+        ensures counts { WhereTells W.tells (IsWhole W.state self.now → IsCounted W.state self.now) }
     {
-        riff_size(self.data_start, self.data_bytes_written as u64 + more) <= u32::MAX as u64
+        riff_size(self.data_start, self.data_length() as u64 + more) <= u32::MAX as u64
     }
 
-    // Puts whole containers after the accepted ones, and accepts them once they are out.
+    // How many bytes the accepted samples have.
     #[inline(always)]
-    pub(crate) fn accept(&mut self, bytes: &[u8]) -> Result<()>
+    fn data_length(&self) -> u32
+        ensures { result ≡ data_length self.now }
+    {
+        self.data_bytes_written + self.block.len() as u32
+    }
+
+    // The fault that the medium had last.
+    #[cold]
+    fn take_fault(&mut self) -> io::Error
+        ensures { self.new ≡ self.old }
+    {
+        match self.fault.take() {
+            Some(error) => error,
+            None => io::Error::from(io::ErrorKind::Other),
+        }
+    }
+
+    // Puts out what waits, and keeps a fault aside: then all of it goes on waiting.
+    #[inline(never)]
+    fn put_block(&mut self) -> bool
+        ensures { GoesOut W.tells W.keeps W.state result self.old self.new }
+    {
+        if self.block.len() == 0 {
+            return true;
+        }
+        let end = self.data_start + self.data_bytes_written as u64;
+        let bytes = self.block.as_slice();
+        if !put_at_end(
+            &mut self.writer,
+            &mut self.may_have_moved,
+            &mut self.fault,
+            end,
+            bytes,
+        ) {
+            return false;
+        }
+        self.data_bytes_written += self.block.len() as u32;
+        self.block.clear();
+        self.limit = limit_of(self.data_start, self.data_bytes_written);
+        true
+    }
+
+    // Puts out whole containers that nothing waits before, and accepts them once they are out.
+    fn accept_at_once(&mut self, bytes: &[u8]) -> bool
+        requires room { HasRoom self.old (length bytes.now) }
+        requires whole { length bytes.now % self.old.spec_ex.bytes_per_sample ≡ 0 }
+        requires none_waits { self.old.waiting ≡ [] }
+        ensures accepts { OnDone result (λ answer. Accepts W.tells W.keeps W.state false
+            (Ok (containers self.old.spec_ex.bytes_per_sample (length bytes.now / self.old.spec_ex.bytes_per_sample) bytes.now)) answer self.old self.new) }
+        ensures buffer { self.new.buffer ≡ self.old.buffer }
+    {
+        let end = self.data_start + self.data_bytes_written as u64;
+        if !put_at_end(
+            &mut self.writer,
+            &mut self.may_have_moved,
+            &mut self.fault,
+            end,
+            bytes,
+        ) {
+            return false;
+        }
+        self.data_bytes_written += bytes.len() as u32;
+        self.limit = limit_of(self.data_start, self.data_bytes_written);
+        true
+    }
+
+    // Accepts whole containers that the block has room for.
+    fn accept_in_block(&mut self, bytes: &[u8])
+        requires room { HasRoom self.old (length bytes.now) }
+        requires whole { length bytes.now % self.old.spec_ex.bytes_per_sample ≡ 0 }
+        requires few { length self.old.waiting + length bytes.now ≤ 4096 }
+        ensures accepts { Accepts W.tells W.keeps W.state false
+            (Ok (containers self.old.spec_ex.bytes_per_sample (length bytes.now / self.old.spec_ex.bytes_per_sample) bytes.now)) (Ok tt) self.old self.new }
+        ensures buffer { self.new.buffer ≡ self.old.buffer }
+    {
+        self.block.extend(bytes);
+    }
+
+    // Accepts whole containers: in the block, which goes out first where it has no room for them. A
+    // fault is kept aside, and none of them is accepted.
+    fn accept(&mut self, bytes: &[u8]) -> bool
+        requires room { HasRoom self.old (length bytes.now) }
+        requires whole { length bytes.now % self.old.spec_ex.bytes_per_sample ≡ 0 }
+        ensures accepts { OnDone result (λ answer. Accepts W.tells W.keeps W.state false
+            (Ok (containers self.old.spec_ex.bytes_per_sample (length bytes.now / self.old.spec_ex.bytes_per_sample) bytes.now)) answer self.old self.new) }
+        ensures buffer { self.new.buffer ≡ self.old.buffer }
+    {
+        if bytes.len() <= BLOCK_LENGTH - self.block.len() {
+            self.accept_in_block(bytes);
+            return true;
+        }
+        if !self.put_block() {
+            return false;
+        }
+        if bytes.len() > BLOCK_LENGTH {
+            return self.accept_at_once(bytes);
+        }
+        self.accept_in_block(bytes);
+        true
+    }
+
+    // Accepts whole containers, all of them or none.
+    pub(crate) fn accept_all(&mut self, bytes: &[u8]) -> Result<()>
         requires room { HasRoom self.old (length bytes.now) }
         requires whole { length bytes.now % self.old.spec_ex.bytes_per_sample ≡ 0 }
         ensures accepts { Accepts W.tells W.keeps W.state false
             (Ok (containers self.old.spec_ex.bytes_per_sample (length bytes.now / self.old.spec_ex.bytes_per_sample) bytes.now)) result self.old self.new }
         ensures failed { IfErr result IsIoError }
         ensures buffer { self.new.buffer ≡ self.old.buffer }
-        ensures over { (self.new.batch_length ≡ 0) × (self.new.batch_written ≡ 0) }
     {
-        let end = self.data_start + self.data_bytes_written as u64;
-        let may_have_moved = self.may_have_moved;
-        self.may_have_moved = true; // until the bytes are out
-        self.batch_length = 0; // a batch is over once something else is accepted
-        self.batch_written = 0;
-        match put_at_end(&mut self.writer, may_have_moved, end, bytes) {
-            Ok(()) => {
-                self.data_bytes_written += bytes.len() as u32;
-                self.may_have_moved = false;
-                Ok(())
-            }
-            Err(error) => Err(Error::IoError(error)),
+        if self.accept(bytes) {
+            return Ok(());
         }
+        Err(Error::IoError(self.take_fault()))
+    }
+
+    // Accepts a container where the block may have no room for it.
+    #[cold]
+    #[inline(never)]
+    fn accept_slowly(&mut self, container: [u8; 4]) -> bool
+        requires room { HasRoom self.old self.old.spec_ex.bytes_per_sample }
+        ensures accepts { let bytes = take self.old.spec_ex.bytes_per_sample container in OnDone result (λ answer. Accepts W.tells W.keeps W.state false
+            (Ok (containers self.old.spec_ex.bytes_per_sample (length bytes / self.old.spec_ex.bytes_per_sample) bytes)) answer self.old self.new) }
+        ensures buffer { self.new.buffer ≡ self.old.buffer }
+    {
+        self.accept(&container[..self.spec_ex.bytes_per_sample as usize])
     }
 
     /// Writes a sample of one channel; the channels of a frame follow one another.
@@ -214,10 +350,17 @@ impl<W: Medium> WavWriter<W> {
         let width = self.spec_ex.bytes_per_sample;
         match sample.encode(self.spec_ex.spec.bits_per_sample, width) {
             Ok(container) => {
+                if self.block.len() < self.limit {
+                    self.block.push(container, width as usize);
+                    return Ok(());
+                }
                 if !self.has_room(width as u64) {
                     return Err(Error::TooLong);
                 }
-                self.accept(&container[..width as usize])
+                if self.accept_slowly(container) {
+                    return Ok(());
+                }
+                Err(Error::IoError(self.take_fault()))
             }
             Err(refusal) => Err(refusal),
         }
@@ -230,11 +373,12 @@ impl<W: Medium> WavWriter<W> {
         self.len() % self.spec_ex.spec.channels as u32 == 0
     }
 
-    // Puts both sizes and flushes the medium, which then stands where the data begin.
+    // Puts both sizes, once nothing waits, and flushes the medium, which then stands where the data
+    // begin.
     fn publish(&mut self) -> io::Result<()>
+        requires { self.old.waiting ≡ [] }
         ensures stays { self.new ≡ record self.old { medium = self.new.medium } }
         ensures sound { IsSound self.old }
-        ensures none_waits { self.old.waiting ≡ [] }
         ensures stands { WhereTells W.tells (IsStanding self.old.spec_ex self.old.data_start self.old.out (W.state self.old.medium).contents) }
         ensures patches { WhereTells W.tells (Patches (self.old.data_start - 4) (riff_size self.old.data_start self.old.out) self.old.out result
             (W.state self.old.medium) (W.state self.new.medium)) }
@@ -251,7 +395,7 @@ impl<W: Medium> WavWriter<W> {
         )
     }
 
-    // Goes to the end of the accepted samples.
+    // Goes to the end of the accepted samples that are out.
     fn go_to_end(&mut self) -> io::Result<()>
         ensures stays { self.new ≡ record self.old { medium = self.new.medium } }
         ensures goes { WhereTells W.tells (Goes (self.old.data_start + self.old.out) result (W.state self.old.medium) (W.state self.new.medium)) }
@@ -264,9 +408,9 @@ impl<W: Medium> WavWriter<W> {
 
     // Publishes, and goes back to the end of the accepted samples.
     fn publish_and_return(&mut self) -> io::Result<()>
+        requires { self.old.waiting ≡ [] }
         ensures stays { self.new ≡ record self.old { medium = self.new.medium } }
         ensures sound { IsSound self.old }
-        ensures none_waits { self.old.waiting ≡ [] }
         ensures stands { WhereTells W.tells (IsStanding self.old.spec_ex self.old.data_start self.old.out (W.state self.old.medium).contents) }
         ensures patches { WhereTells W.tells (Patches (self.old.data_start - 4) (riff_size self.old.data_start self.old.out) self.old.out result
             (W.state self.old.medium) (W.state self.new.medium)) }
@@ -286,7 +430,21 @@ impl<W: Medium> WavWriter<W> {
     pub fn flush(&mut self) -> Result<()>
         ensures { Checkpoints W.tells W.keeps W.state result self.old self.new }
     {
+        if !self.put_block() {
+            return Err(Error::IoError(self.take_fault()));
+        }
         let published = self.publish_and_return();
+        told(published, self.are_frames())
+    }
+
+    // Publishes for the last time.
+    fn finish(&mut self) -> Result<()>
+        ensures { Finishes W.tells W.keeps W.state self.old result self.new.medium }
+    {
+        if !self.put_block() {
+            return Err(Error::IoError(self.take_fault()));
+        }
+        let published = self.publish();
         told(published, self.are_frames())
     }
 
@@ -300,6 +458,9 @@ impl<W: Medium> WavWriter<W> {
             data_start: _,
             data_bytes_written: _,
             may_have_moved: _,
+            block: _,
+            limit: _,
+            fault: _,
             buffer: _,
             batch_length: _,
             batch_written: _,
@@ -327,8 +488,7 @@ impl<W: Medium> WavWriter<W> {
         ensures { Finishes W.tells W.keeps W.state self result.1 result.0 }
     {
         let mut last = self;
-        let published = last.publish();
-        let result = told(published, last.are_frames());
+        let result = last.finish();
         (last.into_medium(), result)
     }
 
@@ -365,7 +525,7 @@ impl<W: Medium> WavWriter<W> {
         ensures sound { IsSound self.now }
         ensures counts { WhereTells W.tells (IsWhole W.state self.now → IsCounted W.state self.now) }
     {
-        self.data_bytes_written / self.spec_ex.bytes_per_sample as u32
+        self.data_length() / self.spec_ex.bytes_per_sample as u32
     }
 }
 

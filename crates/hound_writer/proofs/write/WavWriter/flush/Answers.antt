@@ -1,9 +1,23 @@
+use Rattle.std.proofs.Common.{subst, sym, ap, Err}
+use Rattle.hound_spec.specs.declared.error.Error.TheVariants.{IoError}
+use Rattle.hound_writer.specs.Publishing.{Checkpoints}
 use Rattle.hound_writer.proofs.PatchMoments.{checkpoints}
+use Rattle.hound_writer.proofs.PublishLater.{checkpoints_cut, checkpoints_later}
 use Rattle.hound_writer.proofs.write.WavWriter.flush.Goals as goal
+
+pub returns-then-not-put_block : goal.returns-then-not-put_block
+returns-then-not-put_block g c =
+    let W = g.W.Placed in
+    subst (Checkpoints W.tells W.keeps W.state (Err (IoError c.take_fault.result)) c.args.self.now) (sym c.take_fault.ensures)
+    (checkpoints_cut W.tells W.keeps W.state c.args.self.now c.put_block.new.self c.take_fault.result c.if-not-put_block.ensures (g.met.W.Placed.bytes c.args.self.now.medium))
 
 pub returns : goal.returns
 returns g c =
+    let W = g.W.Placed in
+    let out = c.if-not-put_block.ensures in
+    let mid = c.put_block.new.self in
     let publish = c.publish_and_return-published in
     let e = publish.ensures in
-    checkpoints g.W.Placed.tells g.W.Placed.keeps g.W.Placed.state c.args.self.now publish.new.self.medium e.none_waits e.sound e.stands publish.result c.are_frames.result c.told.result c.told.ensures
-    publish.new.self e.stays c.are_frames.ensures (g.met.W.Placed.bytes c.args.self.now.medium) (g.met.W.Placed.bytes publish.new.self.medium) e.patches e.moments
+    checkpoints_later W.tells W.keeps W.state c.args.self.now mid publish.new.self c.told.result out (g.met.W.Placed.bytes c.args.self.now.medium)
+    (checkpoints W.tells W.keeps W.state mid publish.new.self.medium (ap (λ w. w.waiting) out.value) e.sound e.stands publish.result c.are_frames.result c.told.result c.told.ensures
+    publish.new.self e.stays c.are_frames.ensures (g.met.W.Placed.bytes mid.medium) (g.met.W.Placed.bytes publish.new.self.medium) e.patches e.moments)

@@ -1,21 +1,18 @@
-use Rattle.std.proofs.Common.{arith}
-use Rattle.hound_writer.proofs.Accepting.{opened}
+use Rattle.std.proofs.Common.{arith, refl}
+use Rattle.hound_writer.proofs.Keeping.{consistent_seen}
 use Rattle.hound_writer.proofs.PatchMoments.{patches_at_each_seen}
 use Rattle.hound_writer.proofs.Publishing.{patches_seen, consistent_patched}
 use Rattle.hound_writer.proofs.write.WavWriter.publish.Goals as goal
 
 pub invariant_of-self : goal.invariant_of-self
 invariant_of-self g c =
-    consistent_patched g.W.Placed.tells g.W.Placed.state _ _ _ _ c.patch.result c.self.invariant c.patch.ensures.patches
+    consistent_patched g.W.Placed.tells g.W.Placed.state _ _ _ _ _ c.patch.result c.self.invariant c.patch.ensures.patches
 
 pub returns-clause-sound : goal.returns-clause-sound
-returns-clause-sound g c = (opened g.W.Placed.tells g.W.Placed.state _ _ _ c.self.view_is c.self.invariant).sound
-
-pub returns-clause-none_waits : goal.returns-clause-none_waits
-returns-clause-none_waits g c = (opened g.W.Placed.tells g.W.Placed.state _ _ _ c.self.view_is c.self.invariant).none_waits
+returns-clause-sound g c = (consistent_seen g.W.Placed.tells g.W.Placed.state _ _ _ _ _ c.self.view_is refl c.self.invariant).sound
 
 pub returns-clause-stands : goal.returns-clause-stands
-returns-clause-stands g c = (opened g.W.Placed.tells g.W.Placed.state _ _ _ c.self.view_is c.self.invariant).stands
+returns-clause-stands g c = (consistent_seen g.W.Placed.tells g.W.Placed.state _ _ _ _ _ c.self.view_is refl c.self.invariant).stands
 
 pub returns-clause-patches : goal.returns-clause-patches
 returns-clause-patches g c tells = patches_seen g.W.Placed.state _ c.args.self.now _ c.patch.result _ c.self.view_is (omega arith) (c.patch.ensures.patches tells)

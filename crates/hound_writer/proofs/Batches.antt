@@ -1,0 +1,18 @@
+-- The bytes of a batch.
+use Rattle.std.proofs.Common.{◌≡◌, ◌%◌, inl, inr, length, ◌∙◌, ap, arith}
+use Rattle.std.proofs.lemmas.List.{length-take-le}
+use Rattle.hound_writer.specs.Batch.{written}
+use Rattle.hound_writer.specs.Room.{HasBatch}
+use Rattle.hound_writer.specs.Writer.{WriterState}
+use Rattle.hound_writer.proofs.Containers.{none_whole}
+
+module _ {W : Type 0} (w : WriterState W) (batch : HasBatch w) where
+  pub length-written : length (written w) ≡ w.batch_written
+  length-written = length-take-le w.batch_written w.buffer (omega (arith, batch.written, batch.memory))
+
+  -- once all samples of it are written they are whole containers
+  pub batch_whole : w.batch_written ≡ w.batch_length → length (written w) % w.spec_ex.bytes_per_sample ≡ 0
+  batch_whole full = elim batch.width [
+    | inl none ↦ ap (λ n. n % w.spec_ex.bytes_per_sample) (length-written ∙ full ∙ none) ∙ none_whole w.spec_ex.bytes_per_sample
+    | inr two ↦ (λ i. length-written i % two i) ∙ batch.whole
+  ]

@@ -1,0 +1,289 @@
+-- A call that publishes: what waits goes out before, and where it doesn't nothing is patched.
+use Rattle.std.proofs.Common.{◌≡◌, ℕ, ◌+◌, ◌-◌, ◌≤◌, inl, inr, Bool, true, false, IsTrue, ◌/◌, ◌%◌, Result, Ok, Err, OnOk, List, length, take, drop, refl, sym, ◌∙◌, ap, subst, arith, length-append, length-take}
+use Rattle.std.proofs.lemmas.Bool.{cases_lt}
+use Rattle.std.proofs.lemmas.List.{take-take}
+use Rattle.std.specs.List.{concat}
+use Rattle.std.specs.Io.{StartsWith}
+use Rattle.std.specs.declared.io.Error.{Error as IoFault}
+use Rattle.hound_number.specs.Number.{AreBytes, mix, number}
+use Rattle.hound_number.proofs.Mixing.{mix_none}
+use Rattle.hound_medium.specs.Bytes.{moment}
+use Rattle.hound_medium.specs.State.{MediumState, WhereTells}
+use Rattle.hound_medium.specs.Spans.{Span}
+use Rattle.hound_medium.proofs.Overlays.{front_part}
+use Rattle.hound_medium.proofs.Spans.{join, moment_before, span_weaker}
+use Rattle.hound_medium.proofs.Torn.{number_at_small}
+use Rattle.hound_spec.specs.declared.error.Error.{Error}
+use Rattle.hound_spec.specs.declared.error.Error.TheVariants.{IoError, UnfinishedSample}
+use Rattle.hound_spec.specs.Header.{canonical, header, riff_size}
+use Rattle.hound_spec.proofs.HeaderLemmas.{length-header}
+use Rattle.hound_writer.specs.Answers.{IsPublishing, OnPublished, faults_told}
+use Rattle.hound_writer.specs.Block.{GoesAtEach, GoesOut, StaysAround, after_out}
+use Rattle.hound_writer.specs.Counts.{Counts}
+use Rattle.hound_writer.specs.Publishing.{Checkpoints, Finishes, IsHalfPublished, IsOldOrNew, Publishes, PublishesAtEach, ReadsAs}
+use Rattle.hound_writer.specs.Sizes.{ChangesSizesOnly, field}
+use Rattle.hound_writer.specs.Writer.{WriterState, AreFrames, IsBegun, IsSound, HasHeader, accepted_samples, data_length}
+use Rattle.hound_writer.proofs.Answers.{on_published_then}
+use Rattle.hound_writer.proofs.Later.{counts_later, length_same}
+use Rattle.hound_writer.proofs.Standing.{inside}
+
+-- bytes before the data that stay
+module _ {W : Type 0} (state : W → MediumState) (a : WriterState W) (sound : IsSound a) where
+  abbrev start : ℕ
+  start = a.data_start
+
+  abbrev p : ℕ
+  p = start - 4
+
+  abbrev first : List ℕ
+  first = (state a.medium).contents
+
+  front_of : (n : ℕ) (c : List ℕ) → n ≤ start → take start c ≡ take start first → take n c ≡ take n first
+  front_of n c le same = sym (take-take n start c le) ∙ ap (take n) same ∙ take-take n start first le
+
+  field_of : (c : List ℕ) → take start c ≡ take start first → field p c ≡ field p first
+  field_of c same = ap number (front_part start p 4 c first (omega (arith, sound.after_head)) same)
+
+  sizes_of : (c : List ℕ) → take start c ≡ take start first → ChangesSizesOnly start first c
+  sizes_of c same = record {
+    front = front_of 4 c (omega (arith, sound.after_head)) same;
+    middle = ap (drop 8) (front_of p c (omega arith) same);
+  }
+
+  sizes_then : (c d : List ℕ) → take start c ≡ take start first → ChangesSizesOnly start c d → ChangesSizesOnly start first d
+  sizes_then c d same changes = let s = sizes_of c same in record { front = changes.front ∙ s.front; middle = changes.middle ∙ s.middle }
+
+  header_of : (c : List ℕ) → take start c ≡ take start first → IsBegun state a → HasHeader a.spec_ex c
+  header_of c same ((size, len, begins), at) =
+      (size, len, front_of (length (header a.spec_ex size len)) c (omega (arith, length-header a.spec_ex size len, at)) same ∙ begins)
+
+  data_of : (c : List ℕ) → take (start + a.out) c ≡ take (start + a.out) first → take a.out (drop start c) ≡ take a.out (drop start first)
+  data_of c same = front_part (start + a.out) start a.out c first (omega arith) same
+
+  -- while what waits goes out the data length is the old one
+  module _ (small : AreBytes (state a.medium).contents) (m : MediumState) (around : StaysAround state a m) (goes : GoesAtEach state a m) where
+    there : start ≤ length first
+    there = omega (arith, ap length around.front, length-take start m.contents, length-take start first, inside a.spec_ex start a.out m.contents m.contents around.stands)
+
+    none_yet : mix 0 (field p first) (data_length a) ≡ field p first
+    none_yet = mix_none (field p first) (data_length a) (number_at_small p first (omega (arith, there, sound.after_head)) small)
+
+    longer : length (state a.medium).past ≤ length m.past
+    longer = omega (arith, ap length goes.front.past, length-append (state a.medium).past goes.front.added)
+
+    half_out : (split : ℕ) → length m.past ≤ split → Span (IsHalfPublished a first) split (state a.medium) m
+    half_out split later = record {
+      start = goes.front.start;
+      added = goes.front.added;
+      past = goes.front.past;
+      each = λ k from to.
+          let c = moment m.start m.past k in
+          let same = goes.front.each k from to in
+          let none : 0 ≡ k - split = omega (arith, to, later) in
+          subst (λ j. IsHalfPublished a first j c) none
+          record {
+            front = sizes_of c same;
+            out = λ whole. data_of c ((goes.adds.front whole).each k from to);
+            length_is = field_of c same ∙ sym none_yet;
+          };
+    }
+
+-- nothing is published where it doesn't go out
+module _ {W : Type 0} (tells keeps : Bool) (state : W → MediumState) (a : WriterState W) (m : W) (out : GoesOut tells keeps state false a (after_out false m a)) (e : IoFault) where
+  publishes_cut : IsTrue tells → Publishes state a (Err (IoError e)) m
+  publishes_cut told =
+      let f = out.file told in
+      let around = f.around in
+      record {
+        faults = f.faults;
+        front = sizes_of state a out.sound (state m).contents around.front;
+        out = λ whole. data_of state a out.sound (state m).contents (around.out whole);
+        rest = around.rest;
+        grows = around.grows;
+        reach = around.reach;
+        counts = λ whole. subst (λ l. Counts a.spec_ex a.data_start l (state m).contents) (f.accepted whole) (f.counts whole);
+        begun = header_of state a out.sound (state m).contents around.front;
+        flushed = tt;
+        riff_says = tt;
+        length_says = tt;
+        stand = λ _. tt;
+        read = λ _. tt;
+        canonical = λ _ _. tt;
+      }
+
+  publishes_at_each_cut : IsTrue tells → IsTrue keeps → AreBytes (state a.medium).contents → PublishesAtEach state a (Err (IoError e)) m
+  publishes_at_each_cut told kept small =
+      let goes = out.moments told kept in
+      let around = (out.file told).around in
+      let split = length (state m).past in
+      record {
+        counts = goes.adds.counts;
+        split = split;
+        half = half_out state a out.sound small (state m) around goes split (omega arith);
+        puts = record { later = longer state a out.sound small (state m) around goes; within = omega arith; first = λ more. absurd (omega (arith, more)) };
+        whole = tt;
+        old_or_new = λ each k from to outside. inl (field_of state a out.sound (moment (state m).start (state m).past k) (goes.front.each k from to));
+      }
+
+  checkpoints_of : WhereTells tells (AreBytes (state a.medium).contents) → Checkpoints tells keeps state (Err (IoError e)) a (after_out false m a)
+  checkpoints_of small = record {
+    answers = tt;
+    samples = record { spec_ex = refl; data_start = refl; data_length = refl; buffer = refl };
+    publishes = publishes_cut;
+    whole = λ told. (out.file told).whole;
+    accepted = λ told. (out.file told).accepted;
+    moments = λ told kept. publishes_at_each_cut told kept (small told);
+  }
+
+  finishes_of : WhereTells tells (AreBytes (state a.medium).contents) → Finishes tells keeps state a (Err (IoError e)) m
+  finishes_of small = record { answers = tt; publishes = publishes_cut; place = λ _. tt; moments = λ told kept. publishes_at_each_cut told kept (small told) }
+
+-- the same of a writer as contracts see it
+pub checkpoints_cut : {W : Type 0} (tells keeps : Bool) (state : W → MediumState) (a b : WriterState W) (e : IoFault) → GoesOut tells keeps state false a b → WhereTells tells (AreBytes (state a.medium).contents)
+    → Checkpoints tells keeps state (Err (IoError e)) a b
+checkpoints_cut tells keeps state a b e out small =
+    subst (Checkpoints tells keeps state (Err (IoError e)) a) (sym out.value) (checkpoints_of tells keeps state a b.medium (subst (GoesOut tells keeps state false a) out.value out) e small)
+
+pub finishes_cut : {W : Type 0} (tells keeps : Bool) (state : W → MediumState) (a b : WriterState W) (e : IoFault) → GoesOut tells keeps state false a b → WhereTells tells (AreBytes (state a.medium).contents)
+    → Finishes tells keeps state a (Err (IoError e)) b.medium
+finishes_cut tells keeps state a b e out small = finishes_of tells keeps state a b.medium (subst (GoesOut tells keeps state false a) out.value out) e small
+
+-- what is published once all went out
+module _ {W : Type 0} (tells keeps : Bool) (state : W → MediumState) (a : WriterState W) (m : W) (out : GoesOut tells keeps state true a (after_out true m a)) where
+  abbrev b : WriterState W
+  b = after_out true m a
+
+  abbrev sound : IsSound a
+  sound = out.sound
+
+  abbrev old : List ℕ
+  old = (state a.medium).contents
+
+  abbrev mid : List ℕ
+  mid = (state m).contents
+
+  same_length : data_length b ≡ data_length a
+  same_length = length_same tells keeps state a m out
+
+  module _ (answer : Result (Unit {0}) Error) (end : W) where
+    abbrev new : List ℕ
+    new = (state end).contents
+
+    publishes_later : IsTrue tells → Publishes state b answer end → Publishes state a answer end
+    publishes_later told g =
+        let f = out.file told in
+        let around = f.around in
+        let begun : IsBegun state a → IsBegun state b = λ is. (header_of state a sound mid around.front is, is.1) in
+        record {
+          faults = g.faults ∙ ap (faults_told answer) f.faults;
+          front = sizes_then state a sound mid new around.front g.front;
+          out = λ whole. sym (take-take a.out (data_length a) (drop a.data_start new) (omega arith)) ∙ ap (take a.out) (g.out (f.whole whole))
+              ∙ take-take a.out (data_length a) (drop a.data_start mid) (omega arith) ∙ data_of state a sound mid (around.out whole);
+          rest = subst (λ n. drop (a.data_start + n) new ≡ drop (a.data_start + n) mid) same_length g.rest ∙ around.rest;
+          grows = omega (arith, around.grows, g.grows);
+          reach = omega (arith, around.reach, g.reach);
+          counts = λ whole. counts_later tells keeps state a m out told whole new (g.counts (f.whole whole));
+          begun = λ is. g.begun (begun is);
+          flushed = g.flushed;
+          riff_says = on_published_then answer (λ e. e ∙ ap (riff_size a.data_start) same_length) g.riff_says;
+          length_says = on_published_then answer (λ e. e ∙ same_length) g.length_says;
+          stand = λ whole. on_published_then answer (λ e. (λ i. take (sym same_length i) (drop a.data_start new)) ∙ e ∙ ap concat (f.accepted whole)) (g.stand (f.whole whole));
+          read = λ whole. subst (λ l. OnOk answer (ReadsAs a.spec_ex a.data_start l new)) (f.accepted whole) (g.read (f.whole whole));
+          canonical = λ whole is. subst (λ l. OnPublished answer (StartsWith new (canonical a.spec_ex l))) (f.accepted whole) (g.canonical (f.whole whole) (begun is));
+        }
+
+    module _ (told : IsTrue tells) (kept : IsTrue keeps) (small : AreBytes (state a.medium).contents) (g : PublishesAtEach state b answer end) where
+      goes : GoesAtEach state a (state m)
+      goes = out.moments told kept
+
+      field_same : field (a.data_start - 4) mid ≡ field (a.data_start - 4) old
+      field_same = field_of state a sound mid (out.file told).around.front
+
+      before_split : length (state m).past ≤ g.split
+      before_split = g.puts.later
+
+      half_later : (j : ℕ) (c : List ℕ) → IsHalfPublished b mid j c → IsHalfPublished a old j c
+      half_later j c half = record {
+        front = sizes_then state a sound mid c (out.file told).around.front half.front;
+        out = λ whole. sym (take-take a.out (data_length a) (drop a.data_start c) (omega arith)) ∙ ap (take a.out) (half.out ((out.file told).whole whole))
+            ∙ take-take a.out (data_length a) (drop a.data_start mid) (omega arith) ∙ data_of state a sound mid ((out.file told).around.out whole);
+        length_is = half.length_is ∙ (λ i. mix j (field_same i) (same_length i));
+      }
+
+      -- while it goes out the field is the old one
+      at_first : (k : ℕ) → length (state a.medium).past ≤ k → k ≤ length (state m).past → field (a.data_start - 4) (moment (state end).start (state end).past k) ≡ field (a.data_start - 4) old
+      at_first k from to =
+          let same : moment (state m).start (state m).past k ≡ moment (state end).start (state end).past k =
+          sym (moment_before (state m).start (state m).past g.half.added k to) ∙ (λ i. moment (sym g.half.start i) (sym g.half.past i) k) in
+          ap (field (a.data_start - 4)) (sym same) ∙ field_of state a sound (moment (state m).start (state m).past k) (goes.front.each k from to)
+
+      old_or_new_later : IsOldOrNew (a.data_start - 4) (field (a.data_start - 4) old) (data_length a) (state a.medium) (state end)
+      old_or_new_later each k from to outside =
+          let sooner = longer state a sound small (state m) (out.file told).around goes in
+          elim (cases_lt (length (state m).past) k) [
+            | inl later ↦
+                elim (g.old_or_new (λ i low high. each i (omega (arith, low, sooner)) high) k (omega (arith, later)) to (λ i low high. outside i (omega (arith, low, sooner)) high)) [
+                  | inl is ↦ inl (is ∙ field_same)
+                  | inr is ↦ inr (is ∙ same_length)
+                ]
+            | inr before ↦ inl (at_first k from before)
+          ]
+
+      publishes_at_each_later : PublishesAtEach state a answer end
+      publishes_at_each_later =
+          let of_a : ℕ → List ℕ → Type 0 = λ _ c. Counts a.spec_ex a.data_start (accepted_samples state a) c in
+          let of_b : ℕ → List ℕ → Type 0 = λ _ c. Counts a.spec_ex a.data_start (accepted_samples state b) c in
+          record {
+            counts = λ whole. join of_a 0 (state a.medium) (state m) (state end) (goes.adds.counts whole)
+                (span_weaker of_b of_a 0 (state m) (state end) (λ j c counts. counts_later tells keeps state a m out told whole c counts) (g.counts ((out.file told).whole whole)));
+            split = g.split;
+            half = join (IsHalfPublished a old) g.split (state a.medium) (state m) (state end)
+                (half_out state a sound small (state m) (out.file told).around goes g.split before_split)
+                (span_weaker (IsHalfPublished b mid) (IsHalfPublished a old) g.split (state m) (state end) half_later g.half);
+            puts = record { later = omega (arith, before_split, longer state a sound small (state m) (out.file told).around goes); within = g.puts.within; first = g.puts.first };
+            whole = g.whole;
+            old_or_new = old_or_new_later;
+          }
+
+    answers_later : IsPublishing answer b → IsPublishing answer a
+    answers_later here = publishing answer here
+      where
+        frames : (AreFrames b → AreFrames a) × (AreFrames a → AreFrames b)
+        frames =
+            let same : (n : ℕ) → Type 0 = λ n. n / a.spec_ex.bytes_per_sample % a.spec_ex.spec.channels ≡ 0 in
+            (subst same same_length, subst same (sym same_length))
+
+        publishing : (answer : Result (Unit {0}) Error) → IsPublishing answer b → IsPublishing answer a
+        publishing (Ok x) here = frames.0 here
+        publishing (Err UnfinishedSample) here = λ are. here (frames.1 are)
+        publishing (Err (IoError e)) here = tt
+        publishing (Err e) here = absurd here
+
+    finishes_after : WhereTells tells (AreBytes (state a.medium).contents) → Finishes tells keeps state b answer end → Finishes tells keeps state a answer end
+    finishes_after small g = record {
+      answers = answers_later g.answers;
+      publishes = λ told. publishes_later told (g.publishes told);
+      place = g.place;
+      moments = λ told kept. publishes_at_each_later told kept (small told) (g.moments told kept);
+    }
+
+  checkpoints_after : (answer : Result (Unit {0}) Error) (c : WriterState W) → WhereTells tells (AreBytes (state a.medium).contents) → Checkpoints tells keeps state answer b c → Checkpoints tells keeps state answer a c
+  checkpoints_after answer c small g = record {
+    answers = answers_later answer c.medium g.answers;
+    samples = record { spec_ex = g.samples.spec_ex; data_start = g.samples.data_start; data_length = g.samples.data_length ∙ same_length; buffer = g.samples.buffer };
+    publishes = λ told. publishes_later answer c.medium told (g.publishes told);
+    whole = λ told whole. g.whole told ((out.file told).whole whole);
+    accepted = λ told whole. g.accepted told ((out.file told).whole whole) ∙ (out.file told).accepted whole;
+    moments = λ told kept. publishes_at_each_later answer c.medium told kept (small told) (g.moments told kept);
+  }
+
+-- the same of a writer as contracts see it
+pub finishes_later : {W : Type 0} (tells keeps : Bool) (state : W → MediumState) (a b : WriterState W) (answer : Result (Unit {0}) Error) (end : W) → GoesOut tells keeps state true a b → WhereTells tells (AreBytes (state a.medium).contents)
+    → Finishes tells keeps state b answer end → Finishes tells keeps state a answer end
+finishes_later tells keeps state a b answer end out small g =
+    finishes_after tells keeps state a b.medium (subst (GoesOut tells keeps state true a) out.value out) answer end small (subst (λ v. Finishes tells keeps state v answer end) out.value g)
+
+pub checkpoints_later : {W : Type 0} (tells keeps : Bool) (state : W → MediumState) (a b c : WriterState W) (answer : Result (Unit {0}) Error) → GoesOut tells keeps state true a b → WhereTells tells (AreBytes (state a.medium).contents)
+    → Checkpoints tells keeps state answer b c → Checkpoints tells keeps state answer a c
+checkpoints_later tells keeps state a b c answer out small g =
+    checkpoints_after tells keeps state a b.medium (subst (GoesOut tells keeps state true a) out.value out) answer c small (subst (λ v. Checkpoints tells keeps state answer v c) out.value g)

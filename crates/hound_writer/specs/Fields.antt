@@ -1,0 +1,38 @@
+-- What a writer's fields keep.
+use Rattle.std.specs.Prelude.{◌≡◌, ℕ, ◌+◌, ◌%◌, ◌≤◌, List, [], length, Bool, false, Option, None, Some}
+use Rattle.hound_spec.specs.declared.spec.WavSpecEx.{WavSpecEx}
+use Rattle.hound_medium.specs.State.{MediumState, WhereTells}
+use Rattle.hound_writer.specs.Block.{IsLimit}
+use Rattle.hound_writer.specs.Parts.{IsStanding}
+use Rattle.hound_writer.specs.Room.{HasBatch}
+use Rattle.hound_writer.specs.Writer.{WriterState, IsSound}
+
+-- the value of a writer's fields
+abbrev pub of_fields : {W : Type 0} → W → WavSpecEx → ℕ → ℕ → List ℕ → List ℕ → ℕ → ℕ → WriterState W
+of_fields medium spec_ex start out waiting buffer length_is written_is = record {
+  medium = medium;
+  spec_ex = spec_ex;
+  data_start = start;
+  out = out;
+  waiting = waiting;
+  buffer = buffer;
+  batch_length = length_is;
+  batch_written = written_is;
+}
+
+-- What a writer keeps between its calls: the samples that are out are whole and so are those that wait, in one block; the
+-- head of its file stands, the data length counts no more than the bytes that are out, and the next ones go after these.
+pub record IsConsistent {W : Type 0} (tells : Bool) (state : W → MediumState) (w : WriterState W) (may_have_moved : Bool) (limit : ℕ) : Type 0 where
+  pub sound : IsSound w
+  pub batch : HasBatch w
+  pub whole_out : w.out % w.spec_ex.bytes_per_sample ≡ 0
+  pub whole_waiting : length w.waiting % w.spec_ex.bytes_per_sample ≡ 0
+  pub block : length w.waiting ≤ 4096
+  pub room : IsLimit w.data_start w.out limit
+  pub stands : WhereTells tells (IsStanding w.spec_ex w.data_start w.out (state w.medium).contents)
+  pub place : WhereTells tells (may_have_moved ≡ false → (state w.medium).place ≡ w.data_start + w.out)
+
+-- the bytes of the memory that a writer keeps for its batches, if it has some
+abbrev pub bytes_kept : {V : Type 0} → (V → List ℕ) → Option V → List ℕ
+bytes_kept items None = []
+bytes_kept items (Some buffer) = items buffer

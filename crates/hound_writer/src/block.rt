@@ -1,0 +1,89 @@
+// A block of samples that wait to be put out.
+ghost use Rattle.std.specs.Prelude.{◌≡◌, ◌+◌, ◌≤◌, ◌++◌, [], length, take};
+
+use std::marker::Model;
+
+/// How many bytes a block holds.
+pub(crate) const BLOCK_LENGTH: usize = 4096;
+
+/// Containers that were accepted and wait, one after the other.
+#[derive(Drop)]
+pub(crate) struct Block {
+    // Their bytes; what comes after these means nothing.
+    bytes: [u8; 4096],
+
+    // How many bytes they have.
+    waiting: usize,
+}
+
+impl Model for Block {
+    ghost use Rattle.std.specs.Prelude.{ℕ, ◌≤◌, List, take};
+
+    ghost Value = { List ℕ };
+
+    ghost view = { λ block. take block.waiting block.bytes };
+
+    ghost invariant = { λ block. block.waiting ≤ 4096 };
+}
+
+impl Block {
+    /// A block in which nothing waits.
+    pub(crate) fn new() -> Block
+        ensures { result ≡ [] }
+    {
+        Block {
+            bytes: [0; 4096],
+            waiting: 0,
+        }
+    }
+
+    /// How many bytes wait.
+    #[inline(always)]
+    pub(crate) fn len(&self) -> usize
+        ensures length { result ≡ length self.now }
+        ensures within { result ≤ 4096 }
+    {
+        self.waiting
+    }
+
+    /// The bytes that wait.
+    pub(crate) fn as_slice(&self) -> &[u8]
+        ensures { result.now ≡ self.now }
+    {
+        &self.bytes[..self.waiting]
+    }
+
+    /// Takes a container, of which so many bytes count, where there is room for four.
+    #[inline(always)]
+    pub(crate) fn push(&mut self, container: [u8; 4], width: usize)
+        requires room { length self.old ≤ 4092 }
+        requires width { width ≤ 4 }
+        ensures { self.new ≡ self.old ++ take width container }
+    {
+        let [a, b, c, d] = container;
+        let at = self.waiting;
+        self.bytes[at] = a;
+        self.bytes[at + 1] = b;
+        self.bytes[at + 2] = c;
+        self.bytes[at + 3] = d;
+        self.waiting = at + width;
+    }
+
+    /// Takes containers, where there is room.
+    pub(crate) fn extend(&mut self, containers: &[u8])
+        requires { length self.old + length containers.now ≤ 4096 }
+        ensures { self.new ≡ self.old ++ containers.now }
+    {
+        let at = self.waiting;
+        let end = at + containers.len();
+        self.bytes[at..end].copy_from_slice(containers);
+        self.waiting = end;
+    }
+
+    /// Forgets what waits.
+    pub(crate) fn clear(&mut self)
+        ensures { self.new ≡ [] }
+    {
+        self.waiting = 0;
+    }
+}
