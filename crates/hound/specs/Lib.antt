@@ -39,7 +39,9 @@ pub use Rattle.hound_writer.specs.Answers
 pub use Rattle.hound_writer.specs.Appending
 pub use Rattle.hound_writer.specs.Batch
 pub use Rattle.hound_writer.specs.Beginning
+pub use Rattle.hound_writer.specs.Block
 pub use Rattle.hound_writer.specs.Counts
+pub use Rattle.hound_writer.specs.Fields
 pub use Rattle.hound_writer.specs.Parts
 pub use Rattle.hound_writer.specs.Publishing
 pub use Rattle.hound_writer.specs.Room

@@ -20,6 +20,10 @@ abbrev pub OnDone : Bool → (Result (Unit {0}) Error → Type 0) → Type 0
 OnDone true P = P (Ok tt)
 OnDone false P = (fault : IoFault) → P (Err (IoError fault))
 
+-- an answer that is a fault of the medium
+abbrev pub IsFault : Result (Unit {0}) Error → Type 0
+IsFault answer = (fault : IoFault) × (answer ≡ Err (IoError fault))
+
 -- a writer over this medium once what waited is out, or else as it was
 abbrev pub after_out : {W : Type 0} → Bool → W → WriterState W → WriterState W
 after_out true medium w = record w { medium = medium; out = data_length w; waiting = [] }

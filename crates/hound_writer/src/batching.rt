@@ -1,5 +1,5 @@
 // What is done with batches.
-ghost use Rattle.std.specs.Prelude.{◌≡◌, ◌+◌, ◌*◌, ◌/◌, ◌≤◌, ◌<◌, ◌++◌, max, [], length, IfOk, IfErr, OnOk, Ok, Err, false};
+ghost use Rattle.std.specs.Prelude.{◌≡◌, ◌+◌, ◌*◌, ◌/◌, ◌≤◌, ◌<◌, ◌++◌, max, [], length, take, IfOk, IfErr, OnOk, Ok, Err, false};
 ghost use Rattle.std.specs.Borrow.{sem, RestsIfErr};
 ghost use Rattle.hound_number.specs.Number.{signed_bytes_of};
 ghost use Rattle.hound_spec.specs.declared.error.Error.TheVariants.{OutOfMemory, TooLong};
@@ -48,6 +48,16 @@ fn grow(buffer: &mut Vec<u8>, num_bytes: usize) -> Result<()>
     }
 }
 
+// Puts two bytes into a buffer.
+#[inline(always)]
+fn store(buffer: &mut Vec<u8>, index: usize, pair: [u8; 2])
+    requires { index + 2 ≤ length buffer.old.items }
+    ensures written { take (index + 2) buffer.new.items ≡ take index buffer.old.items ++ pair }
+    ensures kept { length buffer.new.items ≡ length buffer.old.items }
+{
+    buffer[index..index + 2].copy_from_slice(&pair);
+}
+
 impl<W: Medium> WavWriter<W> {
     // Puts a sample of sixteen bits into the batch.
     #[inline(always)]
@@ -60,7 +70,7 @@ impl<W: Medium> WavWriter<W> {
         let index = self.batch_written;
         self.batch_written = index + 2;
         if let Some(buffer) = &mut self.buffer {
-            buffer[index..index + 2].copy_from_slice(&le_i16(value));
+            store(buffer, index, le_i16(value));
         }
     }
 

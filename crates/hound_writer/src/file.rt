@@ -15,11 +15,14 @@ use std::path::Path;
 use std::rt::Files;
 use std::{fs, io};
 
+// How many bytes a writer to a file keeps back.
+const KEPT_BACK: usize = 65536;
+
 // A writer to a file, which keeps bytes back until there are many.
 fn buffered(alloc: Global, file: fs::File) -> Result<io::BufWriter<fs::File>>
     ensures { IfErr result (λ e. e ≡ OutOfMemory) }
 {
-    match io::BufWriter::new(alloc, file) {
+    match io::BufWriter::with_capacity(alloc, KEPT_BACK, file) {
         Ok(writer) => Ok(writer),
         Err(_) => Err(Error::OutOfMemory),
     }

@@ -15,7 +15,7 @@ use std::io;
 pub(crate) fn put_at_end<M: Medium>(
     medium: &mut M,
     may_have_moved: &mut bool,
-    fault: &mut Option<io::Error>,
+    fault: &mut io::Error,
     end: u64,
     bytes: &[u8],
 ) -> bool
@@ -30,7 +30,7 @@ pub(crate) fn put_at_end<M: Medium>(
         }
         Err(error) => {
             *may_have_moved = true;
-            *fault = Some(error);
+            *fault = error;
             false
         }
     }

@@ -38,8 +38,8 @@ pub struct WavWriter<W: Medium> {
     // Below so many waiting bytes there is room for a sample, in the block and in the file.
     limit: usize,
 
-    // The fault that the medium had last, until it is answered.
-    fault: Option<io::Error>,
+    // The fault that the medium had last, if it had one.
+    fault: io::Error,
 
     // The memory that batches use, which is kept for later ones.
     pub(crate) buffer: Option<Vec<u8>>,
@@ -111,7 +111,7 @@ impl<W: Medium> WavWriter<W> {
     ghost use Rattle.hound_writer.specs.Accepting.{Accepts};
     ghost use Rattle.hound_writer.specs.Answers.{IsIoError, one};
     ghost use Rattle.hound_writer.specs.Beginning.{Begins, IsNotBegun};
-    ghost use Rattle.hound_writer.specs.Block.{GoesOut, OnDone};
+    ghost use Rattle.hound_writer.specs.Block.{GoesOut, IsFault, OnDone};
     ghost use Rattle.hound_writer.specs.Fields.{of_fields};
     ghost use Rattle.hound_writer.specs.Parts.{IsStanding, Patches, PatchesAtEach};
     ghost use Rattle.hound_writer.specs.Publishing.{Checkpoints, Finishes};
@@ -188,7 +188,7 @@ impl<W: Medium> WavWriter<W> {
             may_have_moved: false,
             block: Block::new(),
             limit: limit_of(data_start, data_length),
-            fault: None,
+            fault: io::Error::from(io::ErrorKind::Other),
             buffer: None,
             batch_length: 0,
             batch_written: 0,
@@ -213,15 +213,12 @@ impl<W: Medium> WavWriter<W> {
         self.data_bytes_written + self.block.len() as u32
     }
 
-    // The fault that the medium had last.
-    #[cold]
-    fn take_fault(&mut self) -> io::Error
-        ensures { self.new ≡ self.old }
+    // The answer of a call whose fault was kept aside.
+    #[inline(always)]
+    fn kept_fault(&self) -> Result<()>
+        ensures { IsFault result }
     {
-        match self.fault.take() {
-            Some(error) => error,
-            None => io::Error::from(io::ErrorKind::Other),
-        }
+        Err(Error::IoError(self.fault))
     }
 
     // Puts out what waits, and keeps a fault aside: then all of it goes on waiting.
@@ -320,7 +317,7 @@ impl<W: Medium> WavWriter<W> {
         if self.accept(bytes) {
             return Ok(());
         }
-        Err(Error::IoError(self.take_fault()))
+        self.kept_fault()
     }
 
     // Accepts a container where the block may have no room for it.
@@ -360,7 +357,7 @@ impl<W: Medium> WavWriter<W> {
                 if self.accept_slowly(container) {
                     return Ok(());
                 }
-                Err(Error::IoError(self.take_fault()))
+                self.kept_fault()
             }
             Err(refusal) => Err(refusal),
         }
@@ -431,7 +428,7 @@ impl<W: Medium> WavWriter<W> {
         ensures { Checkpoints W.tells W.keeps W.state result self.old self.new }
     {
         if !self.put_block() {
-            return Err(Error::IoError(self.take_fault()));
+            return self.kept_fault();
         }
         let published = self.publish_and_return();
         told(published, self.are_frames())
@@ -442,7 +439,7 @@ impl<W: Medium> WavWriter<W> {
         ensures { Finishes W.tells W.keeps W.state self.old result self.new.medium }
     {
         if !self.put_block() {
-            return Err(Error::IoError(self.take_fault()));
+            return self.kept_fault();
         }
         let published = self.publish();
         told(published, self.are_frames())

@@ -1,6 +1,6 @@
-use Rattle.std.proofs.Common.{subst, sym, ap, Err}
-use Rattle.hound_spec.specs.declared.error.Error.TheVariants.{IoError}
+use Rattle.std.proofs.Common.{ap}
 use Rattle.hound_writer.specs.Publishing.{Checkpoints}
+use Rattle.hound_writer.proofs.Later.{fault_seen}
 use Rattle.hound_writer.proofs.PatchMoments.{checkpoints}
 use Rattle.hound_writer.proofs.PublishLater.{checkpoints_cut, checkpoints_later}
 use Rattle.hound_writer.proofs.write.WavWriter.flush.Goals as goal
@@ -8,8 +8,8 @@ use Rattle.hound_writer.proofs.write.WavWriter.flush.Goals as goal
 pub returns-then-not-put_block : goal.returns-then-not-put_block
 returns-then-not-put_block g c =
     let W = g.W.Placed in
-    subst (Checkpoints W.tells W.keeps W.state (Err (IoError c.take_fault.result)) c.args.self.now) (sym c.take_fault.ensures)
-    (checkpoints_cut W.tells W.keeps W.state c.args.self.now c.put_block.new.self c.take_fault.result c.if-not-put_block.ensures (g.met.W.Placed.bytes c.args.self.now.medium))
+    fault_seen (λ answer. Checkpoints W.tells W.keeps W.state answer c.args.self.now c.put_block.new.self) _ c.kept_fault.ensures
+    (λ e. checkpoints_cut W.tells W.keeps W.state c.args.self.now c.put_block.new.self e c.if-not-put_block.ensures (g.met.W.Placed.bytes c.args.self.now.medium))
 
 pub returns : goal.returns
 returns g c =

@@ -3,10 +3,12 @@ use Rattle.std.proofs.lemmas.Bool.{false≢true}
 use Rattle.hound_spec.specs.declared.error.Error.TheVariants.{IoError, TooLong}
 use Rattle.hound_sample.specs.Container.{containers}
 use Rattle.hound_writer.specs.Accepting.{Accepts}
+use Rattle.hound_writer.specs.Answers.{one}
 use Rattle.hound_writer.specs.Fields.{bytes_kept, of_fields}
 use Rattle.hound_writer.proofs.Accepting.{accepts_seen, encoded, cut}
 use Rattle.hound_writer.proofs.Blocks.{accepts_waiting}
 use Rattle.hound_writer.proofs.Containers.{one_whole}
+use Rattle.hound_writer.proofs.Later.{fault_seen}
 use Rattle.hound_writer.proofs.Writing.{bytes_too_long, sample_refused, sample_accepts}
 use Rattle.hound_writer.proofs.write.WavWriter.write_sample.Goals as goal
 
@@ -62,7 +64,6 @@ returns-else-accept_slowly-clause-accepts g c =
     let fits = g.met.S.Sample.in_width c.args.sample _ _ sample.container is in
     let wide = c.args.self.now.spec_ex.bytes_per_sample in
     let bytes = take wide c.in-Ok.container in
-    sample_accepts W.tells W.keeps W.state (g.S.Sample.container c.args.sample) _ _ _ _ c.self.view_is c.self.invariant sample.container bytes (Err (IoError c.take_fault.result)) _ is
-    (cut _ sample.container c.in-Ok.container sample.padded fits.0) fits.0
-    (subst (λ v. Accepts W.tells W.keeps W.state false (Ok (containers wide (length bytes / wide) bytes)) (Err (IoError c.take_fault.result)) c.args.self.now v) (sym c.take_fault.ensures)
-    (c.if-accept_slowly.ensures.accepts c.take_fault.result))
+    fault_seen (λ answer. Accepts W.tells W.keeps W.state false (one (g.S.Sample.container c.args.sample c.args.self.now.spec_ex.spec.bits_per_sample wide)) answer c.args.self.now c.accept_slowly.new.self) _ c.kept_fault.ensures
+    (λ e. sample_accepts W.tells W.keeps W.state (g.S.Sample.container c.args.sample) _ _ _ _ c.self.view_is c.self.invariant sample.container bytes (Err (IoError e)) _ is
+    (cut _ sample.container c.in-Ok.container sample.padded fits.0) fits.0 (c.if-accept_slowly.ensures.accepts e))
