@@ -1,20 +1,10 @@
 -- Bytes that are put by several calls.
-use Rattle.std.proofs.Common.{◌≡◌, ℕ, ◌+◌, ◌≤◌, Bool, List, ◌++◌, length, take, drop, refl, sym, ◌∙◌, ap, arith, append_assoc}
-use Rattle.std.proofs.lemmas.List.{append-nil, length-take-le}
+use Rattle.std.proofs.Common.{◌≡◌, ℕ, ◌+◌, ◌≤◌, Bool, List, ◌++◌, length, take, drop, sym, ◌∙◌, ap, arith, append_assoc}
+use Rattle.std.proofs.lemmas.List.{length-take-le}
 use Rattle.std.proofs.Math.Seq.{take-add}
 use Rattle.hound_medium.specs.Bytes.{placed, overlay}
 use Rattle.hound_medium.specs.State.{MediumState, PutsFirst}
 use Rattle.hound_medium.proofs.Overlays.{placed-append, overlay-append}
-
--- no byte put, nothing changed
-pub takes_none : (keeps : Bool) (bytes : List ℕ) (s : MediumState) → PutsFirst keeps bytes 0 s s
-takes_none keeps bytes s = record {
-  contents = refl;
-  place = omega arith;
-  start = refl;
-  past = λ _. sym (append-nil s.past);
-  flushed = refl;
-}
 
 -- a first bytes, and then n of those that are left
 pub takes_more : (keeps : Bool) (bytes : List ℕ) (a n : ℕ) (old mid new : MediumState) → a ≤ length bytes → PutsFirst keeps bytes a old mid → PutsFirst keeps (drop a bytes) n mid new → PutsFirst keeps bytes (a + n) old new

@@ -1,7 +1,7 @@
 -- Steps of an input whose bytes are known, put together.
-use Rattle.std.proofs.Common.{◌≡◌, ℕ, List, [], ◌++◌, sym, ap, ◌∙◌, subst, append-nil, Option, None, Some}
+use Rattle.std.proofs.Common.{ℕ, List, ◌++◌, sym, subst, Option, None, Some}
 use Rattle.std.specs.Prelude.{IfSome}
-use Rattle.std.specs.Io.KnownBytes.{Consumes, IsAtEnd}
+use Rattle.std.specs.Io.KnownBytes.{Consumes}
 use Rattle.hound_number.specs.Input.{Known}
 
 -- these bytes were taken: what holds of bytes that begin with them
@@ -29,19 +29,8 @@ known_both (Some xs) None n Q P S q p f = absurd q
 known_both (Some xs) (Some ys) None Q P S q p f = p
 known_both (Some xs) (Some ys) (Some zs) Q P S q p f = f xs ys zs q p
 
--- no byte was taken
-pub known_still : (o : Option (List ℕ)) (P : List ℕ → List ℕ → Type 0) → ((xs : List ℕ) → P xs xs) → Known o o P
-known_still None P f = tt
-known_still (Some xs) P f = f xs
-
 -- what holds of the bytes that were left
 pub known_some : (o n : Option (List ℕ)) (P : List ℕ → List ℕ → Type 0) (Q : List ℕ → Type 0) → Known o n P → ((xs ys : List ℕ) → P xs ys → Q xs) → IfSome o Q
 known_some None n P Q k f = tt
 known_some (Some xs) None P Q k f = absurd k
 known_some (Some xs) (Some ys) P Q k f = f xs ys k
-
--- these bytes were taken, and they were the last
-pub known_last : (bytes : List ℕ) (o n : Option (List ℕ)) → Consumes o n bytes → IsAtEnd n → Known o n (λ xs ys. (xs ≡ bytes) × (ys ≡ []))
-known_last bytes None n taken end = tt
-known_last bytes (Some xs) None taken end = taken
-known_last bytes (Some xs) (Some ys) taken end = (taken ∙ ap (λ l. bytes ++ l) end ∙ append-nil bytes, end)

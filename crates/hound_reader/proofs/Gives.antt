@@ -6,7 +6,7 @@ use Rattle.hound_reader.specs.declared.fault.Cause.{Cause}
 use Rattle.hound_reader.specs.declared.fault.HeadError.{HeadError}
 use Rattle.hound_reader.specs.declared.fault.HeadError.TheVariants.{Failed, Refused}
 use Rattle.hound_number.specs.Input.{Known}
-use Rattle.hound_reader.specs.Outcome.{Refuses, Gives}
+use Rattle.hound_reader.specs.Outcome.{Gives}
 
 -- these bytes were taken, and f of them is Ok x
 pub ok_from_taken : {A : Type 0} (k : ℕ) (bs : List ℕ) (o n : Option (List ℕ)) (f : List ℕ → Result A Cause) (x : A) → Consumes o n bs → length bs ≡ k → f bs ≡ Ok x → Known o n (λ xs ys. (f (take k xs) ≡ Ok x) × (k ≤ length xs) × (ys ≡ drop k xs))
@@ -51,8 +51,3 @@ pub known_err : {A : Type 0} (h : List ℕ) (o m : Option (List ℕ)) (g : List 
 known_err h None m g c t e = tt
 known_err h (Some xs) None g c t e = t
 known_err h (Some xs) (Some ys) g c t e = ap g t ∙ e ys
-
--- a weaker claim of the cause
-pub refuses_weaker : (e : HeadError) (P Q : Cause → Type 0) → Refuses e P → ((c : Cause) → P c → Q c) → Refuses e Q
-refuses_weaker (Failed x) P Q p f = tt
-refuses_weaker (Refused c) P Q p f = f c p

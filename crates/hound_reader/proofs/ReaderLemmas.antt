@@ -1,6 +1,6 @@
 -- The answers of a reader.
 use Rattle.std.proofs.Common.{◌≡◌, ℕ, drop, inl, inr, ◌/◌, ◌∙◌, List, sym, ap, subst, Option, Some, None, Err, refl}
-use Rattle.std.specs.Prelude.{IfSome}
+use Rattle.std.specs.Prelude.{⊤, IfSome}
 use Rattle.std.proofs.lemmas.Option.{same_Some}
 use Rattle.hound_spec.specs.declared.spec.WavSpecEx.{WavSpecEx}
 use Rattle.hound_reader.specs.declared.fault.Cause.{Cause}
@@ -80,6 +80,11 @@ if_some (Some xs) Q f = f xs
 pub refusal_told : (o n : Option (List ℕ)) (stop : HeadError) (e : Error) (P : List ℕ → Cause → Type 0) → ReportsError stop e → Refuses stop (λ c. Known o n (λ xs ys. P xs c)) → IfSome o (λ xs. IsRefusal e (P xs))
 refusal_told o n (Failed x) e P r f = if_some o _ (λ xs. subst (λ y. IsRefusal y (P xs)) (sym r) tt)
 refusal_told o n (Refused' c) e P r f = known_some o n _ _ f (λ xs ys u. refusal_is e c (P xs) r u)
+
+-- whatever ended the walk, callers are told an `IoError` or the error of its cause
+pub is_told : (stop : HeadError) (e : Error) → ReportsError stop e → IsRefusal e (λ _. ⊤)
+is_told (Failed x) e r = subst (λ y. IsRefusal y (λ _. ⊤)) (sym r) tt
+is_told (Refused' c) e r = refusal_is e c (λ _. ⊤) r tt
 
 -- what can be read is opened, unless a read failed
 pub opens_told : {A : Type 0} (o n : Option (List ℕ)) (stop : HeadError) (e : Error) (P : WavSpecEx → ℕ → A → Type 0) → ReportsError stop e → Refuses stop (λ c. Known o n (λ xs ys. Unreadable xs c)) → IfSome o (λ xs. (spec : WavSpecEx) (samples h : ℕ) → Readable xs spec samples h → OpensAs (Err e) (P spec samples))

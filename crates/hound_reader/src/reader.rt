@@ -1,5 +1,5 @@
 // Readers of files.
-ghost use Rattle.std.specs.Prelude.{◌≡◌, ℕ, ◌+◌, ◌*◌, ◌/◌, ◌%◌, ◌++◌, List, length, drop, Some, IsTrue, IfOk, IfErr, IfSome, MatchResult};
+ghost use Rattle.std.specs.Prelude.{◌≡◌, ℕ, ◌+◌, ◌*◌, ◌/◌, ◌%◌, ◌++◌, ⊤, List, length, drop, Some, IsTrue, IfOk, IfErr, IfSome, MatchResult};
 ghost use Rattle.hound_number.specs.Input.{Known};
 ghost use Rattle.hound_number.specs.Number.{number};
 ghost use Rattle.hound_spec.specs.Header.{riff_tag, wave_tag};
@@ -114,6 +114,7 @@ impl<R: io::Read + Drop> WavReader<R> {
         ensures sound { IfOk result (λ r. HasWholeFrames r) }
         ensures refused { IfErr result (λ e. IfSome (R.remaining reader)
             (λ xs. IsRefusal e (Unreadable xs))) }
+        ensures told { IfErr result (λ e. IsRefusal e (λ _. ⊤)) }
         ensures readable { IfSome (R.remaining reader)
             (λ xs. (spec_ex : WavSpecEx) (samples h : ℕ) →
             Readable xs spec_ex samples h → OpensAs result (λ r. (r.spec_ex ≡ spec_ex)

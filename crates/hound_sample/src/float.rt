@@ -1,5 +1,5 @@
 // Floating-point samples by their bits.
-ghost use Rattle.std.specs.Prelude.{pos, ⊤};
+ghost use Rattle.std.specs.Prelude.{◌≡◌, pos, ⊤};
 ghost use Rattle.hound_number.specs.Number.{number};
 ghost use Rattle.hound_sample.specs.Container.{pattern_container};
 ghost use Rattle.hound_sample.specs.ContainerLaws.{pattern_container-in_width};
@@ -68,6 +68,7 @@ impl Sample for FloatBits {
     #[inline(always)]
     fn as_i16(self) -> i16
         requires { ⊤ }
+        ensures { result ≡ pos 0 }
     {
         0
     }

@@ -2,7 +2,7 @@
 use Rattle.std.proofs.Common.{◌≡◌, ℕ, zero, suc, ◌+◌, ◌*◌, ◌/◌, ◌%◌, ◌^◌, ◌<◌, ◌≤◌, List, [], ◌∷◌, ◌++◌, length, take, drop, refl, sym, ap, ◌∙◌, arith, length-drop, take_all}
 use Rattle.std.proofs.lemmas.List.{drop-drop, drop_all}
 use Rattle.hound_number.specs.Number.{number, bytes_of, AreBytes}
-use Rattle.hound_spec.specs.FmtChunk.{FmtFields, FieldsFit, fmt_bytes, fmt_fields, Extension, extension, extension_bytes}
+use Rattle.hound_spec.specs.FmtChunk.{FmtFields, FieldsFit, fmt_bytes, fmt_fields, extension, extension_bytes}
 
 -- the number of the bytes of a number
 pub number-bytes_of : (k n : ℕ) → n < 256 ^ k → number (bytes_of k n) ≡ n
@@ -19,14 +19,6 @@ fields_written f rest fit = λ i. record {
   byte_rate = number-bytes_of 4 f.byte_rate fit.byte_rate i;
   align = number-bytes_of 2 f.align fit.align i;
   bits = number-bytes_of 2 f.bits fit.bits i;
-}
-
-pub extension_written : (e : Extension) → e.valid_bits < 256 ^ 2 → e.mask < 256 ^ 4
-    → length e.subformat ≡ 16 → extension (extension_bytes e) ≡ e
-extension_written e valid mask sixteen = λ i. record {
-  valid_bits = number-bytes_of 2 e.valid_bits valid i;
-  mask = number-bytes_of 4 e.mask mask i;
-  subformat = take_all 16 e.subformat (omega (arith, sixteen)) i;
 }
 
 are_bytes-drop : (n : ℕ) (bytes : List ℕ) → AreBytes bytes → AreBytes (drop n bytes)

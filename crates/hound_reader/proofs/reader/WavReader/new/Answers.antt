@@ -1,5 +1,5 @@
 use Rattle.hound_reader.specs.Chunks.{Unreadable}
-use Rattle.hound_reader.proofs.ReaderLemmas.{opens_ok, refusal_told, opens_told, no_fault_ok, fails_told}
+use Rattle.hound_reader.proofs.ReaderLemmas.{opens_ok, refusal_told, opens_told, no_fault_ok, fails_told, is_told}
 use Rattle.hound_reader.proofs.reader.WavReader.new.Goals as goal
 
 pub returns-in-Ok-clause-readable : goal.returns-in-Ok-clause-readable
@@ -16,3 +16,6 @@ returns-in-Ok-clause-unreadable g c = no_fault_ok _ _ c.in-Ok.spec_ex c.in-Ok.nu
 
 pub returns-in-Err-clause-unreadable : goal.returns-in-Err-clause-unreadable
 returns-in-Err-clause-unreadable g c = fails_told _ _ c.in-Err.e c.error_of.result c.error_of.ensures c.in-Err.ensures.refused
+
+pub returns-in-Err-clause-told : goal.returns-in-Err-clause-told
+returns-in-Err-clause-told g c = is_told c.in-Err.e c.error_of.result c.error_of.ensures
