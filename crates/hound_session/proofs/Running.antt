@@ -39,9 +39,6 @@ module _ {M : Type 0} (tells keeps : Bool) (state : M → MediumState) where
   abbrev pub MarkedRun : List Step → List Bool → WriterState M → WriterState M → Type 0
   MarkedRun steps marks old new = (answers : List (Result (Unit {0}) Error)) × (cuts : List ℕ) × (marks ≡ map mark_of answers) × Runs tells keeps state steps answers cuts old new
 
-  pub none_run : (w : WriterState M) → MarkedRun [] [] w w
-  none_run w = ([], length (state w.medium).past ∷ [], refl, (refl, refl))
-
   -- one step more, and its mark
   pub marked_more : (steps : List Step) (marks : List Bool) (i : ℕ) (d : Step) (answer : Result (Unit {0}) Error) (is : Bool) (a b c : WriterState M) → i < length steps → i < length marks → is ≡ mark_of answer
       → MarkedRun (take i steps) (take i marks) a b → Takes tells keeps state (get_or steps i d) answer b c → MarkedRun (take (i + 1) steps) (take (i + 1) (set marks i is)) a c
@@ -53,9 +50,6 @@ module _ {M : Type 0} (tells keeps : Bool) (state : M → MediumState) where
         all,
         subst (λ l. Runs tells keeps state l (answers ++ answer ∷ []) (cuts ++ length (state c.medium).past ∷ []) a c) (sym (take_more steps i d inside)) (runs_more (take i steps) answers cuts (get_or steps i d) answer a b c runs takes),
       )
-
-  pub none_ok : (w : WriterState M) → RunsOk tells keeps state [] w w
-  none_ok w = (length (state w.medium).past ∷ [], (refl, refl))
 
   -- one step more that was Ok
   pub ok_more : (steps : List Step) (i : ℕ) (d : Step) (answer : Result (Unit {0}) Error) (a b c : WriterState M) → i < length steps → answer ≡ Ok tt → RunsOk tells keeps state (take i steps) a b → Takes tells keeps state (get_or steps i d) answer b c → RunsOk tells keeps state (take (i + 1) steps) a c

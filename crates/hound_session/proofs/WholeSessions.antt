@@ -399,9 +399,6 @@ module _ {M : Type 0} (tells keeps : Bool) (state : M → MediumState) (told : I
   again s list start steps old answer medium file (inr (mid, goes, runs)) =
       once Append s list start steps mid answer medium (holds_still s list start (state old) (state mid) (goes told).stays.contents (goes told).faults file) runs
 
-  all_steps_cons : (session : Bor (List Step)) (sessions : List (Bor (List Step))) → all_steps (session ∷ sessions) ≡ session.now ++ all_steps sessions
-  all_steps_cons session sessions = refl
-
   -- further ones
   on : (s : WavSpecEx) (list : List (List ℕ)) (start : MediumState) (sessions : List (Bor (List Step))) (old : M) (answer : Result (Unit {0}) Error) (medium : M) → HoldsFile s list start (state old) → RunsOn tells keeps state sessions old answer medium
       → Led s list (all_steps sessions) start (state medium) answer

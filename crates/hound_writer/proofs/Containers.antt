@@ -19,15 +19,6 @@ containers_front width (suc count) a b same =
     sym (drop-take width (count * width) a) ∙ ap (drop width) all ∙ drop-take width (count * width) b in
     λ i. first i ∷ containers_front width count (drop width a) (drop width b) rest i
 
--- one container more
-pub containers_more : (width count : ℕ) (bytes : List ℕ) → containers width (suc count) bytes ≡ containers width count bytes ++ take width (drop (count * width) bytes) ∷ []
-containers_more width zero bytes = ap (λ n. take width (drop n bytes) ∷ []) (let e : 0 ≡ 0 * width = omega arith in e)
-containers_more width (suc count) bytes =
-    ap (λ (l : List (List ℕ)). take width bytes ∷ l)
-    (containers_more width count (drop width bytes)
-    ∙ ap (λ c. containers width count (drop width bytes) ++ take width c ∷ [])
-    (drop-drop (count * width) width bytes ∙ ap (λ n. drop n bytes) (let e : width + count * width ≡ suc count * width = omega arith in e)))
-
 -- the containers joined are the bytes
 pub concat-containers : (width count : ℕ) (bytes : List ℕ) → concat (containers width count bytes) ≡ take (count * width) bytes
 concat-containers width zero bytes = ap (λ n. take n bytes) (let e : 0 ≡ 0 * width = omega arith in e)

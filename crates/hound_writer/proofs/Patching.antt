@@ -1,5 +1,5 @@
 -- The two sizes of a file, and what they leave.
-use Rattle.std.proofs.Common.{◌≡◌, ℕ, ◌+◌, ◌-◌, ◌^◌, ◌<◌, ◌≤◌, Bool, List, ◌++◌, length, take, drop, Result, Ok, Err, IsOk, IsErr, OnOk, MatchResult, sym, ◌∙◌, ap, subst, arith, append_assoc, length-append, length-drop, length-take}
+use Rattle.std.proofs.Common.{◌≡◌, ℕ, ◌+◌, ◌-◌, ◌^◌, ◌<◌, ◌≤◌, Bool, List, ◌++◌, length, take, drop, Result, Ok, Err, IsErr, OnOk, MatchResult, sym, ◌∙◌, ap, subst, arith, append_assoc, length-append, length-drop, length-take}
 use Rattle.std.proofs.lemmas.Bool.{false≢true}
 use Rattle.std.proofs.lemmas.List.{drop_at, length-take-le, take_all}
 use Rattle.std.proofs.lemmas.Slice.{between_is}
@@ -7,7 +7,7 @@ use Rattle.std.proofs.Math.Seq.{take-append-add}
 use Rattle.hound_number.specs.Number.{number, bytes_of, mix, AreBytes}
 use Rattle.hound_number.proofs.Mixing.{mix_none}
 use Rattle.hound_medium.specs.Bytes.{placed, overlay}
-use Rattle.hound_medium.specs.State.{MediumState, Stays, Flushes, faults_after, one_more}
+use Rattle.hound_medium.specs.State.{MediumState, Flushes, faults_after, one_more}
 use Rattle.hound_medium.proofs.Overlays.{overlay_is}
 use Rattle.hound_medium.proofs.Inside.{drop_behind, same_size}
 use Rattle.hound_medium.proofs.Torn.{number_at_small, number_at_mix}
@@ -105,20 +105,6 @@ patched keeps p size data_length r s flush a b c d behind inside small first sec
     is_flushed : {X Y : Type 0} (P Q : Type 0) (flush : Result X Y) → MatchResult flush (λ _. P) (λ _. Q) → OnOk flush P
     is_flushed P Q (Ok x) here = here
     is_flushed P Q (Err e) there = tt
-
--- an Ok patch, and then a call that puts nothing
-pub patched_still : {T E V F : Type 0} (p size data_length : ℕ) (patch : Result T E) (answer : Result V F) (a b c : MediumState) → IsOk patch → Stays b c → c.flushed ≡ b.flushed → c.faults ≡ faults_after answer b.faults
-    → Patches p size data_length patch a b → Patches p size data_length answer a c
-patched_still p size data_length (Err e) answer a b c ok stays flushed faults patches = absurd (false≢true ok)
-patched_still p size data_length (Ok x) answer a b c ok stays flushed faults patches =
-    let same = stays.contents in
-    record {
-      contents = on_ok answer (same ∙ patches.contents);
-      same = subst (SameButSizes p a.contents) (sym same) patches.same;
-      torn = (patches.torn.0, patches.torn.1, ap (field p) same ∙ patches.torn.2);
-      flushed = on_ok answer (flushed ∙ patches.flushed ∙ ap length (sym stays.past));
-      faults = faults ∙ ap (faults_after answer) patches.faults;
-    }
 
 number-bytes_of : (n : ℕ) → n < 2 ^ 32 → number (bytes_of 4 n) ≡ n
 number-bytes_of n small = omega (arith, small)

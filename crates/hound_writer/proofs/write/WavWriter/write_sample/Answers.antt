@@ -1,7 +1,6 @@
-use Rattle.std.proofs.Common.{Err, Ok, false, arith, refl, subst, sym, ap, length, take, ◌≡◌, ◌/◌, ◌∙◌}
+use Rattle.std.proofs.Common.{Err, Ok, false, arith, refl, sym, ap, length, take, ◌≡◌, ◌∙◌}
 use Rattle.std.proofs.lemmas.Bool.{false≢true}
 use Rattle.hound_spec.specs.declared.error.Error.TheVariants.{IoError, TooLong}
-use Rattle.hound_sample.specs.Container.{containers}
 use Rattle.hound_writer.specs.Accepting.{Accepts}
 use Rattle.hound_writer.specs.Answers.{one}
 use Rattle.hound_writer.specs.Fields.{bytes_kept, of_fields}
