@@ -1,35 +1,9 @@
 // Batches of samples of sixteen bits.
 ghost use Rattle.std.specs.Prelude.{◌≡◌};
-ghost use Rattle.hound.specs.Room.{IsSixteen};
 
-use crate::helpers::{Faulty, empty_tape, file_of, integers, samples_of, sixteen};
-use hound::{Error, Tape, WavWriter};
-use std::alloc::Global;
+use crate::helpers::{Faulty, empty_tape, file_of, integers, samples_of, sixteen, write_up};
+use hound::{Error, WavWriter};
 use std::test::Fail;
-
-// Writes as many samples by one batch, which count up from the first.
-fn write_up(
-    writer: &mut WavWriter<Tape>,
-    alloc: Global,
-    first: i16,
-    count: u32,
-) -> hound::Result<()>
-    requires { IsSixteen writer.old.spec_ex }
-    ensures { writer.new.spec_ex ≡ writer.old.spec_ex }
-{
-    let mut batch = writer.get_i16_writer(alloc, count)?;
-    let mut sample = first;
-    for _ in 0..count {
-        if batch.remaining() >= 1 {
-            batch.write_sample(sample);
-            sample = sample.wrapping_add(1);
-        }
-    }
-    if batch.remaining() != 0 {
-        return Err(Error::UnfinishedSample);
-    }
-    batch.flush()
-}
 
 #[test]
 fn batches_are_written_as_samples_are(rt: HostRuntime) -> Result<(), Fail> {
@@ -102,12 +76,15 @@ fn an_empty_batch_puts_nothing(rt: HostRuntime) -> Result<(), Fail> {
 #[test]
 fn a_batch_that_fails_is_not_accepted(rt: HostRuntime) -> Result<(), Fail> {
     let alloc = rt.alloc();
-    // The second byte of the second sample fails.
-    let mut writer = WavWriter::new(Faulty::at(alloc, 48), sixteen(1))?;
-    let mut batch = writer.get_i16_writer(alloc, 2)?;
-    batch.write_sample(0x0101i16);
-    batch.write_sample(0x0202i16);
-    assert!(rt; matches!(batch.flush(), Err(Error::IoError(_))));
+    // One sample more than a block holds: they are put at once, and the last of their 4098 bytes
+    // fails.
+    let mut writer = WavWriter::new(Faulty::at(alloc, 44 + 4098), sixteen(1))?;
+    assert!(rt;
+        matches!(
+            write_up(&mut writer, alloc, 1, 2049),
+            Err(Error::IoError(_))
+        )
+    );
     assert_eq!(rt; writer.len(), 0);
     writer.write_sample(3i16)?;
     let (medium, result) = writer.finalize_into();

@@ -71,7 +71,7 @@ fn faulty(alloc: Global, fails_at: u64) -> hound::Result<WavWriter<Faulty>> {
 
 #[test]
 fn a_checkpoint_outlasts_a_failing_end(rt: HostRuntime) -> Result<(), Fail> {
-    // After 46 calls the checkpoint takes 12, and the next sample 2.
+    // The checkpoint takes 14 calls with its sample, and the end puts the next one by 2.
     let mut writer = faulty(rt.alloc(), 61)?;
     writer.write_sample(1i16)?;
     writer.flush()?;

@@ -1,12 +1,13 @@
 // What the modules of tests share: specs, files in memory, and a medium that fails.
 ghost use Rattle.std.specs.Prelude.{◌≡◌, ◌≤◌, false, IfOk};
 ghost use Rattle.std.proofs.lemmas.Bool.{false≢true};
+ghost use Rattle.hound.specs.Room.{IsSixteen};
 ghost use Rattle.hound.specs.State.{MediumState, unknown};
 ghost use Rattle.hound.specs.declared.SampleFormat.TheVariants.{Int};
 
 use hound::{
-    Error, Medium, Placed, Sample, SampleFormat, Source, Tape, WavReader, WavSpec, WavSpecEx,
-    WavWriter,
+    Error, Journal, Medium, Placed, Sample, SampleFormat, Source, Tape, WavReader, WavSpec,
+    WavSpecEx, WavWriter,
 };
 use std::alloc::Global;
 use std::io;
@@ -100,6 +101,39 @@ pub(crate) fn write_all<S: Sample + Copy, W: Medium>(
         writer.write_sample(*sample)?;
     }
     Ok(())
+}
+
+// Writes as many samples by one batch, which count up from the first.
+pub(crate) fn write_up<W: Medium>(
+    writer: &mut WavWriter<W>,
+    alloc: Global,
+    first: i16,
+    count: u32,
+) -> hound::Result<()>
+    requires { IsSixteen writer.old.spec_ex }
+    ensures { writer.new.spec_ex ≡ writer.old.spec_ex }
+{
+    let mut batch = writer.get_i16_writer(alloc, count)?;
+    let mut sample = first;
+    for _ in 0..count {
+        if batch.remaining() >= 1 {
+            batch.write_sample(sample);
+            sample = sample.wrapping_add(1);
+        }
+    }
+    if batch.remaining() != 0 {
+        return Err(Error::UnfinishedSample);
+    }
+    batch.flush()
+}
+
+// The numbers below 100 in turn, so many.
+pub(crate) fn numbers(alloc: Global, count: i32) -> Result<Vec<i32>, Fail> {
+    let mut numbers = Vec::new(alloc);
+    for i in 0..count {
+        numbers.push(i % 100)?;
+    }
+    Ok(numbers)
 }
 
 // The bytes of a file of these samples.
@@ -300,5 +334,104 @@ impl Medium for Faulty {
     fn flush(&mut self) -> io::Result<()> {
         self.call()?;
         Medium::flush(&mut self.tape)
+    }
+}
+
+// A call of a medium: how many bytes were handed to a put, and the place of a go.
+#[derive(Clone, Copy, Debug, PartialEq, Eq)]
+pub(crate) enum Call {
+    Put(usize),
+    Go(u64),
+    Flush,
+}
+
+// A journal that keeps the calls that a writer makes, those that fail too.
+#[derive(Drop)]
+pub(crate) struct Recorded {
+    pub(crate) journal: Journal,
+    pub(crate) calls: Vec<Call>,
+}
+
+impl Recorded {
+    // Over these bytes, failing at the calls with these numbers.
+    pub(crate) fn over(
+        alloc: Global,
+        bytes: Vec<u8>,
+        from: u64,
+        to: u64,
+    ) -> hound::Result<Recorded> {
+        let mut journal = Journal::new(alloc, bytes)?;
+        journal.fail(from, to);
+        Ok(Recorded {
+            journal,
+            calls: Vec::new(alloc),
+        })
+    }
+
+    // Over no bytes, failing at the calls with these numbers.
+    pub(crate) fn failing(alloc: Global, from: u64, to: u64) -> hound::Result<Recorded> {
+        Recorded::over(alloc, Vec::new(alloc), from, to)
+    }
+
+    // Over no bytes.
+    pub(crate) fn new(alloc: Global) -> hound::Result<Recorded> {
+        Recorded::failing(alloc, 1, 0)
+    }
+
+    // The bytes of now.
+    pub(crate) fn bytes(&self, alloc: Global) -> hound::Result<Vec<u8>> {
+        self.journal.bytes_after(alloc, self.journal.taken())
+    }
+
+    fn record(&mut self, call: Call) -> io::Result<()> {
+        match self.calls.push(call) {
+            Ok(()) => Ok(()),
+            Err(_) => Err(io::Error::from(ErrorKind::OutOfMemory)),
+        }
+    }
+}
+
+impl Placed for Recorded {
+    ghost tells = { false };
+
+    ghost state = { λ _. unknown };
+
+    ghost bytes = { λ _ tells. Prim.absurd (false≢true tells) };
+
+    fn go(&mut self, to: u64) -> io::Result<()> {
+        self.record(Call::Go(to))?;
+        self.journal.go(to)
+    }
+
+    fn shift(&mut self, by: i64) -> io::Result<()> {
+        self.journal.shift(by)
+    }
+}
+
+impl Medium for Recorded {
+    ghost replays = { λ _ tells. Prim.absurd (false≢true tells) };
+
+    fn put(&mut self, bytes: &[u8]) -> io::Result<usize> {
+        self.record(Call::Put(bytes.len()))?;
+        Medium::put(&mut self.journal, bytes)
+    }
+
+    fn flush(&mut self) -> io::Result<()> {
+        self.record(Call::Flush)?;
+        Medium::flush(&mut self.journal)
+    }
+}
+
+impl io::Read for Recorded {
+    fn read(&mut self, buf: &mut [u8]) -> io::Result<usize> {
+        io::Read::read(&mut self.journal, buf)
+    }
+}
+
+impl Source for Recorded {
+    ghost left = { λ _ tells. Prim.absurd (false≢true tells) };
+
+    fn get(&mut self, buf: &mut [u8]) -> io::Result<usize> {
+        Source::get(&mut self.journal, buf)
     }
 }

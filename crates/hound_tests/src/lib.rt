@@ -35,6 +35,8 @@ mod sessions;
 #[cfg(test)]
 mod unknown_length;
 #[cfg(test)]
+mod waiting;
+#[cfg(test)]
 mod widths;
 #[cfg(test)]
 mod words;

@@ -1,7 +1,7 @@
 // Files over a medium that keeps its past and fails on request.
 ghost use Rattle.std.specs.Prelude.{◌≡◌, ◌≤◌, IfOk};
 
-use crate::helpers::{has_first, has_samples, integers, sixteen, write_all};
+use crate::helpers::{has_first, has_samples, integers, numbers, sixteen, write_all};
 use hound::{Error, Journal, Placed, WavReader, WavSpec, WavWriter};
 use std::alloc::Global;
 use std::test::Fail;
@@ -26,15 +26,6 @@ fn bytes_after(journal: &Journal, alloc: Global, k: usize) -> Result<Vec<u8>, Fa
         return Err(Fail::from("fewer bytes were put"));
     }
     Ok(journal.bytes_after(alloc, k)?)
-}
-
-// The numbers below 100 in turn, so many.
-fn numbers(alloc: Global, count: i32) -> Result<Vec<i32>, Fail> {
-    let mut numbers = Vec::new(alloc);
-    for i in 0..count {
-        numbers.push(i % 100)?;
-    }
-    Ok(numbers)
 }
 
 // The first of these samples, if there are so many.
@@ -70,7 +61,8 @@ fn has_first_at_each_moment(
 fn a_header_of_16_bits_takes_44_bytes(rt: HostRuntime) -> Result<(), Fail> {
     let alloc = rt.alloc();
     let mut writer = WavWriter::new(byte_by_byte(alloc, 45, u64::MAX)?, mono(16))?;
-    assert!(rt; matches!(writer.write_sample(1i16), Err(Error::IoError(_))));
+    // The sample waits, and fails when it is to go out.
+    writer.write_sample(1i16)?;
     let (journal, result) = writer.finalize_into();
     assert!(rt; matches!(result, Err(Error::IoError(_))));
     assert_eq!(rt; journal.taken(), 44);
@@ -81,30 +73,20 @@ fn a_header_of_16_bits_takes_44_bytes(rt: HostRuntime) -> Result<(), Fail> {
 }
 
 #[test]
-fn a_torn_sample_is_put_over(rt: HostRuntime) -> Result<(), Fail> {
+fn a_file_whose_samples_are_not_out_is_not_published(rt: HostRuntime) -> Result<(), Fail> {
     let alloc = rt.alloc();
-    // 68 calls put the header and three the first sample; the second byte of the second one fails.
+    // 68 calls put the header; the fifth byte of the samples fails.
     let mut writer = WavWriter::new(byte_by_byte(alloc, 73, 73)?, mono(24))?;
-    writer.write_sample(1i32)?;
-    assert!(rt; matches!(writer.write_sample(2i32), Err(Error::IoError(_))));
-    assert_eq!(rt; writer.len(), 1);
-    writer.write_sample(3i32)?;
+    write_all(&mut writer, &[1i32, 2, 3])?;
+    assert_eq!(rt; writer.len(), 3);
     let (journal, result) = writer.finalize_into();
-    result?;
-    // The header, the samples with the torn one, and the two sizes.
-    assert_eq!(rt; journal.taken(), 68 + 3 + 1 + 3 + 8);
-    assert_eq!(rt; journal.flushed(), 83);
-    let torn = bytes_after(&journal, alloc, 72)?;
-    assert_eq!(rt; torn.get(68..), Some(b"\x01\0\0\x02".as_slice()));
-    let bytes = bytes_after(&journal, alloc, 83)?;
-    assert_eq!(rt; bytes.get(64..68), Some(b"\x06\0\0\0".as_slice()));
-    assert_eq!(rt; bytes.get(68..), Some(b"\x01\0\0\x03\0\0".as_slice()));
-    let mut reader = WavReader::new(bytes.as_slice())?;
-    let mut samples = reader.samples::<i32>();
-    assert!(rt; matches!(samples.next(), Some(Ok(1))));
-    assert!(rt; matches!(samples.next(), Some(Ok(3))));
-    assert!(rt; samples.next().is_none());
-    assert!(rt; has_first_at_each_moment(&journal, alloc, &[1, 3], 68, 3, 1)?);
+    assert!(rt; matches!(result, Err(Error::IoError(_))));
+    assert_eq!(rt; journal.taken(), 68 + 4);
+    assert_eq!(rt; journal.flushed(), 0);
+    let bytes = bytes_after(&journal, alloc, 72)?;
+    assert_eq!(rt; bytes.get(64..), Some(b"\0\0\0\0\x01\0\0\x02".as_slice()));
+    assert!(rt; has_samples::<i32>(&bytes, &[])?);
+    assert!(rt; has_first_at_each_moment(&journal, alloc, &[1, 2, 3], 68, 3, 1)?);
     Ok(())
 }
 
@@ -127,6 +109,36 @@ fn a_checkpoint_in_stereo_stands_until_the_next(rt: HostRuntime) -> Result<(), F
     let bytes = bytes_after(&journal, alloc, 76)?;
     assert!(rt; has_samples(&bytes, &samples)?);
     assert!(rt; has_first_at_each_moment(&journal, alloc, &samples, 44, 2, 2)?);
+    Ok(())
+}
+
+#[test]
+fn a_checkpoint_stands_while_a_block_goes_out(rt: HostRuntime) -> Result<(), Fail> {
+    let alloc = rt.alloc();
+    let samples = numbers(alloc, 3 + 4096 + 1)?;
+    let mut writer = WavWriter::new(Journal::new(alloc, Vec::new(alloc))?, mono(8))?;
+    write_all(&mut writer, first(&samples, 3)?)?;
+    writer.flush()?;
+    write_all(&mut writer, samples.get(3..).ok_or("4100 samples")?)?;
+    let journal = writer.drop_into();
+    // The header, three samples and the sizes; a block, one sample, and the sizes again.
+    assert_eq!(rt; journal.taken(), 55 + 4096 + 1 + 8);
+    // The length goes from 3 to 0x1004, by its low byte first.
+    for (k, count) in [
+        (55, 3),
+        (56, 3),
+        (4150, 3),
+        (4151, 3),
+        (4152, 3),
+        (4156, 3),
+        (4157, 4),
+        (4158, 4100),
+        (4160, 4100),
+    ] {
+        let bytes = bytes_after(&journal, alloc, k)?;
+        assert!(rt; has_samples(&bytes, first(&samples, count)?)?);
+    }
+    assert!(rt; has_first_at_each_moment(&journal, alloc, &samples, 44, 1, 1)?);
     Ok(())
 }
 

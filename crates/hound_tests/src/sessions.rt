@@ -145,15 +145,17 @@ fn a_batch_of_other_samples_calls_nothing(rt: HostRuntime) -> Result<(), Fail> {
     answer?;
     assert_eq!(rt; marks, [true, false, true]);
     assert_eq!(rt; taken, 68 + 3 + 3 + 8);
-    // The second call of the medium puts the first sample, and the third one the last.
+    // The second call of the medium puts both samples.
     let (marks, taken, answer) = batch_of_other_samples(alloc, 2, 2)?;
+    assert!(rt; matches!(answer, Err(Error::IoError(_))));
+    assert_eq!(rt; marks, [true, false, true]);
+    assert_eq!(rt; taken, 68);
+    // The seventh is the last: two calls for each size, and a flush.
+    let (_, taken, answer) = batch_of_other_samples(alloc, 7, 7)?;
+    assert!(rt; matches!(answer, Err(Error::IoError(_))));
+    assert_eq!(rt; taken, 68 + 3 + 3 + 8);
+    let (_, _, answer) = batch_of_other_samples(alloc, 8, u64::MAX)?;
     answer?;
-    assert_eq!(rt; marks, [false, false, true]);
-    assert_eq!(rt; taken, 68 + 3 + 8);
-    let (marks, taken, answer) = batch_of_other_samples(alloc, 3, 3)?;
-    answer?;
-    assert_eq!(rt; marks, [true, false, false]);
-    assert_eq!(rt; taken, 68 + 3 + 8);
     Ok(())
 }
 
@@ -338,8 +340,8 @@ fn is_whole(run: &Run) -> bool {
     run.answer.is_ok() && run.marks == [true; 8] && run.taken == 88 && run.bytes.len() == 56
 }
 
-// The header takes one call, each sample and the batch one, each checkpoint six, and the end five.
-const CALLS: u64 = 1 + 5 + 3 * 6 + 5;
+// The header takes one call, each checkpoint seven with the samples that wait, and the end five.
+const CALLS: u64 = 1 + 3 * 7 + 5;
 
 #[test]
 fn a_run_without_faults(rt: HostRuntime) -> Result<(), Fail> {

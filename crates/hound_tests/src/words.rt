@@ -125,7 +125,9 @@ impl WriterWords {
     ghost use Rattle.hound.specs.Appending.{Appends, FailsCheck, HasOneAppendAnswer, IsNotAppended, head_fault};
     ghost use Rattle.hound.specs.Batch.{IsSameFile, batch_bytes, batch_lender, batch_writer, left, remaining, written};
     ghost use Rattle.hound.specs.Beginning.{Begins, HasBegun, IsNotBegun};
-    ghost use Rattle.hound.specs.Parts.{HasSize, IsConsistent, IsPatched, IsStanding, IsTold, Patches, PatchesAtEach, PutsAt, bytes_kept, of_fields};
+    ghost use Rattle.hound.specs.Block.{GoesOut, IsLimit, OnDone, all_out};
+    ghost use Rattle.hound.specs.Fields.{IsConsistent, bytes_kept, of_fields};
+    ghost use Rattle.hound.specs.Parts.{HasSize, IsPatched, IsStanding, IsTold, Patches, PatchesAtEach, PutsAt};
     ghost use Rattle.hound.specs.Publishing.{Checkpoints, Finishes};
     ghost use Rattle.hound.specs.Room.{IsSixteen};
     ghost use Rattle.hound.specs.Writer.{AreFrames, HasRoom, IsCounted, IsSound, IsWhole, WriterState, accepted_samples, data_length, sample_count};

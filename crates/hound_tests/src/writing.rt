@@ -117,20 +117,25 @@ fn an_unfinished_frame_is_told_and_published(rt: HostRuntime) -> Result<(), Fail
 
 #[test]
 fn the_next_sample_goes_where_the_failed_one_began(rt: HostRuntime) -> Result<(), Fail> {
-    // 44 calls put the header and two the first sample; the second byte of the second one fails.
+    // 44 calls put the header. The sample that finds 2048 waiting puts these, whose fourth byte
+    // fails.
     let mut writer = WavWriter::new(Faulty::at(rt.alloc(), 48), sixteen(1))?;
-    writer.write_sample(1i16)?;
+    for _ in 0..2048 {
+        writer.write_sample(1i16)?;
+    }
     assert!(rt; matches!(writer.write_sample(0x0202i16), Err(Error::IoError(_))));
-    assert_eq!(rt; writer.len(), 1);
+    assert_eq!(rt; writer.len(), 2048);
     writer.write_sample(3i16)?;
-    assert_eq!(rt; writer.len(), 2);
+    assert_eq!(rt; writer.len(), 2049);
     let (medium, result) = writer.finalize_into();
     result?;
     let bytes = medium.tape.into_bytes();
-    assert_eq!(rt; bytes.get(4..8), Some([0x28u8, 0, 0, 0].as_slice()));
+    // The RIFF size is 36 + 4098, the data length 4098.
+    assert_eq!(rt; bytes.get(4..8), Some([0x26u8, 0x10, 0, 0].as_slice()));
     assert_eq!(rt;
-        bytes.get(40..),
-        Some([4u8, 0, 0, 0, 1, 0, 3, 0].as_slice())
+        bytes.get(40..48),
+        Some([2u8, 0x10, 0, 0, 1, 0, 1, 0].as_slice())
     );
+    assert_eq!(rt; bytes.get(4138..), Some([1u8, 0, 3, 0].as_slice()));
     Ok(())
 }
