@@ -14,6 +14,10 @@ use std::{io, result};
 
 /// A writer that puts samples into a medium, as a WAVE file.
 ///
+/// Up to 4096 bytes of accepted samples wait in the writer. They go out when no more fit, and before
+/// the sizes are put. Where the medium fails meanwhile all of them go on waiting, and go out again
+/// from the first one on.
+///
 /// A writer that is dropped publishes what was accepted, as [`WavWriter::finalize`] does, and its
 /// fault goes unseen.
 pub struct WavWriter<W: Medium> {
@@ -417,9 +421,9 @@ impl<W: Medium> WavWriter<W> {
         self.go_to_end()
     }
 
-    /// Publishes the accepted samples: puts both sizes into the header and flushes the medium, so
-    /// that a reader finds them all, whatever becomes of the writer until it patches the header
-    /// again. The next sample follows.
+    /// Publishes the accepted samples: puts out those that wait, then both sizes into the header,
+    /// and flushes the medium, so that a reader finds them all, whatever becomes of the writer until
+    /// it patches the header again. The next sample follows.
     ///
     /// The errors, in their order: `IoError`, at the first fault of the medium, after which writing
     /// may go on; `UnfinishedSample`, where the samples are no whole number of frames, although all
@@ -475,8 +479,8 @@ impl<W: Medium> WavWriter<W> {
         result
     }
 
-    /// Puts both sizes into the header, flushes the medium, and hands it back: it stands where the
-    /// data begin.
+    /// Puts out the samples that wait, then both sizes into the header, flushes the medium, and
+    /// hands it back: it stands where the data begin.
     ///
     /// The errors, in their order: `IoError`, at the first fault of the medium, after which nothing
     /// is tried again; `UnfinishedSample`, where the samples are no whole number of frames, although
