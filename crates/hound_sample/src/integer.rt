@@ -79,9 +79,6 @@ fn encode_24_bits(x: i32) -> Result<[u8; 4]>
 pub(crate) fn encode_integer(x: i32, bits: u16, byte_width: u16) -> Result<[u8; 4]>
     ensures { IsEncoded (int_container x bits byte_width) result }
 {
-    if bits == 8 && byte_width == 1 {
-        return encode_8_bits(x);
-    }
     if bits == 16 && byte_width == 2 {
         return encode_16_bits(x);
     }
@@ -90,6 +87,9 @@ pub(crate) fn encode_integer(x: i32, bits: u16, byte_width: u16) -> Result<[u8; 
     }
     if bits == 32 && byte_width == 4 {
         return Ok(le_i32(x));
+    }
+    if bits == 8 && byte_width == 1 {
+        return encode_8_bits(x);
     }
     Err(Error::Unsupported)
 }

@@ -11,7 +11,7 @@ use Rattle.hound_spec.specs.Header.{riff_size}
 use Rattle.hound_sample.specs.Container.{Refusal, containers}
 use Rattle.hound_writer.specs.Accepting.{Accepts, AddsAtEach}
 use Rattle.hound_writer.specs.Answers.{AcceptAnswer, FitAnswer, IsIoError, faults_told, if_marked, mark_of}
-use Rattle.hound_writer.specs.Block.{GoesOut, IsFault, OnDone, after_out}
+use Rattle.hound_writer.specs.Block.{GoesOut, after_out, or_fault}
 use Rattle.hound_writer.specs.Counts.{Counts}
 use Rattle.hound_writer.proofs.Accepting.{not_refused, room_fits}
 use Rattle.hound_writer.proofs.Answers.{unless_then}
@@ -132,11 +132,7 @@ accepts_cut tells keeps state a b bytes e out room whole = record {
   moments = λ told kept. (out.moments told kept).adds;
 }
 
--- what follows from the answer of a call that was done, or kept a fault aside
-pub on_done_then : (done : Bool) (P Q : Result (Unit {0}) Error → Type 0) → ((answer : Result (Unit {0}) Error) → IfErr answer IsIoError → P answer → Q answer) → OnDone done P → OnDone done Q
-on_done_then true P Q then here = then (Ok tt) tt here
-on_done_then false P Q then here = λ e. then (Err (IoError e)) tt (here e)
-
--- what holds of each fault holds of the one that is answered
-pub fault_seen : (P : Result (Unit {0}) Error → Type 0) (answer : Result (Unit {0}) Error) → IsFault answer → ((e : IoFault) → P (Err (IoError e))) → P answer
-fault_seen P answer (e, is) here = subst P (sym is) (here e)
+-- the answer of a call that keeps a fault aside is no refusal
+pub kept_fails : (done : Bool) (fault : IoFault) → IfErr (or_fault done fault) IsIoError
+kept_fails true fault = tt
+kept_fails false fault = tt

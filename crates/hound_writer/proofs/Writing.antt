@@ -35,6 +35,12 @@ bytes_too_long tells keeps state w bytes counts replays whole none =
     accepts_refused tells keeps state w false (Ok list) TooLong counts replays refl (λ _. refl)
     (subst (λ b. FitAnswer {T = Unit {0}} b false (Err TooLong)) (sym (no_room w (length (concat list)) (λ room. none (omega (arith, room, ap length (joined_bytes width bytes whole)))))) refl)
 
+-- a refusal that isn't `TooWide`
+pub else_unsupported : (asked : Result (List ℕ) Refusal) (e : Error) → IsEncoded asked (Err e) → (e ≡ TooWide → ⊥) → e ≡ Unsupported
+else_unsupported (Ok c) e is other = cc
+else_unsupported (Err too_wide) e is other = let same : e ≡ TooWide = cc in absurd (other same)
+else_unsupported (Err unsupported) e is other = cc
+
 -- a table of containers, and a writer by its fields and by its value
 module _ {W : Type 0} (tells keeps : Bool) (state : W → MediumState) (container : ℕ → ℕ → Result (List ℕ) Refusal) (may_have_moved : Bool) (limit : ℕ) (a w : WriterState W) (same : a ≡ w)
     (consistent : IsConsistent tells state a may_have_moved limit) where

@@ -2,12 +2,14 @@
 use Rattle.std.specs.Prelude.{◌≡◌, ℕ, ◌+◌, ◌≤◌, max, Bool, true, false, [], length, take, drop, Result, Ok, Err}
 use Rattle.std.specs.declared.io.Error.{Error as IoFault}
 use Rattle.hound_spec.specs.declared.error.Error.{Error}
-use Rattle.hound_spec.specs.declared.error.Error.TheVariants.{IoError}
+use Rattle.hound_spec.specs.declared.error.Error.TheVariants.{IoError, TooLong, TooWide, Unsupported}
 use Rattle.hound_spec.specs.Header.{riff_size}
 use Rattle.hound_medium.specs.State.{MediumState, WhereTells, WhereKeeps, faults_after}
 use Rattle.hound_medium.specs.Spans.{Span}
 use Rattle.hound_writer.specs.Accepting.{AddsAtEach}
 use Rattle.hound_writer.specs.Parts.{IsStanding}
+use Rattle.hound_writer.specs.declared.outcome.Outcome.{Outcome}
+use Rattle.hound_writer.specs.declared.outcome.Outcome.TheVariants.{Accepted, OutOfRange, WrongPair, NoRoom, Failed}
 use Rattle.hound_writer.specs.Writer.{WriterState, IsSound, IsWhole, IsCounted, accepted_samples, data_length, data_end}
 
 -- Ok where all went out, else an Err
@@ -15,14 +17,18 @@ abbrev pub all_out : Bool → Result (Unit {0}) (Unit {0})
 all_out true = Ok tt
 all_out false = Err tt
 
--- P of the answer of a call that was done, or that kept a fault of the medium aside
-abbrev pub OnDone : Bool → (Result (Unit {0}) Error → Type 0) → Type 0
-OnDone true P = P (Ok tt)
-OnDone false P = (fault : IoFault) → P (Err (IoError fault))
+-- the answer of a call that was done, or else kept this fault of the medium aside
+abbrev pub or_fault : Bool → IoFault → Result (Unit {0}) Error
+or_fault true fault = Ok tt
+or_fault false fault = Err (IoError fault)
 
--- an answer that is a fault of the medium
-abbrev pub IsFault : Result (Unit {0}) Error → Type 0
-IsFault answer = (fault : IoFault) × (answer ≡ Err (IoError fault))
+-- the answer to a sample that this became of, where this fault was kept aside
+abbrev pub answer_of : Outcome → IoFault → Result (Unit {0}) Error
+answer_of Accepted fault = Ok tt
+answer_of OutOfRange fault = Err TooWide
+answer_of WrongPair fault = Err Unsupported
+answer_of NoRoom fault = Err TooLong
+answer_of Failed fault = Err (IoError fault)
 
 -- a writer over this medium once what waited is out, or else as it was
 abbrev pub after_out : {W : Type 0} → Bool → W → WriterState W → WriterState W

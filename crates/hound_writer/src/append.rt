@@ -7,7 +7,7 @@ ghost use Rattle.hound_writer.specs.Appending.{Appends, IsNotAppended, FailsChec
 ghost use Rattle.hound_reader.specs.Refusals.{Names};
 
 use crate::WavWriter;
-use crate::write::riff_size;
+use crate::output::riff_size;
 use hound_medium::{Medium, Source};
 use hound_reader::{Cause, FileHead, HeadError, Reason, error_of, find_data};
 use hound_spec::{Error, Result, is_pair};

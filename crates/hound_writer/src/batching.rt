@@ -10,14 +10,16 @@ ghost use Rattle.hound_writer.specs.Batch.{IsSameFile, written, left, batch_writ
 ghost use Rattle.hound_writer.specs.Room.{IsSixteen};
 ghost use Rattle.hound_writer.specs.Writer.{HasRoom};
 
+use crate::output::Output;
 use crate::{SampleWriter16, WavWriter};
 use hound_medium::Medium;
 use hound_number::le_i16;
 use hound_sample::Sample;
 use hound_spec::{Error, Result};
 use std::alloc::Global;
+use std::io;
 
-impl<W: Medium> WavWriter<W> {
+impl<W: Medium> Output<W> {
     // Has memory for so many bytes.
     fn keep(&mut self, alloc: Global, num_bytes: usize) -> Result<()>
         ensures stays { self.new ≡ record self.old { buffer = self.new.buffer } }
@@ -58,7 +60,7 @@ fn store(buffer: &mut Vec<u8>, index: usize, pair: [u8; 2])
     buffer[index..index + 2].copy_from_slice(&pair);
 }
 
-impl<W: Medium> WavWriter<W> {
+impl<W: Medium> Output<W> {
     // Puts a sample of sixteen bits into the batch.
     #[inline(always)]
     fn write_in_batch(&mut self, value: i16)
@@ -82,6 +84,32 @@ impl<W: Medium> WavWriter<W> {
         ((self.batch_length - self.batch_written) / 2) as u32
     }
 
+    // Accepts all samples of the batch, or none of them.
+    fn accept_batch(&mut self, fault: &mut io::Error) -> Result<()>
+        requires { left self.old ≡ 0 }
+        ensures accepts { Accepts W.tells W.keeps W.state false
+            (Ok (containers self.old.spec_ex.bytes_per_sample (length (written self.old) / self.old.spec_ex.bytes_per_sample) (written self.old)))
+            result self.old self.new }
+        ensures buffer { self.new.buffer ≡ self.old.buffer }
+    {
+        let num_bytes = self.batch_length;
+        if !self.has_room(num_bytes as u64) {
+            return Err(Error::TooLong);
+        }
+        self.batch_length = 0; // it is over, whatever becomes of it
+        self.batch_written = 0;
+        match self.buffer.take() {
+            Some(buffer) => {
+                let accepted = self.accept_all(&buffer[..num_bytes], fault);
+                self.buffer = Some(buffer);
+                accepted
+            }
+            None => self.accept_all(&[], fault),
+        }
+    }
+}
+
+impl<W: Medium> WavWriter<W> {
     /// A batch of so many samples of sixteen bits, which are accepted by one call. They are samples,
     /// not frames: the channels of a frame follow one another.
     ///
@@ -106,37 +134,13 @@ impl<W: Medium> WavWriter<W> {
         ensures kept { IfOk result (λ batch. length (batch_writer batch).buffer ≡ max (length self.old.buffer) (2 * num_samples)) }
     {
         let num_bytes = num_samples as u64 * 2;
-        if !self.has_room(num_bytes) {
+        if !self.output.has_room(num_bytes) {
             return Err(Error::TooLong);
         }
-        self.keep(alloc, num_bytes as usize)?;
-        self.batch_length = num_bytes as usize;
-        self.batch_written = 0;
+        self.output.keep(alloc, num_bytes as usize)?;
+        self.output.batch_length = num_bytes as usize;
+        self.output.batch_written = 0;
         Ok(SampleWriter16 { parent: self })
-    }
-
-    // Accepts all samples of the batch, or none of them.
-    fn accept_batch(&mut self) -> Result<()>
-        requires { left self.old ≡ 0 }
-        ensures accepts { Accepts W.tells W.keeps W.state false
-            (Ok (containers self.old.spec_ex.bytes_per_sample (length (written self.old) / self.old.spec_ex.bytes_per_sample) (written self.old)))
-            result self.old self.new }
-        ensures buffer { self.new.buffer ≡ self.old.buffer }
-    {
-        let num_bytes = self.batch_length;
-        if !self.has_room(num_bytes as u64) {
-            return Err(Error::TooLong);
-        }
-        self.batch_length = 0; // it is over, whatever becomes of it
-        self.batch_written = 0;
-        match self.buffer.take() {
-            Some(buffer) => {
-                let accepted = self.accept_all(&buffer[..num_bytes]);
-                self.buffer = Some(buffer);
-                accepted
-            }
-            None => self.accept_all(&[]),
-        }
     }
 }
 
@@ -154,7 +158,8 @@ impl<'parent, W: Medium> SampleWriter16<'parent, W> {
         ensures stays { IsSameFile (batch_writer self.old) (batch_writer self.new) }
         ensures kept { length (batch_writer self.new).buffer ≡ length (batch_writer self.old).buffer }
     {
-        self.parent.write_in_batch(sample.as_i16());
+        let parent = &mut *self.parent;
+        parent.output.write_in_batch(sample.as_i16());
     }
 
     /// Does what [`SampleWriter16::write_sample`] does, which is safe and checks nothing.
@@ -175,7 +180,8 @@ impl<'parent, W: Medium> SampleWriter16<'parent, W> {
     pub fn remaining(&self) -> u32
         ensures { result ≡ remaining self.now }
     {
-        self.parent.left_in_batch()
+        let parent = &*self.parent;
+        parent.output.left_in_batch()
     }
 
     /// Accepts all samples of a batch that is full, or none of them.
@@ -190,6 +196,6 @@ impl<'parent, W: Medium> SampleWriter16<'parent, W> {
         ensures buffer { self.exit.0.now.buffer ≡ (batch_writer self.entry).buffer }
     {
         let SampleWriter16 { parent } = self;
-        parent.accept_batch()
+        parent.output.accept_batch(&mut parent.fault)
     }
 }

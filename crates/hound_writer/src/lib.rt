@@ -7,6 +7,8 @@ mod batching;
 mod block;
 mod file;
 mod laws;
+mod outcome;
+mod output;
 mod patch;
 mod write;
 

@@ -1,0 +1,413 @@
+// The file that a writer puts out.
+ghost use Rattle.std.specs.Prelude.{◌≡◌, ◌+◌, ◌^◌, ◌≤◌, IsTrue};
+ghost use Rattle.hound_spec.specs.Header.{riff_size};
+ghost use Rattle.hound_writer.specs.Block.{IsLimit};
+ghost use Rattle.hound_writer.specs.Parts.{IsTold};
+
+use crate::block::{BLOCK_LENGTH, Block};
+use crate::outcome::Outcome;
+use crate::patch::{patch, put_at_end};
+use hound_medium::Medium;
+use hound_sample::Sample;
+use hound_spec::{Error, Result, WavSpec, WavSpecEx};
+use std::io;
+use std::marker::Model;
+
+/// A file that is being written: what a writer has, but for the fault that is kept aside.
+///
+/// Up to 4096 bytes of accepted samples wait in it. They go out when no more fit, and before the
+/// sizes are put. Where the medium fails meanwhile all of them go on waiting, and go out again from
+/// the first one on.
+#[derive(Drop)]
+pub(crate) struct Output<W: Medium> {
+    // The properties of the audio data, and the bytes of a container.
+    spec_ex: WavSpecEx,
+
+    // The medium that the file goes to.
+    writer: W,
+
+    // The place of the first data byte.
+    data_start: u64,
+
+    // The bytes of the accepted samples that are out.
+    data_bytes_written: u32,
+
+    // Whether the medium may stand elsewhere than after these.
+    may_have_moved: bool,
+
+    // The accepted samples that wait, which go out after these.
+    block: Block,
+
+    // Below so many waiting bytes there is room for a sample, in the block and in the file.
+    limit: usize,
+
+    // The memory that batches use, which is kept for later ones.
+    pub(crate) buffer: Option<Vec<u8>>,
+
+    // The bytes of the batch that was begun last.
+    pub(crate) batch_length: usize,
+
+    // The bytes of its samples that were written.
+    pub(crate) batch_written: usize,
+}
+
+impl<W: Medium> Model for Output<W> {
+    ghost use Rattle.hound_writer.specs.Writer.{WriterState};
+    ghost use Rattle.hound_writer.specs.Fields.{IsConsistent, of_fields, bytes_kept};
+
+    ghost Value = { WriterState W };
+
+    ghost view = { λ w. of_fields w.writer w.spec_ex w.data_start w.data_bytes_written w.block
+        (bytes_kept (λ buffer. buffer.items) w.buffer) w.batch_length w.batch_written };
+
+    ghost invariant = { λ w. IsConsistent W.tells W.state (of_fields w.writer w.spec_ex w.data_start w.data_bytes_written w.block
+        (bytes_kept (λ buffer. buffer.items) w.buffer) w.batch_length w.batch_written) w.may_have_moved w.limit };
+}
+
+/// The RIFF size of a file whose data begin here and are so many bytes.
+#[inline(always)]
+pub(crate) fn riff_size(data_start: u64, data_length: u64) -> u64
+    requires behind { 8 ≤ data_start }
+    requires small { data_start ≤ 2 ^ 33 }
+    requires few { data_length ≤ 2 ^ 34 }
+    ensures { result ≡ riff_size data_start data_length }
+{
+    data_start - 8 + data_length
+}
+
+// Below how many waiting bytes a block has room for a sample of any width, where so many bytes are
+// out: 0 where the RIFF size may not fit a whole block more.
+fn limit_of(data_start: u64, data_bytes_written: u32) -> usize
+    requires behind { 8 ≤ data_start }
+    requires small { data_start ≤ 2 ^ 33 }
+    ensures room { IsLimit data_start data_bytes_written result }
+{
+    let size = riff_size(data_start, data_bytes_written as u64 + BLOCK_LENGTH as u64);
+    if size <= u32::MAX as u64 {
+        BLOCK_LENGTH - 3
+    } else {
+        0
+    }
+}
+
+// What a call answers that has patched the header, or met a fault.
+fn told(patched: io::Result<()>, are_frames: bool) -> Result<()>
+    ensures { IsTold patched are_frames result }
+{
+    patched?;
+    if !are_frames {
+        return Err(Error::UnfinishedSample);
+    }
+    Ok(())
+}
+
+impl<W: Medium> Output<W> {
+    ghost use Rattle.std.specs.Prelude.{◌≡◌, ◌+◌, ◌-◌, ◌/◌, ◌%◌, ◌≤◌, ◌^◌, ◌↔◌, [], false, IsTrue, Ok, IfErr, OnOk, length, take};
+    ghost use Rattle.hound_spec.specs.Header.{riff_size};
+    ghost use Rattle.hound_sample.specs.Container.{containers};
+    ghost use Rattle.hound_medium.specs.State.{Goes, WhereTells, WhereKeeps};
+    ghost use Rattle.hound_writer.specs.Accepting.{Accepts};
+    ghost use Rattle.hound_writer.specs.Answers.{IsIoError, one};
+    ghost use Rattle.hound_writer.specs.Block.{GoesOut, answer_of, or_fault};
+    ghost use Rattle.hound_writer.specs.Fields.{of_fields};
+    ghost use Rattle.hound_writer.specs.Parts.{IsStanding, Patches, PatchesAtEach};
+    ghost use Rattle.hound_writer.specs.Publishing.{Checkpoints, Finishes};
+    ghost use Rattle.hound_writer.specs.Writer.{AreFrames, HasRoom, IsSound, IsWhole, IsCounted, data_length, sample_count};
+
+    /// A file whose data begin here and have so many bytes, after which its medium stands.
+    pub(crate) fn at_end(
+        writer: W,
+        spec_ex: WavSpecEx,
+        data_start: u64,
+        data_length: u32,
+    ) -> Output<W>
+        requires sound { IsSound (of_fields writer spec_ex data_start data_length [] [] 0 0) }
+        requires stands { WhereTells W.tells (IsStanding spec_ex data_start data_length (W.state writer).contents) }
+        requires place { WhereTells W.tells ((W.state writer).place ≡ data_start + data_length) }
+        ensures { result ≡ of_fields writer spec_ex data_start data_length [] [] 0 0 }
+    {
+        Output {
+            spec_ex,
+            writer,
+            data_start,
+            data_bytes_written: data_length,
+            may_have_moved: false,
+            block: Block::new(),
+            limit: limit_of(data_start, data_length),
+            buffer: None,
+            batch_length: 0,
+            batch_written: 0,
+        }
+    }
+
+    /// Whether so many more bytes leave the RIFF size within 32 bits.
+    #[inline(always)]
+    pub(crate) fn has_room(&self, more: u64) -> bool
+        requires { more ≤ 2 ^ 33 }
+        ensures room { IsTrue result ↔ HasRoom self.now more }
+        ensures counts { WhereTells W.tells (IsWhole W.state self.now → IsCounted W.state self.now) }
+    {
+        riff_size(self.data_start, self.data_length() as u64 + more) <= u32::MAX as u64
+    }
+
+    // How many bytes the accepted samples have.
+    #[inline(always)]
+    fn data_length(&self) -> u32
+        ensures { result ≡ data_length self.now }
+    {
+        self.data_bytes_written + self.block.len() as u32
+    }
+
+    // Puts out what waits, and keeps a fault aside: then all of it goes on waiting.
+    #[inline(never)]
+    fn put_block(&mut self, fault: &mut io::Error) -> bool
+        ensures { GoesOut W.tells W.keeps W.state result self.old self.new }
+    {
+        if self.block.len() == 0 {
+            return true;
+        }
+        let end = self.data_start + self.data_bytes_written as u64;
+        let bytes = self.block.as_slice();
+        if !put_at_end(
+            &mut self.writer,
+            &mut self.may_have_moved,
+            fault,
+            end,
+            bytes,
+        ) {
+            return false;
+        }
+        self.data_bytes_written += self.block.len() as u32;
+        self.block.clear();
+        self.limit = limit_of(self.data_start, self.data_bytes_written);
+        true
+    }
+
+    // Puts out whole containers that nothing waits before, and accepts them once they are out.
+    fn accept_at_once(&mut self, bytes: &[u8], fault: &mut io::Error) -> bool
+        requires room { HasRoom self.old (length bytes.now) }
+        requires whole { length bytes.now % self.old.spec_ex.bytes_per_sample ≡ 0 }
+        requires none_waits { self.old.waiting ≡ [] }
+        ensures accepts { Accepts W.tells W.keeps W.state false
+            (Ok (containers self.old.spec_ex.bytes_per_sample (length bytes.now / self.old.spec_ex.bytes_per_sample) bytes.now)) (or_fault result fault.new) self.old self.new }
+        ensures buffer { self.new.buffer ≡ self.old.buffer }
+    {
+        let end = self.data_start + self.data_bytes_written as u64;
+        if !put_at_end(
+            &mut self.writer,
+            &mut self.may_have_moved,
+            fault,
+            end,
+            bytes,
+        ) {
+            return false;
+        }
+        self.data_bytes_written += bytes.len() as u32;
+        self.limit = limit_of(self.data_start, self.data_bytes_written);
+        true
+    }
+
+    // Accepts whole containers that the block has room for.
+    fn accept_in_block(&mut self, bytes: &[u8])
+        requires room { HasRoom self.old (length bytes.now) }
+        requires whole { length bytes.now % self.old.spec_ex.bytes_per_sample ≡ 0 }
+        requires few { length self.old.waiting + length bytes.now ≤ 4096 }
+        ensures accepts { Accepts W.tells W.keeps W.state false
+            (Ok (containers self.old.spec_ex.bytes_per_sample (length bytes.now / self.old.spec_ex.bytes_per_sample) bytes.now)) (Ok tt) self.old self.new }
+        ensures buffer { self.new.buffer ≡ self.old.buffer }
+    {
+        self.block.extend(bytes);
+    }
+
+    // Accepts whole containers: in the block, which goes out first where it has no room for them. A
+    // fault is kept aside, and none of them is accepted.
+    fn accept(&mut self, bytes: &[u8], fault: &mut io::Error) -> bool
+        requires room { HasRoom self.old (length bytes.now) }
+        requires whole { length bytes.now % self.old.spec_ex.bytes_per_sample ≡ 0 }
+        ensures accepts { Accepts W.tells W.keeps W.state false
+            (Ok (containers self.old.spec_ex.bytes_per_sample (length bytes.now / self.old.spec_ex.bytes_per_sample) bytes.now)) (or_fault result fault.new) self.old self.new }
+        ensures buffer { self.new.buffer ≡ self.old.buffer }
+    {
+        if bytes.len() <= BLOCK_LENGTH - self.block.len() {
+            self.accept_in_block(bytes);
+            return true;
+        }
+        if !self.put_block(fault) {
+            return false;
+        }
+        if bytes.len() > BLOCK_LENGTH {
+            return self.accept_at_once(bytes, fault);
+        }
+        self.accept_in_block(bytes);
+        true
+    }
+
+    /// Accepts whole containers, all of them or none.
+    pub(crate) fn accept_all(&mut self, bytes: &[u8], fault: &mut io::Error) -> Result<()>
+        requires room { HasRoom self.old (length bytes.now) }
+        requires whole { length bytes.now % self.old.spec_ex.bytes_per_sample ≡ 0 }
+        ensures accepts { Accepts W.tells W.keeps W.state false
+            (Ok (containers self.old.spec_ex.bytes_per_sample (length bytes.now / self.old.spec_ex.bytes_per_sample) bytes.now)) result self.old self.new }
+        ensures failed { IfErr result IsIoError }
+        ensures buffer { self.new.buffer ≡ self.old.buffer }
+    {
+        if self.accept(bytes, fault) {
+            return Ok(());
+        }
+        Err(Error::IoError(*fault))
+    }
+
+    // Accepts a container where the block, or the file, may have no room for it.
+    #[cold]
+    #[inline(never)]
+    fn accept_slowly(&mut self, container: [u8; 4], fault: &mut io::Error) -> Outcome
+        ensures accepts { let bytes = take self.old.spec_ex.bytes_per_sample container in Accepts W.tells W.keeps W.state false
+            (Ok (containers self.old.spec_ex.bytes_per_sample (length bytes / self.old.spec_ex.bytes_per_sample) bytes)) (answer_of result fault.new) self.old self.new }
+        ensures buffer { self.new.buffer ≡ self.old.buffer }
+    {
+        let width = self.spec_ex.bytes_per_sample;
+        if !self.has_room(width as u64) {
+            return Outcome::NoRoom;
+        }
+        if !self.accept(&container[..width as usize], fault) {
+            return Outcome::Failed;
+        }
+        Outcome::Accepted
+    }
+
+    /// Accepts a sample, or says why it doesn't, and keeps a fault aside.
+    #[inline(always)]
+    pub(crate) fn accept_sample<S: Sample>(&mut self, sample: S, fault: &mut io::Error) -> Outcome
+        ensures accepts { Accepts W.tells W.keeps W.state false
+            (one (S.container sample self.old.spec_ex.spec.bits_per_sample self.old.spec_ex.bytes_per_sample)) (answer_of result fault.new) self.old self.new }
+        ensures buffer { self.new.buffer ≡ self.old.buffer }
+    {
+        let width = self.spec_ex.bytes_per_sample;
+        match sample.encode(self.spec_ex.spec.bits_per_sample, width) {
+            Ok(container) => {
+                if self.block.len() < self.limit {
+                    self.block.push(container, width as usize);
+                    return Outcome::Accepted;
+                }
+                self.accept_slowly(container, fault)
+            }
+            Err(refusal) => match refusal {
+                Error::TooWide => Outcome::OutOfRange,
+                _ => Outcome::WrongPair,
+            },
+        }
+    }
+
+    // Whether the accepted samples are whole frames.
+    fn are_frames(&self) -> bool
+        ensures { IsTrue result ↔ AreFrames self.now }
+    {
+        self.len() % self.spec_ex.spec.channels as u32 == 0
+    }
+
+    // Puts both sizes, once nothing waits, and flushes the medium, which then stands where the data
+    // begin.
+    fn publish(&mut self) -> io::Result<()>
+        requires { self.old.waiting ≡ [] }
+        ensures stays { self.new ≡ record self.old { medium = self.new.medium } }
+        ensures sound { IsSound self.old }
+        ensures stands { WhereTells W.tells (IsStanding self.old.spec_ex self.old.data_start self.old.out (W.state self.old.medium).contents) }
+        ensures patches { WhereTells W.tells (Patches (self.old.data_start - 4) (riff_size self.old.data_start self.old.out) self.old.out result
+            (W.state self.old.medium) (W.state self.new.medium)) }
+        ensures place { WhereTells W.tells (OnOk result ((W.state self.new.medium).place ≡ self.old.data_start)) }
+        ensures moments { WhereKeeps W.tells W.keeps (PatchesAtEach (self.old.data_start - 4) self.old.out result (W.state self.old.medium) (W.state self.new.medium)) }
+    {
+        self.may_have_moved = true;
+        let riff_size = riff_size(self.data_start, self.data_bytes_written as u64) as u32;
+        patch(
+            &mut self.writer,
+            self.data_start - 4,
+            riff_size,
+            self.data_bytes_written,
+        )
+    }
+
+    // Goes to the end of the accepted samples that are out.
+    fn go_to_end(&mut self) -> io::Result<()>
+        ensures stays { self.new ≡ record self.old { medium = self.new.medium } }
+        ensures goes { WhereTells W.tells (Goes (self.old.data_start + self.old.out) result (W.state self.old.medium) (W.state self.new.medium)) }
+    {
+        self.writer
+            .go(self.data_start + self.data_bytes_written as u64)?;
+        self.may_have_moved = false;
+        Ok(())
+    }
+
+    // Publishes, and goes back to the end of the accepted samples.
+    fn publish_and_return(&mut self) -> io::Result<()>
+        requires { self.old.waiting ≡ [] }
+        ensures stays { self.new ≡ record self.old { medium = self.new.medium } }
+        ensures sound { IsSound self.old }
+        ensures stands { WhereTells W.tells (IsStanding self.old.spec_ex self.old.data_start self.old.out (W.state self.old.medium).contents) }
+        ensures patches { WhereTells W.tells (Patches (self.old.data_start - 4) (riff_size self.old.data_start self.old.out) self.old.out result
+            (W.state self.old.medium) (W.state self.new.medium)) }
+        ensures moments { WhereKeeps W.tells W.keeps (PatchesAtEach (self.old.data_start - 4) self.old.out result (W.state self.old.medium) (W.state self.new.medium)) }
+    {
+        self.publish()?;
+        self.go_to_end()
+    }
+
+    /// Publishes, and goes on.
+    pub(crate) fn flush(&mut self, fault: &mut io::Error) -> Result<()>
+        ensures { Checkpoints W.tells W.keeps W.state result self.old self.new }
+    {
+        if !self.put_block(fault) {
+            return Err(Error::IoError(*fault));
+        }
+        let published = self.publish_and_return();
+        told(published, self.are_frames())
+    }
+
+    /// Publishes for the last time.
+    pub(crate) fn finish(&mut self, fault: &mut io::Error) -> Result<()>
+        ensures { Finishes W.tells W.keeps W.state self.old result self.new.medium }
+    {
+        if !self.put_block(fault) {
+            return Err(Error::IoError(*fault));
+        }
+        let published = self.publish();
+        told(published, self.are_frames())
+    }
+
+    /// The medium, of which nothing more is wanted.
+    pub(crate) fn into_medium(self) -> W
+        ensures { result ≡ self.medium }
+    {
+        let Output {
+            spec_ex: _,
+            writer,
+            data_start: _,
+            data_bytes_written: _,
+            may_have_moved: _,
+            block: _,
+            limit: _,
+            buffer: _,
+            batch_length: _,
+            batch_written: _,
+        } = self;
+        writer
+    }
+
+    /// The spec that the file was begun with.
+    pub(crate) fn spec(&self) -> WavSpec
+        ensures spec { result ≡ self.now.spec_ex.spec }
+        ensures sound { IsSound self.now }
+        ensures counts { WhereTells W.tells (IsWhole W.state self.now → IsCounted W.state self.now) }
+    {
+        self.spec_ex.spec
+    }
+
+    /// How many samples were accepted.
+    pub(crate) fn len(&self) -> u32
+        ensures samples { result ≡ sample_count self.now }
+        ensures sound { IsSound self.now }
+        ensures counts { WhereTells W.tells (IsWhole W.state self.now → IsCounted W.state self.now) }
+    {
+        self.data_length() / self.spec_ex.bytes_per_sample as u32
+    }
+}
