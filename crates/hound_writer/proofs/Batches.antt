@@ -8,11 +8,12 @@ use Rattle.hound_writer.proofs.Containers.{none_whole}
 
 module _ {W : Type 0} (w : WriterState W) (batch : HasBatch w) where
   pub length-written : length (written w) ≡ w.batch_written
-  length-written = length-take-le w.batch_written w.buffer (omega (arith, batch.written, batch.memory))
+  length-written = length-take-le w.batch_written w.buffer (omega (arith, batch.memory))
 
-  -- once all samples of it are written they are whole containers
-  pub batch_whole : w.batch_written ≡ w.batch_length → length (written w) % w.spec_ex.bytes_per_sample ≡ 0
-  batch_whole full = elim batch.width [
-    | inl none ↦ ap (λ n. n % w.spec_ex.bytes_per_sample) (length-written ∙ full ∙ none) ∙ none_whole w.spec_ex.bytes_per_sample
+  -- the samples that are written are whole containers
+  pub batch_whole : length (written w) % w.spec_ex.bytes_per_sample ≡ 0
+  batch_whole = elim batch.width [
+    | inl none ↦ let zero : w.batch_written ≡ 0 = omega (arith, none) in
+        ap (λ n. n % w.spec_ex.bytes_per_sample) (length-written ∙ zero) ∙ none_whole w.spec_ex.bytes_per_sample
     | inr two ↦ (λ i. length-written i % two i) ∙ batch.whole
   ]

@@ -38,8 +38,6 @@ pub batch_none : {W : Type 0} (medium : W) (s : WavSpecEx) (start out : ℕ) (bu
 batch_none medium s start out buffer = record {
   small = omega arith;
   memory = omega arith;
-  written = omega arith;
-  samples = refl;
   whole = refl;
   width = inl refl;
 }

@@ -49,7 +49,7 @@ module _ {W : Type 0} (tells keeps : Bool) (state : W → MediumState) (w : Writ
       let b = known.batch in
       record {
         sound = sound_longer;
-        batch = record { small = b.small; memory = b.memory; written = b.written; samples = b.samples; whole = b.whole; width = b.width };
+        batch = record { small = b.small; memory = b.memory; whole = b.whole; width = b.width };
         whole_out = known.whole_out;
         whole_waiting = ap (λ n. n % width) (length-append w.waiting bytes) ∙ whole_more (length w.waiting) (length bytes) width known.whole_waiting whole_bytes;
         block = omega (arith, few, length-append w.waiting bytes);
@@ -212,7 +212,7 @@ module _ {W : Type 0} (tells keeps : Bool) (state : W → MediumState) (w : Writ
       let b = known.batch in
       record {
         sound = sound_out;
-        batch = record { small = b.small; memory = b.memory; written = b.written; samples = b.samples; whole = b.whole; width = b.width };
+        batch = record { small = b.small; memory = b.memory; whole = b.whole; width = b.width };
         whole_out = known.sound.whole;
         whole_waiting = none_whole wide;
         block = omega arith;
@@ -273,7 +273,7 @@ module _ {W : Type 0} (tells keeps : Bool) (state : W → MediumState) (w : Writ
       let b = known.batch in
       record {
         sound = sound_more tells keeps state w none known.sound known.stands m bytes room whole;
-        batch = record { small = b.small; memory = b.memory; written = b.written; samples = b.samples; whole = b.whole; width = b.width };
+        batch = record { small = b.small; memory = b.memory; whole = b.whole; width = b.width };
         whole_out = whole_more w.out (length bytes) w.spec_ex.bytes_per_sample known.whole_out whole;
         whole_waiting = known.whole_waiting;
         block = known.block;

@@ -19,7 +19,7 @@ consistent_moved tells state w m moved limit known stands =
     let s = known.sound in
     record {
       sound = record { pair = s.pair; channels = s.channels; width = s.width; whole = s.whole; after_head = s.after_head; fits = s.fits };
-      batch = record { small = b.small; memory = b.memory; written = b.written; samples = b.samples; whole = b.whole; width = b.width };
+      batch = record { small = b.small; memory = b.memory; whole = b.whole; width = b.width };
       whole_out = known.whole_out;
       whole_waiting = known.whole_waiting;
       block = known.block;

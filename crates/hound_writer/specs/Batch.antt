@@ -1,5 +1,5 @@
 -- What contracts see of a batch of samples of sixteen bits.
-use Rattle.std.specs.Prelude.{◌≡◌, ◌-◌, ◌/◌, ℕ, List, take}
+use Rattle.std.specs.Prelude.{◌≡◌, ℕ, List, take}
 use Rattle.std.specs.Borrow.{GName}
 use Rattle.hound_writer.specs.Writer.{WriterState}
 use Rattle.hound_writer.specs.declared.batch.SampleWriter16.{SampleWriter16}
@@ -10,7 +10,7 @@ written w = take w.batch_written w.buffer
 
 -- how many samples are still to be written to it
 abbrev pub left : {W : Type 0} → WriterState W → ℕ
-left w = (w.batch_length - w.batch_written) / 2
+left w = w.batch_left
 
 -- a writer of the same file: its medium and what was accepted are the same
 pub record IsSameFile {W : Type 0} (old new : WriterState W) : Type 0 where

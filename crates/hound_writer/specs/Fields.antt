@@ -9,14 +9,14 @@ use Rattle.hound_writer.specs.Writer.{WriterState, IsSound}
 
 -- the value of a writer's fields
 abbrev pub of_fields : {W : Type 0} → W → WavSpecEx → ℕ → ℕ → List ℕ → List ℕ → ℕ → ℕ → WriterState W
-of_fields medium spec_ex start out waiting buffer length_is written_is = record {
+of_fields medium spec_ex start out waiting buffer left_is written_is = record {
   medium = medium;
   spec_ex = spec_ex;
   data_start = start;
   out = out;
   waiting = waiting;
   buffer = buffer;
-  batch_length = length_is;
+  batch_left = left_is;
   batch_written = written_is;
 }
 

@@ -9,8 +9,8 @@ use Rattle.hound_medium.specs.State.{MediumState}
 use Rattle.hound_writer.specs.Counts.{Counts}
 
 -- A writer: its medium, the spec, the place of the first data byte, how many bytes of the accepted samples are out, and
--- the others, which wait in the writer. Then the memory that it keeps for batches, how many bytes of it the batch has
--- that was begun last, and how many of these are written.
+-- the others, which wait in the writer. Then the memory that it keeps for batches, and of the batch that was begun last
+-- how many samples are still to be written and how many bytes are.
 pub record WriterState (W : Type 0) : Type 0 where
   pub medium : W
   pub spec_ex : WavSpecEx
@@ -18,7 +18,7 @@ pub record WriterState (W : Type 0) : Type 0 where
   pub out : ℕ
   pub waiting : List ℕ
   pub buffer : List ℕ
-  pub batch_length : ℕ
+  pub batch_left : ℕ
   pub batch_written : ℕ
 
 -- how many bytes were accepted

@@ -1,5 +1,5 @@
 // What is done with batches.
-ghost use Rattle.std.specs.Prelude.{◌≡◌, ◌+◌, ◌*◌, ◌/◌, ◌≤◌, ◌<◌, ◌++◌, max, [], length, take, IfOk, IfErr, OnOk, Ok, Err, false};
+ghost use Rattle.std.specs.Prelude.{◌≡◌, ◌+◌, ◌-◌, ◌*◌, ◌/◌, ◌≤◌, ◌<◌, ◌++◌, max, [], length, take, IfOk, IfErr, OnOk, Ok, Err, false};
 ghost use Rattle.std.specs.Borrow.{sem, RestsIfErr};
 ghost use Rattle.hound_number.specs.Number.{signed_bytes_of};
 ghost use Rattle.hound_spec.specs.declared.error.Error.TheVariants.{OutOfMemory, TooLong};
@@ -65,11 +65,12 @@ impl<W: Medium> Output<W> {
     #[inline(always)]
     fn write_in_batch(&mut self, value: i16)
         requires { 1 ≤ left self.old }
-        ensures stays { self.new ≡ record self.old { buffer = self.new.buffer; batch_written = self.old.batch_written + 2 } }
+        ensures stays { self.new ≡ record self.old { buffer = self.new.buffer; batch_left = self.old.batch_left - 1; batch_written = self.old.batch_written + 2 } }
         ensures written { written self.new ≡ written self.old ++ signed_bytes_of 2 value }
         ensures kept { length self.new.buffer ≡ length self.old.buffer }
     {
         let index = self.batch_written;
+        self.batch_left -= 1;
         self.batch_written = index + 2;
         if let Some(buffer) = &mut self.buffer {
             store(buffer, index, le_i16(value));
@@ -81,7 +82,7 @@ impl<W: Medium> Output<W> {
     fn left_in_batch(&self) -> u32
         ensures { result ≡ left self.now }
     {
-        ((self.batch_length - self.batch_written) / 2) as u32
+        self.batch_left
     }
 
     // Accepts all samples of the batch, or none of them.
@@ -92,12 +93,11 @@ impl<W: Medium> Output<W> {
             result self.old self.new }
         ensures buffer { self.new.buffer ≡ self.old.buffer }
     {
-        let num_bytes = self.batch_length;
+        let num_bytes = self.batch_written;
         if !self.has_room(num_bytes as u64) {
             return Err(Error::TooLong);
         }
-        self.batch_length = 0; // it is over, whatever becomes of it
-        self.batch_written = 0;
+        self.batch_written = 0; // it is over, whatever becomes of it
         match self.buffer.take() {
             Some(buffer) => {
                 let accepted = self.accept_all(&buffer[..num_bytes], fault);
@@ -138,7 +138,7 @@ impl<W: Medium> WavWriter<W> {
             return Err(Error::TooLong);
         }
         self.output.keep(alloc, num_bytes as usize)?;
-        self.output.batch_length = num_bytes as usize;
+        self.output.batch_left = num_samples;
         self.output.batch_written = 0;
         Ok(SampleWriter16 { parent: self })
     }

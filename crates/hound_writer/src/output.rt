@@ -44,10 +44,10 @@ pub(crate) struct Output<W: Medium> {
     // The memory that batches use, which is kept for later ones.
     pub(crate) buffer: Option<Vec<u8>>,
 
-    // The bytes of the batch that was begun last.
-    pub(crate) batch_length: usize,
+    // How many samples are still to be written to the batch that was begun last.
+    pub(crate) batch_left: u32,
 
-    // The bytes of its samples that were written.
+    // The bytes of those that were written.
     pub(crate) batch_written: usize,
 }
 
@@ -58,10 +58,10 @@ impl<W: Medium> Model for Output<W> {
     ghost Value = { WriterState W };
 
     ghost view = { λ w. of_fields w.writer w.spec_ex w.data_start w.data_bytes_written w.block
-        (bytes_kept (λ buffer. buffer.items) w.buffer) w.batch_length w.batch_written };
+        (bytes_kept (λ buffer. buffer.items) w.buffer) w.batch_left w.batch_written };
 
     ghost invariant = { λ w. IsConsistent W.tells W.state (of_fields w.writer w.spec_ex w.data_start w.data_bytes_written w.block
-        (bytes_kept (λ buffer. buffer.items) w.buffer) w.batch_length w.batch_written) w.may_have_moved w.limit };
+        (bytes_kept (λ buffer. buffer.items) w.buffer) w.batch_left w.batch_written) w.may_have_moved w.limit };
 }
 
 /// The RIFF size of a file whose data begin here and are so many bytes.
@@ -135,7 +135,7 @@ impl<W: Medium> Output<W> {
             block: Block::new(),
             limit: limit_of(data_start, data_length),
             buffer: None,
-            batch_length: 0,
+            batch_left: 0,
             batch_written: 0,
         }
     }
@@ -387,7 +387,7 @@ impl<W: Medium> Output<W> {
             block: _,
             limit: _,
             buffer: _,
-            batch_length: _,
+            batch_left: _,
             batch_written: _,
         } = self;
         writer

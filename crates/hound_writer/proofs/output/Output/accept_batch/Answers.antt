@@ -17,10 +17,9 @@ returns-then-not-has_room-clause-accepts g c =
     let W = g.W.Placed in
     let w = c.args.self.now in
     let batch = (consistent_seen W.tells W.state _ _ _ _ _ c.self.view_is refl c.self.invariant).batch in
-    let length_is : w.batch_length ≡ c.self.inside.batch_length = ap (λ w. w.batch_length) (sym c.self.view_is) in
-    let full : w.batch_written ≡ w.batch_length = omega (arith, c.requires, batch.written, batch.samples, batch.whole) in
-    bytes_too_long W.tells W.keeps W.state w (written w) c.has_room.ensures.counts (λ tells keeps. g.met.W.Medium.replays w.medium tells keeps) (batch_whole w batch full)
-    (λ room. absurd (false≢true (sym c.if-not-has_room.true ∙ c.has_room.ensures.room.1 (omega (arith, room, length-written w batch, full, length_is)))))
+    let written_is : w.batch_written ≡ c.self.inside.batch_written = ap (λ w. w.batch_written) (sym c.self.view_is) in
+    bytes_too_long W.tells W.keeps W.state w (written w) c.has_room.ensures.counts (λ tells keeps. g.met.W.Medium.replays w.medium tells keeps) (batch_whole w batch)
+    (λ room. absurd (false≢true (sym c.if-not-has_room.true ∙ c.has_room.ensures.room.1 (omega (arith, room, length-written w batch, written_is)))))
 
 pub returns-in-Some-clause-accepts : goal.returns-in-Some-clause-accepts
 returns-in-Some-clause-accepts g c =
@@ -28,18 +27,15 @@ returns-in-Some-clause-accepts g c =
     let w = c.args.self.now in
     let items = bytes_kept (λ (b : Vec ℕ Global). b.items) in
     let kept : w.buffer ≡ c.in-Some.buffer.items = ap (λ w. w.buffer) (sym c.self.view_is) ∙ ap items (sym c.take.ensures.value ∙ c.in-Some.is) in
-    let room = c.self.invariant.batch in
-    let length_is : w.batch_length ≡ c.self.inside.batch_length = ap (λ w. w.batch_length) (sym c.self.view_is) in
     let written_is : w.batch_written ≡ c.self.inside.batch_written = ap (λ w. w.batch_written) (sym c.self.view_is) in
-    let full : c.self.inside.batch_length ≡ w.batch_written = omega (arith, c.requires, length_is, written_is, room.written, room.samples, room.whole) in
-    let bytes = take c.self.inside.batch_length c.deref.result.now in
-    let same : bytes ≡ written w = (λ i. take (full i) ((c.deref.ensures.value ∙ sym kept) i)) in
+    let bytes = take c.self.inside.batch_written c.deref.result.now in
+    let same : bytes ≡ written w = (λ i. take (sym written_is i) ((c.deref.ensures.value ∙ sym kept) i)) in
     let accept = c.accept_all-accepted in
     let i = c.self-in-Some.inside in
-    let last = of_fields i.writer i.spec_ex i.data_start i.data_bytes_written i.block (items i.buffer) i.batch_length i.batch_written in
+    let last = of_fields i.writer i.spec_ex i.data_start i.data_bytes_written i.block (items i.buffer) i.batch_left i.batch_written in
     subst (λ l. Accepts W.tells W.keeps W.state false (Ok (containers w.spec_ex.bytes_per_sample (length l / w.spec_ex.bytes_per_sample) l)) accept.result w (record last { buffer = c.in-Some.buffer.items })) same
-    (accepts_swapped W.tells W.keeps W.state false (λ v. Ok (containers v.spec_ex.bytes_per_sample (length bytes / v.spec_ex.bytes_per_sample) bytes)) accept.result _ w last accept.new.self (items c.take.new.self) c.in-Some.buffer.items 0 0 i.batch_length i.batch_written
-    accept.ensures.failed (let e : length w.buffer ≡ length c.in-Some.buffer.items = ap length kept in omega (arith, e)) refl (ap (λ (v : WriterState _). record v { buffer = items c.take.new.self; batch_length = 0; batch_written = 0 }) c.self.view_is) c.self-in-Some.view_is accept.ensures.accepts)
+    (accepts_swapped W.tells W.keeps W.state false (λ v. Ok (containers v.spec_ex.bytes_per_sample (length bytes / v.spec_ex.bytes_per_sample) bytes)) accept.result _ w last accept.new.self (items c.take.new.self) c.in-Some.buffer.items w.batch_left 0 i.batch_left i.batch_written
+    accept.ensures.failed (let e : length w.buffer ≡ length c.in-Some.buffer.items = ap length kept in omega (arith, e)) refl (ap (λ (v : WriterState _). record v { buffer = items c.take.new.self; batch_written = 0 }) c.self.view_is) c.self-in-Some.view_is accept.ensures.accepts)
 
 pub returns-in-None-clause-accepts : goal.returns-in-None-clause-accepts
 returns-in-None-clause-accepts g c =
@@ -51,5 +47,5 @@ returns-in-None-clause-accepts g c =
     let accept = c.accept_all in
     let new = accept.new.self in
     subst (λ l. Accepts W.tells W.keeps W.state false (Ok (containers w.spec_ex.bytes_per_sample (length l / w.spec_ex.bytes_per_sample) l)) accept.result w new) same
-    (accepts_swapped W.tells W.keeps W.state false (λ v. Ok (containers v.spec_ex.bytes_per_sample (0 / v.spec_ex.bytes_per_sample) [])) accept.result _ w new new (items c.take.new.self) new.buffer 0 0 new.batch_length new.batch_written
-    accept.ensures.failed (let e : length w.buffer ≡ 0 = ap length none in omega (arith, e)) refl (ap (λ (v : WriterState _). record v { buffer = items c.take.new.self; batch_length = 0; batch_written = 0 }) c.self.view_is) refl accept.ensures.accepts)
+    (accepts_swapped W.tells W.keeps W.state false (λ v. Ok (containers v.spec_ex.bytes_per_sample (0 / v.spec_ex.bytes_per_sample) [])) accept.result _ w new new (items c.take.new.self) new.buffer w.batch_left 0 new.batch_left new.batch_written
+    accept.ensures.failed (let e : length w.buffer ≡ 0 = ap length none in omega (arith, e)) refl (ap (λ (v : WriterState _). record v { buffer = items c.take.new.self; batch_written = 0 }) c.self.view_is) refl accept.ensures.accepts)
