@@ -125,7 +125,7 @@ impl WriterWords {
     ghost use Rattle.hound.specs.Appending.{Appends, FailsCheck, HasOneAppendAnswer, IsNotAppended, head_fault};
     ghost use Rattle.hound.specs.Batch.{IsSameFile, batch_bytes, batch_lender, batch_writer, left, remaining, written};
     ghost use Rattle.hound.specs.Beginning.{Begins, HasBegun, IsNotBegun};
-    ghost use Rattle.hound.specs.Block.{GoesOut, IsFault, IsLimit, OnDone, all_out};
+    ghost use Rattle.hound.specs.Block.{GoesOut, IsLimit, all_out, answer_of, or_fault};
     ghost use Rattle.hound.specs.Fields.{IsConsistent, bytes_kept, of_fields};
     ghost use Rattle.hound.specs.Parts.{HasSize, IsPatched, IsStanding, IsTold, Patches, PatchesAtEach, PutsAt};
     ghost use Rattle.hound.specs.Publishing.{Checkpoints, Finishes};
