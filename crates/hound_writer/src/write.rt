@@ -224,7 +224,13 @@ impl<W: Medium> WavWriter<W> {
 }
 
 impl<W: Medium> Drop for WavWriter<W> {
-    fn drop(self) {
+    ghost use Rattle.std.specs.Prelude.{Result};
+    ghost use Rattle.hound_spec.specs.declared.error.Error.{Error};
+    ghost use Rattle.hound_writer.specs.Publishing.{Finishes};
+
+    fn drop(self)
+        ensures { (answer : Result Unit Error) × (end : W) × Finishes W.tells W.keeps W.state self answer end }
+    {
         let _ = self.finalize_into();
     }
 }
