@@ -110,4 +110,6 @@ fmt_of len content =
 
 -- what a reader divides by is not 0, and a frame has at most 65535 bytes
 abbrev pub IsSoundSpec : WavSpecEx → Type 0
-IsSoundSpec found = (0 < found.spec.channels) × (0 < found.bytes_per_sample) × (found.spec.channels * found.bytes_per_sample ≤ 65535)
+IsSoundSpec found =
+    (0 < found.spec.channels) × (0 < found.bytes_per_sample)
+    × (found.spec.channels * found.bytes_per_sample ≤ 65535)

@@ -21,7 +21,8 @@ is_sixteen spec = is_int spec.sample_format && spec.bits_per_sample == 16
 
 -- the containers of a batch of these values, or why it has none
 abbrev pub batch_containers : WavSpecEx → List ℤ → Result (List (List ℕ)) Refusal
-batch_containers s values = if is_sixteen s.spec then Ok (map (signed_bytes_of 2) values) else Err unsupported
+batch_containers s values =
+    if is_sixteen s.spec then Ok (map (signed_bytes_of 2) values) else Err unsupported
 
 -- whether a batch of these values wants more memory than the writer keeps, two bytes for each
 abbrev pub wants_memory : {M : Type 0} → List ℤ → WriterState M → Bool
@@ -29,8 +30,10 @@ wants_memory values w = nat_lt (length w.buffer) (2 * length values)
 
 -- the containers that a step asks to be accepted, one for each value of a batch, or why it has none
 abbrev pub step_containers : WavSpecEx → Step → Result (List (List ℕ)) Refusal
-step_containers s (Whole value) = one (int_container value s.spec.bits_per_sample s.bytes_per_sample)
-step_containers s (Bits bits) = one (pattern_container bits.0 s.spec.bits_per_sample s.bytes_per_sample)
+step_containers s (Whole value) =
+    one (int_container value s.spec.bits_per_sample s.bytes_per_sample)
+step_containers s (Bits bits) =
+    one (pattern_container bits.0 s.spec.bits_per_sample s.bytes_per_sample)
 step_containers s (Batch values) = batch_containers s values.now
 step_containers s Flush = Ok []
 
@@ -42,7 +45,8 @@ accepted_by s step mark = if_marked mark (step_containers s step)
 abbrev pub accepted_by_all : WavSpecEx → List Step → List Bool → List (List ℕ)
 accepted_by_all s [] marks = []
 accepted_by_all s (step ∷ steps) [] = []
-accepted_by_all s (step ∷ steps) (mark ∷ marks) = accepted_by s step mark ++ accepted_by_all s steps marks
+accepted_by_all s (step ∷ steps) (mark ∷ marks) =
+    accepted_by s step mark ++ accepted_by_all s steps marks
 
 -- the containers of steps that were all accepted
 abbrev pub containers_of : WavSpecEx → List Step → List (List ℕ)

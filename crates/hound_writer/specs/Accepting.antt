@@ -9,25 +9,32 @@ use Rattle.hound_writer.specs.Counts.{Counts}
 use Rattle.hound_writer.specs.Answers.{AcceptAnswer, OnRefused, UnlessFailed, faults_told, if_marked, mark_of}
 use Rattle.hound_writer.specs.Writer.{WriterState, IsWhole, IsCounted, accepted_samples, data_length, data_end}
 
--- What a call did to its writer that was asked to accept these containers, by its answer, over every medium: it accepts
--- all of them or none, and a refusal leaves the writer and its medium as they were.
-pub record Adds {W : Type 0} (memory : Bool) (asked : Result (List (List ℕ)) Refusal) (answer : Result (Unit {0}) Error)
+-- What a call did to its writer that was asked to accept these containers, by its answer, over
+-- every medium: it accepts all of them or none, and a refusal leaves the writer and its medium as
+-- they were.
+pub record Adds {W : Type 0} (memory : Bool) (asked : Result (List (List ℕ)) Refusal)
+    (answer : Result (Unit {0}) Error)
     (old new : WriterState W) : Type 0 where
   pub answers : AcceptAnswer memory asked old answer
   pub refused : OnRefused answer (new ≡ old)
   pub spec_ex : new.spec_ex ≡ old.spec_ex
   pub data_start : new.data_start ≡ old.data_start
-  pub data_length : data_length new ≡ data_length old + length (concat (if_marked (mark_of answer) asked))
+  pub data_length : data_length new
+      ≡ data_length old + length (concat (if_marked (mark_of answer) asked))
   pub kept : length old.buffer ≤ length new.buffer
 
--- What it left in the medium. A fault is counted exactly at an `IoError`; what stands before the data stays, and unless
--- the medium failed what stands after the accepted data. Where the bytes that are out all stood, they do so after it.
-pub record AddsToFile {W : Type 0} (state : W → MediumState) (asked : Result (List (List ℕ)) Refusal)
+-- What it left in the medium. A fault is counted exactly at an `IoError`; what stands before the
+-- data stays, and unless the medium failed what stands after the accepted data. Where the bytes
+-- that are out all stood, they do so after it.
+pub record AddsToFile {W : Type 0} (state : W → MediumState)
+    (asked : Result (List (List ℕ)) Refusal)
     (answer : Result (Unit {0}) Error) (old new : WriterState W) : Type 0 where
   pub faults : (state new.medium).faults ≡ faults_told answer (state old.medium).faults
-  pub front : take old.data_start (state new.medium).contents ≡ take old.data_start (state old.medium).contents
+  pub front : take old.data_start (state new.medium).contents
+      ≡ take old.data_start (state old.medium).contents
   pub rest : UnlessFailed answer
-      (drop (data_end new) (state new.medium).contents ≡ drop (data_end new) (state old.medium).contents)
+      (drop (data_end new) (state new.medium).contents
+      ≡ drop (data_end new) (state old.medium).contents)
   pub reach : UnlessFailed answer
       (length (state new.medium).contents ≤ max (length (state old.medium).contents) (data_end new))
   pub whole : IsWhole state old → IsWhole state new
@@ -35,18 +42,23 @@ pub record AddsToFile {W : Type 0} (state : W → MediumState) (asked : Result (
       accepted_samples state new ≡ accepted_samples state old ++ if_marked (mark_of answer) asked
   pub counts : IsWhole state old → IsCounted state new
 
--- The medium at each moment of such a call: the samples that were accepted before it count, and nothing up to the end of
--- the bytes that were out has changed.
-pub record AddsAtEach {W : Type 0} (state : W → MediumState) (old : WriterState W) (new : MediumState) : Type 0 where
+-- The medium at each moment of such a call: the samples that were accepted before it count, and
+-- nothing up to the end of the bytes that were out has changed.
+pub record AddsAtEach {W : Type 0} (state : W → MediumState) (old : WriterState W)
+    (new : MediumState) : Type 0 where
   pub counts : IsWhole state old →
-      Span (λ _. Counts old.spec_ex old.data_start (accepted_samples state old)) 0 (state old.medium) new
+      Span (λ _. Counts old.spec_ex old.data_start (accepted_samples state old)) 0
+      (state old.medium) new
   pub front : IsWhole state old →
-      Span (λ _ c. take (old.data_start + old.out) c ≡ take (old.data_start + old.out) (state old.medium).contents)
+      Span (λ _ c. take (old.data_start + old.out) c
+      ≡ take (old.data_start + old.out) (state old.medium).contents)
       0 (state old.medium) new
 
--- What a call does that is asked to accept these containers, where it may want memory, by its answer.
+-- What a call does that is asked to accept these containers, where it may want memory, by its
+-- answer.
 pub record Accepts {W : Type 0} (tells keeps : Bool) (state : W → MediumState) (memory : Bool)
-    (asked : Result (List (List ℕ)) Refusal) (answer : Result (Unit {0}) Error) (old new : WriterState W) : Type 0 where
+    (asked : Result (List (List ℕ)) Refusal) (answer : Result (Unit {0}) Error)
+    (old new : WriterState W) : Type 0 where
   pub adds : Adds memory asked answer old new
   pub file : WhereTells tells (AddsToFile state asked answer old new)
   pub moments : WhereKeeps tells keeps (AddsAtEach state old (state new.medium))

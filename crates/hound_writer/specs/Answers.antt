@@ -54,8 +54,8 @@ abbrev pub one : Result (List ℕ) Refusal → Result (List (List ℕ)) Refusal
 one (Ok container) = Ok (container ∷ [])
 one (Err refusal) = Err refusal
 
--- What a call answers to containers, by whether the RIFF size has room for them: Ok, an `IoError`, or, where it may
--- want memory, that there is none.
+-- What a call answers to containers, by whether the RIFF size has room for them: Ok, an `IoError`,
+-- or, where it may want memory, that there is none.
 abbrev pub FitAnswer : {T : Type 0} → Bool → Bool → Result T Error → Type 0
 FitAnswer false memory answer = answer ≡ Err TooLong
 FitAnswer true memory (Ok x) = ⊤
@@ -63,13 +63,17 @@ FitAnswer true memory (Err (IoError e)) = ⊤
 FitAnswer true memory (Err OutOfMemory) = IsTrue memory
 FitAnswer true memory (Err _) = ⊥
 
--- what a call answers to a sample or a batch: its refusal, or that the file would be too long, or as above
-abbrev pub AcceptAnswer : {T W : Type 0} → Bool → Result (List (List ℕ)) Refusal → WriterState W → Result T Error → Type 0
+-- what a call answers to a sample or a batch: its refusal, or that the file would be too long, or
+-- as above
+abbrev pub AcceptAnswer : {T W : Type 0} → Bool → Result (List (List ℕ)) Refusal → WriterState W →
+    Result T Error → Type 0
 AcceptAnswer memory (Err refusal) w answer = answer ≡ Err (error_of refusal)
 AcceptAnswer memory (Ok list) w answer =
-    FitAnswer (nat_le (riff_size w.data_start (data_length w + length (concat list))) 4294967295) memory answer
+    let size = riff_size w.data_start (data_length w + length (concat list)) in
+    FitAnswer (nat_le size 4294967295) memory answer
 
--- the answer of a call that publishes: Ok exactly for whole frames, else `UnfinishedSample`; or an `IoError`
+-- the answer of a call that publishes: Ok exactly for whole frames, else `UnfinishedSample`; or an
+-- `IoError`
 abbrev pub IsPublishing : {T W : Type 0} → Result T Error → WriterState W → Type 0
 IsPublishing (Ok x) w = AreFrames w
 IsPublishing (Err UnfinishedSample) w = AreFrames w → ⊥

@@ -15,18 +15,21 @@ use Rattle.hound_reader.specs.Refusals.{Names}
 use Rattle.hound_writer.specs.Answers.{IsIoError}
 use Rattle.hound_writer.specs.Writer.{WriterState, IsSound, IsWhole, IsCounted, data_length, data_end}
 
--- why a file isn't appended to: for a cause that its bytes decide, or since its RIFF size would not fit 32 bits
+-- why a file isn't appended to: for a cause that its bytes decide, or since its RIFF size would not
+-- fit 32 bits
 pub data AppendFault : Type 0 where
   by_bytes : Cause → AppendFault
   too_long : AppendFault
 
--- The first check that a head fails: whole samples, samples that are written, whole frames, a RIFF size that fits.
+-- The first check that a head fails: whole samples, samples that are written, whole frames, a RIFF
+-- size that fits.
 unfoldable pub head_fault : WavSpecEx → ℕ → ℕ → Option AppendFault
 head_fault s len h =
     if not (len % s.bytes_per_sample == 0) then Some (by_bytes (Format DataLength))
     else if not (is_pair s.spec.sample_format s.spec.bits_per_sample s.bytes_per_sample)
     then Some (by_bytes Unsupported)
-    else if not (len / s.bytes_per_sample % s.spec.channels == 0) then Some (by_bytes (Format FrameLength))
+    else if not (len / s.bytes_per_sample % s.spec.channels == 0) then Some
+    (by_bytes (Format FrameLength))
     else if nat_lt greatest_u32 (riff_size h len) then Some too_long
     else None
 
@@ -34,9 +37,11 @@ head_fault s len h =
 abbrev pub IsAppendFault : List ℕ → AppendFault → Type 0
 IsAppendFault bytes fault =
     ((cause : Cause) × (fault ≡ by_bytes cause) × Refused bytes cause)
-    ⊎ ((s : WavSpecEx) × (len : ℕ) × (h : ℕ) × Head bytes s len h × (head_fault s len h ≡ Some fault))
+    ⊎ ((s : WavSpecEx) × (len : ℕ) × (h : ℕ) × Head bytes s len h
+    × (head_fault s len h ≡ Some fault))
 
--- the spec, the data's length and the place of the data, where the bytes can be appended to; or the fault
+-- the spec, the data's length and the place of the data, where the bytes can be appended to; or the
+-- fault
 pub data AppendAnswer : Type 0 where
   appendable : WavSpecEx → ℕ → ℕ → AppendAnswer
   faulty : AppendFault → AppendAnswer
@@ -48,7 +53,9 @@ AnswersAppend bytes (faulty fault) = IsAppendFault bytes fault
 
 -- the bytes can be appended to, with exactly one head, or not, for exactly one fault
 abbrev pub HasOneAppendAnswer : List ℕ → Type 0
-HasOneAppendAnswer bytes = (a : AppendAnswer) × AnswersAppend bytes a × ((b : AppendAnswer) → AnswersAppend bytes b → b ≡ a)
+HasOneAppendAnswer bytes =
+    (a : AppendAnswer) × AnswersAppend bytes a
+    × ((b : AppendAnswer) → AnswersAppend bytes b → b ≡ a)
 
 -- the error that callers are told
 abbrev pub NamesFault : Error → AppendFault → Type 0
@@ -60,9 +67,10 @@ pub record PutsNothing (old new : MediumState) : Type 0 where
   pub stays : Stays old new
   pub flushed : new.flushed ≡ old.flushed
 
--- A writer that appends to a file, over a medium that tells: the file's head stands and fails no check, the data chunk
--- is what was accepted, and the next sample goes to its end.
-pub record FollowsData {W : Type 0} (old : MediumState) (state : W → MediumState) (w : WriterState W) : Type 0 where
+-- A writer that appends to a file, over a medium that tells: the file's head stands and fails no
+-- check, the data chunk is what was accepted, and the next sample goes to its end.
+pub record FollowsData {W : Type 0} (old : MediumState) (state : W → MediumState)
+    (w : WriterState W) : Type 0 where
   pub head : Head old.contents w.spec_ex (data_length w) w.data_start
   pub check : head_fault w.spec_ex (data_length w) w.data_start ≡ None
   pub puts : PutsNothing old (state w.medium)
@@ -71,7 +79,8 @@ pub record FollowsData {W : Type 0} (old : MediumState) (state : W → MediumSta
   pub counts : IsWhole state w → IsCounted state w
 
 -- A writer that appends to a file.
-pub record Appends {W : Type 0} (tells : Bool) (state : W → MediumState) (old : MediumState) (w : WriterState W) : Type 0 where
+pub record Appends {W : Type 0} (tells : Bool) (state : W → MediumState) (old : MediumState)
+    (w : WriterState W) : Type 0 where
   pub sound : IsSound w
   pub none_waits : w.waiting ≡ []
   pub buffer : w.buffer ≡ []
@@ -80,7 +89,8 @@ pub record Appends {W : Type 0} (tells : Bool) (state : W → MediumState) (old 
 -- A file that isn't appended to, for a fault that its bytes have, or since the medium failed.
 pub record IsNotAppended (old new : MediumState) (e : Error) : Type 0 where
   pub puts : PutsNothing old new
-  pub why : ((fault : AppendFault) × IsAppendFault old.contents fault × NamesFault e fault × (new.faults ≡ old.faults))
+  pub why : ((fault : AppendFault) × IsAppendFault old.contents fault × NamesFault e fault
+      × (new.faults ≡ old.faults))
       ⊎ (IsIoError e × (new.faults ≡ one_more old.faults))
 
 -- what a check answers: Ok where a head has no fault, else the error of its fault

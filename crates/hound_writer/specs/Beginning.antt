@@ -9,10 +9,12 @@ use Rattle.hound_medium.specs.State.{MediumState, PutsFirst, PutsAll, WhereTells
 use Rattle.hound_writer.specs.Answers.{IsIoError}
 use Rattle.hound_writer.specs.Writer.{WriterState, HasHeader, IsSound, IsWhole, IsCounted}
 
--- The whole header was put where the medium stood, with both sizes 0, and nothing else; all that was accepted, which is
--- nothing, stands and is counted.
-pub record PutsHeader {W : Type 0} (keeps : Bool) (state : W → MediumState) (old : MediumState) (w : WriterState W) : Type 0 where
-  pub puts : PutsFirst keeps (header w.spec_ex 0 0) (length (header w.spec_ex 0 0)) old (state w.medium)
+-- The whole header was put where the medium stood, with both sizes 0, and nothing else; all that
+-- was accepted, which is nothing, stands and is counted.
+pub record PutsHeader {W : Type 0} (keeps : Bool) (state : W → MediumState) (old : MediumState)
+    (w : WriterState W) : Type 0 where
+  pub puts : PutsFirst keeps (header w.spec_ex 0 0) (length (header w.spec_ex 0 0)) old
+      (state w.medium)
   pub faults : (state w.medium).faults ≡ old.faults
   pub header : HasHeader w.spec_ex (state w.medium).contents
   pub whole : IsWhole state w
@@ -29,14 +31,18 @@ pub record HasBegun {W : Type 0} (spec_ex : WavSpecEx) (w : WriterState W) : Typ
   pub buffer : w.buffer ≡ []
 
 -- how it began: just its header was put
-pub record Begins {W : Type 0} (tells keeps : Bool) (state : W → MediumState) (spec_ex : WavSpecEx) (old : MediumState)
+pub record Begins {W : Type 0} (tells keeps : Bool) (state : W → MediumState) (spec_ex : WavSpecEx)
+    (old : MediumState)
     (w : WriterState W) : Type 0 where
   pub begun : HasBegun spec_ex w
   pub file : WhereTells tells (PutsHeader keeps state old w)
 
--- Why no file is begun: a spec that can't be written, and the medium is as it was; or the medium failed, and a beginning
--- of the header was put.
-abbrev pub IsNotBegun : {W : Type 0} → Bool → Bool → (W → MediumState) → WavSpecEx → W → W → Error → Type 0
+-- Why no file is begun: a spec that can't be written, and the medium is as it was; or the medium
+-- failed, and a beginning of the header was put.
+abbrev pub IsNotBegun : {W : Type 0} → Bool → Bool → (W → MediumState) → WavSpecEx → W → W → Error →
+    Type 0
 IsNotBegun tells keeps state spec_ex old new e =
     ((IsWritable spec_ex → ⊥) × (e ≡ Unsupported) × (new ≡ old))
-    ⊎ (IsWritable spec_ex × IsIoError e × WhereTells tells (PutsAll {T = Unit {0}} keeps (header spec_ex 0 0) (Err e) (state old) (state new)))
+    ⊎ (IsWritable spec_ex × IsIoError e
+    × WhereTells tells
+    (PutsAll {T = Unit {0}} keeps (header spec_ex 0 0) (Err e) (state old) (state new)))

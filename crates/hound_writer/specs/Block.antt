@@ -35,19 +35,22 @@ abbrev pub after_out : {W : Type 0} → Bool → W → WriterState W → WriterS
 after_out true medium w = record w { medium = medium; out = data_length w; waiting = [] }
 after_out false medium w = record w { medium = medium }
 
--- What bytes leave as it was that are put where those wait that wait: the head stands, and nothing before them nor after
--- the accepted data has changed.
-pub record StaysAround {W : Type 0} (state : W → MediumState) (old : WriterState W) (new : MediumState) : Type 0 where
+-- What bytes leave as it was that are put where those wait that wait: the head stands, and nothing
+-- before them nor after the accepted data has changed.
+pub record StaysAround {W : Type 0} (state : W → MediumState) (old : WriterState W)
+    (new : MediumState) : Type 0 where
   pub stands : IsStanding old.spec_ex old.data_start old.out new.contents
   pub front : take old.data_start new.contents ≡ take old.data_start (state old.medium).contents
   pub out : IsWhole state old →
-      take (old.data_start + old.out) new.contents ≡ take (old.data_start + old.out) (state old.medium).contents
+      take (old.data_start + old.out) new.contents
+      ≡ take (old.data_start + old.out) (state old.medium).contents
   pub rest : drop (data_end old) new.contents ≡ drop (data_end old) (state old.medium).contents
   pub grows : length (state old.medium).contents ≤ length new.contents
   pub reach : length new.contents ≤ max (length (state old.medium).contents) (data_end old)
 
 -- what the samples that waited left in the medium, all of them or a beginning
-pub record GoesToFile {W : Type 0} (state : W → MediumState) (all : Bool) (old new : WriterState W) : Type 0 where
+pub record GoesToFile {W : Type 0} (state : W → MediumState) (all : Bool)
+    (old new : WriterState W) : Type 0 where
   pub faults : (state new.medium).faults ≡ faults_after (all_out all) (state old.medium).faults
   pub around : StaysAround state old (state new.medium)
   pub whole : IsWhole state old → IsWhole state new
@@ -55,18 +58,24 @@ pub record GoesToFile {W : Type 0} (state : W → MediumState) (all : Bool) (old
   pub counts : IsWhole state old → IsCounted state new
 
 -- the medium at each moment meanwhile
-pub record GoesAtEach {W : Type 0} (state : W → MediumState) (old : WriterState W) (new : MediumState) : Type 0 where
+pub record GoesAtEach {W : Type 0} (state : W → MediumState) (old : WriterState W)
+    (new : MediumState) : Type 0 where
   pub adds : AddsAtEach state old new
-  pub front : Span (λ _ c. take old.data_start c ≡ take old.data_start (state old.medium).contents) 0 (state old.medium) new
+  pub front : Span
+      (λ _ c. take old.data_start c ≡ take old.data_start (state old.medium).contents) 0
+      (state old.medium) new
 
--- What waits goes out, or a beginning of it where the medium fails, and then all of it goes on waiting.
-pub record GoesOut {W : Type 0} (tells keeps : Bool) (state : W → MediumState) (all : Bool) (old new : WriterState W) : Type 0 where
+-- What waits goes out, or a beginning of it where the medium fails, and then all of it goes on
+-- waiting.
+pub record GoesOut {W : Type 0} (tells keeps : Bool) (state : W → MediumState) (all : Bool)
+    (old new : WriterState W) : Type 0 where
   pub value : new ≡ after_out all new.medium old
   pub sound : IsSound old
   pub file : WhereTells tells (GoesToFile state all old new)
   pub moments : WhereKeeps tells keeps (GoesAtEach state old (state new.medium))
 
--- Below so many waiting bytes there is room for a sample of any width: in the block, and in the file for a whole block.
+-- Below so many waiting bytes there is room for a sample of any width: in the block, and in the
+-- file for a whole block.
 pub record IsLimit (start out limit : ℕ) : Type 0 where
   pub block : limit ≤ 4093
   pub file : 1 ≤ limit → riff_size start (out + 4096) ≤ 4294967295

@@ -8,7 +8,8 @@ use Rattle.hound_writer.specs.Room.{HasBatch}
 use Rattle.hound_writer.specs.Writer.{WriterState, IsSound}
 
 -- the value of a writer's fields
-abbrev pub of_fields : {W : Type 0} → W → WavSpecEx → ℕ → ℕ → List ℕ → List ℕ → ℕ → ℕ → WriterState W
+abbrev pub of_fields : {W : Type 0} → W → WavSpecEx → ℕ → ℕ → List ℕ → List ℕ → ℕ → ℕ →
+    WriterState W
 of_fields medium spec_ex start out waiting buffer left_is written_is = record {
   medium = medium;
   spec_ex = spec_ex;
@@ -20,9 +21,11 @@ of_fields medium spec_ex start out waiting buffer left_is written_is = record {
   batch_written = written_is;
 }
 
--- What a writer keeps between its calls: the samples that are out are whole and so are those that wait, in one block; the
--- head of its file stands, the data length counts no more than the bytes that are out, and the next ones go after these.
-pub record IsConsistent {W : Type 0} (tells : Bool) (state : W → MediumState) (w : WriterState W) (may_have_moved : Bool) (limit : ℕ) : Type 0 where
+-- What a writer keeps between its calls: the samples that are out are whole and so are those that
+-- wait, in one block; the head of its file stands, the data length counts no more than the bytes
+-- that are out, and the next ones go after these.
+pub record IsConsistent {W : Type 0} (tells : Bool) (state : W → MediumState) (w : WriterState W)
+    (may_have_moved : Bool) (limit : ℕ) : Type 0 where
   pub sound : IsSound w
   pub batch : HasBatch w
   pub whole_out : w.out % w.spec_ex.bytes_per_sample ≡ 0
@@ -30,7 +33,8 @@ pub record IsConsistent {W : Type 0} (tells : Bool) (state : W → MediumState) 
   pub block : length w.waiting ≤ 4096
   pub room : IsLimit w.data_start w.out limit
   pub stands : WhereTells tells (IsStanding w.spec_ex w.data_start w.out (state w.medium).contents)
-  pub place : WhereTells tells (may_have_moved ≡ false → (state w.medium).place ≡ w.data_start + w.out)
+  pub place : WhereTells tells
+      (may_have_moved ≡ false → (state w.medium).place ≡ w.data_start + w.out)
 
 -- the bytes of the memory that a writer keeps for its batches, if it has some
 abbrev pub bytes_kept : {V : Type 0} → (V → List ℕ) → Option V → List ℕ

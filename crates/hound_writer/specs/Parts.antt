@@ -13,7 +13,8 @@ use Rattle.hound_writer.specs.Publishing.{PutsLast}
 use Rattle.hound_writer.specs.Sizes.{SameButSizes, field, with_sizes}
 
 -- these bytes were put at a place, or at an Err a beginning of them
-pub record PutsAt {T E : Type 0} (keeps : Bool) (at : ℕ) (bytes : List ℕ) (result : Result T E) (old new : MediumState) : Type 0 where
+pub record PutsAt {T E : Type 0} (keeps : Bool) (at : ℕ) (bytes : List ℕ) (result : Result T E)
+    (old new : MediumState) : Type 0 where
   pub count : ℕ
   pub within : count ≤ length bytes
   pub whole : OnOk result (count ≡ length bytes)
@@ -24,8 +25,10 @@ pub record PutsAt {T E : Type 0} (keeps : Bool) (at : ℕ) (bytes : List ℕ) (r
   pub flushed : new.flushed ≡ old.flushed
   pub faults : new.faults ≡ faults_after result old.faults
 
--- A patch: at an Ok both sizes stand, and the medium was flushed. A fault may have cut either size, and nothing else has changed.
-pub record Patches {T E : Type 0} (p size data_length : ℕ) (result : Result T E) (old new : MediumState) : Type 0 where
+-- A patch: at an Ok both sizes stand, and the medium was flushed. A fault may have cut either size,
+-- and nothing else has changed.
+pub record Patches {T E : Type 0} (p size data_length : ℕ) (result : Result T E)
+    (old new : MediumState) : Type 0 where
   pub contents : OnOk result (new.contents ≡ with_sizes p size data_length old.contents)
   pub same : SameButSizes p old.contents new.contents
   pub torn : (k : ℕ) × (k ≤ 4) × (field p new.contents ≡ mix k (field p old.contents) data_length)
@@ -38,13 +41,15 @@ pub record HasSize (p : ℕ) (contents : List ℕ) : Type 0 where
   pub inside : p + 4 ≤ length contents
   pub small : AreBytes contents
 
--- the field at p has its j low bytes from the new number and the others from the base, and nothing else but the RIFF size has changed
+-- the field at p has its j low bytes from the new number and the others from the base, and nothing
+-- else but the RIFF size has changed
 pub record IsPatched (p : ℕ) (base : List ℕ) (new j : ℕ) (contents : List ℕ) : Type 0 where
   pub same : SameButSizes p base contents
   pub field : field p contents ≡ mix j (field p base) new
 
 -- the moments of a patch: the field at p has all four bytes of the new number at an Ok
-pub record PatchesAtEach {T E : Type 0} (p new : ℕ) (result : Result T E) (before after : MediumState) : Type 0 where
+pub record PatchesAtEach {T E : Type 0} (p new : ℕ) (result : Result T E)
+    (before after : MediumState) : Type 0 where
   pub split : ℕ
   pub span : Span (IsPatched p before.contents new) split before after
   pub puts : PutsLast p split before after

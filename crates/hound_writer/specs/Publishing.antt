@@ -17,85 +17,118 @@ use Rattle.hound_writer.specs.Sizes.{ChangesSizesOnly, field}
 use Rattle.hound_writer.specs.Writer.{WriterState, KeepsSamples, IsWhole, IsBegun, HasHeader, accepted_samples, data_length, data_end}
 
 -- The contents are read as exactly these samples, with this spec, from this place on.
-pub record ReadsAs (s : WavSpecEx) (start : ℕ) (samples : List (List ℕ)) (contents : List ℕ) : Type 0 where
+pub record ReadsAs (s : WavSpecEx) (start : ℕ) (samples : List (List ℕ))
+    (contents : List ℕ) : Type 0 where
   pub readable : Readable contents s (length samples) start
   pub containers : containers s.bytes_per_sample (length samples) (drop start contents) ≡ samples
 
--- What a call that publishes leaves in the medium, by its answer. Whatever it is, before the data only the two sizes
--- changed, the bytes that were out stand where they all did, what stands after the accepted data stays, and the data length counts no more
--- than the accepted samples. Where all was published both sizes are right, all samples stand, the medium was flushed, and
--- whole frames are read back; a file that was begun with its header is then the canonical one.
-pub record Publishes {W : Type 0} (state : W → MediumState) (w : WriterState W) (answer : Result (Unit {0}) Error) (end : W) : Type 0 where
+-- What a call that publishes leaves in the medium, by its answer. Whatever it is, before the data
+-- only the two sizes changed, the bytes that were out stand where they all did, what stands after
+-- the accepted data stays, and the data length counts no more than the accepted samples. Where all
+-- was published both sizes are right, all samples stand, the medium was flushed, and whole frames
+-- are read back; a file that was begun with its header is then the canonical one.
+pub record Publishes {W : Type 0} (state : W → MediumState) (w : WriterState W)
+    (answer : Result (Unit {0}) Error) (end : W) : Type 0 where
   pub faults : (state end).faults ≡ faults_told answer (state w.medium).faults
   pub front : ChangesSizesOnly w.data_start (state w.medium).contents (state end).contents
   pub out : IsWhole state w →
-      take w.out (drop w.data_start (state end).contents) ≡ take w.out (drop w.data_start (state w.medium).contents)
+      take w.out (drop w.data_start (state end).contents)
+      ≡ take w.out (drop w.data_start (state w.medium).contents)
   pub rest : drop (data_end w) (state end).contents ≡ drop (data_end w) (state w.medium).contents
   pub grows : length (state w.medium).contents ≤ length (state end).contents
   pub reach : length (state end).contents ≤ max (length (state w.medium).contents) (data_end w)
-  pub counts : IsWhole state w → Counts w.spec_ex w.data_start (accepted_samples state w) (state end).contents
+  pub counts : IsWhole state w →
+      Counts w.spec_ex w.data_start (accepted_samples state w) (state end).contents
   pub begun : IsBegun state w → HasHeader w.spec_ex (state end).contents
   pub flushed : OnPublished answer ((state end).flushed ≡ length (state end).past)
-  pub riff_says : OnPublished answer (field 4 (state end).contents ≡ riff_size w.data_start (data_length w))
-  pub length_says : OnPublished answer (field (w.data_start - 4) (state end).contents ≡ data_length w)
+  pub riff_says : OnPublished answer
+      (field 4 (state end).contents ≡ riff_size w.data_start (data_length w))
+  pub length_says : OnPublished answer
+      (field (w.data_start - 4) (state end).contents ≡ data_length w)
   pub stand : IsWhole state w → OnPublished answer
-      (take (data_length w) (drop w.data_start (state end).contents) ≡ concat (accepted_samples state w))
-  pub read : IsWhole state w → OnOk answer (ReadsAs w.spec_ex w.data_start (accepted_samples state w) (state end).contents)
+      (take (data_length w) (drop w.data_start (state end).contents)
+      ≡ concat (accepted_samples state w))
+  pub read : IsWhole state w →
+      OnOk answer (ReadsAs w.spec_ex w.data_start (accepted_samples state w) (state end).contents)
   pub canonical : IsWhole state w → IsBegun state w →
-      OnPublished answer (StartsWith (state end).contents (canonical w.spec_ex (accepted_samples state w)))
+      OnPublished answer
+      (StartsWith (state end).contents (canonical w.spec_ex (accepted_samples state w)))
 
--- The file of a writer while its sizes are put: but for these all is as at first up to the end of the bytes that were
--- out, and the data length has the j low bytes of the new one, and the others from the first.
-pub record IsHalfPublished {W : Type 0} (w : WriterState W) (first : List ℕ) (j : ℕ) (contents : List ℕ) : Type 0 where
+-- The file of a writer while its sizes are put: but for these all is as at first up to the end of
+-- the bytes that were out, and the data length has the j low bytes of the new one, and the others
+-- from the first.
+pub record IsHalfPublished {W : Type 0} (w : WriterState W) (first : List ℕ) (j : ℕ)
+    (contents : List ℕ) : Type 0 where
   pub front : ChangesSizesOnly w.data_start first contents
-  pub out : w.data_start + w.out ≤ length first → take w.out (drop w.data_start contents) ≡ take w.out (drop w.data_start first)
-  pub length_is : field (w.data_start - 4) contents ≡ mix j (field (w.data_start - 4) first) (data_length w)
+  pub out : w.data_start + w.out ≤ length first →
+      take w.out (drop w.data_start contents) ≡ take w.out (drop w.data_start first)
+  pub length_is : field (w.data_start - 4) contents
+      ≡ mix j (field (w.data_start - 4) first) (data_length w)
 
 -- the place of the byte with this number among all that were put, from 0
 abbrev pub place_of : List (ℕ × ℕ) → ℕ → ℕ
 place_of past i = let x : ℕ × ℕ = slice_index_or past i (0, 0) in x.0
 
--- The last bytes that were put, from the moment `split` on, are at most four, and the first of them went to p.
+-- The last bytes that were put, from the moment `split` on, are at most four, and the first of them
+-- went to p.
 pub record PutsLast (p split : ℕ) (before after : MediumState) : Type 0 where
   pub later : length before.past ≤ split
   pub within : length after.past ≤ split + 4
   pub first : split < length after.past → place_of after.past split ≡ p
 
--- each byte that was put at p was followed by three at the next places: no fault cut the put of the field
+-- each byte that was put at p was followed by three at the next places: no fault cut the put of the
+-- field
 abbrev pub EachWhole : ℕ → MediumState → MediumState → Type 0
-EachWhole p old new = (i : ℕ) → length old.past ≤ i → i < length new.past → place_of new.past i ≡ p →
-    (i + 3 < length new.past) × (place_of new.past (i + 1) ≡ p + 1) × (place_of new.past (i + 2) ≡ p + 2) × (place_of new.past (i + 3) ≡ p + 3)
+EachWhole p old new =
+    (i : ℕ) → length old.past ≤ i → i < length new.past → place_of new.past i ≡ p →
+    (i + 3 < length new.past) × (place_of new.past (i + 1) ≡ p + 1)
+    × (place_of new.past (i + 2) ≡ p + 2) × (place_of new.past (i + 3) ≡ p + 3)
 
 -- the moment is not between such four bytes
 abbrev pub IsOutside : ℕ → MediumState → MediumState → ℕ → Type 0
-IsOutside p old new k = (i : ℕ) → length old.past ≤ i → i < length new.past → place_of new.past i ≡ p → i < k → i + 4 ≤ k
+IsOutside p old new k =
+    (i : ℕ) → length old.past ≤ i → i < length new.past → place_of new.past i ≡ p → i < k →
+    i + 4 ≤ k
 
--- where no fault cut the put of the field at p, it has the one number or the other at each moment that is not between its four bytes
+-- where no fault cut the put of the field at p, it has the one number or the other at each moment
+-- that is not between its four bytes
 abbrev pub IsOldOrNew : ℕ → ℕ → ℕ → MediumState → MediumState → Type 0
-IsOldOrNew p before after old new = EachWhole p old new → (k : ℕ) → length old.past ≤ k → k ≤ length new.past → IsOutside p old new k →
-    (field p (moment new.start new.past k) ≡ before) ⊎ (field p (moment new.start new.past k) ≡ after)
+IsOldOrNew p before after old new =
+    EachWhole p old new → (k : ℕ) → length old.past ≤ k → k ≤ length new.past →
+    IsOutside p old new k →
+    (field p (moment new.start new.past k) ≡ before)
+    ⊎ (field p (moment new.start new.past k) ≡ after)
 
--- The medium at each moment of such a call: the accepted samples count, and the data length takes on the bytes of their
--- length one by one, the low one first, from the moment `split` on, all four where all was published.
-pub record PublishesAtEach {W : Type 0} (state : W → MediumState) (w : WriterState W) (answer : Result (Unit {0}) Error) (end : W) : Type 0 where
-  pub counts : IsWhole state w → Span (λ _. Counts w.spec_ex w.data_start (accepted_samples state w)) 0 (state w.medium) (state end)
+-- The medium at each moment of such a call: the accepted samples count, and the data length takes
+-- on the bytes of their length one by one, the low one first, from the moment `split` on, all four
+-- where all was published.
+pub record PublishesAtEach {W : Type 0} (state : W → MediumState) (w : WriterState W)
+    (answer : Result (Unit {0}) Error) (end : W) : Type 0 where
+  pub counts : IsWhole state w →
+      Span (λ _. Counts w.spec_ex w.data_start (accepted_samples state w)) 0 (state w.medium)
+      (state end)
   pub split : ℕ
   pub half : Span (IsHalfPublished w (state w.medium).contents) split (state w.medium) (state end)
   pub puts : PutsLast (w.data_start - 4) split (state w.medium) (state end)
   pub whole : OnPublished answer (length (state end).past ≡ split + 4)
-  pub old_or_new : IsOldOrNew (w.data_start - 4) (field (w.data_start - 4) (state w.medium).contents) (data_length w) (state w.medium) (state end)
+  pub old_or_new : IsOldOrNew (w.data_start - 4)
+      (field (w.data_start - 4) (state w.medium).contents) (data_length w) (state w.medium)
+      (state end)
 
 -- What `flush` does, by its answer: it publishes, and the writer goes on with the same samples.
-pub record Checkpoints {W : Type 0} (tells keeps : Bool) (state : W → MediumState) (answer : Result (Unit {0}) Error)
+pub record Checkpoints {W : Type 0} (tells keeps : Bool) (state : W → MediumState)
+    (answer : Result (Unit {0}) Error)
     (old new : WriterState W) : Type 0 where
   pub answers : IsPublishing answer old
   pub samples : KeepsSamples old new
   pub publishes : WhereTells tells (Publishes state old answer new.medium)
   pub whole : WhereTells tells (IsWhole state old → IsWhole state new)
-  pub accepted : WhereTells tells (IsWhole state old → accepted_samples state new ≡ accepted_samples state old)
+  pub accepted : WhereTells tells
+      (IsWhole state old → accepted_samples state new ≡ accepted_samples state old)
   pub moments : WhereKeeps tells keeps (PublishesAtEach state old answer new.medium)
 
--- What the end of a writer does, by its answer: it publishes, and leaves the medium where the data begin.
+-- What the end of a writer does, by its answer: it publishes, and leaves the medium where the data
+-- begin.
 pub record Finishes {W : Type 0} (tells keeps : Bool) (state : W → MediumState) (w : WriterState W)
     (answer : Result (Unit {0}) Error) (end : W) : Type 0 where
   pub answers : IsPublishing answer w

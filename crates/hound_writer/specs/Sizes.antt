@@ -14,7 +14,8 @@ pub record ChangesSizesOnly (data_start : ℕ) (old new : List ℕ) : Type 0 whe
 -- the contents with these two sizes: the RIFF size at 4, the data length at p
 unfoldable pub with_sizes : ℕ → ℕ → ℕ → List ℕ → List ℕ
 with_sizes p size data_length contents =
-    take 4 contents ++ (bytes_of 4 size ++ (drop 8 (take p contents) ++ (bytes_of 4 data_length ++ drop (p + 4) contents)))
+    take 4 contents ++ (bytes_of 4 size ++ (drop 8
+    (take p contents) ++ (bytes_of 4 data_length ++ drop (p + 4) contents)))
 
 -- all but the four bytes at 4 and the four at p is the same
 pub record SameButSizes (p : ℕ) (old new : List ℕ) : Type 0 where

@@ -8,9 +8,10 @@ use Rattle.hound_sample.specs.Container.{containers}
 use Rattle.hound_medium.specs.State.{MediumState}
 use Rattle.hound_writer.specs.Counts.{Counts}
 
--- A writer: its medium, the spec, the place of the first data byte, how many bytes of the accepted samples are out, and
--- the others, which wait in the writer. Then the memory that it keeps for batches, and of the batch that was begun last
--- how many samples are still to be written and how many bytes are.
+-- A writer: its medium, the spec, the place of the first data byte, how many bytes of the accepted
+-- samples are out, and the others, which wait in the writer. Then the memory that it keeps for
+-- batches, and of the batch that was begun last how many samples are still to be written and how
+-- many bytes are.
 pub record WriterState (W : Type 0) : Type 0 where
   pub medium : W
   pub spec_ex : WavSpecEx
@@ -41,8 +42,9 @@ AreFrames w = sample_count w % w.spec_ex.spec.channels ≡ 0
 abbrev pub HasRoom : {W : Type 0} → WriterState W → ℕ → Type 0
 HasRoom w more = riff_size w.data_start (data_length w + more) ≤ 4294967295
 
--- What holds of every writer, whatever its medium tells: its bits and width are a known pair, it can divide by the
--- channels and the width, its samples are whole, and the RIFF size fits its field.
+-- What holds of every writer, whatever its medium tells: its bits and width are a known pair, it
+-- can divide by the channels and the width, its samples are whole, and the RIFF size fits its
+-- field.
 pub record IsSound {W : Type 0} (w : WriterState W) : Type 0 where
   pub pair : IsPair w.spec_ex.spec.sample_format w.spec_ex.spec.bits_per_sample w.spec_ex.bytes_per_sample
   pub channels : 1 ≤ w.spec_ex.spec.channels
@@ -51,13 +53,15 @@ pub record IsSound {W : Type 0} (w : WriterState W) : Type 0 where
   pub after_head : 20 ≤ w.data_start
   pub fits : riff_size w.data_start (data_length w) ≤ 4294967295
 
--- The accepted bytes: those that are out stand where the data begin, and those that wait follow them.
+-- The accepted bytes: those that are out stand where the data begin, and those that wait follow
+-- them.
 abbrev pub accepted_bytes : {W : Type 0} → (W → MediumState) → WriterState W → List ℕ
 accepted_bytes state w = take w.out (drop w.data_start (state w.medium).contents) ++ w.waiting
 
 -- the accepted samples, as their containers
 abbrev pub accepted_samples : {W : Type 0} → (W → MediumState) → WriterState W → List (List ℕ)
-accepted_samples state w = containers w.spec_ex.bytes_per_sample (sample_count w) (accepted_bytes state w)
+accepted_samples state w =
+    containers w.spec_ex.bytes_per_sample (sample_count w) (accepted_bytes state w)
 
 -- the medium has all accepted bytes that are out
 abbrev pub IsWhole : {W : Type 0} → (W → MediumState) → WriterState W → Type 0
@@ -65,17 +69,21 @@ IsWhole state w = w.data_start + w.out ≤ length (state w.medium).contents
 
 -- the data length counts no more than the accepted samples, and reading gives the first of them
 abbrev pub IsCounted : {W : Type 0} → (W → MediumState) → WriterState W → Type 0
-IsCounted state w = Counts w.spec_ex w.data_start (accepted_samples state w) (state w.medium).contents
+IsCounted state w =
+    Counts w.spec_ex w.data_start (accepted_samples state w) (state w.medium).contents
 
 -- the contents begin with the header of this spec, with any two sizes
 abbrev pub HasHeader : WavSpecEx → List ℕ → Type 0
-HasHeader spec_ex contents = (size : ℕ) × (data_length : ℕ) × StartsWith contents (header spec_ex size data_length)
+HasHeader spec_ex contents =
+    (size : ℕ) × (data_length : ℕ) × StartsWith contents (header spec_ex size data_length)
 
 -- a file that was begun with the header of its spec, by this writer or by one before it
 abbrev pub IsBegun : {W : Type 0} → (W → MediumState) → WriterState W → Type 0
-IsBegun state w = HasHeader w.spec_ex (state w.medium).contents × (w.data_start ≡ data_start w.spec_ex)
+IsBegun state w =
+    HasHeader w.spec_ex (state w.medium).contents × (w.data_start ≡ data_start w.spec_ex)
 
--- A writer of the same samples: of its value only the medium has changed, and what waited may have gone out.
+-- A writer of the same samples: of its value only the medium has changed, and what waited may have
+-- gone out.
 pub record KeepsSamples {W : Type 0} (old new : WriterState W) : Type 0 where
   pub spec_ex : new.spec_ex ≡ old.spec_ex
   pub data_start : new.data_start ≡ old.data_start
