@@ -100,8 +100,8 @@ module _ {M : Type 0} (tells keeps : Bool) (state : M → MediumState) (old : Wr
         let asks : Accepts tells keeps state false (Ok list) answer mid new = subst (λ (l : List (List ℕ)). Accepts tells keeps state false (Ok l) answer mid new) all accepts in
         let fits : FitAnswer true false answer =
         subst (λ b. FitAnswer b false answer) ((λ i. nat_le (riff_size (same.data_start i) (same.out i + length (same.waiting i) + length (concat list))) 4294967295) ∙ room_is room) asks.adds.answers in
-        let old_is : mid ≡ record old { buffer = mid.buffer; batch_left = mid.batch_left; batch_written = mid.batch_written } =
-        (λ i. record { medium = same.medium i; spec_ex = same.spec_ex i; data_start = same.data_start i; out = same.out i; waiting = same.waiting i; buffer = mid.buffer; batch_left = mid.batch_left; batch_written = mid.batch_written }) in
+        let old_is : mid ≡ record old { buffer = mid.buffer } =
+        (λ i. record { medium = same.medium i; spec_ex = same.spec_ex i; data_start = same.data_start i; out = same.out i; waiting = same.waiting i; buffer = mid.buffer }) in
         subst (λ a. Accepts tells keeps state memory a answer old new) (sym asked)
-        (accepts_swapped tells keeps state memory (λ _. Ok list) answer mid old new new mid.buffer new.buffer mid.batch_left mid.batch_written new.batch_left new.batch_written
+        (accepts_swapped tells keeps state memory (λ _. Ok list) answer mid old new new mid.buffer new.buffer
         (fit_failed answer fits) kept refl old_is refl asks)

@@ -123,7 +123,7 @@ impl WriterWords {
     ghost use Rattle.hound.specs.Accepting.{Accepts};
     ghost use Rattle.hound.specs.Answers.{IsIoError, mark_of, one};
     ghost use Rattle.hound.specs.Appending.{Appends, FailsCheck, HasOneAppendAnswer, IsNotAppended, head_fault};
-    ghost use Rattle.hound.specs.Batch.{IsSameFile, batch_bytes, batch_lender, batch_writer, left, remaining, written};
+    ghost use Rattle.hound.specs.Batch.{IsSameFile, batch_bytes, batch_lender, batch_writer, remaining};
     ghost use Rattle.hound.specs.Beginning.{Begins, HasBegun, IsNotBegun};
     ghost use Rattle.hound.specs.Block.{GoesOut, IsLimit, all_out, answer_of, or_fault};
     ghost use Rattle.hound.specs.Fields.{IsConsistent, bytes_kept, of_fields};

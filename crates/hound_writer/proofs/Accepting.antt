@@ -293,12 +293,12 @@ not_refused P (Ok x) failed = tt
 not_refused P (Err (IoError e)) failed = tt
 not_refused P (Err e) failed = absurd failed
 
--- the same of writers that differ in nothing else than their batches
-pub accepts_swapped : {W : Type 0} (tells keeps : Bool) (state : W → MediumState) (memory : Bool) (asked : WriterState W → Result (List (List ℕ)) Refusal) (answer : Result (Unit {0}) Error) (a b c d : WriterState W) (before after : List ℕ) (n i m k : ℕ) → IfErr answer IsIoError → length b.buffer ≤ length after
-    → asked (record b { buffer = before; batch_left = n; batch_written = i }) ≡ asked b → a ≡ record b { buffer = before; batch_left = n; batch_written = i } → c ≡ d
-    → Accepts tells keeps state false (asked a) answer a d → Accepts tells keeps state memory (asked b) answer b (record c { buffer = after; batch_left = m; batch_written = k })
-accepts_swapped tells keeps state memory asked answer a b c d before after n i m k failed grown same_asked same_old same_new accepts =
-    let old = record b { buffer = before; batch_left = n; batch_written = i } in
+-- the same of writers that differ in nothing else than the memory that they keep
+pub accepts_swapped : {W : Type 0} (tells keeps : Bool) (state : W → MediumState) (memory : Bool) (asked : WriterState W → Result (List (List ℕ)) Refusal) (answer : Result (Unit {0}) Error) (a b c d : WriterState W) (before after : List ℕ) → IfErr answer IsIoError → length b.buffer ≤ length after
+    → asked (record b { buffer = before }) ≡ asked b → a ≡ record b { buffer = before } → c ≡ d
+    → Accepts tells keeps state false (asked a) answer a d → Accepts tells keeps state memory (asked b) answer b (record c { buffer = after })
+accepts_swapped tells keeps state memory asked answer a b c d before after failed grown same_asked same_old same_new accepts =
+    let old = record b { buffer = before } in
     let inner : Accepts tells keeps state false (asked b) answer old c =
     subst (λ r. Accepts tells keeps state false r answer old c) same_asked
     (subst (λ w. Accepts tells keeps state false (asked w) answer w c) same_old (subst (λ w. Accepts tells keeps state false (asked a) answer a w) (sym same_new) accepts)) in
@@ -323,7 +323,7 @@ accepts_swapped tells keeps state memory asked answer a b c d before after n i m
     fits true (Err OutOfMemory) here = absurd (false≢true here)
     fits true (Err e) here = absurd here
 
-    swap_answer : (r : Result (List (List ℕ)) Refusal) (answer : Result (Unit {0}) Error) → AcceptAnswer false r (record b { buffer = before; batch_left = n; batch_written = i }) answer → AcceptAnswer memory r b answer
+    swap_answer : (r : Result (List (List ℕ)) Refusal) (answer : Result (Unit {0}) Error) → AcceptAnswer false r (record b { buffer = before }) answer → AcceptAnswer memory r b answer
     swap_answer (Ok asked_for) answer here = fits (nat_le (riff_size b.data_start (data_length b + length (concat asked_for))) 4294967295) answer here
     swap_answer (Err refusal) answer here = here
 

@@ -32,7 +32,7 @@ holds true e = refl
 holds false e = cc
 
 -- a head with no fault
-pub sound_head : {W : Type 0} (medium : W) (s : WavSpecEx) (len h : ℕ) → IsSoundHead s → 20 ≤ h → head_fault s len h ≡ None → IsSound (of_fields medium s h len [] [] 0 0)
+pub sound_head : {W : Type 0} (medium : W) (s : WavSpecEx) (len h : ℕ) → IsSoundHead s → 20 ≤ h → head_fault s len h ≡ None → IsSound (of_fields medium s h len [] [])
 unfolding head_fault
 sound_head medium s len h sound after none =
     let samples = none_behind _ _ _ none in
@@ -63,9 +63,9 @@ stands_on s len h contents new head same =
 
 -- a writer that appends, after a `go` to the end of the data
 pub follows : {W : Type 0} (state : W → MediumState) (medium : W) (s : WavSpecEx) (len h : ℕ) (old : MediumState) → IsSoundHead s → 20 ≤ h → Head old.contents s len h → head_fault s len h ≡ None → Goes {T = Unit {0}} {E = IoFault} (h + len) (Ok tt) old (state medium)
-    → FollowsData old state (of_fields medium s h len [] [] 0 0)
+    → FollowsData old state (of_fields medium s h len [] [])
 follows state medium s len h old sound after head check goes =
-    let w = of_fields medium s h len [] [] 0 0 in
+    let w = of_fields medium s h len [] [] in
     let all : len ≡ len + 0 = omega arith in
     record {
       head = subst (λ n. Head old.contents s n h) all head;

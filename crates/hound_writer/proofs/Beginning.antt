@@ -1,5 +1,5 @@
 -- A file that begins: its header is put, and nothing else.
-use Rattle.std.proofs.Common.{◌≡◌, ℕ, ◌+◌, ◌-◌, ◌≤◌, Bool, List, [], ◌++◌, length, take, drop, Result, Ok, Err, inl, refl, sym, subst, ◌∙◌, ap, arith, append_assoc, length-append}
+use Rattle.std.proofs.Common.{◌≡◌, ℕ, ◌+◌, ◌-◌, ◌≤◌, Bool, List, [], ◌++◌, length, take, drop, Result, Ok, Err, refl, sym, subst, ◌∙◌, ap, arith, append_assoc, length-append}
 use Rattle.std.proofs.lemmas.List.{take_at, take_all, drop_at}
 use Rattle.hound_number.specs.Number.{bytes_of, number}
 use Rattle.hound_medium.specs.Bytes.{placed, overlay}
@@ -17,7 +17,6 @@ use Rattle.hound_spec.specs.declared.error.Error.{Error}
 use Rattle.hound_writer.specs.Beginning.{PutsHeader}
 use Rattle.hound_writer.specs.Fields.{of_fields}
 use Rattle.hound_writer.specs.Parts.{IsStanding}
-use Rattle.hound_writer.specs.Room.{HasBatch}
 use Rattle.hound_writer.specs.Sizes.{field}
 use Rattle.hound_writer.specs.Writer.{IsSound, IsWhole, HasHeader}
 use Rattle.hound_writer.proofs.Containers.{none_whole}
@@ -33,17 +32,8 @@ field-header s p rest at =
     ap (λ l. number (take 4 (drop p l))) whole
     ∙ ap (λ l. number (take 4 l)) (drop_at front (bytes_of 4 0 ++ rest) p long)
 
--- there is memory for a batch of no samples
-pub batch_none : {W : Type 0} (medium : W) (s : WavSpecEx) (start out : ℕ) (buffer : List ℕ) → HasBatch (of_fields medium s start out [] buffer 0 0)
-batch_none medium s start out buffer = record {
-  small = omega arith;
-  memory = omega arith;
-  whole = refl;
-  width = inl refl;
-}
-
 -- a writer of a writable spec that has accepted nothing
-pub sound_begin : {W : Type 0} (medium : W) (s : WavSpecEx) (start : ℕ) → IsWritable s → start ≡ data_start s → IsSound (of_fields medium s start 0 [] [] 0 0)
+pub sound_begin : {W : Type 0} (medium : W) (s : WavSpecEx) (start : ℕ) → IsWritable s → start ≡ data_start s → IsSound (of_fields medium s start 0 [] [])
 sound_begin medium s start writable is = record {
   pair = writable.pair;
   channels = writable.channels;
@@ -94,11 +84,11 @@ module _ {T E : Type 0} (keeps : Bool) (s : WavSpecEx) (bytes : List ℕ) (resul
 
 -- what a constructor has put
 pub header_file : {W : Type 0} (keeps : Bool) (state : W → MediumState) (s : WavSpecEx) (bytes : List ℕ) (old : MediumState) (medium : W) → bytes ≡ header s 0 0 → old.place ≡ 0 → IsWritable s
-    → PutsAll {T = Unit {0}} {E = IoFault} keeps bytes (Ok tt) old (state medium) → PutsHeader keeps state old (of_fields medium s (length bytes) 0 [] [] 0 0)
+    → PutsAll {T = Unit {0}} {E = IoFault} keeps bytes (Ok tt) old (state medium) → PutsHeader keeps state old (of_fields medium s (length bytes) 0 [] [])
 header_file keeps state s bytes old medium is begins writable puts =
     let ok : Result (Unit {0}) IoFault = Ok tt in
     let at : length bytes ≡ data_start s = ap length is ∙ length-header s 0 0 in
-    let w = of_fields medium s (length bytes) 0 [] [] 0 0 in
+    let w = of_fields medium s (length bytes) 0 [] [] in
     let sound = sound_begin medium s (length bytes) writable at in
     let whole : IsWhole state w = omega (arith, at, whole_begins keeps s bytes ok old (state medium) is begins puts puts.whole) in
     let stands = stands_begin keeps s bytes ok old (state medium) is begins puts puts.whole writable (length bytes) at in

@@ -46,10 +46,8 @@ module _ {W : Type 0} (tells keeps : Bool) (state : W → MediumState) (w : Writ
 
   pub consistent_longer : length w.waiting + length bytes ≤ 4096 → IsConsistent tells state (record w { waiting = w.waiting ++ bytes }) moved limit
   consistent_longer few =
-      let b = known.batch in
       record {
         sound = sound_longer;
-        batch = record { small = b.small; memory = b.memory; whole = b.whole; width = b.width };
         whole_out = known.whole_out;
         whole_waiting = ap (λ n. n % width) (length-append w.waiting bytes) ∙ whole_more (length w.waiting) (length bytes) width known.whole_waiting whole_bytes;
         block = omega (arith, few, length-append w.waiting bytes);
@@ -209,10 +207,8 @@ module _ {W : Type 0} (tells keeps : Bool) (state : W → MediumState) (w : Writ
   pub consistent_out : (next : ℕ) → IsLimit w.data_start (data_length w) next → WhereTells tells (PutsAt keeps (w.data_start + w.out) w.waiting (all_out true) (state w.medium) (state m))
       → IsConsistent tells state (after_out true m w) false next
   consistent_out next room puts =
-      let b = known.batch in
       record {
         sound = sound_out;
-        batch = record { small = b.small; memory = b.memory; whole = b.whole; width = b.width };
         whole_out = known.sound.whole;
         whole_waiting = none_whole wide;
         block = omega arith;
@@ -270,10 +266,8 @@ module _ {W : Type 0} (tells keeps : Bool) (state : W → MediumState) (w : Writ
   pub kept_at_once : (next : ℕ) → IsLimit w.data_start (w.out + length bytes) next → HasRoom w (length bytes) → length bytes % w.spec_ex.bytes_per_sample ≡ 0
       → WhereTells tells (PutsAt keeps (w.data_start + w.out) bytes (all_out true) (state w.medium) (state m)) → IsConsistent tells state (record w { medium = m; out = w.out + length bytes }) false next
   kept_at_once next limit_next room whole puts =
-      let b = known.batch in
       record {
         sound = sound_more tells keeps state w none known.sound known.stands m bytes room whole;
-        batch = record { small = b.small; memory = b.memory; whole = b.whole; width = b.width };
         whole_out = whole_more w.out (length bytes) w.spec_ex.bytes_per_sample known.whole_out whole;
         whole_waiting = known.whole_waiting;
         block = known.block;

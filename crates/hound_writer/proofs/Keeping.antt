@@ -15,11 +15,9 @@ consistent_seen tells state moved moved_now limit a b same is known =
 pub consistent_moved : {W : Type 0} (tells : Bool) (state : W → MediumState) (w : WriterState W) (m : W) (moved : Bool) (limit : ℕ) → IsConsistent tells state w moved limit
     → WhereTells tells (IsStanding w.spec_ex w.data_start w.out (state m).contents) → IsConsistent tells state (record w { medium = m }) true limit
 consistent_moved tells state w m moved limit known stands =
-    let b = known.batch in
     let s = known.sound in
     record {
       sound = record { pair = s.pair; channels = s.channels; width = s.width; whole = s.whole; after_head = s.after_head; fits = s.fits };
-      batch = record { small = b.small; memory = b.memory; whole = b.whole; width = b.width };
       whole_out = known.whole_out;
       whole_waiting = known.whole_waiting;
       block = known.block;

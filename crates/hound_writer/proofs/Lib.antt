@@ -17,5 +17,4 @@ pub mod PublishLater
 pub mod Beginning
 pub mod Appending
 pub mod AppendAnswers
-pub mod Batches
 pub mod Writing

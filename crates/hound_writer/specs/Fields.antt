@@ -4,21 +4,18 @@ use Rattle.hound_spec.specs.declared.spec.WavSpecEx.{WavSpecEx}
 use Rattle.hound_medium.specs.State.{MediumState, WhereTells}
 use Rattle.hound_writer.specs.Block.{IsLimit}
 use Rattle.hound_writer.specs.Parts.{IsStanding}
-use Rattle.hound_writer.specs.Room.{HasBatch}
 use Rattle.hound_writer.specs.Writer.{WriterState, IsSound}
 
 -- the value of a writer's fields
-abbrev pub of_fields : {W : Type 0} → W → WavSpecEx → ℕ → ℕ → List ℕ → List ℕ → ℕ → ℕ →
+abbrev pub of_fields : {W : Type 0} → W → WavSpecEx → ℕ → ℕ → List ℕ → List ℕ →
     WriterState W
-of_fields medium spec_ex start out waiting buffer left_is written_is = record {
+of_fields medium spec_ex start out waiting buffer = record {
   medium = medium;
   spec_ex = spec_ex;
   data_start = start;
   out = out;
   waiting = waiting;
   buffer = buffer;
-  batch_left = left_is;
-  batch_written = written_is;
 }
 
 -- What a writer keeps between its calls: the samples that are out are whole and so are those that
@@ -27,7 +24,6 @@ of_fields medium spec_ex start out waiting buffer left_is written_is = record {
 pub record IsConsistent {W : Type 0} (tells : Bool) (state : W → MediumState) (w : WriterState W)
     (may_have_moved : Bool) (limit : ℕ) : Type 0 where
   pub sound : IsSound w
-  pub batch : HasBatch w
   pub whole_out : w.out % w.spec_ex.bytes_per_sample ≡ 0
   pub whole_waiting : length w.waiting % w.spec_ex.bytes_per_sample ≡ 0
   pub block : length w.waiting ≤ 4096

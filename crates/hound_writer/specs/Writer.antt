@@ -10,8 +10,7 @@ use Rattle.hound_writer.specs.Counts.{Counts}
 
 -- A writer: its medium, the spec, the place of the first data byte, how many bytes of the accepted
 -- samples are out, and the others, which wait in the writer. Then the memory that it keeps for
--- batches, and of the batch that was begun last how many samples are still to be written and how
--- many bytes are.
+-- batches.
 pub record WriterState (W : Type 0) : Type 0 where
   pub medium : W
   pub spec_ex : WavSpecEx
@@ -19,8 +18,6 @@ pub record WriterState (W : Type 0) : Type 0 where
   pub out : ℕ
   pub waiting : List ℕ
   pub buffer : List ℕ
-  pub batch_left : ℕ
-  pub batch_written : ℕ
 
 -- how many bytes were accepted
 abbrev pub data_length : {W : Type 0} → WriterState W → ℕ

@@ -1,12 +1,12 @@
 // What is done with batches.
-ghost use Rattle.std.specs.Prelude.{◌≡◌, ◌+◌, ◌-◌, ◌*◌, ◌/◌, ◌≤◌, ◌<◌, ◌++◌, max, [], length, take, IfOk, IfErr, OnOk, Ok, Err, false};
+ghost use Rattle.std.specs.Prelude.{◌≡◌, ◌+◌, ◌*◌, ◌^◌, ◌%◌, ◌/◌, ◌≤◌, ◌<◌, ◌++◌, max, [], length, take, IfOk, IfErr, OnOk, Ok, Err, false};
 ghost use Rattle.std.specs.Borrow.{sem, RestsIfErr};
 ghost use Rattle.hound_number.specs.Number.{signed_bytes_of};
 ghost use Rattle.hound_spec.specs.declared.error.Error.TheVariants.{OutOfMemory, TooLong};
 ghost use Rattle.hound_sample.specs.Container.{containers};
 ghost use Rattle.hound_writer.specs.contracts.write.WavWriter.{the_row};
 ghost use Rattle.hound_writer.specs.Accepting.{Accepts};
-ghost use Rattle.hound_writer.specs.Batch.{IsSameFile, written, left, batch_writer, batch_lender, batch_bytes, remaining};
+ghost use Rattle.hound_writer.specs.Batch.{IsSameFile, batch_writer, batch_lender, batch_bytes, remaining};
 ghost use Rattle.hound_writer.specs.Room.{IsSixteen};
 ghost use Rattle.hound_writer.specs.Writer.{HasRoom};
 
@@ -61,43 +61,32 @@ fn store(buffer: &mut Vec<u8>, index: usize, pair: [u8; 2])
 }
 
 impl<W: Medium> Output<W> {
-    // Puts a sample of sixteen bits into the batch.
+    // Puts a sample of sixteen bits into the memory.
     #[inline(always)]
-    fn write_in_batch(&mut self, value: i16)
-        requires { 1 ≤ left self.old }
-        ensures stays { self.new ≡ record self.old { buffer = self.new.buffer; batch_left = self.old.batch_left - 1; batch_written = self.old.batch_written + 2 } }
-        ensures written { written self.new ≡ written self.old ++ signed_bytes_of 2 value }
+    fn store_sample(&mut self, index: usize, value: i16)
+        requires { index + 2 ≤ length self.old.buffer }
+        ensures stays { self.new ≡ record self.old { buffer = self.new.buffer } }
+        ensures written { take (index + 2) self.new.buffer ≡ take index self.old.buffer ++ signed_bytes_of 2 value }
         ensures kept { length self.new.buffer ≡ length self.old.buffer }
     {
-        let index = self.batch_written;
-        self.batch_left -= 1;
-        self.batch_written = index + 2;
         if let Some(buffer) = &mut self.buffer {
             store(buffer, index, le_i16(value));
         }
     }
 
-    // How many samples are still to be written to the batch.
-    #[inline(always)]
-    fn left_in_batch(&self) -> u32
-        ensures { result ≡ left self.now }
-    {
-        self.batch_left
-    }
-
-    // Accepts all samples of the batch, or none of them.
-    fn accept_batch(&mut self, fault: &mut io::Error) -> Result<()>
-        requires { left self.old ≡ 0 }
-        ensures accepts { Accepts W.tells W.keeps W.state false
-            (Ok (containers self.old.spec_ex.bytes_per_sample (length (written self.old) / self.old.spec_ex.bytes_per_sample) (written self.old)))
+    // Accepts the samples in the first bytes of the memory, or none of them.
+    fn accept_batch(&mut self, num_bytes: usize, fault: &mut io::Error) -> Result<()>
+        requires memory { num_bytes ≤ length self.old.buffer }
+        requires few { num_bytes ≤ 2 ^ 33 }
+        requires whole { num_bytes % self.old.spec_ex.bytes_per_sample ≡ 0 }
+        ensures accepts { let bytes = take num_bytes self.old.buffer in Accepts W.tells W.keeps W.state false
+            (Ok (containers self.old.spec_ex.bytes_per_sample (length bytes / self.old.spec_ex.bytes_per_sample) bytes))
             result self.old self.new }
         ensures buffer { self.new.buffer ≡ self.old.buffer }
     {
-        let num_bytes = self.batch_written;
         if !self.has_room(num_bytes as u64) {
             return Err(Error::TooLong);
         }
-        self.batch_written = 0; // it is over, whatever becomes of it
         match self.buffer.take() {
             Some(buffer) => {
                 let accepted = self.accept_all(&buffer[..num_bytes], fault);
@@ -138,9 +127,11 @@ impl<W: Medium> WavWriter<W> {
             return Err(Error::TooLong);
         }
         self.output.keep(alloc, num_bytes as usize)?;
-        self.output.batch_left = num_samples;
-        self.output.batch_written = 0;
-        Ok(SampleWriter16 { parent: self })
+        Ok(SampleWriter16 {
+            parent: self,
+            written: 0,
+            left: num_samples as usize,
+        })
     }
 }
 
@@ -158,8 +149,11 @@ impl<'parent, W: Medium> SampleWriter16<'parent, W> {
         ensures stays { IsSameFile (batch_writer self.old) (batch_writer self.new) }
         ensures kept { length (batch_writer self.new).buffer ≡ length (batch_writer self.old).buffer }
     {
+        let index = self.written;
+        self.written = index + 2;
+        self.left -= 1;
         let parent = &mut *self.parent;
-        parent.output.write_in_batch(sample.as_i16());
+        parent.output.store_sample(index, sample.as_i16());
     }
 
     /// Does what [`SampleWriter16::write_sample`] does, which is safe and checks nothing.
@@ -177,11 +171,11 @@ impl<'parent, W: Medium> SampleWriter16<'parent, W> {
     }
 
     /// How many samples are still to be written to the batch.
+    #[inline(always)]
     pub fn remaining(&self) -> u32
         ensures { result ≡ remaining self.now }
     {
-        let parent = &*self.parent;
-        parent.output.left_in_batch()
+        self.left as u32
     }
 
     /// Accepts all samples of a batch that is full, or none of them.
@@ -195,7 +189,11 @@ impl<'parent, W: Medium> SampleWriter16<'parent, W> {
             result old self.exit.0.now }
         ensures buffer { self.exit.0.now.buffer ≡ (batch_writer self.entry).buffer }
     {
-        let SampleWriter16 { parent } = self;
-        parent.output.accept_batch(&mut parent.fault)
+        let SampleWriter16 {
+            parent,
+            written,
+            left: _,
+        } = self;
+        parent.output.accept_batch(written, &mut parent.fault)
     }
 }

@@ -43,12 +43,6 @@ pub(crate) struct Output<W: Medium> {
 
     // The memory that batches use, which is kept for later ones.
     pub(crate) buffer: Option<Vec<u8>>,
-
-    // How many samples are still to be written to the batch that was begun last.
-    pub(crate) batch_left: u32,
-
-    // The bytes of those that were written.
-    pub(crate) batch_written: usize,
 }
 
 impl<W: Medium> Model for Output<W> {
@@ -58,10 +52,10 @@ impl<W: Medium> Model for Output<W> {
     ghost Value = { WriterState W };
 
     ghost view = { λ w. of_fields w.writer w.spec_ex w.data_start w.data_bytes_written w.block
-        (bytes_kept (λ buffer. buffer.items) w.buffer) w.batch_left w.batch_written };
+        (bytes_kept (λ buffer. buffer.items) w.buffer) };
 
     ghost invariant = { λ w. IsConsistent W.tells W.state (of_fields w.writer w.spec_ex w.data_start w.data_bytes_written w.block
-        (bytes_kept (λ buffer. buffer.items) w.buffer) w.batch_left w.batch_written) w.may_have_moved w.limit };
+        (bytes_kept (λ buffer. buffer.items) w.buffer)) w.may_have_moved w.limit };
 }
 
 /// The RIFF size of a file whose data begin here and are so many bytes.
@@ -121,10 +115,10 @@ impl<W: Medium> Output<W> {
         data_start: u64,
         data_length: u32,
     ) -> Output<W>
-        requires sound { IsSound (of_fields writer spec_ex data_start data_length [] [] 0 0) }
+        requires sound { IsSound (of_fields writer spec_ex data_start data_length [] []) }
         requires stands { WhereTells W.tells (IsStanding spec_ex data_start data_length (W.state writer).contents) }
         requires place { WhereTells W.tells ((W.state writer).place ≡ data_start + data_length) }
-        ensures { result ≡ of_fields writer spec_ex data_start data_length [] [] 0 0 }
+        ensures { result ≡ of_fields writer spec_ex data_start data_length [] [] }
     {
         Output {
             spec_ex,
@@ -135,8 +129,6 @@ impl<W: Medium> Output<W> {
             block: Block::new(),
             limit: limit_of(data_start, data_length),
             buffer: None,
-            batch_left: 0,
-            batch_written: 0,
         }
     }
 
@@ -145,6 +137,7 @@ impl<W: Medium> Output<W> {
     pub(crate) fn has_room(&self, more: u64) -> bool
         requires { more ≤ 2 ^ 33 }
         ensures room { IsTrue result ↔ HasRoom self.now more }
+        ensures sound { IsSound self.now }
         ensures counts { WhereTells W.tells (IsWhole W.state self.now → IsCounted W.state self.now) }
     {
         riff_size(self.data_start, self.data_length() as u64 + more) <= u32::MAX as u64
@@ -387,8 +380,6 @@ impl<W: Medium> Output<W> {
             block: _,
             limit: _,
             buffer: _,
-            batch_left: _,
-            batch_written: _,
         } = self;
         writer
     }

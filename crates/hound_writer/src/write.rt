@@ -104,10 +104,10 @@ impl<W: Medium> WavWriter<W> {
         data_start: u64,
         data_length: u32,
     ) -> WavWriter<W>
-        requires sound { IsSound (of_fields writer spec_ex data_start data_length [] [] 0 0) }
+        requires sound { IsSound (of_fields writer spec_ex data_start data_length [] []) }
         requires stands { WhereTells W.tells (IsStanding spec_ex data_start data_length (W.state writer).contents) }
         requires place { WhereTells W.tells ((W.state writer).place ≡ data_start + data_length) }
-        ensures { result ≡ of_fields writer spec_ex data_start data_length [] [] 0 0 }
+        ensures { result ≡ of_fields writer spec_ex data_start data_length [] [] }
     {
         WavWriter {
             output: Output::at_end(writer, spec_ex, data_start, data_length),

@@ -40,7 +40,7 @@ returns-then-len-self-clause-accepts g c =
     sample_accepts W.tells W.keeps W.state (g.S.Sample.container c.args.sample) _ _ _ _ c.self.view_is known sample.container bytes (Ok tt) _ is cut_is
     (g.met.S.Sample.in_width c.args.sample _ _ sample.container is).0
     (accepts_seen W.tells W.keeps W.state bytes (Ok tt) _ _ _ _ c.self.view_is
-    (λ j. of_fields i.writer i.spec_ex i.data_start i.data_bytes_written (c.push.ensures j) (bytes_kept (λ buffer. buffer.items) i.buffer) i.batch_left i.batch_written)
+    (λ j. of_fields i.writer i.spec_ex i.data_start i.data_bytes_written (c.push.ensures j) (bytes_kept (λ buffer. buffer.items) i.buffer))
     (accepts_waiting W.tells W.keeps W.state _ _ _ known bytes
     (omega (arith, size, width.1, c.len.ensures.length, c.if-len-self.true, known.room.block, known.room.file (omega (arith, c.if-len-self.true))))
     (one_whole _ _ size) (λ tells keeps. g.met.W.Medium.replays i.writer tells keeps)))

@@ -28,7 +28,7 @@ invariant_of-self-2 g c =
     let W = g.W.Placed in
     let i = c.self.inside in
     consistent_seen W.tells W.state _ _ _ _ _
-    (sym (λ j. of_fields c.put_at_end.new.medium i.spec_ex i.data_start (i.data_bytes_written + c.len-2.ensures.length j) (c.clear.ensures j) (bytes_kept (λ buffer. buffer.items) i.buffer) i.batch_left i.batch_written))
+    (sym (λ j. of_fields c.put_at_end.new.medium i.spec_ex i.data_start (i.data_bytes_written + c.len-2.ensures.length j) (c.clear.ensures j) (bytes_kept (λ buffer. buffer.items) i.buffer)))
     (sym c.if-not-put_at_end.ensures.moved)
     (consistent_out W.tells W.keeps W.state _ _ _ c.self.invariant (λ tells keeps. g.met.W.Medium.replays c.self.inside.writer tells keeps) c.put_at_end.new.medium c.limit_of-self-inside.result
     (subst (λ n. IsLimit i.data_start (i.data_bytes_written + n) c.limit_of-self-inside.result) c.len-2.ensures.length c.limit_of-self-inside.ensures.room) (puts_same W.tells W.keeps _ _ _ _ _ _ c.as_slice-bytes.ensures c.if-not-put_at_end.ensures.puts))
@@ -38,5 +38,5 @@ returns g c =
     let W = g.W.Placed in
     let i = c.self.inside in
     goes_out_seen W.tells W.keeps W.state true _ c.args.self.now _ c.put_at_end.new.medium c.self.view_is
-    (λ j. of_fields c.put_at_end.new.medium i.spec_ex i.data_start (i.data_bytes_written + c.len-2.ensures.length j) (c.clear.ensures j) (bytes_kept (λ buffer. buffer.items) i.buffer) i.batch_left i.batch_written)
+    (λ j. of_fields c.put_at_end.new.medium i.spec_ex i.data_start (i.data_bytes_written + c.len-2.ensures.length j) (c.clear.ensures j) (bytes_kept (λ buffer. buffer.items) i.buffer))
     (goes_out W.tells W.keeps W.state _ _ _ c.self.invariant (λ tells keeps. g.met.W.Medium.replays c.self.inside.writer tells keeps) c.put_at_end.new.medium true (puts_same W.tells W.keeps _ _ _ _ _ _ c.as_slice-bytes.ensures c.if-not-put_at_end.ensures.puts))
