@@ -1,25 +1,22 @@
-// What the modules of tests share: specs, files in memory, and a medium that fails.
-ghost use Rattle.std.specs.Prelude.{◌≡◌, ◌≤◌, false, IfOk};
+//! What tests share, these and those of `hound_fault_tests`: specs, files in memory, and a medium that
+//! fails.
+ghost use Rattle.std.specs.Prelude.{◌≡◌, false, IfOk};
 ghost use Rattle.std.proofs.lemmas.Bool.{false≢true};
 ghost use Rattle.hound.specs.Room.{IsSixteen};
 ghost use Rattle.hound.specs.State.{MediumState, unknown};
 ghost use Rattle.hound.specs.declared.SampleFormat.TheVariants.{Int};
 
 use hound::{
-    Error, Journal, Medium, Placed, Sample, SampleFormat, Source, Tape, WavReader, WavSpec,
-    WavSpecEx, WavWriter,
+    Error, Medium, Placed, Sample, SampleFormat, Source, Tape, WavReader, WavSpec, WavSpecEx,
+    WavWriter,
 };
 use std::alloc::Global;
 use std::io;
 use std::io::ErrorKind;
 use std::test::Fail;
 
-pub(crate) fn integers(
-    channels: u16,
-    sample_rate: u32,
-    bits: u16,
-    bytes_per_sample: u16,
-) -> WavSpecEx {
+/// Integers, so many bits of a sample in so many bytes.
+pub fn integers(channels: u16, sample_rate: u32, bits: u16, bytes_per_sample: u16) -> WavSpecEx {
     WavSpecEx {
         spec: WavSpec {
             channels,
@@ -31,7 +28,8 @@ pub(crate) fn integers(
     }
 }
 
-pub(crate) fn floats(sample_rate: u32) -> WavSpecEx {
+/// One channel of floats.
+pub fn floats(sample_rate: u32) -> WavSpecEx {
     WavSpecEx {
         spec: WavSpec {
             channels: 1,
@@ -43,8 +41,8 @@ pub(crate) fn floats(sample_rate: u32) -> WavSpecEx {
     }
 }
 
-// Integers of 16 bits at 44100 Hz.
-pub(crate) fn sixteen(channels: u16) -> WavSpec
+/// Integers of 16 bits at 44100 Hz.
+pub fn sixteen(channels: u16) -> WavSpec
     ensures { (result.sample_format ≡ Int) × (result.bits_per_sample ≡ 16) }
 {
     WavSpec {
@@ -55,23 +53,23 @@ pub(crate) fn sixteen(channels: u16) -> WavSpec
     }
 }
 
-// Mono, 44100 Hz, 16 bits: 2, -3, 5, -7.
-pub(crate) const FOUR_SAMPLES: [u8; 52] = [
+/// Mono, 44100 Hz, 16 bits: 2, -3, 5, -7.
+pub const FOUR_SAMPLES: [u8; 52] = [
     0x52, 0x49, 0x46, 0x46, 0x2c, 0x00, 0x00, 0x00, 0x57, 0x41, 0x56, 0x45, 0x66, 0x6d, 0x74, 0x20,
     0x10, 0x00, 0x00, 0x00, 0x01, 0x00, 0x01, 0x00, 0x44, 0xac, 0x00, 0x00, 0x88, 0x58, 0x01, 0x00,
     0x02, 0x00, 0x10, 0x00, 0x64, 0x61, 0x74, 0x61, 0x08, 0x00, 0x00, 0x00, 0x02, 0x00, 0xfd, 0xff,
     0x05, 0x00, 0xf9, 0xff,
 ];
 
-// The same without samples.
-pub(crate) const NO_SAMPLES: [u8; 44] = [
+/// The same without samples.
+pub const NO_SAMPLES: [u8; 44] = [
     0x52, 0x49, 0x46, 0x46, 0x24, 0x00, 0x00, 0x00, 0x57, 0x41, 0x56, 0x45, 0x66, 0x6d, 0x74, 0x20,
     0x10, 0x00, 0x00, 0x00, 0x01, 0x00, 0x01, 0x00, 0x44, 0xac, 0x00, 0x00, 0x88, 0x58, 0x01, 0x00,
     0x02, 0x00, 0x10, 0x00, 0x64, 0x61, 0x74, 0x61, 0x00, 0x00, 0x00, 0x00,
 ];
 
-// Stereo, 48000 Hz, 24 bits in four bytes: -96, 23052, 8388607, -8360672.
-pub(crate) const FOUR_BYTES: [u8; 84] = [
+/// Stereo, 48000 Hz, 24 bits in four bytes: -96, 23052, 8388607, -8360672.
+pub const FOUR_BYTES: [u8; 84] = [
     0x52, 0x49, 0x46, 0x46, 0x4c, 0x00, 0x00, 0x00, 0x57, 0x41, 0x56, 0x45, 0x66, 0x6d, 0x74, 0x20,
     0x28, 0x00, 0x00, 0x00, 0xfe, 0xff, 0x02, 0x00, 0x80, 0xbb, 0x00, 0x00, 0x00, 0xdc, 0x05, 0x00,
     0x08, 0x00, 0x20, 0x00, 0x16, 0x00, 0x18, 0x00, 0x03, 0x00, 0x00, 0x00, 0x01, 0x00, 0x00, 0x00,
@@ -80,20 +78,22 @@ pub(crate) const FOUR_BYTES: [u8; 84] = [
     0x20, 0x6d, 0x80, 0x00,
 ];
 
-pub(crate) fn empty_tape(alloc: Global) -> Tape
+/// A tape without bytes.
+pub fn empty_tape(alloc: Global) -> Tape
     ensures { (⟦<Tape as Placed>⟧.state result).place ≡ 0 }
 {
     Tape::new(Vec::new(alloc))
 }
 
-pub(crate) fn tape_of(alloc: Global, bytes: &[u8]) -> Result<Tape, Fail>
+/// A tape of these bytes, which stands before the first.
+pub fn tape_of(alloc: Global, bytes: &[u8]) -> Result<Tape, Fail>
     ensures { IfOk result (λ t. (⟦<Tape as Placed>⟧.state t).place ≡ 0) }
 {
     Ok(Tape::new(bytes.to_vec(alloc)?))
 }
 
-// Writes these samples, up to the first that is refused.
-pub(crate) fn write_all<S: Sample + Copy, W: Medium>(
+/// Writes these samples, up to the first that is refused.
+pub fn write_all<S: Sample + Copy, W: Medium>(
     writer: &mut WavWriter<W>,
     samples: &[S],
 ) -> hound::Result<()> {
@@ -103,8 +103,8 @@ pub(crate) fn write_all<S: Sample + Copy, W: Medium>(
     Ok(())
 }
 
-// Writes as many samples by one batch, which count up from the first.
-pub(crate) fn write_up<W: Medium>(
+/// Writes as many samples by one batch, which count up from the first.
+pub fn write_up<W: Medium>(
     writer: &mut WavWriter<W>,
     alloc: Global,
     first: i16,
@@ -127,17 +127,8 @@ pub(crate) fn write_up<W: Medium>(
     batch.flush()
 }
 
-// The numbers below 100 in turn, so many.
-pub(crate) fn numbers(alloc: Global, count: i32) -> Result<Vec<i32>, Fail> {
-    let mut numbers = Vec::new(alloc);
-    for i in 0..count {
-        numbers.push(i % 100)?;
-    }
-    Ok(numbers)
-}
-
-// The bytes of a file of these samples.
-pub(crate) fn file_of<S: Sample + Copy>(
+/// The bytes of a file of these samples.
+pub fn file_of<S: Sample + Copy>(
     alloc: Global,
     spec_ex: WavSpecEx,
     samples: &[S],
@@ -149,8 +140,8 @@ pub(crate) fn file_of<S: Sample + Copy>(
     Ok(tape.into_bytes())
 }
 
-// A file of one fmt chunk and the data.
-pub(crate) fn file_with(alloc: Global, fmt: &[u8], data: &[u8]) -> Result<Vec<u8>, Fail> {
+/// A file of one fmt chunk and the data.
+pub fn file_with(alloc: Global, fmt: &[u8], data: &[u8]) -> Result<Vec<u8>, Fail> {
     let mut bytes = b"RIFF\0\0\0\0WAVEfmt ".to_vec(alloc)?;
     bytes.extend_from_slice(&[(fmt.len() % 256) as u8, 0, 0, 0])?;
     bytes.extend_from_slice(fmt)?;
@@ -160,8 +151,8 @@ pub(crate) fn file_with(alloc: Global, fmt: &[u8], data: &[u8]) -> Result<Vec<u8
     Ok(bytes)
 }
 
-// The samples that a reader gives, up to the first that is refused.
-pub(crate) fn read_all<S: Sample, R: io::Read + Drop>(
+/// The samples that a reader gives, up to the first that is refused.
+pub fn read_all<S: Sample, R: io::Read + Drop>(
     alloc: Global,
     reader: WavReader<R>,
 ) -> hound::Result<Vec<S>> {
@@ -173,32 +164,13 @@ pub(crate) fn read_all<S: Sample, R: io::Read + Drop>(
     Ok(samples)
 }
 
-// The samples of a file, up to the first that is refused.
-pub(crate) fn samples_of<S: Sample>(alloc: Global, file: &[u8]) -> hound::Result<Vec<S>> {
+/// The samples of a file, up to the first that is refused.
+pub fn samples_of<S: Sample>(alloc: Global, file: &[u8]) -> hound::Result<Vec<S>> {
     read_all(alloc, WavReader::new(file)?)
 }
 
-// Whether a file has these samples and no others.
-pub(crate) fn has_samples<S: Sample + PartialEq>(
-    bytes: &[u8],
-    samples: &[S],
-) -> hound::Result<bool> {
-    let mut reader = WavReader::new(bytes)?;
-    if reader.len() as usize != samples.len() {
-        return Ok(false);
-    }
-    let mut items = reader.samples::<S>();
-    for sample in samples {
-        match items.next() {
-            Some(Ok(value)) if value == *sample => {}
-            _ => return Ok(false),
-        }
-    }
-    Ok(items.next().is_none())
-}
-
-// Whether the next item is this number.
-pub(crate) fn gives<S: Sample + PartialEq, R: io::Read + Drop>(
+/// Whether the next item is this number.
+pub fn gives<S: Sample + PartialEq, R: io::Read + Drop>(
     reader: &mut WavReader<R>,
     number: S,
 ) -> bool {
@@ -222,11 +194,8 @@ fn seeks_to<R: Source>(
     }
 }
 
-// From each frame to each other one, and back to the first.
-pub(crate) fn seeks_everywhere<R: Source>(
-    reader: WavReader<R>,
-    numbers: &[i32],
-) -> hound::Result<bool> {
+/// From each frame to each other one, and back to the first.
+pub fn seeks_everywhere<R: Source>(reader: WavReader<R>, numbers: &[i32]) -> hound::Result<bool> {
     let mut reader = reader;
     for from in 0..reader.duration() {
         for to in 0..reader.duration() {
@@ -241,54 +210,22 @@ pub(crate) fn seeks_everywhere<R: Source>(
     Ok(true)
 }
 
-// The length in the four bytes before the data.
-fn data_length(bytes: &[u8], data_start: usize) -> Option<usize> {
-    match bytes.get(data_start.saturating_sub(4)..data_start) {
-        Some([a, b, c, d]) => Some(u32::from_le_bytes([*a, *b, *c, *d]) as usize),
-        _ => None,
-    }
-}
-
-// Whether a file has the first of these samples, as many as its length counts, or is refused for a
-// length of no whole frames.
-pub(crate) fn has_first<S: Sample + PartialEq>(
-    bytes: &[u8],
-    samples: &[S],
-    data_start: usize,
-    width: usize,
-    channels: usize,
-) -> bool
-    requires wide { 1 ≤ width }
-    requires many { 1 ≤ channels }
-{
-    let Some(length) = data_length(bytes, data_start) else {
-        return false;
-    };
-    let count = length / width;
-    let words = if length % width != 0 {
-        "data chunk length is not a multiple of sample size"
-    } else if count % channels != 0 {
-        "invalid data chunk length"
-    } else {
-        return match samples.get(..count) {
-            Some(first) => matches!(has_samples(bytes, first), Ok(true)),
-            None => false,
-        };
-    };
-    matches!(WavReader::new(bytes), Err(Error::FormatError(reason)) if reason == words)
-}
-
-// A tape that takes one byte a call, and fails at one of its calls.
+/// A tape that takes one byte a call, and fails at one of its calls.
 #[derive(Drop)]
-pub(crate) struct Faulty {
-    pub(crate) tape: Tape,
-    pub(crate) calls: u64,
-    pub(crate) fails_at: u64,
+pub struct Faulty {
+    /// What it took.
+    pub tape: Tape,
+
+    /// How many calls there were.
+    pub calls: u64,
+
+    /// The number of the call that fails.
+    pub fails_at: u64,
 }
 
 impl Faulty {
-    // Over no bytes, failing at the call with this number; at 0 none fails.
-    pub(crate) fn at(alloc: Global, fails_at: u64) -> Faulty {
+    /// Over no bytes, failing at the call with this number; at 0 none fails.
+    pub fn at(alloc: Global, fails_at: u64) -> Faulty {
         Faulty {
             tape: empty_tape(alloc),
             calls: 0,
@@ -334,104 +271,5 @@ impl Medium for Faulty {
     fn flush(&mut self) -> io::Result<()> {
         self.call()?;
         Medium::flush(&mut self.tape)
-    }
-}
-
-// A call of a medium: how many bytes were handed to a put, and the place of a go.
-#[derive(Clone, Copy, Debug, PartialEq, Eq)]
-pub(crate) enum Call {
-    Put(usize),
-    Go(u64),
-    Flush,
-}
-
-// A journal that keeps the calls that a writer makes, those that fail too.
-#[derive(Drop)]
-pub(crate) struct Recorded {
-    pub(crate) journal: Journal,
-    pub(crate) calls: Vec<Call>,
-}
-
-impl Recorded {
-    // Over these bytes, failing at the calls with these numbers.
-    pub(crate) fn over(
-        alloc: Global,
-        bytes: Vec<u8>,
-        from: u64,
-        to: u64,
-    ) -> hound::Result<Recorded> {
-        let mut journal = Journal::new(alloc, bytes)?;
-        journal.fail(from, to);
-        Ok(Recorded {
-            journal,
-            calls: Vec::new(alloc),
-        })
-    }
-
-    // Over no bytes, failing at the calls with these numbers.
-    pub(crate) fn failing(alloc: Global, from: u64, to: u64) -> hound::Result<Recorded> {
-        Recorded::over(alloc, Vec::new(alloc), from, to)
-    }
-
-    // Over no bytes.
-    pub(crate) fn new(alloc: Global) -> hound::Result<Recorded> {
-        Recorded::failing(alloc, 1, 0)
-    }
-
-    // The bytes of now.
-    pub(crate) fn bytes(&self, alloc: Global) -> hound::Result<Vec<u8>> {
-        self.journal.bytes_after(alloc, self.journal.taken())
-    }
-
-    fn record(&mut self, call: Call) -> io::Result<()> {
-        match self.calls.push(call) {
-            Ok(()) => Ok(()),
-            Err(_) => Err(io::Error::from(ErrorKind::OutOfMemory)),
-        }
-    }
-}
-
-impl Placed for Recorded {
-    ghost tells = { false };
-
-    ghost state = { λ _. unknown };
-
-    ghost bytes = { λ _ tells. Prim.absurd (false≢true tells) };
-
-    fn go(&mut self, to: u64) -> io::Result<()> {
-        self.record(Call::Go(to))?;
-        self.journal.go(to)
-    }
-
-    fn shift(&mut self, by: i64) -> io::Result<()> {
-        self.journal.shift(by)
-    }
-}
-
-impl Medium for Recorded {
-    ghost replays = { λ _ tells. Prim.absurd (false≢true tells) };
-
-    fn put(&mut self, bytes: &[u8]) -> io::Result<usize> {
-        self.record(Call::Put(bytes.len()))?;
-        Medium::put(&mut self.journal, bytes)
-    }
-
-    fn flush(&mut self) -> io::Result<()> {
-        self.record(Call::Flush)?;
-        Medium::flush(&mut self.journal)
-    }
-}
-
-impl io::Read for Recorded {
-    fn read(&mut self, buf: &mut [u8]) -> io::Result<usize> {
-        io::Read::read(&mut self.journal, buf)
-    }
-}
-
-impl Source for Recorded {
-    ghost left = { λ _ tells. Prim.absurd (false≢true tells) };
-
-    fn get(&mut self, buf: &mut [u8]) -> io::Result<usize> {
-        Source::get(&mut self.journal, buf)
     }
 }

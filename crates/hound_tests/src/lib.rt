@@ -3,6 +3,7 @@
 #![tactic(auto)]
 
 mod callers;
+pub mod helpers;
 mod twelve;
 
 pub use callers::{convert, open_written, record_checkpoint};
@@ -17,25 +18,15 @@ mod calling;
 #[cfg(test)]
 mod channels;
 #[cfg(test)]
-mod checkpoints;
-#[cfg(test)]
 mod files;
 #[cfg(test)]
-mod helpers;
-#[cfg(test)]
 mod memory;
-#[cfg(test)]
-mod moments;
 #[cfg(test)]
 mod reading;
 #[cfg(test)]
 mod seeking;
 #[cfg(test)]
-mod sessions;
-#[cfg(test)]
 mod unknown_length;
-#[cfg(test)]
-mod waiting;
 #[cfg(test)]
 mod widths;
 #[cfg(test)]

@@ -3,11 +3,11 @@
 ghost use Rattle.std.specs.Prelude.{◌≡◌, IfOk};
 ghost use Rattle.hound.specs.State.{MediumState};
 
-use crate::helpers::{
-    Call, FOUR_SAMPLES, Faulty, NO_SAMPLES, Recorded, empty_tape, integers, numbers, sixteen,
-    write_all, write_up,
-};
+use crate::helpers::{Call, Recorded, failing};
 use hound::{Error, Journal, Medium, Placed, Sample, SampleFormat, WavSpecEx, WavWriter};
+use hound_tests::helpers::{
+    FOUR_SAMPLES, Faulty, NO_SAMPLES, empty_tape, integers, sixteen, write_all, write_up,
+};
 use std::alloc::Global;
 use std::test::Fail;
 
@@ -286,15 +286,6 @@ fn a_long_batch_with_no_block_is_put_alone(rt: HostRuntime) -> Result<(), Fail> 
     let whole = counted_up(alloc, 36 + 4098, 4098, 2050)?;
     assert_eq!(rt; medium.bytes(alloc)?.as_slice(), whole.as_slice());
     Ok(())
-}
-
-// An empty journal that fails at the calls with these numbers.
-fn failing(alloc: Global, from: u64, to: u64) -> hound::Result<Journal>
-    ensures { IfOk result (λ j. (⟦<Journal as Placed>⟧.state j).place ≡ 0) }
-{
-    let mut journal = Journal::new(alloc, Vec::new(alloc))?;
-    journal.fail(from, to);
-    Ok(journal)
 }
 
 #[test]

@@ -1,8 +1,9 @@
 // Files over a medium that keeps its past and fails on request.
 ghost use Rattle.std.specs.Prelude.{◌≡◌, ◌≤◌, IfOk};
 
-use crate::helpers::{has_first, has_samples, integers, numbers, sixteen, write_all};
+use crate::helpers::{has_first, has_samples, numbers};
 use hound::{Error, Journal, Placed, WavReader, WavSpec, WavWriter};
+use hound_tests::helpers::{integers, sixteen, write_all};
 use std::alloc::Global;
 use std::test::Fail;
 

@@ -1,8 +1,8 @@
 // Checkpoints, and writers that are dropped.
 ghost use Rattle.std.specs.Prelude.{◌≡◌};
 
-use crate::helpers::{Faulty, empty_tape, file_of, integers, samples_of, sixteen, write_all};
 use hound::{Error, Placed, Tape, WavReader, WavWriter};
+use hound_tests::helpers::{Faulty, empty_tape, file_of, integers, samples_of, sixteen, write_all};
 use std::alloc::Global;
 use std::test::Fail;
 

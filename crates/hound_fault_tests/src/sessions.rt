@@ -1,25 +1,14 @@
 // Whole runs of a writer as one call.
-ghost use Rattle.std.specs.Prelude.{◌≡◌, IfOk};
-ghost use Rattle.hound.specs.State.{MediumState};
+ghost use Rattle.std.specs.Prelude.{◌≡◌};
 
-use crate::helpers::{empty_tape, has_first, integers, samples_of, tape_of};
-use hound::{
-    Begin, End, Error, FloatBits, Journal, Placed, Step, Tape, WavSpecEx, run_session, run_sessions,
-};
+use crate::helpers::{failing, has_first};
+use hound::{Begin, End, Error, FloatBits, Step, Tape, WavSpecEx, run_session, run_sessions};
+use hound_tests::helpers::{empty_tape, integers, samples_of, tape_of};
 use std::alloc::Global;
 use std::test::Fail;
 
 fn sixteen(channels: u16) -> WavSpecEx {
     integers(channels, 44100, 16, 2)
-}
-
-// An empty journal that fails at the calls with these numbers.
-fn failing(alloc: Global, from: u64, to: u64) -> hound::Result<Journal>
-    ensures { IfOk result (λ j. (⟦<Journal as Placed>⟧.state j).place ≡ 0) }
-{
-    let mut journal = Journal::new(alloc, Vec::new(alloc))?;
-    journal.fail(from, to);
-    Ok(journal)
 }
 
 // Stereo, 44100 Hz, 16 bits: 1, 2.
