@@ -1,0 +1,57 @@
+// What is recorded.
+use hound::{Result, SampleFormat, WavSpec, WavWriter};
+use std::io;
+use std::path::Path;
+
+/// What a recording came to.
+#[derive(Clone, Copy)]
+pub struct Recorded {
+    /// The samples that were accepted.
+    pub accepted: u32,
+    /// Whether each call was Ok.
+    pub is_whole: bool,
+}
+
+/// Writes a mono file of sixteen bits, in so many lots of so many samples, and publishes after each.
+///
+/// The samples count up from 0, and at 32768 they begin anew. After each lot that was published the
+/// output has a line with the number of samples that the file then counts, and is flushed. A sample
+/// that the file refuses is tried again as the next one, and a lot that it doesn't publish has no line.
+/// The errors are those of `create`, and of the output.
+pub fn record<O: io::Write>(
+    rt: &HostRuntime,
+    path: Path<'_>,
+    lots: u32,
+    length: u32,
+    output: &mut O,
+) -> Result<Recorded> {
+    let spec = WavSpec {
+        channels: 1,
+        sample_rate: 44100,
+        bits_per_sample: 16,
+        sample_format: SampleFormat::Int,
+    };
+    let mut writer = WavWriter::create(rt, rt.alloc(), path, spec)?;
+    let mut accepted = 0u32;
+    let mut is_whole = true;
+    for _ in 0..lots {
+        for _ in 0..length {
+            match writer.write_sample((accepted & 0x7fff) as i16) {
+                Ok(()) => accepted = accepted.wrapping_add(1),
+                Err(_) => is_whole = false,
+            }
+        }
+        match writer.flush() {
+            Ok(()) => {
+                writeln!(output, "{accepted}")?;
+                output.flush()?;
+            }
+            Err(_) => is_whole = false,
+        }
+    }
+    let ended = writer.finalize();
+    Ok(Recorded {
+        accepted,
+        is_whole: is_whole && ended.is_ok(),
+    })
+}

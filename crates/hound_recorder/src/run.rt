@@ -1,0 +1,48 @@
+// What the program does.
+ghost use Rattle.std.specs.Prelude.{◌≤◌};
+
+use crate::record::record;
+use std::io;
+use std::path::Path;
+
+const USAGE: &str = "usage: hound_recorder FILE LOTS LENGTH";
+
+/// Carries out the words `FILE LOTS LENGTH`, and answers the status: 0 where each call was Ok, 1
+/// where one failed, 2 for words that it doesn't know.
+///
+/// The output has a line for each lot that was published, and at the end, where a call failed, one
+/// with the word `accepted` and the number of samples that were. A file that can't be made has one
+/// line on `errors`.
+pub fn run<O: io::Write, E: io::Write>(
+    rt: &HostRuntime,
+    words: &[&str],
+    output: &mut O,
+    errors: &mut E,
+) -> u8
+    ensures { result ≤ 2 }
+{
+    let (file, lots, length) = match words {
+        [file, lots, length] => (*file, lots.parse::<u32>(), length.parse::<u32>()),
+        _ => {
+            let _ = writeln!(errors, "{USAGE}");
+            return 2;
+        }
+    };
+    let (Ok(lots), Ok(length)) = (lots, length) else {
+        let _ = writeln!(errors, "{USAGE}");
+        return 2;
+    };
+    match record(rt, Path::new(file), lots, length, output) {
+        Ok(recorded) if recorded.is_whole => 0,
+        Ok(recorded) => {
+            let accepted = recorded.accepted;
+            let _ = writeln!(output, "accepted {accepted}");
+            let _ = output.flush();
+            1
+        }
+        Err(error) => {
+            let _ = writeln!(errors, "{error}");
+            1
+        }
+    }
+}
