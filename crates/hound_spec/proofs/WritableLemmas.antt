@@ -33,8 +33,8 @@ pub record PairFacts (bits width : ℕ) : Type 0 where
 pub pair_facts : (f : SampleFormat) (bits width : ℕ) → IsPair f bits width → PairFacts bits width
 pair_facts f bits width is = of_pair PairFacts f bits width (each f) is
   where
-    row : (k w : ℕ) → 1 ≤ k → k ≤ w → w ≤ 4 → PairFacts (8 * k) w
-    row k w some fits few = record {
+    known : (k w : ℕ) → 1 ≤ k → k ≤ w → w ≤ 4 → PairFacts (8 * k) w
+    known k w some fits few = record {
       some_bits = omega arith;
       whole_bytes = omega arith;
       in_width = omega arith;
@@ -44,16 +44,16 @@ pair_facts f bits width is = of_pair PairFacts f bits width (each f) is
 
     each : (f : SampleFormat) → AllByRecursion (λ (b, w). PairFacts b w) (pairs f)
     each Int = (
-      row 1 1 (lit≤ tt) (lit≤ tt) (lit≤ tt),
+      known 1 1 (lit≤ tt) (lit≤ tt) (lit≤ tt),
       (
-        row 2 2 (lit≤ tt) (lit≤ tt) (lit≤ tt),
+        known 2 2 (lit≤ tt) (lit≤ tt) (lit≤ tt),
         (
-          row 3 3 (lit≤ tt) (lit≤ tt) (lit≤ tt),
+          known 3 3 (lit≤ tt) (lit≤ tt) (lit≤ tt),
           (
-            row 3 4 (lit≤ tt) (lit≤ tt) (lit≤ tt),
-            (row 4 4 (lit≤ tt) (lit≤ tt) (lit≤ tt), tt),
+            known 3 4 (lit≤ tt) (lit≤ tt) (lit≤ tt),
+            (known 4 4 (lit≤ tt) (lit≤ tt) (lit≤ tt), tt),
           ),
         ),
       ),
     )
-    each Float = (row 4 4 (lit≤ tt) (lit≤ tt) (lit≤ tt), tt)
+    each Float = (known 4 4 (lit≤ tt) (lit≤ tt) (lit≤ tt), tt)

@@ -14,10 +14,6 @@ use std::io;
 use std::marker::Model;
 
 /// A file that is being written: what a writer has, but for the fault that is kept aside.
-///
-/// Up to 4096 bytes of accepted samples wait in it. They go out when no more fit, and before the
-/// sizes are put. Where the medium fails meanwhile all of them go on waiting, and go out again from
-/// the first one on.
 #[derive(Drop)]
 pub(crate) struct Output<W: Medium> {
     // The properties of the audio data, and the bytes of a container.
