@@ -38,7 +38,7 @@ pub(crate) fn has_samples<S: Sample + PartialEq>(
 }
 
 // The length in the four bytes before the data.
-fn data_length(bytes: &[u8], data_start: usize) -> Option<usize> {
+pub(crate) fn data_length(bytes: &[u8], data_start: usize) -> Option<usize> {
     match bytes.get(data_start.saturating_sub(4)..data_start) {
         Some([a, b, c, d]) => Some(u32::from_le_bytes([*a, *b, *c, *d]) as usize),
         _ => None,
@@ -74,6 +74,14 @@ pub(crate) fn has_first<S: Sample + PartialEq>(
     matches!(WavReader::new(bytes), Err(Error::FormatError(reason)) if reason == words)
 }
 
+// The bytes after the first k of those that were put, if there were so many.
+pub(crate) fn bytes_after(journal: &Journal, alloc: Global, k: usize) -> Result<Vec<u8>, Fail> {
+    if k > journal.taken() {
+        return Err(Fail::from("fewer bytes were put"));
+    }
+    Ok(journal.bytes_after(alloc, k)?)
+}
+
 // An empty journal that fails at the calls with these numbers.
 pub(crate) fn failing(alloc: Global, from: u64, to: u64) -> hound::Result<Journal>
     ensures { IfOk result (λ j. (⟦<Journal as Placed>⟧.state j).place ≡ 0) }
@@ -96,6 +104,8 @@ pub(crate) enum Call {
 pub(crate) struct Recorded {
     pub(crate) journal: Journal,
     pub(crate) calls: Vec<Call>,
+    // How many bytes had been put at each Ok go right behind an Ok flush: where a checkpoint ends.
+    pub(crate) checkpoints: Vec<usize>,
 }
 
 impl Recorded {
@@ -111,6 +121,7 @@ impl Recorded {
         Ok(Recorded {
             journal,
             calls: Vec::new(alloc),
+            checkpoints: Vec::new(alloc),
         })
     }
 
@@ -135,6 +146,11 @@ impl Recorded {
             Err(_) => Err(io::Error::from(ErrorKind::OutOfMemory)),
         }
     }
+
+    // Whether the last call was a flush that didn't fail.
+    fn has_just_flushed(&self) -> bool {
+        self.calls.last() == Some(&Call::Flush) && self.journal.flushed() == self.journal.taken()
+    }
 }
 
 impl Placed for Recorded {
@@ -145,8 +161,13 @@ impl Placed for Recorded {
     ghost bytes = { λ _ tells. Prim.absurd (false≢true tells) };
 
     fn go(&mut self, to: u64) -> io::Result<()> {
+        let has_flushed = self.has_just_flushed();
         self.record(Call::Go(to))?;
-        self.journal.go(to)
+        self.journal.go(to)?;
+        if has_flushed && self.checkpoints.push(self.journal.taken()).is_err() {
+            return Err(io::Error::from(ErrorKind::OutOfMemory));
+        }
+        Ok(())
     }
 
     fn shift(&mut self, by: i64) -> io::Result<()> {

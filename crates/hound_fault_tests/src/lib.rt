@@ -1,4 +1,4 @@
-//! Tests of writers over media that fail or keep their past: which calls are made, and what is left.
+//! Tests of writers over media that fail or keep their past: which calls are made, what is left.
 #![tactic(auto)]
 
 #[cfg(test)]
@@ -9,5 +9,7 @@ mod helpers;
 mod moments;
 #[cfg(test)]
 mod sessions;
+#[cfg(test)]
+mod sweeps;
 #[cfg(test)]
 mod waiting;

@@ -1,8 +1,8 @@
 // Files over a medium that keeps its past and fails on request.
 ghost use Rattle.std.specs.Prelude.{◌≡◌, ◌≤◌, IfOk};
 
-use crate::helpers::{has_first, has_samples, numbers};
-use hound::{Error, Journal, Placed, WavReader, WavSpec, WavWriter};
+use crate::helpers::{bytes_after, has_first, has_samples, numbers};
+use hound::{Begin, End, Error, Journal, Placed, Step, WavReader, WavSpec, WavWriter, run_session};
 use hound_tests::helpers::{integers, sixteen, write_all};
 use std::alloc::Global;
 use std::test::Fail;
@@ -19,14 +19,6 @@ fn byte_by_byte(alloc: Global, from: u64, to: u64) -> hound::Result<Journal>
     journal.most(1);
     journal.fail(from, to);
     Ok(journal)
-}
-
-// The bytes after the first k of those that were put, if there were so many.
-fn bytes_after(journal: &Journal, alloc: Global, k: usize) -> Result<Vec<u8>, Fail> {
-    if k > journal.taken() {
-        return Err(Fail::from("fewer bytes were put"));
-    }
-    Ok(journal.bytes_after(alloc, k)?)
 }
 
 // The first of these samples, if there are so many.
@@ -188,21 +180,96 @@ fn a_torn_length_of_24_bits_is_refused(rt: HostRuntime) -> Result<(), Fail> {
     Ok(())
 }
 
+// The steps of a run whose second checkpoint a fault cuts: its length goes from 0x00fe to 0x0102.
+fn steps_to_a_torn_length(alloc: Global) -> Result<Vec<Step<'static>>, Fail> {
+    let mut steps = vec![in alloc; Step::Whole(7); 254]?;
+    steps.push(Step::Flush)?;
+    steps.resize(259, Step::Whole(9))?;
+    steps.push(Step::Flush)?;
+    Ok(steps)
+}
+
+// 254 times 7 and then 9, so many in all.
+fn sevens_and_nines(alloc: Global, count: usize) -> Result<Vec<i32>, Fail> {
+    let mut samples = vec![in alloc; 7; 254]?;
+    samples.resize(count, 9)?;
+    Ok(samples)
+}
+
+// Takes these steps over an empty journal that takes a byte a call, and drops the writer. The calls
+// from the 322nd to this one fail: 298 put the header and the samples, 12 publish them and 4 put
+// four more, and the next seven put the RIFF size and the low byte of the length.
+fn run_with_a_torn_length(
+    alloc: Global,
+    to: u64,
+    steps: &[Step],
+) -> Result<(Journal, Vec<bool>), Fail> {
+    let mut marks = vec![in alloc; false; steps.len()]?;
+    let journal = byte_by_byte(alloc, 322, to)?;
+    let begin = Begin::New(integers(1, 44100, 8, 1));
+    let (journal, answer) = run_session(alloc, journal, begin, steps, &mut marks, End::Drop);
+    answer?;
+    Ok((journal, marks))
+}
+
+#[test]
+fn a_length_that_a_fault_has_torn_is_read(rt: HostRuntime) -> Result<(), Fail> {
+    let alloc = rt.alloc();
+    let steps = steps_to_a_torn_length(alloc)?;
+    let (journal, marks) = run_with_a_torn_length(alloc, 1_000_000, &steps)?;
+    // The last step alone is not marked.
+    assert_eq!(rt; marks.iter().position(|mark| !*mark), Some(259));
+    assert_eq!(rt; journal.taken(), 315);
+    let bytes = bytes_after(&journal, alloc, 315)?;
+    assert_eq!(rt; bytes.get(40..44), Some(b"\x02\0\0\0".as_slice()));
+    assert!(rt; has_samples(&bytes, &[7i32, 7])?);
+    let samples = sevens_and_nines(alloc, 258)?;
+    assert!(rt; has_first_at_each_moment(&journal, alloc, &samples, 44, 1, 1)?);
+    Ok(())
+}
+
+#[test]
+fn a_length_that_a_fault_has_torn_is_appended_to(rt: HostRuntime) -> Result<(), Fail> {
+    let alloc = rt.alloc();
+    let steps = steps_to_a_torn_length(alloc)?;
+    let (journal, _) = run_with_a_torn_length(alloc, 1_000_000, &steps)?;
+    let torn = Journal::new(alloc, bytes_after(&journal, alloc, journal.taken())?)?;
+    let steps = [Step::Whole(5)];
+    let mut marks = [false];
+    let (journal, answer) = run_session(
+        alloc,
+        torn,
+        Begin::Append,
+        &steps,
+        &mut marks,
+        End::Finalize,
+    );
+    answer?;
+    assert_eq!(rt; marks, [true]);
+    let bytes = bytes_after(&journal, alloc, journal.taken())?;
+    assert_eq!(rt; bytes.len(), 302);
+    assert_eq!(rt; bytes.get(4..8), Some(b"\x27\0\0\0".as_slice()));
+    assert_eq!(rt; bytes.get(40..44), Some(b"\x03\0\0\0".as_slice()));
+    assert!(rt; has_samples(&bytes, &[7i32, 7, 5])?);
+    // The sample and both sizes; bytes that the older length counts lie behind them.
+    assert_eq!(rt; journal.taken(), 1 + 8);
+    for k in 0..=journal.taken() {
+        let bytes = bytes_after(&journal, alloc, k)?;
+        assert!(rt; has_first(&bytes, &[7i32, 7, 5], 44, 1, 1), "{k}");
+    }
+    Ok(())
+}
+
 #[test]
 fn a_length_that_a_fault_has_torn_is_put_over(rt: HostRuntime) -> Result<(), Fail> {
     let alloc = rt.alloc();
-    let samples = numbers(alloc, 259)?;
-    // 298 calls put the header and the samples, 12 publish them and 4 put four more. The next seven
-    // put the RIFF size and the low byte of the length; its second byte fails.
-    let mut writer = WavWriter::new(byte_by_byte(alloc, 322, 322)?, mono(8))?;
-    write_all(&mut writer, first(&samples, 254)?)?;
-    writer.flush()?;
-    write_all(&mut writer, &[54, 55, 56, 57])?;
-    assert!(rt; matches!(writer.flush(), Err(Error::IoError(_))));
-    assert_eq!(rt; writer.len(), 258);
-    writer.write_sample(58i32)?;
-    writer.flush()?;
-    let journal = writer.drop_into();
+    let samples = sevens_and_nines(alloc, 259)?;
+    let mut steps = steps_to_a_torn_length(alloc)?;
+    steps.push(Step::Whole(9))?;
+    steps.push(Step::Flush)?;
+    let (journal, marks) = run_with_a_torn_length(alloc, 322, &steps)?;
+    assert_eq!(rt; marks.iter().position(|mark| !*mark), Some(259));
+    assert_eq!(rt; marks.get(260..), Some([true, true].as_slice()));
     // The torn length stands until the next checkpoint puts its own low byte.
     for (k, count) in [(315, 2), (316, 2), (320, 2), (321, 3), (322, 259)] {
         let bytes = bytes_after(&journal, alloc, k)?;
