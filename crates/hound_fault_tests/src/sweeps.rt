@@ -1,6 +1,5 @@
 // One script of a session over media in which any range of calls fails, read at each moment.
-ghost use Rattle.std.specs.Prelude.{◌≡◌, ◌≤◌, IfOk};
-ghost use Rattle.hound.specs.State.{MediumState};
+ghost use Rattle.std.specs.Prelude.{◌≡◌};
 
 use crate::helpers::{Recorded, bytes_after, data_length, failing, has_first};
 use hound::{Begin, End, Error, Journal, Placed, Step, run_session};
@@ -111,7 +110,7 @@ fn stereo_file(alloc: Global, samples: &[i16]) -> Result<Vec<u8>, Fail> {
     Ok(bytes)
 }
 
-// The length of a file that counts no more than these bytes, and of them those that stand there.
+// The length that a file counts, where its data begin with as many of these bytes.
 fn standing_length(bytes: &[u8], data: &[u8]) -> Option<usize> {
     let length = data_length(bytes, DATA_START)?;
     let counted = bytes.get(DATA_START..)?.get(..length)?;
