@@ -1,13 +1,11 @@
 -- What a reader that counts has given, read after read.
-use Rattle.std.proofs.Common.{◌≡◌, ℕ, ◌+◌, ◌-◌, ◌^◌, min, List, length, drop, ap, sym, ◌∙◌, arith, length-append, drop_at, refl, take, length-take, Option, None, Some, Result, Ok, Err}
-use Rattle.std.proofs.lemmas.List.{drop-drop}
-use Rattle.std.specs.Counts.{IsPrefixLen}
-use Rattle.std.specs.Prelude.{IfOk}
-use Rattle.std.specs.Io.KnownBytes.{Consumes, ReadConsumes}
+use Rattle.std.proofs.Common.{◌≡◌, ℕ, ◌+◌, ◌-◌, ◌^◌, min, List, length, drop, ap, sym, ◌∙◌, arith, length-append, drop_at, refl, take, ◌≤◌, Option, None, Some}
+use Rattle.std.proofs.lemmas.List.{drop-drop, length-take-le}
+use Rattle.std.specs.Io.KnownBytes.{Consumes}
 use Rattle.hound_reader.specs.Counting.{HasGiven}
 
 -- so many bytes more were given
-pub given_more : (first old new : Option (List ℕ)) (given count sum : ℕ) (bytes : List ℕ) → HasGiven first given old → Consumes old new bytes → length bytes ≡ count → sum ≡ min (given + count) (2 ^ 64 - 1) → HasGiven first sum new
+given_more : (first old new : Option (List ℕ)) (given count sum : ℕ) (bytes : List ℕ) → HasGiven first given old → Consumes old new bytes → length bytes ≡ count → sum ≡ min (given + count) (2 ^ 64 - 1) → HasGiven first sum new
 given_more None old new given count sum bytes h t l s = tt
 given_more (Some xs) None new given count sum bytes h t l s = absurd h
 given_more (Some xs) (Some ys) None given count sum bytes h t l s = absurd t
@@ -21,9 +19,6 @@ given_more (Some xs) (Some ys) (Some zs) given count sum bytes h t l s =
       omega (arith, e, h.0, h.2, l, s),
     )
 
--- a read gave more
-pub given_read : {E : Type 0} (first old new : Option (List ℕ)) (given count sum : ℕ) (buf : List ℕ) (result : Result ℕ E) → result ≡ Ok count → HasGiven first given old → IfOk result (λ n. IsPrefixLen n buf) → ReadConsumes old new result buf → sum ≡ min (given + count) (2 ^ 64 - 1) → HasGiven first sum new
-given_read first old new given count sum buf (Ok n) e h bound bytes s =
-    let same : n ≡ count = cc in
-    given_more first old new given count sum (take n buf) h bytes.0 (simp length-take (omega (arith, same, bound.0))) s
-given_read first old new given count sum buf (Err x) e h bound bytes s = absurd (let no : ⊥ = cc in no)
+-- a read gave more, to the front of a buffer
+pub given_read : (first old new : Option (List ℕ)) (given count sum : ℕ) (buf : List ℕ) → count ≤ length buf → HasGiven first given old → Consumes old new (take count buf) → sum ≡ min (given + count) (2 ^ 64 - 1) → HasGiven first sum new
+given_read first old new given count sum buf few h taken s = given_more first old new given count sum (take count buf) h taken (length-take-le count buf few) s

@@ -1,15 +1,16 @@
 // A reader that counts the bytes that it gives.
-ghost use Rattle.std.specs.Prelude.{◌≡◌, List, Option, ℕ, None, IsSome, IfSome};
+ghost use Rattle.std.specs.Prelude.{◌≡◌, ◌<◌, ◌≤◌, List, Option, Result, ℕ, None, IsSome, length, take};
+ghost use Rattle.hound_number.specs.Input.{Known};
 ghost use Rattle.hound_sample.specs.Reads.{Reads};
-ghost use Rattle.hound_reader.specs.Reader.{refusal_at, meaning_at};
+ghost use Rattle.hound_reader.specs.Reader.{AreTaken, refusal_at, meaning_at};
 ghost use Rattle.std.specs.Borrow.{GName};
-ghost use Rattle.std.specs.Io.{ReadsAtMost};
-ghost use Rattle.std.specs.Io.KnownBytes.{ReadConsumes};
+ghost use Rattle.std.specs.Io.KnownBytes.{Consumes, IsAtEnd, Keeps};
 ghost use Rattle.hound_spec.specs.declared.spec.WavSpecEx.{WavSpecEx};
-ghost use Rattle.hound_reader.specs.Counting.{HasGiven, HasGiven-prop, bytes_taken};
+ghost use Rattle.hound_reader.specs.Counting.{answer_of, HasGiven, HasGiven-prop, taken_at_error};
 
+use crate::keeping::KeepingReader;
 use hound_sample::Sample;
-use hound_spec::{Error, Result, WavSpecEx};
+use hound_spec::{Error, WavSpecEx};
 use std::io;
 use std::marker::{Brand, PhantomData};
 
@@ -36,21 +37,31 @@ pub(crate) trait Lent: Sized {
     /// The name of the reference.
     ghost name: { Self → GName };
 
-    /// Reads from what it refers to.
-    fn give(&mut self, buf: &mut [u8]) -> io::Result<usize>
-        ensures bound { ReadsAtMost result buf.new }
-        ensures bytes { ReadConsumes (left self.old) (left self.new) result buf.new }
+    /// How many bytes a read gives, or more than the buffer has where it fails.
+    fn give(&mut self, buf: &mut [u8]) -> usize
+        ensures bytes { result ≤ length buf.new →
+            Consumes (left self.old) (left self.new) (take result buf.new) }
+        ensures end { result ≡ 0 → 0 < length buf.new → IsAtEnd (left self.new) }
+        ensures failed { length buf.new < result → Keeps (left self.old) (left self.new) }
         ensures stays { name self.new ≡ name self.old };
+
+    /// The fault of the last read that failed.
+    fn last_fault(&self) -> &io::Error;
 }
 
-impl<R: io::Read> Lent for &mut R {
-    ghost left = { λ r. R.remaining r.now };
+impl<R: io::Read> Lent for &mut KeepingReader<R> {
+    ghost left = { λ r. R.remaining r.now.reader };
 
     ghost name = { λ r. r.ghost_name };
 
     #[inline(always)]
-    fn give(&mut self, buf: &mut [u8]) -> io::Result<usize> {
-        (**self).read(buf)
+    fn give(&mut self, buf: &mut [u8]) -> usize {
+        KeepingReader::give(*self, buf)
+    }
+
+    #[inline(always)]
+    fn last_fault(&self) -> &io::Error {
+        &self.fault
     }
 }
 
@@ -70,53 +81,69 @@ impl<R: Lent, B: Beginning> io::Read for CountingReader<R, B> {
 
     #[inline(always)]
     fn read(&mut self, buf: &mut [u8]) -> io::Result<usize> {
-        let result = self.reader.give(buf);
-        if let Ok(count) = &result {
-            self.given = self.given.saturating_add(*count as u64);
+        let count = self.reader.give(buf);
+        if count <= buf.len() {
+            self.given = self.given.saturating_add(count as u64);
+            return Ok(count);
         }
-        result
+        Err(*self.reader.last_fault())
     }
 }
 
-/// A call that reads, whose answer has a type of its own.
+/// A call that reads, whose value and whose error have types of their own.
+///
+/// An error is large, and goes into a slot that an Ok leaves alone: so what an Ok moves is small.
 pub(crate) trait Ask {
-    type Item: Drop;
+    type Value: Drop;
+
+    type Fault: Drop;
 
     /// What is answered, by the bytes that were left and those that are left.
-    ghost Answers: { WavSpecEx → Option (List ℕ) → Option (List ℕ) → Self.Item → Type 0 };
+    ghost Answers: { WavSpecEx → Option (List ℕ) → Option (List ℕ)
+        → Result Self.Value Self.Fault → Type 0 };
 
     /// Whether no byte is asked for.
     ghost Refuses: { WavSpecEx → Type 0 };
 
-    fn ask<R: io::Read>(reader: &mut R, spec_ex: WavSpecEx) -> Self::Item
-        ensures answers { Answers spec_ex (R.remaining reader.old) (R.remaining reader.new) result }
+    /// The value, or else an error in the slot.
+    fn ask<R: io::Read>(
+        reader: &mut R,
+        spec_ex: WavSpecEx,
+        fault: &mut Self::Fault,
+    ) -> Option<Self::Value>
+        ensures answers { Answers spec_ex (R.remaining reader.old) (R.remaining reader.new)
+            (answer_of result fault.new) }
         ensures untouched { Refuses spec_ex → reader.new ≡ reader.old };
 }
 
 impl<S: Sample> Ask for S {
-    type Item = Result<S>;
+    type Value = S;
 
-    ghost Answers = { λ s old new item.
-        Reads (refusal_at S.refusal s) (meaning_at S.meaning s) s.bytes_per_sample old new item };
+    type Fault = Error;
+
+    ghost Answers = { λ s old new answer.
+        Reads (refusal_at S.refusal s) (meaning_at S.meaning s) s.bytes_per_sample old new answer };
 
     ghost Refuses = { λ s. IsSome (refusal_at S.refusal s) };
 
     #[inline(always)]
-    fn ask<R: io::Read>(reader: &mut R, spec_ex: WavSpecEx) -> Result<S> {
+    fn ask<R: io::Read>(reader: &mut R, spec_ex: WavSpecEx, fault: &mut Error) -> Option<S> {
         let spec = spec_ex.spec;
-        S::read(
-            reader,
-            spec.sample_format,
-            spec_ex.bytes_per_sample,
-            spec.bits_per_sample,
-        )
+        let width = spec_ex.bytes_per_sample;
+        match S::read(reader, spec.sample_format, width, spec.bits_per_sample) {
+            Ok(sample) => Some(sample),
+            Err(error) => {
+                *fault = error;
+                None
+            }
+        }
     }
 }
 
 // A reference to a reader that was asked, and how many bytes it gave.
 #[derive(Drop)]
 struct Asked<'a, R> {
-    reader: &'a mut R,
+    reader: &'a mut KeepingReader<R>,
     given: u64,
 }
 
@@ -134,18 +161,18 @@ impl<R> Asked<'_, R> {
 // What is answered, and how many bytes the reader gave for it, where counting begins now.
 #[inline(always)]
 fn ask_since<'a, R: io::Read, A: Ask, B: Beginning>(
-    reader: &'a mut R,
+    reader: &'a mut KeepingReader<R>,
     spec_ex: WavSpecEx,
-    slot: &mut Option<A::Item>,
+    value: &mut Option<A::Value>,
+    fault: &mut A::Fault,
 ) -> Asked<'a, R>
-    requires left { B.left ≡ R.remaining reader.now }
+    requires left { B.left ≡ R.remaining reader.now.reader }
     requires lender { B.lender ≡ reader.ghost_name }
-    ensures answers { IfSome slot.new (A.Answers spec_ex (R.remaining reader.entry.now)
-        (R.remaining result.reader.now)) }
-    ensures some { IsSome slot.new }
+    ensures answers { A.Answers spec_ex (R.remaining reader.entry.now.reader)
+        (R.remaining result.reader.now.reader) (answer_of value.new fault.new) }
     ensures untouched { A.Refuses spec_ex → result.reader.now ≡ reader.entry.now }
-    ensures given { HasGiven (R.remaining reader.entry.now) result.given
-        (R.remaining result.reader.now) }
+    ensures given { HasGiven (R.remaining reader.entry.now.reader) result.given
+        (R.remaining result.reader.now.reader) }
     ensures stays { result.reader.ghost_name ≡ reader.entry.ghost_name }
 {
     let mut counting = CountingReader {
@@ -153,38 +180,38 @@ fn ask_since<'a, R: io::Read, A: Ask, B: Beginning>(
         given: 0,
         since: PhantomData::<B>,
     };
-    *slot = Some(A::ask(&mut counting, spec_ex));
+    *value = A::ask(&mut counting, spec_ex, fault);
     let CountingReader { reader, given, .. } = counting;
     Asked { reader, given }
 }
 
-/// What the type reads of a sample of this spec, and how many bytes the reader gave for it.
+/// What the type reads of a sample of this spec, whose error goes into the slot, and how many bytes
+/// the reader gave for it.
 #[inline(always)]
 pub(crate) fn read_counted<R: io::Read, S: Sample>(
-    reader: &mut R,
+    reader: &mut KeepingReader<R>,
     spec_ex: WavSpecEx,
-) -> (Option<Result<S>>, u64)
-    ensures read { IfSome result.0 (Reads (refusal_at S.refusal spec_ex)
-        (meaning_at S.meaning spec_ex)
-        spec_ex.bytes_per_sample (R.remaining reader.old) (R.remaining reader.new)) }
-    ensures some { IsSome result.0 }
+    fault: &mut Error,
+) -> (Option<S>, u64)
+    ensures read { Reads (refusal_at S.refusal spec_ex) (meaning_at S.meaning spec_ex)
+        spec_ex.bytes_per_sample (R.remaining reader.old.reader) (R.remaining reader.new.reader)
+        (answer_of result.0 fault.new) }
     ensures untouched { IsSome (refusal_at S.refusal spec_ex) → reader.new ≡ reader.old }
-    ensures given { HasGiven (R.remaining reader.old) result.1 (R.remaining reader.new) }
+    ensures given { HasGiven (R.remaining reader.old.reader) result.1 (R.remaining reader.new.reader) }
 {
-    let mut item = None;
-    let asked = ask_since::<R, S, Brand>(reader, spec_ex, &mut item);
+    let mut value = None;
+    let asked = ask_since::<R, S, Brand>(reader, spec_ex, &mut value, fault);
     let given = asked.done();
-    (item, given)
+    (value, given)
 }
 
-/// How many bytes an item took, of those that were given for it.
+/// How many bytes a sample took that has an error, of those that were given for it.
 #[inline(always)]
-pub(crate) fn taken_by<S>(item: &Result<S>, given: u64, width: u16) -> u64
-    ensures { result ≡ bytes_taken item.now given width }
+pub(crate) fn taken_at_error(error: &Error, given: u64, width: u16) -> u64
+    ensures { result ≡ taken_at_error error.now given width }
 {
-    match item {
-        Ok(_) => width as u64,
-        Err(Error::IoError(_)) => given.min(width as u64),
-        Err(_) => 0,
+    match error {
+        Error::IoError(_) => given.min(width as u64),
+        _ => 0,
     }
 }

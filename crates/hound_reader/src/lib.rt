@@ -10,6 +10,7 @@ mod fault;
 mod file;
 mod fmt;
 mod input;
+mod keeping;
 mod laws;
 mod reader;
 mod samples;

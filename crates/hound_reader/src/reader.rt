@@ -12,17 +12,20 @@ ghost use Rattle.hound_reader.specs.declared.fault.Cause.{Cause};
 ghost use Rattle.hound_reader.specs.Refusals.{IsRefusal, OpensAs, FailsAs};
 ghost use Rattle.hound_medium.specs.State.{Shifts, WhereTells};
 ghost use Rattle.hound_reader.specs.Reader.{IsNext, HasWholeFrames, samples_left};
+ghost use Rattle.hound_reader.specs.Counting.{item_of};
 ghost use Rattle.hound_reader.specs.Seeking.{Recounts, way_to};
 ghost use Rattle.hound_reader.specs.Samples.{lent_reader, lender, taken_reader};
 
 use crate::chunks::{read_riff_header, read_until_data};
-use crate::counting::{read_counted, taken_by};
+use crate::counting::{read_counted, taken_at_error};
 use crate::fault::{Cause, HeadError, Reason, error_of};
+use crate::keeping::KeepingReader;
 use crate::samples::{WavIntoSamples, WavSamples};
 use hound_medium::{Placed, Source};
 use hound_number::Input;
 use hound_sample::Sample;
 use hound_spec::{Error, Result, WavSpec, WavSpecEx};
+use std::io::ErrorKind;
 use std::marker::Model;
 use std::{io, result};
 
@@ -75,7 +78,7 @@ pub fn read_wave_header<R: io::Read>(reader: &mut R) -> Result<u64>
 /// made, and behind the sample that was read last.
 #[derive(Drop)]
 pub struct WavReader<R> {
-    reader: R,
+    reader: KeepingReader<R>,
     spec_ex: WavSpecEx,
     num_samples: u32,
     samples_read: u64,
@@ -88,7 +91,7 @@ impl<R> Model for WavReader<R> {
     ghost Value = { ReaderState R };
 
     ghost view = { λ r. record {
-      reader = r.reader;
+      reader = r.reader.reader;
       spec_ex = r.spec_ex;
       num_samples = r.num_samples;
       samples_read = r.samples_read;
@@ -122,7 +125,8 @@ impl<R: io::Read + Drop> WavReader<R> {
         ensures unreadable { IfSome (R.remaining reader) (λ xs. (c : Cause) → Unreadable xs c →
             MatchResult result (λ _. ⊥) (λ e. FailsAs e c)) }
     {
-        let mut reader = reader;
+        let fault = io::Error::from(ErrorKind::Other);
+        let mut reader = KeepingReader { reader, fault };
         match read_until_samples(&mut reader) {
             Ok((spec_ex, num_samples)) => Ok(WavReader {
                 reader,
@@ -193,7 +197,7 @@ impl<R: io::Read + Drop> WavReader<R> {
         let samples = time as u64 * self.spec_ex.spec.channels as u64;
         let bytes = samples * self.spec_ex.bytes_per_sample as u64;
         let by = bytes as i64 - self.bytes_read as i64;
-        Placed::shift(&mut self.reader, by)?;
+        Placed::shift(&mut self.reader.reader, by)?;
         self.samples_read = samples;
         self.bytes_read = bytes;
         Ok(())
@@ -203,7 +207,7 @@ impl<R: io::Read + Drop> WavReader<R> {
     pub fn into_inner(self) -> R
         ensures { result ≡ self.reader }
     {
-        self.reader
+        self.reader.reader
     }
 
     /// How many samples are left; none behind the end.
@@ -222,18 +226,22 @@ impl<R: io::Read + Drop> WavReader<R> {
         (left, Some(left))
     }
 
-    /// The next sample, while one is left.
+    /// The next sample, while one is left; where it has an error, None and the error in the slot.
     #[inline(always)]
-    pub(crate) fn next_sample<S: Sample>(&mut self) -> Option<Result<S>>
-        ensures { IsNext R.remaining S.refusal S.meaning result self.old self.new }
+    pub(crate) fn next_sample<S: Sample>(&mut self, fault: &mut Error) -> Option<Option<S>>
+        ensures { IsNext R.remaining S.refusal S.meaning (item_of result fault.new)
+            self.old self.new }
     {
         if self.samples_read >= self.num_samples as u64 {
             return None;
         }
-        let (item, given) = read_counted::<R, S>(&mut self.reader, self.spec_ex);
-        let item = item?;
+        let (sample, given) = read_counted::<R, S>(&mut self.reader, self.spec_ex, fault);
+        let width = self.spec_ex.bytes_per_sample;
         self.samples_read += 1;
-        self.bytes_read += taken_by(&item, given, self.spec_ex.bytes_per_sample);
-        Some(item)
+        self.bytes_read += match sample {
+            Some(_) => width as u64,
+            None => taken_at_error(fault, given, width),
+        };
+        Some(sample)
     }
 }

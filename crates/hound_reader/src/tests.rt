@@ -290,6 +290,49 @@ fn early_ends_and_faults(rt: HostRuntime) -> Result<(), Fail> {
     Ok(())
 }
 
+// Gives the bytes before the data, and then fails in another way each time.
+#[derive(Drop)]
+struct FailsInTurn {
+    given: usize,
+    faults: usize,
+}
+
+impl io::Read for FailsInTurn {
+    fn read(&mut self, buf: &mut [u8]) -> io::Result<usize> {
+        if self.given < 44 && !buf.is_empty() {
+            buf[0] = FOUR_SAMPLES[self.given];
+            self.given += 1;
+            return Ok(1);
+        }
+        self.faults = self.faults.wrapping_add(1);
+        Err(io::Error::from(match self.faults {
+            1 => ErrorKind::Interrupted,
+            2 => ErrorKind::InvalidData,
+            _ => ErrorKind::WriteZero,
+        }))
+    }
+}
+
+#[test]
+fn each_fault_is_the_one_that_came(rt: HostRuntime) -> Result<(), Fail> {
+    let reader = WavReader::new(FailsInTurn {
+        given: 0,
+        faults: 0,
+    });
+    let mut samples = reader.ok().ok_or("a file")?.into_samples::<i16>();
+    for kind in [
+        ErrorKind::Interrupted,
+        ErrorKind::InvalidData,
+        ErrorKind::WriteZero,
+    ] {
+        match samples.next() {
+            Some(Err(Error::IoError(e))) => assert_eq!(rt; e.kind(), kind),
+            _ => return Err("a read failed".into()),
+        }
+    }
+    Ok(())
+}
+
 #[test]
 fn torn_samples(rt: HostRuntime) -> Result<(), Fail> {
     let mut pieces = Pieces::of(&FOUR_SAMPLES[..47], 4096);

@@ -15,9 +15,3 @@ takes_container bytes old new width meaning value taken whole is = known_from by
 pub takes_part : (bytes : List ℕ) (old new : Option (List ℕ)) (width : ℕ) → Consumes old new bytes → length bytes < width → Known old new (TakesPart width)
 takes_part bytes old new width taken few = known_from bytes old new (TakesPart width) taken (λ ys. (length bytes, few, omega (arith, length-append bytes ys), sym (drop_at bytes ys (length bytes) refl)))
 
--- a list of four bytes has these first three
-pub first_three : (bytes : List ℕ) → length bytes ≡ 4 → get_or bytes 0 0 ∷ get_or bytes 1 0 ∷ get_or bytes 2 0 ∷ [] ≡ take 3 bytes
-first_three [] is = absurd (omega (arith, is))
-first_three (a ∷ []) is = absurd (omega (arith, is))
-first_three (a ∷ b ∷ []) is = absurd (omega (arith, is))
-first_three (a ∷ b ∷ c ∷ bytes) is = refl

@@ -1,17 +1,19 @@
 // The containers of integers.
-ghost use Rattle.std.specs.Prelude.{◌≡◌, ◌++◌, ◌∷◌, [], Ok, Err, if◌then◌else◌};
+ghost use Rattle.std.specs.Prelude.{◌≡◌, ◌<◌, ◌≤◌, ◌++◌, ◌∷◌, [], take, Ok, Err, if◌then◌else◌};
 ghost use Rattle.hound_number.specs.Number.{signed_bytes_of};
 ghost use Rattle.hound_sample.specs.Container.{fits, if_fits, offset_byte, int_container};
 ghost use Rattle.hound_sample.specs.Encoding.{IsEncoded};
 ghost use Rattle.hound_sample.specs.Meaning.{int_meaning, low_short};
 ghost use Rattle.hound_sample.specs.Reads.{ReadsContainer};
-ghost use Rattle.hound_spec.specs.declared.error.Error.TheVariants.{TooWide};
+ghost use Rattle.hound_spec.specs.Writable.{IsPair};
+ghost use Rattle.hound_spec.specs.declared.error.Error.TheVariants.{InvalidSampleFormat, TooWide, Unsupported};
+ghost use Rattle.hound_spec.specs.declared.spec.SampleFormat.TheVariants.{Float, Int};
 
 use hound_number::{
     i16_from_le, i24_from_le, i32_from_le, le_i16, le_i32, read_into, signed_from_u8,
     u8_from_signed,
 };
-use hound_spec::{Error, Result};
+use hound_spec::{Error, Result, SampleFormat};
 use std::io;
 
 // The number in eight bits.
@@ -103,6 +105,25 @@ pub(crate) fn lowest_16_bits(x: i32) -> i16
     i16_from_le([low, high])
 }
 
+/// Why an integer of at most so many bytes doesn't read samples of another format or pair.
+#[cold]
+#[inline(never)]
+pub(crate) fn integer_refusal(fmt: SampleFormat, bytes: u16, most: u16) -> Error
+    ensures format { fmt ≡ Float → result ≡ InvalidSampleFormat }
+    ensures wider { fmt ≡ Int → most < bytes → result ≡ TooWide }
+    ensures pair { fmt ≡ Int → bytes ≤ most → result ≡ Unsupported }
+{
+    match fmt {
+        SampleFormat::Float => Error::InvalidSampleFormat,
+        SampleFormat::Int => {
+            if bytes > most {
+                return Error::TooWide;
+            }
+            Error::Unsupported
+        }
+    }
+}
+
 // One unsigned byte, which counts from -128.
 #[inline(always)]
 pub(crate) fn read_8_bits<R: io::Read>(reader: &mut R) -> Result<i8>
@@ -128,42 +149,31 @@ pub(crate) fn read_16_bits<R: io::Read>(reader: &mut R) -> Result<i16>
     }
 }
 
+// The integer in the first bytes.
 #[inline(always)]
-pub(crate) fn read_24_bits<R: io::Read>(reader: &mut R) -> Result<i32>
-    ensures { ReadsContainer (int_meaning 3 24) 3 (R.remaining reader.old) (R.remaining reader.new)
-        result }
+fn integer_of(container: [u8; 4], bits: u16, bytes: u16) -> i32
+    requires { IsPair Int bits bytes }
+    ensures { result ≡ int_meaning bytes bits (take bytes container) }
 {
-    let mut container = [0; 3];
-    match read_into(reader, &mut container) {
-        Ok(()) => Ok(i24_from_le(container)),
-        Err(error) => Err(Error::IoError(error.into())),
+    let [low, middle, high, _] = container;
+    match bits {
+        8 => signed_from_u8(low) as i32,
+        16 => i16_from_le([low, middle]) as i32,
+        24 => i24_from_le([low, middle, high]),
+        _ => i32_from_le(container),
     }
 }
 
-// The fourth byte says nothing.
+/// An integer of any pair of bits and bytes, in one read of the whole container.
 #[inline(always)]
-pub(crate) fn read_24_bits_of_4<R: io::Read>(reader: &mut R) -> Result<i32>
-    ensures { ReadsContainer (int_meaning 4 24) 4 (R.remaining reader.old) (R.remaining reader.new)
-        result }
+pub(crate) fn read_integer<R: io::Read>(reader: &mut R, bits: u16, bytes: u16) -> Result<i32>
+    requires { IsPair Int bits bytes }
+    ensures { ReadsContainer (int_meaning bytes bits) bytes (R.remaining reader.old)
+        (R.remaining reader.new) result }
 {
     let mut container = [0; 4];
-    match read_into(reader, &mut container) {
-        Ok(()) => {
-            let [low, middle, high, _] = container;
-            Ok(i24_from_le([low, middle, high]))
-        }
-        Err(error) => Err(Error::IoError(error.into())),
-    }
-}
-
-#[inline(always)]
-pub(crate) fn read_32_bits<R: io::Read>(reader: &mut R) -> Result<i32>
-    ensures { ReadsContainer (int_meaning 4 32) 4 (R.remaining reader.old) (R.remaining reader.new)
-        result }
-{
-    let mut container = [0; 4];
-    match read_into(reader, &mut container) {
-        Ok(()) => Ok(i32_from_le(container)),
+    match read_into(reader, &mut container[..bytes as usize]) {
+        Ok(()) => Ok(integer_of(container, bits, bytes)),
         Err(error) => Err(Error::IoError(error.into())),
     }
 }

@@ -8,11 +8,10 @@ ghost use Rattle.hound_sample.specs.Reads.{Reads};
 ghost use Rattle.hound_spec.specs.declared.spec.SampleFormat.{SampleFormat};
 
 use crate::integer::{
-    encode_integer, lowest_16_bits, read_8_bits, read_16_bits, read_24_bits, read_24_bits_of_4,
-    read_32_bits,
+    encode_integer, integer_refusal, lowest_16_bits, read_8_bits, read_16_bits, read_integer,
 };
 use hound_number::write_bytes;
-use hound_spec::{Error, Result, SampleFormat};
+use hound_spec::{Error, Result, SampleFormat, is_pair};
 use std::io;
 
 /// A type of which samples are read and written.
@@ -104,18 +103,10 @@ impl Sample for i8 {
 
     #[inline(always)]
     fn read<R: io::Read>(reader: &mut R, fmt: SampleFormat, bytes: u16, bits: u16) -> Result<Self> {
-        match fmt {
-            SampleFormat::Float => Err(Error::InvalidSampleFormat),
-            SampleFormat::Int => {
-                if bytes == 1 && bits == 8 {
-                    return read_8_bits(reader);
-                }
-                if bytes > 1 {
-                    return Err(Error::TooWide);
-                }
-                Err(Error::Unsupported)
-            }
+        if matches!(fmt, SampleFormat::Int) && bytes == 1 && bits == 8 {
+            return read_8_bits(reader);
         }
+        Err(integer_refusal(fmt, bytes, 1))
     }
 
     #[inline(always)]
@@ -144,21 +135,15 @@ impl Sample for i16 {
 
     #[inline(always)]
     fn read<R: io::Read>(reader: &mut R, fmt: SampleFormat, bytes: u16, bits: u16) -> Result<Self> {
-        match fmt {
-            SampleFormat::Float => Err(Error::InvalidSampleFormat),
-            SampleFormat::Int => {
-                if bytes == 1 && bits == 8 {
-                    return Ok(read_8_bits(reader)? as i16);
-                }
-                if bytes == 2 && bits == 16 {
-                    return read_16_bits(reader);
-                }
-                if bytes > 2 {
-                    return Err(Error::TooWide);
-                }
-                Err(Error::Unsupported)
+        if matches!(fmt, SampleFormat::Int) {
+            if bytes == 2 && bits == 16 {
+                return read_16_bits(reader);
+            }
+            if bytes == 1 && bits == 8 {
+                return Ok(read_8_bits(reader)? as i16);
             }
         }
+        Err(integer_refusal(fmt, bytes, 2))
     }
 
     #[inline(always)]
@@ -187,30 +172,10 @@ impl Sample for i32 {
 
     #[inline(always)]
     fn read<R: io::Read>(reader: &mut R, fmt: SampleFormat, bytes: u16, bits: u16) -> Result<Self> {
-        match fmt {
-            SampleFormat::Float => Err(Error::InvalidSampleFormat),
-            SampleFormat::Int => {
-                if bytes == 1 && bits == 8 {
-                    return Ok(read_8_bits(reader)? as i32);
-                }
-                if bytes == 2 && bits == 16 {
-                    return Ok(read_16_bits(reader)? as i32);
-                }
-                if bytes == 3 && bits == 24 {
-                    return read_24_bits(reader);
-                }
-                if bytes == 4 && bits == 24 {
-                    return read_24_bits_of_4(reader);
-                }
-                if bytes == 4 && bits == 32 {
-                    return read_32_bits(reader);
-                }
-                if bytes > 4 {
-                    return Err(Error::TooWide);
-                }
-                Err(Error::Unsupported)
-            }
+        if matches!(fmt, SampleFormat::Int) && is_pair(fmt, bits, bytes) {
+            return read_integer(reader, bits, bytes);
         }
+        Err(integer_refusal(fmt, bytes, 4))
     }
 
     #[inline(always)]

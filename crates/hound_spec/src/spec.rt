@@ -74,6 +74,7 @@ pub fn with_default_width(spec: WavSpec) -> WavSpecEx
 
 /// Whether samples of this format are written with so many used bits in so many bytes: (8, 1),
 /// (16, 2), (24, 3), (24, 4) and (32, 4) for integers, and (32, 4) for floats.
+#[inline(always)]
 pub fn is_pair(format: SampleFormat, bits: u16, width: u16) -> bool
     ensures { result ≡ is_pair format bits width }
 {

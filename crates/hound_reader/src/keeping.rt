@@ -1,0 +1,48 @@
+// A reader that keeps its last fault.
+ghost use Rattle.std.specs.Prelude.{◌≡◌, ◌<◌, ◌≤◌, length, take};
+ghost use Rattle.std.specs.Io.KnownBytes.{Consumes, IsAtEnd, Keeps};
+
+use std::io;
+
+/// A reader, and the last fault of a read of it.
+///
+/// An `io::Error` is large, and a read that is not inlined hands it on in memory. So the one call
+/// of `read` answers a number, and the fault goes from here to where it is told.
+#[derive(Drop)]
+pub(crate) struct KeepingReader<R> {
+    pub(crate) reader: R,
+    pub(crate) fault: io::Error,
+}
+
+impl<R: io::Read> KeepingReader<R> {
+    /// How many bytes a read gives, or more than the buffer has where it fails; the fault is kept.
+    #[inline]
+    pub(crate) fn give(&mut self, buf: &mut [u8]) -> usize
+        ensures bytes { result ≤ length buf.new →
+            Consumes (R.remaining self.old.reader) (R.remaining self.new.reader) (take result buf.new) }
+        ensures end { result ≡ 0 → 0 < length buf.new → IsAtEnd (R.remaining self.new.reader) }
+        ensures failed { length buf.new < result →
+            Keeps (R.remaining self.old.reader) (R.remaining self.new.reader) }
+    {
+        match self.reader.read(buf) {
+            Ok(count) => count,
+            Err(fault) => {
+                self.fault = fault;
+                usize::MAX
+            }
+        }
+    }
+}
+
+impl<R: io::Read> io::Read for KeepingReader<R> {
+    ghost remaining = { λ k. R.remaining k.reader };
+
+    #[inline(always)]
+    fn read(&mut self, buf: &mut [u8]) -> io::Result<usize> {
+        let count = self.give(buf);
+        if count <= buf.len() {
+            return Ok(count);
+        }
+        Err(self.fault)
+    }
+}
