@@ -1,6 +1,9 @@
 //! The program `hound_tool`: numbers to WAV files.
 #![tactic(auto)]
 
+mod ahead;
+mod eight;
+mod lines;
 mod numbers;
 mod run;
 #[cfg(test)]
