@@ -72,7 +72,14 @@ impl<R: io::Read> io::Read for Ahead<R> {
         if count > self.end - self.start {
             return Ok(self.read_slowly(buf));
         }
-        buf.copy_from_slice(&self.bytes[self.start..self.start + count]);
+        let from = &self.bytes[self.start..self.start + count];
+        match buf {
+            // A copy of a length that isn't known is a call, and a sample has a few bytes.
+            [a, b] => [*a, *b] = [from[0], from[1]],
+            [a, b, c] => [*a, *b, *c] = [from[0], from[1], from[2]],
+            [a, b, c, d] => [*a, *b, *c, *d] = [from[0], from[1], from[2], from[3]],
+            _ => buf.copy_from_slice(from),
+        }
         self.start += count;
         Ok(count)
     }

@@ -22,7 +22,7 @@ pub fn leading_digits(text: [u8; 8]) -> Digits {
 
     // The high bit of the first byte that is no digit is set, and of none before it.
     let others = (values.wrapping_add(0x7676_7676_7676_7676) | values) & 0x8080_8080_8080_8080;
-    let count = (others.trailing_zeros() / 8).min(8);
+    let count = others.trailing_zeros() / 8;
 
     // Zeros before them make them eight.
     let digits = values.checked_shl(64 - 8 * count).unwrap_or(0);
@@ -36,8 +36,8 @@ pub fn leading_digits(text: [u8; 8]) -> Digits {
 #[inline(always)]
 fn number_of(digits: u64) -> u64 {
     let pairs = digits.wrapping_mul(10).wrapping_add(digits >> 8);
-    let outer = (pairs & 0x0000_00ff_0000_00ff).wrapping_mul(0x000f_4240_0000_0064);
-    let inner = ((pairs >> 16) & 0x0000_00ff_0000_00ff).wrapping_mul(0x0000_2710_0000_0001);
+    let outer = (pairs & 0x0000_00ff_0000_00ff).wrapping_mul(100 + (1_000_000 << 32));
+    let inner = ((pairs >> 16) & 0x0000_00ff_0000_00ff).wrapping_mul(1 + (10_000 << 32));
     outer.wrapping_add(inner) >> 32
 }
 
@@ -53,7 +53,7 @@ pub fn decimal_text(number: u32) -> (u64, u32)
     let pairs = hundreds | (fours.wrapping_sub(hundreds.wrapping_mul(100)) << 16);
     let tens = (pairs.wrapping_mul(103) >> 10) & 0x000f_000f_000f_000f;
     let digits = tens | (pairs.wrapping_sub(tens.wrapping_mul(10)) << 8);
-    (digits | ZEROS, (digits.trailing_zeros() / 8).min(8))
+    (digits | ZEROS, digits.trailing_zeros() / 8)
 }
 
 /// The text of the eight digits of a number in base 16.

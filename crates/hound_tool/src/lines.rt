@@ -52,11 +52,12 @@ impl Lines {
         self.bytes[start] = b'-';
         let at = start + (number < 0) as usize;
         let magnitude = number.unsigned_abs();
-        let (low, zeros) = decimal_text(magnitude % 100_000_000);
         let end = if magnitude < 100_000_000 {
-            self.put_text(at, low, zeros.min(7))
+            let (text, zeros) = decimal_text(magnitude);
+            self.put_text(at, text, zeros.min(7))
         } else {
             let (high, zeros) = decimal_text(magnitude / 100_000_000);
+            let (low, _) = decimal_text(magnitude % 100_000_000);
             let at = self.put_text(at, high, zeros);
             self.put_text(at, low, 0)
         };

@@ -10,7 +10,7 @@ mod run;
 mod tests;
 
 use run::{run, run_append};
-use std::io::{BufReader, BufWriter};
+use std::io::BufWriter;
 use std::path::Path;
 use std::process::ExitCode;
 use std::{env, io};
@@ -23,7 +23,7 @@ fn main(rt: HostRuntime) -> io::Result<ExitCode> {
         .skip(1)
         .map(|word| word.as_str())
         .collect(alloc)?;
-    let mut input = BufReader::new(alloc, rt.stdin())?;
+    let mut input = rt.stdin();
     let mut errors = rt.stderr();
     let status = match words.as_slice() {
         ["append", file] => run_append(&rt, alloc, Path::new(file), &mut input, &mut errors),

@@ -155,12 +155,20 @@ fn show_integers<R: io::Read, O: io::Write>(
     lines: &mut Lines,
     output: &mut O,
 ) -> Result<(), Failure> {
-    for sample in reader.samples::<i32>() {
-        let number = sample?;
-        if !lines.has_room() {
-            lines.write_to(output)?;
+    // A `for` over the samples keeps a copy more of each, which has a hundred bytes.
+    let count = reader.len();
+    let mut samples = reader.samples::<i32>();
+    for _ in 0..count {
+        match samples.next() {
+            Some(Ok(number)) => {
+                if !lines.has_room() {
+                    lines.write_to(output)?;
+                }
+                lines.push_integer(number);
+            }
+            Some(Err(error)) => return Err(Failure::from(error)),
+            None => break,
         }
-        lines.push_integer(number);
     }
     Ok(())
 }

@@ -163,6 +163,50 @@ fn a_cut_file_is_shown_as_far_as_it_goes(rt: HostRuntime) -> Result<(), Fail> {
     Ok(())
 }
 
+// Gives its bytes, and then fails.
+#[derive(Drop)]
+struct BreaksOff<'a> {
+    bytes: &'a [u8],
+}
+
+impl io::Read for BreaksOff<'_> {
+    fn read(&mut self, buf: &mut [u8]) -> io::Result<usize> {
+        let count = self.bytes.len().min(buf.len());
+        if count == 0 {
+            return Err(Error::from(ErrorKind::Other));
+        }
+        let (now, later) = self.bytes.split_at(count);
+        buf[..count].copy_from_slice(now);
+        self.bytes = later;
+        Ok(count)
+    }
+}
+
+// The same where the input fails and doesn't end.
+#[test]
+fn a_file_that_breaks_off_is_shown_as_far_as_it_goes(rt: HostRuntime) -> Result<(), Fail> {
+    let alloc = rt.alloc();
+    let numbers = ten_thousand_and_one(alloc)?;
+    let packed = run_on(alloc, &PACK, &lines_of(alloc, &numbers)?);
+    for length in [0, 30, 43, 44, 45, 46, 16384, 20045] {
+        let mut wanted = Vec::new(alloc);
+        if length >= 44 {
+            wanted.extend_from_slice(SPEC_LINE)?;
+            let before = numbers.get(..(length - 44) / 2).ok_or("fewer numbers")?;
+            wanted.extend_from_slice(&lines_of(alloc, before)?)?;
+        }
+        let bytes = packed.output.get(..length).ok_or("a shorter file")?;
+        let mut output = Vec::new(alloc);
+        let mut errors = Vec::new(alloc);
+        let mut input = BreaksOff { bytes };
+        let status = run(alloc, &["show"], &mut input, &mut output, &mut errors);
+        assert_eq!(rt; status, 1, "{length}");
+        assert_eq!(rt; output.as_slice(), wanted.as_slice(), "{length}");
+        assert_eq!(rt; errors.as_slice(), FAILED, "{length}");
+    }
+    Ok(())
+}
+
 // Has room for so many bytes, and then takes nothing.
 #[derive(Drop)]
 struct Full {
