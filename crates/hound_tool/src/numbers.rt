@@ -206,13 +206,24 @@ fn take_whole<'a>(text: &'a [u8], numbers: &mut Vec<i32>) -> Result<&'a [u8], Re
     Ok(rest)
 }
 
+// The text behind the separators that it begins with.
+fn behind_separators(text: &[u8]) -> &[u8]
+    ensures { length result.now ≤ length text.now }
+{
+    let count = text
+        .iter()
+        .position(|byte| !is_separator(*byte))
+        .unwrap_or(text.len());
+    &text[count..]
+}
+
 // Takes bytes of the text, in order: whole numbers where it can, and else one byte.
 fn take_bytes(place: Place, bytes: &[u8], numbers: &mut Vec<i32>) -> Result<Place, Refusal> {
     let mut place = place;
     let mut rest = bytes;
     loop {
         if let Place::Between = place {
-            rest = take_whole(rest, numbers)?;
+            rest = take_whole(behind_separators(rest), numbers)?;
         }
         let Some((byte, others)) = rest.split_first() else {
             return Ok(place);
