@@ -167,6 +167,7 @@ fn eight_bytes(window: &[u8; 17], at: usize) -> [u8; 8]
 fn whole_number(text: &[u8]) -> Option<(i32, usize)>
     ensures { IfSome result (IsFront text.now) }
 {
+    // A sign, and eight bytes twice.
     let window = text.first_chunk::<17>()?;
     let negative = window[0] == b'-';
     let start = negative as usize;
