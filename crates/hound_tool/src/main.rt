@@ -1,13 +1,16 @@
 //! The program `hound_tool`: numbers to WAV files.
 #![tactic(auto)]
 
+mod ahead;
+mod eight;
+mod lines;
 mod numbers;
 mod run;
 #[cfg(test)]
 mod tests;
 
 use run::{run, run_append};
-use std::io::{BufReader, BufWriter};
+use std::io::BufWriter;
 use std::path::Path;
 use std::process::ExitCode;
 use std::{env, io};
@@ -20,7 +23,7 @@ fn main(rt: HostRuntime) -> io::Result<ExitCode> {
         .skip(1)
         .map(|word| word.as_str())
         .collect(alloc)?;
-    let mut input = BufReader::new(alloc, rt.stdin())?;
+    let mut input = rt.stdin();
     let mut errors = rt.stderr();
     let status = match words.as_slice() {
         ["append", file] => run_append(&rt, alloc, Path::new(file), &mut input, &mut errors),

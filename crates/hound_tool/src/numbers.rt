@@ -1,6 +1,8 @@
 // Numbers as text.
-ghost use Rattle.std.specs.Prelude.{◌≤◌, IfSome};
+ghost use Rattle.std.specs.Prelude.{◌<◌, ◌≤◌, IfOk, IfSome, length};
+ghost use Rattle.hound_tool.specs.Text.{IsFront};
 
+use crate::eight::leading_digits;
 use hound::Error;
 use std::alloc::{AllocError, AllocFailed, Global};
 use std::io;
@@ -42,9 +44,25 @@ impl From<AllocError> for Failure {
     }
 }
 
-impl From<AllocFailed<i32>> for Failure {
-    fn from(_: AllocFailed<i32>) -> Failure {
-        Failure::Refused(Error::OutOfMemory)
+// Why a text is not taken. It has one byte where a `Failure` has a hundred, and answers each number.
+#[derive(Clone, Copy)]
+enum Refusal {
+    BadNumber,
+    OutOfMemory,
+}
+
+impl From<Refusal> for Failure {
+    fn from(refusal: Refusal) -> Failure {
+        match refusal {
+            Refusal::BadNumber => Failure::BadNumber,
+            Refusal::OutOfMemory => Failure::Refused(Error::OutOfMemory),
+        }
+    }
+}
+
+impl From<AllocFailed<i32>> for Refusal {
+    fn from(_: AllocFailed<i32>) -> Refusal {
+        Refusal::OutOfMemory
     }
 }
 
@@ -57,31 +75,36 @@ enum Place {
 }
 
 // The number with this sign, if it is an `i32`.
-fn signed(negative: bool, magnitude: u32) -> Result<i32, Failure> {
+fn signed(negative: bool, magnitude: u32) -> Option<i32> {
     let number = if negative {
         -(magnitude as i64)
     } else {
         magnitude as i64
     };
-    i32::try_from(number).map_err(|_| Failure::BadNumber)
+    i32::try_from(number).ok()
 }
 
 // The magnitude with one digit more, at most 2 ^ 31, which only a negative number may have.
-fn with_digit(magnitude: u32, digit: u8) -> Result<u32, Failure> {
+fn with_digit(magnitude: u32, digit: u8) -> Result<u32, Refusal> {
     let longer = magnitude as u64 * 10 + (digit % 10) as u64;
     if longer > 2_147_483_648 {
-        return Err(Failure::BadNumber);
+        return Err(Refusal::BadNumber);
     }
     Ok(longer as u32)
 }
 
+// Whether a byte stands between numbers.
+fn is_separator(byte: u8) -> bool {
+    matches!(byte, b' ' | b'\t' | b'\r' | b'\n')
+}
+
 // Takes one byte of the text. A number that it ends goes behind the others.
-fn take_byte(place: Place, byte: u8, numbers: &mut Vec<i32>) -> Result<Place, Failure> {
+fn take_byte(place: Place, byte: u8, numbers: &mut Vec<i32>) -> Result<Place, Refusal> {
+    if is_separator(byte) {
+        end_of_word(place, numbers)?;
+        return Ok(Place::Between);
+    }
     match (byte, place) {
-        (b' ' | b'\t' | b'\r' | b'\n', _) => {
-            end_of_word(place, numbers)?;
-            Ok(Place::Between)
-        }
         (b'-', Place::Between) => Ok(Place::BehindMinus),
         (b'0'..=b'9', Place::Between) => Ok(Place::Inside {
             negative: false,
@@ -101,32 +124,114 @@ fn take_byte(place: Place, byte: u8, numbers: &mut Vec<i32>) -> Result<Place, Fa
             negative,
             magnitude: with_digit(magnitude, byte - b'0')?,
         }),
-        _ => Err(Failure::BadNumber),
+        _ => Err(Refusal::BadNumber),
     }
 }
 
 // The end of a word, or of the text.
-fn end_of_word(place: Place, numbers: &mut Vec<i32>) -> Result<(), Failure> {
+fn end_of_word(place: Place, numbers: &mut Vec<i32>) -> Result<(), Refusal> {
     match place {
         Place::Between => Ok(()),
-        Place::BehindMinus => Err(Failure::BadNumber),
+        Place::BehindMinus => Err(Refusal::BadNumber),
         Place::Inside {
             negative,
             magnitude,
         } => {
-            numbers.push(signed(negative, magnitude)?)?;
+            let number = signed(negative, magnitude).ok_or(Refusal::BadNumber)?;
+            numbers.push(number)?;
             Ok(())
         }
     }
 }
 
-// Takes bytes of the text, in order.
-fn take_bytes(place: Place, bytes: &[u8], numbers: &mut Vec<i32>) -> Result<Place, Failure> {
-    let mut place = place;
-    for byte in bytes {
-        place = take_byte(place, *byte, numbers)?;
+// The eight bytes of a window from a place on.
+#[inline(always)]
+fn eight_bytes(window: &[u8; 17], at: usize) -> [u8; 8]
+    requires { at ≤ 9 }
+{
+    [
+        window[at],
+        window[at + 1],
+        window[at + 2],
+        window[at + 3],
+        window[at + 4],
+        window[at + 5],
+        window[at + 6],
+        window[at + 7],
+    ]
+}
+
+// The number that a text begins with and how many bytes it takes, with the byte that ends it. It
+// has at most ten digits, and the text goes on behind it: any other is left to `take_byte`.
+#[inline(always)]
+fn whole_number(text: &[u8]) -> Option<(i32, usize)>
+    ensures { IfSome result (IsFront text.now) }
+{
+    // A sign, and eight bytes twice.
+    let window = text.first_chunk::<17>()?;
+    let negative = window[0] == b'-';
+    let start = negative as usize;
+    let first = leading_digits(eight_bytes(window, start));
+    let mut magnitude = first.number;
+    let mut end = start + first.count as usize;
+    if first.count == 0 {
+        return None;
     }
-    Ok(place)
+    if first.count == 8 {
+        let second = leading_digits(eight_bytes(window, end));
+        let scale = match second.count {
+            0 => 1,
+            1 => 10,
+            2 => 100,
+            _ => return None,
+        };
+        magnitude = magnitude.wrapping_mul(scale).wrapping_add(second.number);
+        end += second.count as usize;
+    }
+    if !is_separator(window[end]) {
+        return None;
+    }
+    let number = signed(negative, u32::try_from(magnitude).ok()?)?;
+    Some((number, end + 1))
+}
+
+// Takes numbers from the front of a text, as long as one is whole, and gives the text behind them.
+fn take_whole<'a>(text: &'a [u8], numbers: &mut Vec<i32>) -> Result<&'a [u8], Refusal>
+    ensures { IfOk result (λ rest. length rest.now ≤ length text.now) }
+{
+    let mut rest = text;
+    while let Some((number, taken)) = whole_number(rest) {
+        numbers.push(number)?;
+        rest = &rest[taken..];
+    }
+    Ok(rest)
+}
+
+// The text behind the separators that it begins with.
+fn behind_separators(text: &[u8]) -> &[u8]
+    ensures { length result.now ≤ length text.now }
+{
+    let count = text
+        .iter()
+        .position(|byte| !is_separator(*byte))
+        .unwrap_or(text.len());
+    &text[count..]
+}
+
+// Takes bytes of the text, in order: whole numbers where it can, and else one byte.
+fn take_bytes(place: Place, bytes: &[u8], numbers: &mut Vec<i32>) -> Result<Place, Refusal> {
+    let mut place = place;
+    let mut rest = bytes;
+    loop {
+        if let Place::Between = place {
+            rest = take_whole(behind_separators(rest), numbers)?;
+        }
+        let Some((byte, others)) = rest.split_first() else {
+            return Ok(place);
+        };
+        place = take_byte(place, *byte, numbers)?;
+        rest = others;
+    }
 }
 
 /// Reads numbers to the end of the input.
@@ -137,7 +242,7 @@ fn take_bytes(place: Place, bytes: &[u8], numbers: &mut Vec<i32>) -> Result<Plac
 pub fn read_numbers<R: io::Read>(alloc: Global, input: &mut R) -> Result<Vec<i32>, Failure> {
     let mut numbers = Vec::new(alloc);
     let mut place = Place::Between;
-    let mut buffer = [0; 4096];
+    let mut buffer = [0; 16384];
     let mut room = MOST_BYTES;
     loop {
         let count = input.read(&mut buffer)?;

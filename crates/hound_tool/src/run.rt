@@ -1,14 +1,19 @@
 // What the program does, over any reader and writers.
 ghost use Rattle.std.specs.Prelude.{◌≡◌, ◌≤◌};
 
+use crate::ahead::Ahead;
+use crate::lines::Lines;
 use crate::numbers::{Failure, digits, read_numbers};
 use hound::{
     FloatBits, SampleFormat, Step, Tape, WavReader, WavSpec, WavSpecEx, WavWriter, run_sessions,
 };
-use std::alloc::Global;
+use std::alloc::{AllocError, Global};
 use std::path::Path;
 use std::rt::Files;
 use std::{fs, io};
+
+// The values of a batch.
+const BATCH_LENGTH: usize = 4096;
 
 const USAGE: &str = "usage: hound_tool pack CHANNELS RATE BITS | show | append FILE";
 
@@ -95,7 +100,7 @@ fn pack<R: io::Read, O: io::Write>(
     output: &mut O,
 ) -> Result<(), Failure> {
     let numbers = read_numbers(alloc, input)?;
-    let file = file_of(alloc, spec, &numbers)?;
+    let file = file_of(alloc, spec, numbers)?;
     output.write_all(Tape::bytes(&file))?;
     output.flush()?;
     Ok(())
@@ -118,8 +123,12 @@ fn append<R: io::Read>(
 
 // The lines of a file, as far as it can be read.
 fn show<R: io::Read, O: io::Write>(input: &mut R, output: &mut O) -> Result<(), Failure> {
-    let result = show_lines(input, output);
+    let mut ahead = Ahead::new(input);
+    let result = show_lines(&mut ahead, output);
     let flushed = output.flush();
+    if ahead.has_failed() {
+        return Err(Failure::InputOrOutput);
+    }
     result?;
     flushed?;
     Ok(())
@@ -128,30 +137,53 @@ fn show<R: io::Read, O: io::Write>(input: &mut R, output: &mut O) -> Result<(), 
 fn show_lines<R: io::Read, O: io::Write>(input: &mut R, output: &mut O) -> Result<(), Failure> {
     let mut reader = WavReader::new(input)?;
     show_spec(reader.spec(), reader.len(), output)?;
-    match reader.spec().sample_format {
-        SampleFormat::Int => show_integers(&mut reader, output),
-        SampleFormat::Float => show_patterns(&mut reader, output),
-    }
+    let mut lines = Lines::new();
+    let result = match reader.spec().sample_format {
+        SampleFormat::Int => show_integers(&mut reader, &mut lines, output),
+        SampleFormat::Float => show_patterns(&mut reader, &mut lines, output),
+    };
+
+    // Those before a fault are shown.
+    let written = lines.write_to(output);
+    result?;
+    written?;
+    Ok(())
 }
 
 fn show_integers<R: io::Read, O: io::Write>(
     reader: &mut WavReader<&mut R>,
+    lines: &mut Lines,
     output: &mut O,
 ) -> Result<(), Failure> {
-    for sample in reader.samples::<i32>() {
-        let number = sample?;
-        writeln!(output, "{number}")?;
+    // A `for` over the samples keeps a copy more of each, which has a hundred bytes.
+    let count = reader.len();
+    let mut samples = reader.samples::<i32>();
+    for _ in 0..count {
+        match samples.next() {
+            Some(Ok(number)) => {
+                if !lines.has_room() {
+                    lines.write_to(output)?;
+                }
+                lines.push_integer(number);
+            }
+            Some(Err(error)) => return Err(Failure::from(error)),
+            None => break,
+        }
     }
     Ok(())
 }
 
 fn show_patterns<R: io::Read, O: io::Write>(
     reader: &mut WavReader<&mut R>,
+    lines: &mut Lines,
     output: &mut O,
 ) -> Result<(), Failure> {
     for sample in reader.samples::<FloatBits>() {
         let FloatBits(pattern) = sample?;
-        writeln!(output, "{pattern:08x}")?;
+        if !lines.has_room() {
+            lines.write_to(output)?;
+        }
+        lines.push_pattern(pattern);
     }
     Ok(())
 }
@@ -170,17 +202,48 @@ fn show_spec<O: io::Write>(spec: WavSpec, samples: u32, output: &mut O) -> io::R
     )
 }
 
-// The whole file of these samples: one session over a new tape.
-fn file_of(alloc: Global, spec: WavSpec, numbers: &[i32]) -> Result<Tape, Failure> {
-    let spec_ex = WavSpecEx {
-        spec,
-        bytes_per_sample: spec.bits_per_sample.div_ceil(8),
-    };
+// The whole file of these samples. Where all have sixteen bits they go in batches, which take less
+// time and memory than a step for each; the first that is too wide is refused as such a step.
+fn file_of(alloc: Global, spec: WavSpec, numbers: Vec<i32>) -> Result<Tape, Failure> {
+    if spec.bits_per_sample == 16 {
+        if let Some(values) = sixteen_bits(alloc, &numbers)? {
+            drop(numbers);
+            return file_of_batches(alloc, spec, &values);
+        }
+    }
     let steps: Vec<Step> = numbers
         .iter()
         .map(|number| Step::Whole(*number))
         .collect(alloc)?;
-    let (file, result) = run_sessions(alloc, Tape::new(Vec::new(alloc)), spec_ex, &[&steps]);
+    drop(numbers);
+    file_of_steps(alloc, spec, &steps)
+}
+
+// The numbers as values of sixteen bits, if all of them fit.
+fn sixteen_bits(alloc: Global, numbers: &[i32]) -> Result<Option<Vec<i16>>, AllocError> {
+    let mut values = Vec::with_capacity(alloc, numbers.len())?;
+    for number in numbers {
+        match i16::try_from(*number) {
+            Ok(value) => values.push(value)?,
+            Err(_) => return Ok(None),
+        }
+    }
+    Ok(Some(values))
+}
+
+// The file of values of sixteen bits, in batches.
+fn file_of_batches(alloc: Global, spec: WavSpec, values: &[i16]) -> Result<Tape, Failure> {
+    let steps: Vec<Step> = values.chunks(BATCH_LENGTH).map(Step::Batch).collect(alloc)?;
+    file_of_steps(alloc, spec, &steps)
+}
+
+// The file that one session over a new tape makes.
+fn file_of_steps(alloc: Global, spec: WavSpec, steps: &[Step]) -> Result<Tape, Failure> {
+    let spec_ex = WavSpecEx {
+        spec,
+        bytes_per_sample: spec.bits_per_sample.div_ceil(8),
+    };
+    let (file, result) = run_sessions(alloc, Tape::new(Vec::new(alloc)), spec_ex, &[&steps[..]]);
     result?;
     Ok(file)
 }

@@ -1,4 +1,7 @@
 // The program's runs, over readers and writers in memory.
+mod long_files;
+mod parsing;
+
 use crate::run::{run, run_append};
 use std::alloc::Global;
 use std::io::{Error, ErrorKind};

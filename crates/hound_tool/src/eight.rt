@@ -1,0 +1,72 @@
+// Digits, eight at a time in one word: a byte each, the first one lowest.
+ghost use Rattle.std.specs.Prelude.{◌≤◌};
+
+// The text of eight zeros.
+const ZEROS: u64 = 0x3030_3030_3030_3030;
+
+/// The digits that a text begins with.
+#[derive(Clone, Copy)]
+pub struct Digits {
+    /// How many there are before the first byte that is none, eight at most.
+    pub count: u32,
+
+    /// The number that they make, 0 where there are none.
+    pub number: u64,
+    ghost at_most_eight: { count ≤ 8 },
+}
+
+/// The digits that eight bytes of text begin with.
+#[inline(always)]
+pub fn leading_digits(text: [u8; 8]) -> Digits {
+    let values = u64::from_le_bytes(text) ^ ZEROS;
+
+    // The high bit of the first byte that is no digit is set, and of none before it.
+    let others = (values.wrapping_add(0x7676_7676_7676_7676) | values) & 0x8080_8080_8080_8080;
+    let count = others.trailing_zeros() / 8;
+
+    // Zeros before them make them eight.
+    let digits = values.checked_shl(64 - 8 * count).unwrap_or(0);
+    Digits {
+        count,
+        number: number_of(digits),
+    }
+}
+
+// The number that eight digits make: first their pairs, then all.
+#[inline(always)]
+fn number_of(digits: u64) -> u64 {
+    let pairs = digits.wrapping_mul(10).wrapping_add(digits >> 8);
+    let outer = (pairs & 0x0000_00ff_0000_00ff).wrapping_mul(100 + (1_000_000 << 32));
+    let inner = ((pairs >> 16) & 0x0000_00ff_0000_00ff).wrapping_mul(1 + (10_000 << 32));
+    outer.wrapping_add(inner) >> 32
+}
+
+/// The text of the eight digits of a number below 100000000, and how many zeros it begins with.
+#[inline(always)]
+pub fn decimal_text(number: u32) -> (u64, u32)
+    ensures { result.1 ≤ 8 }
+{
+    // Two numbers of four digits, then four of two, then eight of one. A quotient by 100 or by 10
+    // is a product and a shift.
+    let fours = ((number / 10_000) as u64) | (((number % 10_000) as u64) << 32);
+    let hundreds = (fours.wrapping_mul(10_486) >> 20) & 0x0000_007f_0000_007f;
+    let pairs = hundreds | (fours.wrapping_sub(hundreds.wrapping_mul(100)) << 16);
+    let tens = (pairs.wrapping_mul(103) >> 10) & 0x000f_000f_000f_000f;
+    let digits = tens | (pairs.wrapping_sub(tens.wrapping_mul(10)) << 8);
+    (digits | ZEROS, digits.trailing_zeros() / 8)
+}
+
+/// The text of the eight digits of a number in base 16.
+#[inline(always)]
+pub fn hexadecimal_text(number: u32) -> u64 {
+    // Two numbers of four digits, then four of two, then eight of one.
+    let fours = ((number >> 16) as u64) | (((number & 0xffff) as u64) << 32);
+    let pairs = ((fours >> 8) & 0x0000_00ff_0000_00ff) | ((fours & 0x0000_00ff_0000_00ff) << 16);
+    let digits = ((pairs >> 4) & 0x000f_000f_000f_000f) | ((pairs & 0x000f_000f_000f_000f) << 8);
+
+    // The letter of a digit above 9 stands 39 places behind where the row of digits would go on.
+    let letters = (digits.wrapping_add(0x0606_0606_0606_0606) >> 4) & 0x0101_0101_0101_0101;
+    digits
+        .wrapping_add(letters.wrapping_mul(39))
+        .wrapping_add(ZEROS)
+}
