@@ -1,8 +1,7 @@
 // A reader that counts the bytes that it gives.
 ghost use Rattle.std.specs.Prelude.{◌≡◌, ◌<◌, ◌≤◌, List, Option, Result, ℕ, None, IsSome, length, take};
-ghost use Rattle.hound_number.specs.Input.{Known};
 ghost use Rattle.hound_sample.specs.Reads.{Reads};
-ghost use Rattle.hound_reader.specs.Reader.{AreTaken, refusal_at, meaning_at};
+ghost use Rattle.hound_reader.specs.Reader.{refusal_at, meaning_at};
 ghost use Rattle.std.specs.Borrow.{GName};
 ghost use Rattle.std.specs.Io.KnownBytes.{Consumes, IsAtEnd, Keeps};
 ghost use Rattle.hound_spec.specs.declared.spec.WavSpecEx.{WavSpecEx};

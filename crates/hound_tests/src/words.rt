@@ -22,7 +22,7 @@ struct SpecWords;
 impl SpecWords {
     ghost use Rattle.hound.specs.FmtChunk.{Extension, FieldsFit, FmtFields, extension, extension_bytes, extension_size, fmt_bytes, fmt_fields, greatest_u32, subformat};
     ghost use Rattle.hound.specs.Header.{canonical, data_start, fields, fmt_tag, header, is_short, long_fmt, mask, riff_size, riff_tag, short_fmt, sized_fmt, wave_tag};
-    ghost use Rattle.hound.specs.Writable.{IsWritable, is_pair, with_default_width};
+    ghost use Rattle.hound.specs.Writable.{IsPair, IsWritable, is_pair, with_default_width};
     ghost use Rattle.hound.specs.declared.Error.{Error};
     ghost use Rattle.hound.specs.declared.SampleFormat.{SampleFormat};
     ghost use Rattle.hound.specs.declared.WavSpecEx.{WavSpecEx};
@@ -37,8 +37,8 @@ impl SpecWords {
 struct SpecVariants;
 
 impl SpecVariants {
-    ghost use Rattle.hound.specs.declared.Error.TheVariants.{IoError, OutOfMemory, TooLong, TooWide, Unsupported};
-    ghost use Rattle.hound.specs.declared.SampleFormat.TheVariants.{Int};
+    ghost use Rattle.hound.specs.declared.Error.TheVariants.{InvalidSampleFormat, IoError, OutOfMemory, TooLong, TooWide, Unsupported};
+    ghost use Rattle.hound.specs.declared.SampleFormat.TheVariants.{Float, Int};
 
     fn read() -> bool
         ensures { result ≡ result }
@@ -84,12 +84,12 @@ impl ReaderWords {
     ghost use Rattle.hound.specs.Cause.{Cause};
     ghost use Rattle.hound.specs.Chunks.{Head, Readable, Refused, Unreadable, bound_of, chunk_fault, content_fault, front_fault, taken_of};
     ghost use Rattle.hound.specs.Containers.{AreContainers};
-    ghost use Rattle.hound.specs.Counting.{HasGiven, HasGiven-prop, bytes_taken};
+    ghost use Rattle.hound.specs.Counting.{HasGiven, HasGiven-prop, answer_of, item_of, taken_at_error};
     ghost use Rattle.hound.specs.Fmt.{IsSoundSpec, by_subformat, by_tag, fmt_of, wave_format, wave_format_extensible, wave_format_ieee_float, wave_format_pcm};
     ghost use Rattle.hound.specs.Front.{ReportsFront, TakesFront};
     ghost use Rattle.hound.specs.Items.{AreItems, GivesItems};
     ghost use Rattle.hound.specs.Outcome.{CountsFailed, Gives, Refuses, UnlessReadFailed};
-    ghost use Rattle.hound.specs.Reader.{HasSoundCounts, HasWholeFrames, IsNext, ReaderState, meaning_at, refusal_at, samples_left};
+    ghost use Rattle.hound.specs.Reader.{AreTaken, HasSoundCounts, HasWholeFrames, IsNext, ReaderState, meaning_at, refusal_at, samples_left};
     ghost use Rattle.hound.specs.Refusals.{FailsAs, IsRefusal, Names, OpensAs, ReportsError, reason_text};
     ghost use Rattle.hound.specs.Samples.{LendsNext, TakesNext, lender, lent_reader, taken_reader};
     ghost use Rattle.hound.specs.Seeking.{Follows, HasSought, IsAtCount, IsMeaningOf, PassesItem, ReadsInPlace, Recounts, Seeks, StandsAsCounted, bytes_before, container_at, samples_before, way_to};
