@@ -50,7 +50,8 @@ impl<R: io::Read + Drop, S: Sample> Iterator for WavSamples<'_, R, S> {
 
     ghost remaining = { λ s. at_most (samples_left (lent_reader s)) };
 
-    #[inline(always)]
+    // Not always inlined: so LLVM simplifies it by itself, and again in the loop that it goes into.
+    #[inline]
     fn next(&mut self) -> Option<Result<S>> {
         let mut fault = Error::Unsupported;
         match self.reader.next_sample(&mut fault) {
@@ -101,7 +102,8 @@ impl<R: io::Read + Drop, S: Sample> Iterator for WavIntoSamples<R, S> {
 
     ghost remaining = { λ s. at_most (samples_left (taken_reader s)) };
 
-    #[inline(always)]
+    // Not always inlined: so LLVM simplifies it by itself, and again in the loop that it goes into.
+    #[inline]
     fn next(&mut self) -> Option<Result<S>> {
         let mut fault = Error::Unsupported;
         match self.reader.next_sample(&mut fault) {

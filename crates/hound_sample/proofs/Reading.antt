@@ -1,5 +1,5 @@
 -- Containers that were read, by the bytes that were taken.
-use Rattle.std.proofs.Common.{◌≡◌, ℕ, ◌<◌, List, [], ◌∷◌, get_or, length, take, refl, sym, ap, ◌∙◌, arith, take_at, drop_at, length-append, Option}
+use Rattle.std.proofs.Common.{◌≡◌, ℕ, ◌<◌, List, length, refl, sym, ap, ◌∙◌, arith, take_at, drop_at, length-append, Option}
 use Rattle.std.specs.Io.KnownBytes.{Consumes}
 use Rattle.hound_number.specs.Input.{Known}
 use Rattle.hound_number.proofs.KnownSteps.{known_from}
@@ -14,4 +14,3 @@ takes_container bytes old new width meaning value taken whole is = known_from by
 
 pub takes_part : (bytes : List ℕ) (old new : Option (List ℕ)) (width : ℕ) → Consumes old new bytes → length bytes < width → Known old new (TakesPart width)
 takes_part bytes old new width taken few = known_from bytes old new (TakesPart width) taken (λ ys. (length bytes, few, omega (arith, length-append bytes ys), sym (drop_at bytes ys (length bytes) refl)))
-

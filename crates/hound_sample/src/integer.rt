@@ -106,8 +106,7 @@ pub(crate) fn lowest_16_bits(x: i32) -> i16
 }
 
 /// Why an integer of at most so many bytes doesn't read samples of another format or pair.
-#[cold]
-#[inline(never)]
+#[inline(always)]
 pub(crate) fn integer_refusal(fmt: SampleFormat, bytes: u16, most: u16) -> Error
     ensures format { fmt ≡ Float → result ≡ InvalidSampleFormat }
     ensures wider { fmt ≡ Int → most < bytes → result ≡ TooWide }

@@ -1,4 +1,4 @@
-use Rattle.std.proofs.Common.{◌≡◌, ◌∷◌, [], ℕ, ◌≤◌, List, length, take, drop, rules, arith, ap, ◌∙◌, take_at}
+use Rattle.std.proofs.Common.{◌≡◌, ◌∷◌, [], ℕ, List, length, take, drop, rules, arith, ap, ◌∙◌, take_at}
 use Rattle.std.proofs.lemmas.List.{length-take-le}
 use mir.Val.{to_z, of_z}
 use mir.Syntax.{w32}
