@@ -1,33 +1,50 @@
 // Which workloads there are.
 
-/// How many bits the samples of a workload have.
+/// What the samples of a file in memory are.
 #[derive(Clone, Copy)]
-pub enum Bits {
+pub enum Kind {
+    Eight,
     Sixteen,
     TwentyFour,
     ThirtyTwo,
+    Float,
 }
 
-/// A workload.
+/// What the frames of a file on disk are.
+#[derive(Clone, Copy)]
+pub enum Frames {
+    Sixteen,
+    TwoOfSixteen,
+    TwentyFour,
+}
+
+/// A workload, over as many samples as it is asked for, of all channels together.
 #[derive(Clone, Copy)]
 pub enum Case {
     /// A file in memory of its full size, written a sample at a time.
-    WriteMemory(Bits),
+    WriteMemory(Kind),
     /// The same in memory that grows with the file.
     WriteGrowing,
     /// A file on disk, written a sample at a time.
-    WriteFile(Bits),
+    WriteFile(Frames),
     /// A file in memory of its full size, written in batches.
     BatchMemory,
     /// A file on disk, written in batches.
     BatchFile,
+    /// A file in memory of its full size, written by a session with a step for each sample. Further
+    /// sessions write it anew until there were as many samples.
+    SessionMemory,
     /// The samples of a file in memory.
-    ReadMemory(Bits),
+    ReadMemory(Kind),
     /// The samples of a file on disk.
-    ReadFile(Bits),
+    ReadFile(Frames),
+    /// As many seeks in a file in memory, to each thousandth frame in turn, with a sample read there.
+    SeekMemory,
+    /// The same in a file on disk.
+    SeekFile,
     /// A file in memory of its full size, published again and again while it is written.
     FlushMemory,
-    /// A small file in memory, opened again and again.
+    /// A small file in memory, opened as often.
     OpenMemory,
 }
 
@@ -35,19 +52,28 @@ impl Case {
     /// The case of this name.
     pub fn named(name: &str) -> Option<Case> {
         let case = match name {
-            "write_i16_mem" => Case::WriteMemory(Bits::Sixteen),
-            "write_i24_mem" => Case::WriteMemory(Bits::TwentyFour),
-            "write_i32_mem" => Case::WriteMemory(Bits::ThirtyTwo),
+            "write_i8_mem" => Case::WriteMemory(Kind::Eight),
+            "write_i16_mem" => Case::WriteMemory(Kind::Sixteen),
+            "write_i24_mem" => Case::WriteMemory(Kind::TwentyFour),
+            "write_i32_mem" => Case::WriteMemory(Kind::ThirtyTwo),
+            "write_f32_mem" => Case::WriteMemory(Kind::Float),
             "write_i16_mem_grow" => Case::WriteGrowing,
-            "write_i16_file" => Case::WriteFile(Bits::Sixteen),
-            "write_i24_file" => Case::WriteFile(Bits::TwentyFour),
+            "write_i16_file" => Case::WriteFile(Frames::Sixteen),
+            "write_i16_stereo_file" => Case::WriteFile(Frames::TwoOfSixteen),
+            "write_i24_file" => Case::WriteFile(Frames::TwentyFour),
             "batch_i16_mem" => Case::BatchMemory,
             "batch_i16_file" => Case::BatchFile,
-            "read_i16_mem" => Case::ReadMemory(Bits::Sixteen),
-            "read_i24_mem" => Case::ReadMemory(Bits::TwentyFour),
-            "read_i32_mem" => Case::ReadMemory(Bits::ThirtyTwo),
-            "read_i16_file" => Case::ReadFile(Bits::Sixteen),
-            "read_i24_file" => Case::ReadFile(Bits::TwentyFour),
+            "session_i16_mem" => Case::SessionMemory,
+            "read_i8_mem" => Case::ReadMemory(Kind::Eight),
+            "read_i16_mem" => Case::ReadMemory(Kind::Sixteen),
+            "read_i24_mem" => Case::ReadMemory(Kind::TwentyFour),
+            "read_i32_mem" => Case::ReadMemory(Kind::ThirtyTwo),
+            "read_f32_mem" => Case::ReadMemory(Kind::Float),
+            "read_i16_file" => Case::ReadFile(Frames::Sixteen),
+            "read_i16_stereo_file" => Case::ReadFile(Frames::TwoOfSixteen),
+            "read_i24_file" => Case::ReadFile(Frames::TwentyFour),
+            "seek_f32_mem" => Case::SeekMemory,
+            "seek_f32_file" => Case::SeekFile,
             "flush_i16_mem" => Case::FlushMemory,
             "open_mem" => Case::OpenMemory,
             _ => return None,
@@ -59,7 +85,7 @@ impl Case {
     pub fn needs_file(self) -> bool {
         matches!(
             self,
-            Case::WriteFile(_) | Case::BatchFile | Case::ReadFile(_)
+            Case::WriteFile(_) | Case::BatchFile | Case::ReadFile(_) | Case::SeekFile
         )
     }
 }

@@ -6,6 +6,7 @@ mod case;
 mod measure;
 mod pattern;
 mod run;
+mod sessions;
 #[cfg(test)]
 mod tests;
 mod workloads;

@@ -2,14 +2,18 @@
 ghost use Rattle.std.specs.Prelude.{◌≡◌, IfOk};
 
 use crate::batches::write_batches;
-use crate::case::{Bits, Case};
-use crate::pattern::{Pattern, Sixteen, ThirtyTwo, TwentyFour, spec_of};
-use crate::workloads::{open_often, read_all, write_all, write_flushing};
-use hound::{Error, Placed, Result, Tape, WavReader, WavSpec, WavWriter};
+use crate::case::{Case, Frames, Kind};
+use crate::pattern::{Eight, Float, Pattern, Sixteen, ThirtyTwo, TwentyFour, spec_of};
+use crate::sessions::{SESSION, write_sessions};
+use crate::workloads::{open_often, read_all, seek_often, write_all, write_flushing};
+use hound::{Error, Placed, Result, SampleFormat, Step, Tape, WavReader, WavSpec, WavWriter};
 use std::alloc::Global;
 use std::fs;
 use std::path::Path;
 use std::time::Instant;
+
+/// How many samples the file has in which is sought.
+const SOUGHT: u32 = 1_000_000;
 
 /// What one run of a case gave.
 #[derive(Clone, Copy)]
@@ -25,29 +29,36 @@ pub struct Measured {
 /// Runs a case with so many samples; the path is that of its file on disk, where it has one.
 pub fn measure(rt: &HostRuntime, case: Case, count: u32, path: Path<'_>) -> Result<Measured> {
     match case {
-        Case::WriteMemory(bits) => match bits {
-            Bits::Sixteen => write_memory::<Sixteen>(rt, count),
-            Bits::TwentyFour => write_memory::<TwentyFour>(rt, count),
-            Bits::ThirtyTwo => write_memory::<ThirtyTwo>(rt, count),
+        Case::WriteMemory(kind) => match kind {
+            Kind::Eight => write_memory::<Eight>(rt, count),
+            Kind::Sixteen => write_memory::<Sixteen>(rt, count),
+            Kind::TwentyFour => write_memory::<TwentyFour>(rt, count),
+            Kind::ThirtyTwo => write_memory::<ThirtyTwo>(rt, count),
+            Kind::Float => write_memory::<Float>(rt, count),
         },
         Case::WriteGrowing => write_growing(rt, count),
-        Case::WriteFile(bits) => match bits {
-            Bits::Sixteen => write_file::<Sixteen>(rt, count, path),
-            Bits::TwentyFour => write_file::<TwentyFour>(rt, count, path),
-            Bits::ThirtyTwo => write_file::<ThirtyTwo>(rt, count, path),
+        Case::WriteFile(frames) => match frames {
+            Frames::Sixteen => write_file::<Sixteen>(rt, 1, count, path),
+            Frames::TwoOfSixteen => write_file::<Sixteen>(rt, 2, count, path),
+            Frames::TwentyFour => write_file::<TwentyFour>(rt, 1, count, path),
         },
         Case::BatchMemory => batch_memory(rt, count),
         Case::BatchFile => batch_file(rt, count, path),
-        Case::ReadMemory(bits) => match bits {
-            Bits::Sixteen => read_memory::<Sixteen>(rt, count),
-            Bits::TwentyFour => read_memory::<TwentyFour>(rt, count),
-            Bits::ThirtyTwo => read_memory::<ThirtyTwo>(rt, count),
+        Case::SessionMemory => session_memory(rt, count),
+        Case::ReadMemory(kind) => match kind {
+            Kind::Eight => read_memory::<Eight>(rt, count),
+            Kind::Sixteen => read_memory::<Sixteen>(rt, count),
+            Kind::TwentyFour => read_memory::<TwentyFour>(rt, count),
+            Kind::ThirtyTwo => read_memory::<ThirtyTwo>(rt, count),
+            Kind::Float => read_memory::<Float>(rt, count),
         },
-        Case::ReadFile(bits) => match bits {
-            Bits::Sixteen => read_file::<Sixteen>(rt, count, path),
-            Bits::TwentyFour => read_file::<TwentyFour>(rt, count, path),
-            Bits::ThirtyTwo => read_file::<ThirtyTwo>(rt, count, path),
+        Case::ReadFile(frames) => match frames {
+            Frames::Sixteen => read_file::<Sixteen>(rt, 1, count, path),
+            Frames::TwoOfSixteen => read_file::<Sixteen>(rt, 2, count, path),
+            Frames::TwentyFour => read_file::<TwentyFour>(rt, 1, count, path),
         },
+        Case::SeekMemory => seek_memory(rt, count),
+        Case::SeekFile => seek_file(rt, count, path),
         Case::FlushMemory => flush_memory(rt, count),
         Case::OpenMemory => open_memory(rt, count),
     }
@@ -66,10 +77,10 @@ fn full_tape(alloc: Global, spec: WavSpec, count: u32) -> Result<Tape>
     Ok(Tape::new(bytes))
 }
 
-// The file of so many samples.
-fn file_of<P: Pattern>(alloc: Global, count: u32) -> Result<Vec<u8>> {
+// The file of so many samples, in so many channels.
+fn file_of<P: Pattern>(alloc: Global, channels: u16, count: u32) -> Result<Vec<u8>> {
     let mut tape = Tape::new(Vec::new(alloc));
-    let writer = WavWriter::new(&mut tape, P::spec())?;
+    let writer = WavWriter::new(&mut tape, P::spec(channels))?;
     write_all::<P, _>(writer, count)?;
     Ok(tape.into_bytes())
 }
@@ -88,9 +99,9 @@ fn written(file: &[u8], nanoseconds: u128) -> Measured {
 }
 
 fn write_memory<P: Pattern>(rt: &HostRuntime, count: u32) -> Result<Measured> {
-    let mut tape = full_tape(rt.alloc(), P::spec(), count)?;
+    let mut tape = full_tape(rt.alloc(), P::spec(1), count)?;
     let start = Instant::now(rt)?;
-    write_all::<P, _>(WavWriter::new(&mut tape, P::spec())?, count)?;
+    write_all::<P, _>(WavWriter::new(&mut tape, P::spec(1))?, count)?;
     let time = start.elapsed(rt)?;
     Ok(written(tape.bytes(), time.as_nanos()))
 }
@@ -98,23 +109,28 @@ fn write_memory<P: Pattern>(rt: &HostRuntime, count: u32) -> Result<Measured> {
 fn write_growing(rt: &HostRuntime, count: u32) -> Result<Measured> {
     let mut tape = Tape::new(Vec::new(rt.alloc()));
     let start = Instant::now(rt)?;
-    write_all::<Sixteen, _>(WavWriter::new(&mut tape, Sixteen::spec())?, count)?;
+    write_all::<Sixteen, _>(WavWriter::new(&mut tape, Sixteen::spec(1))?, count)?;
     let time = start.elapsed(rt)?;
     Ok(written(tape.bytes(), time.as_nanos()))
 }
 
-fn write_file<P: Pattern>(rt: &HostRuntime, count: u32, path: Path<'_>) -> Result<Measured> {
+fn write_file<P: Pattern>(
+    rt: &HostRuntime,
+    channels: u16,
+    count: u32,
+    path: Path<'_>,
+) -> Result<Measured> {
     let start = Instant::now(rt)?;
-    let writer = WavWriter::create(rt, rt.alloc(), path, P::spec())?;
+    let writer = WavWriter::create(rt, rt.alloc(), path, P::spec(channels))?;
     write_all::<P, _>(writer, count)?;
     let time = start.elapsed(rt)?;
     Ok(written(&fs::read(rt, path)?, time.as_nanos()))
 }
 
 fn batch_memory(rt: &HostRuntime, count: u32) -> Result<Measured> {
-    let mut tape = full_tape(rt.alloc(), Sixteen::spec(), count)?;
+    let mut tape = full_tape(rt.alloc(), Sixteen::spec(1), count)?;
     let start = Instant::now(rt)?;
-    let writer = WavWriter::new(&mut tape, spec_of(16))?;
+    let writer = WavWriter::new(&mut tape, spec_of(1, 16, SampleFormat::Int))?;
     write_batches(writer, rt.alloc(), count)?;
     let time = start.elapsed(rt)?;
     Ok(written(tape.bytes(), time.as_nanos()))
@@ -122,14 +138,26 @@ fn batch_memory(rt: &HostRuntime, count: u32) -> Result<Measured> {
 
 fn batch_file(rt: &HostRuntime, count: u32, path: Path<'_>) -> Result<Measured> {
     let start = Instant::now(rt)?;
-    let writer = WavWriter::create(rt, rt.alloc(), path, spec_of(16))?;
+    let writer = WavWriter::create(rt, rt.alloc(), path, spec_of(1, 16, SampleFormat::Int))?;
     write_batches(writer, rt.alloc(), count)?;
     let time = start.elapsed(rt)?;
     Ok(written(&fs::read(rt, path)?, time.as_nanos()))
 }
 
+fn session_memory(rt: &HostRuntime, count: u32) -> Result<Measured> {
+    let steps: Vec<Step> = (0..SESSION)
+        .map(|index| Step::Whole(Sixteen::sample(index) as i32))
+        .collect(rt.alloc())
+        .map_err(|_| Error::OutOfMemory)?;
+    let mut tape = full_tape(rt.alloc(), Sixteen::spec(1), count.min(SESSION))?;
+    let start = Instant::now(rt)?;
+    write_sessions(rt.alloc(), &mut tape, &steps, count)?;
+    let time = start.elapsed(rt)?;
+    Ok(written(tape.bytes(), time.as_nanos()))
+}
+
 fn read_memory<P: Pattern>(rt: &HostRuntime, count: u32) -> Result<Measured> {
-    let file = file_of::<P>(rt.alloc(), count)?;
+    let file = file_of::<P>(rt.alloc(), 1, count)?;
     let bytes = file.as_slice();
     let start = Instant::now(rt)?;
     let check = read_all::<P, _>(WavReader::new(bytes)?)?;
@@ -141,8 +169,13 @@ fn read_memory<P: Pattern>(rt: &HostRuntime, count: u32) -> Result<Measured> {
     })
 }
 
-fn read_file<P: Pattern>(rt: &HostRuntime, count: u32, path: Path<'_>) -> Result<Measured> {
-    let file = file_of::<P>(rt.alloc(), count)?;
+fn read_file<P: Pattern>(
+    rt: &HostRuntime,
+    channels: u16,
+    count: u32,
+    path: Path<'_>,
+) -> Result<Measured> {
+    let file = file_of::<P>(rt.alloc(), channels, count)?;
     fs::write(rt, path, file.as_slice())?;
     let start = Instant::now(rt)?;
     let check = read_all::<P, _>(WavReader::open(rt, rt.alloc(), path)?)?;
@@ -154,17 +187,43 @@ fn read_file<P: Pattern>(rt: &HostRuntime, count: u32, path: Path<'_>) -> Result
     })
 }
 
-fn flush_memory(rt: &HostRuntime, count: u32) -> Result<Measured> {
-    let mut tape = full_tape(rt.alloc(), Sixteen::spec(), count)?;
+// What so many seeks gave, with a float of four bytes read at each.
+fn sought(count: u32, nanoseconds: u128, check: i64) -> Measured {
+    Measured {
+        bytes: 4 * count as u64,
+        nanoseconds,
+        check,
+    }
+}
+
+fn seek_memory(rt: &HostRuntime, count: u32) -> Result<Measured> {
+    let tape = Tape::new(file_of::<Float>(rt.alloc(), 1, SOUGHT)?);
     let start = Instant::now(rt)?;
-    write_flushing::<Sixteen, _>(WavWriter::new(&mut tape, Sixteen::spec())?, count)?;
+    let check = seek_often::<Float, _>(WavReader::new(tape)?, count)?;
+    let time = start.elapsed(rt)?;
+    Ok(sought(count, time.as_nanos(), check))
+}
+
+fn seek_file(rt: &HostRuntime, count: u32, path: Path<'_>) -> Result<Measured> {
+    let file = file_of::<Float>(rt.alloc(), 1, SOUGHT)?;
+    fs::write(rt, path, file.as_slice())?;
+    let start = Instant::now(rt)?;
+    let check = seek_often::<Float, _>(WavReader::open(rt, rt.alloc(), path)?, count)?;
+    let time = start.elapsed(rt)?;
+    Ok(sought(count, time.as_nanos(), check))
+}
+
+fn flush_memory(rt: &HostRuntime, count: u32) -> Result<Measured> {
+    let mut tape = full_tape(rt.alloc(), Sixteen::spec(1), count)?;
+    let start = Instant::now(rt)?;
+    write_flushing::<Sixteen, _>(WavWriter::new(&mut tape, Sixteen::spec(1))?, count)?;
     let time = start.elapsed(rt)?;
     Ok(written(tape.bytes(), time.as_nanos()))
 }
 
 // The small file has sixteen samples.
 fn open_memory(rt: &HostRuntime, count: u32) -> Result<Measured> {
-    let file = file_of::<Sixteen>(rt.alloc(), 16)?;
+    let file = file_of::<Sixteen>(rt.alloc(), 1, 16)?;
     let start = Instant::now(rt)?;
     let check = open_often(&file, count)?;
     let time = start.elapsed(rt)?;

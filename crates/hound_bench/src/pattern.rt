@@ -1,16 +1,15 @@
 // The samples that the workloads write and read.
 ghost use Rattle.std.specs.Prelude.{◌≡◌};
-ghost use Rattle.hound.specs.declared.SampleFormat.TheVariants.{Int};
 
-use hound::{Sample, SampleFormat, WavSpec};
+use hound::{FloatBits, Sample, SampleFormat, WavSpec};
 
 /// The samples of a file, each by its number.
 pub trait Pattern {
     /// The type that they are written and read as.
     type Sample: Sample;
 
-    /// A mono file of them.
-    fn spec() -> WavSpec;
+    /// A file of them with so many channels.
+    fn spec(channels: u16) -> WavSpec;
 
     /// The sample with this number.
     fn sample(index: u32) -> Self::Sample;
@@ -18,6 +17,9 @@ pub trait Pattern {
     /// What a sample adds to the check.
     fn value(sample: Self::Sample) -> i64;
 }
+
+/// Samples of eight bits.
+pub struct Eight;
 
 /// Samples of sixteen bits.
 pub struct Sixteen;
@@ -28,29 +30,50 @@ pub struct TwentyFour;
 /// Samples of thirty-two bits.
 pub struct ThirtyTwo;
 
+/// Floats of thirty-two bits, of a magnitude below 2.
+pub struct Float;
+
 // The bits of a sample, of which a narrower one has the upper ones.
 #[inline(always)]
 fn mixed(index: u32) -> u32 {
     index.wrapping_mul(2_654_435_761)
 }
 
-/// A mono file of integers.
-pub fn spec_of(bits: u16) -> WavSpec
-    ensures { (result.sample_format ≡ Int) × (result.bits_per_sample ≡ bits) }
+/// A file of such samples.
+pub fn spec_of(channels: u16, bits: u16, sample_format: SampleFormat) -> WavSpec
+    ensures { (result.sample_format ≡ sample_format) × (result.bits_per_sample ≡ bits) }
 {
     WavSpec {
-        channels: 1,
+        channels,
         sample_rate: 44100,
         bits_per_sample: bits,
-        sample_format: SampleFormat::Int,
+        sample_format,
+    }
+}
+
+impl Pattern for Eight {
+    type Sample = i8;
+
+    fn spec(channels: u16) -> WavSpec {
+        spec_of(channels, 8, SampleFormat::Int)
+    }
+
+    #[inline(always)]
+    fn sample(index: u32) -> i8 {
+        ((mixed(index) >> 24) as u8).cast_signed()
+    }
+
+    #[inline(always)]
+    fn value(sample: i8) -> i64 {
+        sample as i64
     }
 }
 
 impl Pattern for Sixteen {
     type Sample = i16;
 
-    fn spec() -> WavSpec {
-        spec_of(16)
+    fn spec(channels: u16) -> WavSpec {
+        spec_of(channels, 16, SampleFormat::Int)
     }
 
     #[inline(always)]
@@ -67,8 +90,8 @@ impl Pattern for Sixteen {
 impl Pattern for TwentyFour {
     type Sample = i32;
 
-    fn spec() -> WavSpec {
-        spec_of(24)
+    fn spec(channels: u16) -> WavSpec {
+        spec_of(channels, 24, SampleFormat::Int)
     }
 
     #[inline(always)]
@@ -85,8 +108,8 @@ impl Pattern for TwentyFour {
 impl Pattern for ThirtyTwo {
     type Sample = i32;
 
-    fn spec() -> WavSpec {
-        spec_of(32)
+    fn spec(channels: u16) -> WavSpec {
+        spec_of(channels, 32, SampleFormat::Int)
     }
 
     #[inline(always)]
@@ -97,5 +120,24 @@ impl Pattern for ThirtyTwo {
     #[inline(always)]
     fn value(sample: i32) -> i64 {
         sample as i64
+    }
+}
+
+impl Pattern for Float {
+    type Sample = FloatBits;
+
+    fn spec(channels: u16) -> WavSpec {
+        spec_of(channels, 32, SampleFormat::Float)
+    }
+
+    #[inline(always)]
+    fn sample(index: u32) -> FloatBits {
+        FloatBits(mixed(index) & 0xbfff_ffff)
+    }
+
+    #[inline(always)]
+    fn value(sample: FloatBits) -> i64 {
+        let FloatBits(pattern) = sample;
+        pattern as i64
     }
 }

@@ -42,6 +42,7 @@ fn run_on_disk(rt: &HostRuntime, name: &str, count: &str, path: Path<'_>) -> Res
 #[test]
 fn cases_in_memory_give_their_sums(rt: HostRuntime) -> Result<(), Fail> {
     let cases = [
+        ("write_i8_mem", "5", b"write_i8_mem 5 49 2608\n".as_slice()),
         (
             "write_i16_mem",
             "5",
@@ -58,6 +59,11 @@ fn cases_in_memory_give_their_sums(rt: HostRuntime) -> Result<(), Fail> {
             b"write_i32_mem 5 88 5487\n".as_slice(),
         ),
         (
+            "write_f32_mem",
+            "5",
+            b"write_f32_mem 5 88 5361\n".as_slice(),
+        ),
+        (
             "write_i16_mem_grow",
             "5",
             b"write_i16_mem_grow 5 54 3036\n".as_slice(),
@@ -67,6 +73,17 @@ fn cases_in_memory_give_their_sums(rt: HostRuntime) -> Result<(), Fail> {
             "1025",
             b"batch_i16_mem 1025 2094 262975\n".as_slice(),
         ),
+        (
+            "session_i16_mem",
+            "5",
+            b"session_i16_mem 5 54 3036\n".as_slice(),
+        ),
+        (
+            "session_i16_mem",
+            "4099",
+            b"session_i16_mem 4099 8236 1045841\n".as_slice(),
+        ),
+        ("read_i8_mem", "5", b"read_i8_mem 5 49 44\n".as_slice()),
         ("read_i16_mem", "5", b"read_i16_mem 5 54 11816\n".as_slice()),
         (
             "read_i24_mem",
@@ -77,6 +94,16 @@ fn cases_in_memory_give_their_sums(rt: HostRuntime) -> Result<(), Fail> {
             "read_i32_mem",
             "5",
             b"read_i32_mem 5 88 774553834\n".as_slice(),
+        ),
+        (
+            "read_f32_mem",
+            "5",
+            b"read_f32_mem 5 88 7217004778\n".as_slice(),
+        ),
+        (
+            "seek_f32_mem",
+            "1002",
+            b"seek_f32_mem 1002 4008 1610296371528\n".as_slice(),
         ),
         (
             "flush_i16_mem",
@@ -108,6 +135,11 @@ fn cases_on_disk_give_their_sums(rt: HostRuntime) -> Result<(), Fail> {
             b"write_i16_file 5 54 3036\n".as_slice(),
         ),
         (
+            "write_i16_stereo_file",
+            "6",
+            b"write_i16_stereo_file 6 56 3057\n".as_slice(),
+        ),
+        (
             "write_i24_file",
             "5",
             b"write_i24_file 5 83 4985\n".as_slice(),
@@ -123,9 +155,19 @@ fn cases_on_disk_give_their_sums(rt: HostRuntime) -> Result<(), Fail> {
             b"read_i16_file 5 54 11816\n".as_slice(),
         ),
         (
+            "read_i16_stereo_file",
+            "6",
+            b"read_i16_stereo_file 6 56 17725\n".as_slice(),
+        ),
+        (
             "read_i24_file",
             "5",
             b"read_i24_file 5 83 3025599\n".as_slice(),
+        ),
+        (
+            "seek_f32_file",
+            "1002",
+            b"seek_f32_file 1002 4008 1610296371528\n".as_slice(),
         ),
     ];
     for (name, count, line) in cases {
@@ -160,8 +202,8 @@ fn other_words_are_refused(rt: HostRuntime) -> Result<(), Fail> {
         (["open_mem", "1"].as_slice(), usage),
         (["open_mem", "1", "-", "timed"].as_slice(), usage),
         (
-            ["write_i8_mem", "1", "-"].as_slice(),
-            b"unknown case: write_i8_mem\n".as_slice(),
+            ["write_i12_mem", "1", "-"].as_slice(),
+            b"unknown case: write_i12_mem\n".as_slice(),
         ),
         (
             ["open_mem", "-1", "-"].as_slice(),

@@ -1,10 +1,13 @@
 // What is timed, over any medium and any reader.
 use crate::pattern::Pattern;
-use hound::{Medium, Result, WavReader, WavWriter};
+use hound::{Medium, Result, Source, WavReader, WavWriter};
 use std::io;
 
 /// How many samples are written between two flushes.
 const CHECKPOINT: u32 = 4800;
+
+/// How many frames lie between two seeks.
+const STRIDE: u32 = 1000;
 
 /// Writes so many samples, one at a time, and closes the file.
 pub fn write_all<P: Pattern, W: Medium>(writer: WavWriter<W>, count: u32) -> Result<()> {
@@ -43,6 +46,25 @@ pub fn open_often(file: &[u8], count: u32) -> Result<i64> {
     for _ in 0..count {
         let reader = WavReader::new(file)?;
         sum = sum.wrapping_add(reader.len() as i64);
+    }
+    Ok(sum)
+}
+
+/// Seeks so often, to each thousandth frame in turn, and reads a sample there: the sum of these.
+pub fn seek_often<P: Pattern, R: Source>(reader: WavReader<R>, count: u32) -> Result<i64> {
+    let mut reader = reader;
+    let frames = reader.duration();
+    let mut sum = 0i64;
+    let mut time = 0u32;
+    for _ in 0..count {
+        reader.seek(time)?;
+        if let Some(sample) = reader.samples::<P::Sample>().next() {
+            sum = sum.wrapping_add(P::value(sample?));
+        }
+        time = time.saturating_add(STRIDE);
+        if time >= frames {
+            time = 0;
+        }
     }
     Ok(sum)
 }
