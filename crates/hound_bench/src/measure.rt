@@ -6,7 +6,9 @@ use crate::case::{Case, Frames, Kind};
 use crate::pattern::{Eight, Float, Pattern, Sixteen, ThirtyTwo, TwentyFour, spec_of};
 use crate::sessions::{SESSION, write_sessions};
 use crate::workloads::{open_often, read_all, seek_often, write_all, write_flushing};
-use hound::{Error, Placed, Result, SampleFormat, Step, Tape, WavReader, WavSpec, WavWriter};
+use hound::{
+    Error, FloatBits, Placed, Result, SampleFormat, Step, Tape, WavReader, WavSpec, WavWriter,
+};
 use std::alloc::Global;
 use std::fs;
 use std::path::Path;
@@ -160,7 +162,7 @@ fn read_memory<P: Pattern>(rt: &HostRuntime, count: u32) -> Result<Measured> {
     let file = file_of::<P>(rt.alloc(), 1, count)?;
     let bytes = file.as_slice();
     let start = Instant::now(rt)?;
-    let check = read_all::<P, _>(WavReader::new(bytes)?)?;
+    let check = read_all::<P::Sample, _>(WavReader::new(bytes)?)?;
     let time = start.elapsed(rt)?;
     Ok(Measured {
         bytes: bytes.len() as u64,
@@ -178,7 +180,7 @@ fn read_file<P: Pattern>(
     let file = file_of::<P>(rt.alloc(), channels, count)?;
     fs::write(rt, path, file.as_slice())?;
     let start = Instant::now(rt)?;
-    let check = read_all::<P, _>(WavReader::open(rt, rt.alloc(), path)?)?;
+    let check = read_all::<P::Sample, _>(WavReader::open(rt, rt.alloc(), path)?)?;
     let time = start.elapsed(rt)?;
     Ok(Measured {
         bytes: file.len() as u64,
@@ -199,7 +201,7 @@ fn sought(count: u32, nanoseconds: u128, check: i64) -> Measured {
 fn seek_memory(rt: &HostRuntime, count: u32) -> Result<Measured> {
     let tape = Tape::new(file_of::<Float>(rt.alloc(), 1, SOUGHT)?);
     let start = Instant::now(rt)?;
-    let check = seek_often::<Float, _>(WavReader::new(tape)?, count)?;
+    let check = seek_often::<FloatBits, _>(WavReader::new(tape)?, count)?;
     let time = start.elapsed(rt)?;
     Ok(sought(count, time.as_nanos(), check))
 }
@@ -208,7 +210,7 @@ fn seek_file(rt: &HostRuntime, count: u32, path: Path<'_>) -> Result<Measured> {
     let file = file_of::<Float>(rt.alloc(), 1, SOUGHT)?;
     fs::write(rt, path, file.as_slice())?;
     let start = Instant::now(rt)?;
-    let check = seek_often::<Float, _>(WavReader::open(rt, rt.alloc(), path)?, count)?;
+    let check = seek_often::<FloatBits, _>(WavReader::open(rt, rt.alloc(), path)?, count)?;
     let time = start.elapsed(rt)?;
     Ok(sought(count, time.as_nanos(), check))
 }

@@ -3,19 +3,22 @@ ghost use Rattle.std.specs.Prelude.{◌≡◌};
 
 use hound::{FloatBits, Sample, SampleFormat, WavSpec};
 
+/// A type of samples.
+pub trait Summed: Sample {
+    /// What a sample adds to the check.
+    fn value(self) -> i64;
+}
+
 /// The samples of a file, each by its number.
 pub trait Pattern {
     /// The type that they are written and read as.
-    type Sample: Sample;
+    type Sample: Summed;
 
     /// A file of them with so many channels.
     fn spec(channels: u16) -> WavSpec;
 
     /// The sample with this number.
     fn sample(index: u32) -> Self::Sample;
-
-    /// What a sample adds to the check.
-    fn value(sample: Self::Sample) -> i64;
 }
 
 /// Samples of eight bits.
@@ -51,6 +54,35 @@ pub fn spec_of(channels: u16, bits: u16, sample_format: SampleFormat) -> WavSpec
     }
 }
 
+impl Summed for i8 {
+    #[inline(always)]
+    fn value(self) -> i64 {
+        self as i64
+    }
+}
+
+impl Summed for i16 {
+    #[inline(always)]
+    fn value(self) -> i64 {
+        self as i64
+    }
+}
+
+impl Summed for i32 {
+    #[inline(always)]
+    fn value(self) -> i64 {
+        self as i64
+    }
+}
+
+impl Summed for FloatBits {
+    #[inline(always)]
+    fn value(self) -> i64 {
+        let FloatBits(pattern) = self;
+        pattern as i64
+    }
+}
+
 impl Pattern for Eight {
     type Sample = i8;
 
@@ -61,11 +93,6 @@ impl Pattern for Eight {
     #[inline(always)]
     fn sample(index: u32) -> i8 {
         ((mixed(index) >> 24) as u8).cast_signed()
-    }
-
-    #[inline(always)]
-    fn value(sample: i8) -> i64 {
-        sample as i64
     }
 }
 
@@ -80,11 +107,6 @@ impl Pattern for Sixteen {
     fn sample(index: u32) -> i16 {
         ((mixed(index) >> 16) as u16).cast_signed()
     }
-
-    #[inline(always)]
-    fn value(sample: i16) -> i64 {
-        sample as i64
-    }
 }
 
 impl Pattern for TwentyFour {
@@ -97,11 +119,6 @@ impl Pattern for TwentyFour {
     #[inline(always)]
     fn sample(index: u32) -> i32 {
         mixed(index).cast_signed() >> 8
-    }
-
-    #[inline(always)]
-    fn value(sample: i32) -> i64 {
-        sample as i64
     }
 }
 
@@ -116,11 +133,6 @@ impl Pattern for ThirtyTwo {
     fn sample(index: u32) -> i32 {
         mixed(index).cast_signed()
     }
-
-    #[inline(always)]
-    fn value(sample: i32) -> i64 {
-        sample as i64
-    }
 }
 
 impl Pattern for Float {
@@ -133,11 +145,5 @@ impl Pattern for Float {
     #[inline(always)]
     fn sample(index: u32) -> FloatBits {
         FloatBits(mixed(index) & 0xbfff_ffff)
-    }
-
-    #[inline(always)]
-    fn value(sample: FloatBits) -> i64 {
-        let FloatBits(pattern) = sample;
-        pattern as i64
     }
 }

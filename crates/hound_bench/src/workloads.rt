@@ -1,5 +1,5 @@
 // What is timed, over any medium and any reader.
-use crate::pattern::Pattern;
+use crate::pattern::{Pattern, Summed};
 use hound::{Medium, Result, Source, WavReader, WavWriter};
 use std::io;
 
@@ -31,11 +31,11 @@ pub fn write_flushing<P: Pattern, W: Medium>(writer: WavWriter<W>, count: u32) -
 }
 
 /// The sum of all samples.
-pub fn read_all<P: Pattern, R: io::Read + Drop>(reader: WavReader<R>) -> Result<i64> {
+pub fn read_all<S: Summed, R: io::Read + Drop>(reader: WavReader<R>) -> Result<i64> {
     let mut reader = reader;
     let mut sum = 0i64;
-    for sample in reader.samples::<P::Sample>() {
-        sum = sum.wrapping_add(P::value(sample?));
+    for sample in reader.samples::<S>() {
+        sum = sum.wrapping_add(sample?.value());
     }
     Ok(sum)
 }
@@ -51,15 +51,15 @@ pub fn open_often(file: &[u8], count: u32) -> Result<i64> {
 }
 
 /// Seeks so often, to each thousandth frame in turn, and reads a sample there: the sum of these.
-pub fn seek_often<P: Pattern, R: Source>(reader: WavReader<R>, count: u32) -> Result<i64> {
+pub fn seek_often<S: Summed, R: Source>(reader: WavReader<R>, count: u32) -> Result<i64> {
     let mut reader = reader;
     let frames = reader.duration();
     let mut sum = 0i64;
     let mut time = 0u32;
     for _ in 0..count {
         reader.seek(time)?;
-        if let Some(sample) = reader.samples::<P::Sample>().next() {
-            sum = sum.wrapping_add(P::value(sample?));
+        if let Some(sample) = reader.samples::<S>().next() {
+            sum = sum.wrapping_add(sample?.value());
         }
         time = time.saturating_add(STRIDE);
         if time >= frames {
