@@ -29,6 +29,7 @@ pub use Rattle.hound_reader.specs.Sources
 pub use Rattle.hound_reader.specs.Containers
 pub use Rattle.hound_reader.specs.Counting
 pub use Rattle.hound_reader.specs.Front
+pub use Rattle.hound_reader.specs.Item
 pub use Rattle.hound_reader.specs.Items
 pub use Rattle.hound_reader.specs.Seeking
 pub use Rattle.hound_reader.specs.declared.fault.Reason

@@ -1,6 +1,8 @@
 // What bytes are read from, and the loop over `read`.
 ghost use Rattle.std.specs.Prelude.{◌≡◌, ℕ, ◌<◌, List, Option, None, length, OnErr, OnOk, IfErr};
 ghost use Rattle.std.specs.Io.{ReadsAtMost};
+ghost use Rattle.std.specs.IoError.{error_kind};
+ghost use Rattle.std.specs.declared.io.ErrorKind.TheVariants.{Other};
 ghost use Rattle.std.specs.Io.KnownBytes.{Consumes, IsAtEnd, ReadConsumes};
 ghost use Rattle.hound_number.specs.Input.{Account, CountsRead, CountsReads, IfEnded};
 ghost use Rattle.hound_number.specs.Ending.{ReportsEnding};
@@ -48,13 +50,23 @@ pub enum ReadError {
     Ended,
 }
 
+/// The error of an input that ended early, of kind `Other`.
+#[cold]
+#[inline(never)]
+pub fn early_end() -> io::Error
+    ensures { error_kind result ≡ Other }
+{
+    io::Error::new(ErrorKind::Other, "Failed to read enough bytes.")
+}
+
 impl From<ReadError> for io::Error {
     ghost from_gives = { ReportsEnding };
 
+    #[inline(always)]
     fn from(error: ReadError) -> io::Error {
         match error {
             ReadError::Failed(e) => e,
-            ReadError::Ended => io::Error::from(ErrorKind::Other),
+            ReadError::Ended => early_end(),
         }
     }
 }

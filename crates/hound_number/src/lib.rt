@@ -11,7 +11,7 @@ ghost use Rattle.std.specs.Prelude.{◌≡◌, ◌+◌, ◌≤◌, ◌+ℤ◌, �
 ghost use Rattle.hound_number.specs.Number.{bytes_of, number, signed_bytes_of, signed_number};
 ghost use Rattle.hound_number.specs.Writing.{Writes};
 
-pub use input::{Input, ReadError, read_into};
+pub use input::{Input, ReadError, early_end, read_into};
 pub use laws::signed_bytes_come_back;
 use std::io;
 use std::io::{Error, ErrorKind};

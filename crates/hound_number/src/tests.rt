@@ -53,15 +53,19 @@ fn numbers_from_bytes(rt: HostRuntime) {
 }
 
 #[test]
-fn buffers_from_a_reader(rt: HostRuntime) {
+fn buffers_from_a_reader(rt: HostRuntime) -> Result<(), Fail> {
     let mut reader = b"RIFFWAV".as_slice();
     let mut tag = [0; 4];
     assert!(rt; read_into(&mut reader, &mut tag).is_ok());
     assert_eq!(rt; tag.as_slice(), b"RIFF".as_slice());
     assert!(rt; matches!(read_into(&mut reader, &mut tag), Err(ReadError::Ended)));
     assert!(rt; reader.is_empty());
-    let told = io::Error::from(ReadError::Ended);
-    assert_eq!(rt; told.kind(), ErrorKind::Other);
+    for told in [io::Error::from(ReadError::Ended), early_end()] {
+        assert_eq!(rt; told.kind(), ErrorKind::Other);
+        let words = format!(in rt.alloc(); "{told}")?;
+        assert_eq!(rt; words.as_str(), "Failed to read enough bytes.");
+    }
+    Ok(())
 }
 
 // Takes at most `most` bytes a call, and answers what `fault` says once it has `full` bytes.

@@ -1,14 +1,44 @@
 -- The items of a run.
-use Rattle.std.proofs.Common.{◌≡◌, ℕ, ◌+◌, ◌≤◌, List, [], ◌∷◌, length, ap, ◌∙◌, subst, refl, arith, Option, Some, None, Result, Ok, Err}
-use Rattle.std.specs.Prelude.{IfSome}
+use Rattle.std.proofs.Common.{◌≡◌, ℕ, ◌+◌, ◌<◌, ◌≤◌, List, [], ◌∷◌, length, ap, ◌∙◌, subst, refl, arith, Option, Some, None, Result, Ok, Err, IsOk}
+use Rattle.std.proofs.lemmas.Bool.{false≢true}
+use Rattle.std.specs.Prelude.{IfSome, IsSome}
+use Rattle.std.specs.declared.io.Error.{Error as IoFault}
+use Rattle.hound_number.specs.Input.{Known}
 use Rattle.hound_spec.specs.declared.error.Error.{Error}
 use Rattle.hound_spec.specs.declared.error.Error.TheVariants.{IoError, FormatError, TooWide, UnfinishedSample, Unsupported, InvalidSampleFormat, TooLong, OutOfMemory}
 use Rattle.hound_spec.specs.declared.spec.SampleFormat.{SampleFormat}
 use Rattle.hound_spec.specs.declared.spec.WavSpecEx.{WavSpecEx}
 use Rattle.hound_sample.specs.Meaning.{ReadRefusal}
 use Rattle.hound_sample.specs.Reads.{Reads}
-use Rattle.hound_reader.specs.Reader.{ReaderState, IsNext, refusal_at, meaning_at, samples_left}
+use Rattle.hound_reader.specs.Reader.{ReaderState, IsNext, AreTaken, refusal_at, meaning_at, samples_left}
+use Rattle.hound_reader.specs.Item.{answer_of}
+use Rattle.hound_reader.specs.declared.item.NoSample.{NoSample}
 use Rattle.hound_reader.specs.Items.{AreItems, GivesItems}
+
+-- an Ok took exactly a container
+a_container_is_taken : {A : Type 0} (refusal : Option ReadRefusal) (meaning : List ℕ → A) (width : ℕ) (old new : Option (List ℕ)) (value : A) → Reads refusal meaning width old new (Ok value) → Known old new (AreTaken width)
+a_container_is_taken {A = A} (Some refusal) meaning width old new value read = absurd (false≢true (subst (IsOk {T = A} {E = Error}) read.0 refl))
+a_container_is_taken None meaning width None new value read = tt
+a_container_is_taken None meaning width (Some xs) None value read = absurd read
+a_container_is_taken None meaning width (Some xs) (Some ys) value read = (read.0, read.2)
+
+-- a sample was given, as `read` of its type does it
+pub a_sample_is_given : {R A : Type 0} (left : R → Option (List ℕ)) (refusal : SampleFormat → ℕ → ℕ → Option ReadRefusal) (meaning : ℕ → ℕ → List ℕ → A) (old new : ReaderState R) (answer : Result A NoSample) (fault : IoFault) (value : A)
+    → old.samples_read < old.num_samples → new ≡ record { reader = new.reader; spec_ex = old.spec_ex; num_samples = old.num_samples; samples_read = old.samples_read + 1; bytes_read = old.bytes_read + old.spec_ex.bytes_per_sample }
+    → Reads (refusal_at refusal old.spec_ex) (meaning_at meaning old.spec_ex) old.spec_ex.bytes_per_sample (left old.reader) (left new.reader) (answer_of answer fault) → (IsSome (refusal_at refusal old.spec_ex) → new.reader ≡ old.reader) → answer ≡ Ok value
+    → IsNext left refusal meaning (Some (Ok value)) old new
+a_sample_is_given left refusal meaning old new answer fault value inside is read untouched ok =
+    let whole = subst (λ a. Reads (refusal_at refusal old.spec_ex) (meaning_at meaning old.spec_ex) old.spec_ex.bytes_per_sample (left old.reader) (left new.reader) (answer_of a fault)) ok read in
+    record {
+      inside = inside;
+      counted = ap (λ (r : ReaderState _). r.samples_read) is;
+      read = whole;
+      untouched = untouched;
+      bytes = ap (λ (r : ReaderState _). r.bytes_read) is;
+      taken = (old.spec_ex.bytes_per_sample, ap (λ (r : ReaderState _). r.bytes_read) is, a_container_is_taken (refusal_at refusal old.spec_ex) (meaning_at meaning old.spec_ex) old.spec_ex.bytes_per_sample (left old.reader) (left new.reader) value whole);
+      spec_ex = ap (λ (r : ReaderState _). r.spec_ex) is;
+      num_samples = ap (λ (r : ReaderState _). r.num_samples) is;
+    }
 
 no_bytes : {A : Type 0} (left : Option (List ℕ)) (refusal : Option ReadRefusal) (meaning : List ℕ → A) (width : ℕ) → IfSome left (λ bytes. AreItems refusal meaning width bytes [])
 no_bytes None refusal meaning width = tt

@@ -10,6 +10,7 @@ pub mod Sources
 pub mod Containers
 pub mod Counting
 pub mod Front
+pub mod Item
 pub mod Items
 pub mod Rows
 pub mod Seeking

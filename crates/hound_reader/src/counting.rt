@@ -2,16 +2,19 @@
 ghost use Rattle.std.specs.Prelude.{◌≡◌, ◌<◌, ◌≤◌, List, Option, Result, ℕ, None, IsSome, length, take};
 ghost use Rattle.hound_sample.specs.Reads.{Reads};
 ghost use Rattle.hound_reader.specs.Reader.{refusal_at, meaning_at};
+ghost use Rattle.hound_reader.specs.declared.item.NoSample.{NoSample};
+ghost use Rattle.hound_reader.specs.Item.{answer_of, AnswersRead};
 ghost use Rattle.std.specs.Borrow.{GName};
 ghost use Rattle.std.specs.Io.KnownBytes.{Consumes, IsAtEnd, Keeps};
 ghost use Rattle.hound_spec.specs.declared.spec.WavSpecEx.{WavSpecEx};
-ghost use Rattle.hound_reader.specs.Counting.{answer_of, HasGiven, HasGiven-prop, taken_at_error};
+ghost use Rattle.hound_reader.specs.Counting.{HasGiven, HasGiven-prop};
 
+use crate::item::{NoSample, reason_of};
 use crate::keeping::KeepingReader;
 use hound_sample::Sample;
-use hound_spec::{Error, WavSpecEx};
-use std::io;
+use hound_spec::WavSpecEx;
 use std::marker::{Brand, PhantomData};
+use std::{io, result};
 
 /// The moment at which counting begins, as contracts see it.
 pub(crate) trait Beginning {
@@ -81,60 +84,48 @@ impl<R: Lent, B: Beginning> io::Read for CountingReader<R, B> {
     #[inline(always)]
     fn read(&mut self, buf: &mut [u8]) -> io::Result<usize> {
         let count = self.reader.give(buf);
-        if count <= buf.len() {
+        if count > 0 && count <= buf.len() {
             self.given = self.given.saturating_add(count as u64);
             return Ok(count);
+        }
+        if count == 0 && buf.is_empty() {
+            return Ok(0);
         }
         Err(*self.reader.last_fault())
     }
 }
 
-/// A call that reads, whose value and whose error have types of their own.
-///
-/// An error is large, and goes into a slot that an Ok leaves alone: so what an Ok moves is small.
+/// A call that reads, whose value has a type of its own.
 pub(crate) trait Ask {
     type Value: Drop;
 
-    type Fault: Drop;
-
     /// What is answered, by the bytes that were left and those that are left.
     ghost Answers: { WavSpecEx → Option (List ℕ) → Option (List ℕ)
-        → Result Self.Value Self.Fault → Type 0 };
+        → Result Self.Value NoSample → Type 0 };
 
     /// Whether no byte is asked for.
     ghost Refuses: { WavSpecEx → Type 0 };
 
-    /// The value, or else an error in the slot.
-    fn ask<R: io::Read>(
-        reader: &mut R,
-        spec_ex: WavSpecEx,
-        fault: &mut Self::Fault,
-    ) -> Option<Self::Value>
-        ensures answers { Answers spec_ex (R.remaining reader.old) (R.remaining reader.new)
-            (answer_of result fault.new) }
+    /// The value, or why there is none.
+    fn ask<R: io::Read>(reader: &mut R, spec_ex: WavSpecEx) -> result::Result<Self::Value, NoSample>
+        ensures answers { Answers spec_ex (R.remaining reader.old) (R.remaining reader.new) result }
         ensures untouched { Refuses spec_ex → reader.new ≡ reader.old };
 }
 
 impl<S: Sample> Ask for S {
     type Value = S;
 
-    type Fault = Error;
-
-    ghost Answers = { λ s old new answer.
-        Reads (refusal_at S.refusal s) (meaning_at S.meaning s) s.bytes_per_sample old new answer };
+    ghost Answers = { λ s old new answer. AnswersRead S.refusal S.meaning s old new answer };
 
     ghost Refuses = { λ s. IsSome (refusal_at S.refusal s) };
 
     #[inline(always)]
-    fn ask<R: io::Read>(reader: &mut R, spec_ex: WavSpecEx, fault: &mut Error) -> Option<S> {
+    fn ask<R: io::Read>(reader: &mut R, spec_ex: WavSpecEx) -> result::Result<S, NoSample> {
         let spec = spec_ex.spec;
         let width = spec_ex.bytes_per_sample;
         match S::read(reader, spec.sample_format, width, spec.bits_per_sample) {
-            Ok(sample) => Some(sample),
-            Err(error) => {
-                *fault = error;
-                None
-            }
+            Ok(sample) => Ok(sample),
+            Err(error) => Err(reason_of(error)),
         }
     }
 }
@@ -162,13 +153,12 @@ impl<R> Asked<'_, R> {
 fn ask_since<'a, R: io::Read, A: Ask, B: Beginning>(
     reader: &'a mut KeepingReader<R>,
     spec_ex: WavSpecEx,
-    value: &mut Option<A::Value>,
-    fault: &mut A::Fault,
+    answer: &mut result::Result<A::Value, NoSample>,
 ) -> Asked<'a, R>
     requires left { B.left ≡ R.remaining reader.now.reader }
     requires lender { B.lender ≡ reader.ghost_name }
     ensures answers { A.Answers spec_ex (R.remaining reader.entry.now.reader)
-        (R.remaining result.reader.now.reader) (answer_of value.new fault.new) }
+        (R.remaining result.reader.now.reader) answer.new }
     ensures untouched { A.Refuses spec_ex → result.reader.now ≡ reader.entry.now }
     ensures given { HasGiven (R.remaining reader.entry.now.reader) result.given
         (R.remaining result.reader.now.reader) }
@@ -179,38 +169,25 @@ fn ask_since<'a, R: io::Read, A: Ask, B: Beginning>(
         given: 0,
         since: PhantomData::<B>,
     };
-    *value = A::ask(&mut counting, spec_ex, fault);
+    *answer = A::ask(&mut counting, spec_ex);
     let CountingReader { reader, given, .. } = counting;
     Asked { reader, given }
 }
 
-/// What the type reads of a sample of this spec, whose error goes into the slot, and how many bytes
-/// the reader gave for it.
+/// What the type reads of a sample of this spec, and how many bytes the reader gave for it.
 #[inline(always)]
 pub(crate) fn read_counted<R: io::Read, S: Sample>(
     reader: &mut KeepingReader<R>,
     spec_ex: WavSpecEx,
-    fault: &mut Error,
-) -> (Option<S>, u64)
+) -> (result::Result<S, NoSample>, u64)
     ensures read { Reads (refusal_at S.refusal spec_ex) (meaning_at S.meaning spec_ex)
         spec_ex.bytes_per_sample (R.remaining reader.old.reader) (R.remaining reader.new.reader)
-        (answer_of result.0 fault.new) }
+        (answer_of result.0 reader.new.fault) }
     ensures untouched { IsSome (refusal_at S.refusal spec_ex) → reader.new ≡ reader.old }
     ensures given { HasGiven (R.remaining reader.old.reader) result.1 (R.remaining reader.new.reader) }
 {
-    let mut value = None;
-    let asked = ask_since::<R, S, Brand>(reader, spec_ex, &mut value, fault);
+    let mut answer = Err(NoSample::Failed);
+    let asked = ask_since::<R, S, Brand>(reader, spec_ex, &mut answer);
     let given = asked.done();
-    (value, given)
-}
-
-/// How many bytes a sample took that has an error, of those that were given for it.
-#[inline(always)]
-pub(crate) fn taken_at_error(error: &Error, given: u64, width: u16) -> u64
-    ensures { result ≡ taken_at_error error.now given width }
-{
-    match error {
-        Error::IoError(_) => given.min(width as u64),
-        _ => 0,
-    }
+    (answer, given)
 }

@@ -2,9 +2,17 @@
 ghost use Rattle.std.specs.Prelude.{◌≡◌, ◌<◌, ◌≤◌, length, take};
 ghost use Rattle.std.specs.Io.KnownBytes.{Consumes, IsAtEnd, Keeps};
 
+use hound_number::early_end;
 use std::io;
 
-/// A reader, and the last fault of a read of it.
+// The end is kept as a fault.
+#[cold]
+#[inline(never)]
+fn keep_end(fault: &mut io::Error) {
+    *fault = early_end();
+}
+
+/// A reader, and the last fault of a read of it, or its end, if that came later.
 ///
 /// An `io::Error` is large, and a read that is not inlined hands it on in memory. So the one call
 /// of `read` answers a number, and the fault goes from here to where it is told.
@@ -15,7 +23,8 @@ pub(crate) struct KeepingReader<R> {
 }
 
 impl<R: io::Read> KeepingReader<R> {
-    /// How many bytes a read gives, or more than the buffer has where it fails; the fault is kept.
+    /// How many bytes a read gives, or more than the buffer has where it fails. The fault is kept,
+    /// and so is the end.
     #[inline]
     pub(crate) fn give(&mut self, buf: &mut [u8]) -> usize
         ensures bytes { result ≤ length buf.new →
@@ -25,6 +34,10 @@ impl<R: io::Read> KeepingReader<R> {
             Keeps (R.remaining self.old.reader) (R.remaining self.new.reader) }
     {
         match self.reader.read(buf) {
+            Ok(0) => {
+                keep_end(&mut self.fault);
+                0
+            }
             Ok(count) => count,
             Err(fault) => {
                 self.fault = fault;

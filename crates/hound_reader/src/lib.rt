@@ -10,6 +10,7 @@ mod fault;
 mod file;
 mod fmt;
 mod input;
+mod item;
 mod keeping;
 mod laws;
 mod reader;

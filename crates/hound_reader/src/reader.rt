@@ -12,20 +12,19 @@ ghost use Rattle.hound_reader.specs.declared.fault.Cause.{Cause};
 ghost use Rattle.hound_reader.specs.Refusals.{IsRefusal, OpensAs, FailsAs};
 ghost use Rattle.hound_medium.specs.State.{Shifts, WhereTells};
 ghost use Rattle.hound_reader.specs.Reader.{IsNext, HasWholeFrames, samples_left};
-ghost use Rattle.hound_reader.specs.Counting.{item_of};
 ghost use Rattle.hound_reader.specs.Seeking.{Recounts, way_to};
 ghost use Rattle.hound_reader.specs.Samples.{lent_reader, lender, taken_reader};
 
 use crate::chunks::{read_riff_header, read_until_data};
-use crate::counting::{read_counted, taken_at_error};
+use crate::counting::read_counted;
 use crate::fault::{Cause, HeadError, Reason, error_of};
+use crate::item::{NoSample, error_of_item, taken_without};
 use crate::keeping::KeepingReader;
 use crate::samples::{WavIntoSamples, WavSamples};
 use hound_medium::{Placed, Source};
-use hound_number::Input;
+use hound_number::{Input, early_end};
 use hound_sample::Sample;
 use hound_spec::{Error, Result, WavSpec, WavSpecEx};
-use std::io::ErrorKind;
 use std::marker::Model;
 use std::{io, result};
 
@@ -125,7 +124,7 @@ impl<R: io::Read + Drop> WavReader<R> {
         ensures unreadable { IfSome (R.remaining reader) (λ xs. (c : Cause) → Unreadable xs c →
             MatchResult result (λ _. ⊥) (λ e. FailsAs e c)) }
     {
-        let fault = io::Error::from(ErrorKind::Other);
+        let fault = early_end();
         let mut reader = KeepingReader { reader, fault };
         match read_until_samples(&mut reader) {
             Ok((spec_ex, num_samples)) => Ok(WavReader {
@@ -226,22 +225,25 @@ impl<R: io::Read + Drop> WavReader<R> {
         (left, Some(left))
     }
 
-    /// The next sample, while one is left; where it has an error, None and the error in the slot.
+    /// The next item, while a sample is left.
     #[inline(always)]
-    pub(crate) fn next_sample<S: Sample>(&mut self, fault: &mut Error) -> Option<Option<S>>
-        ensures { IsNext R.remaining S.refusal S.meaning (item_of result fault.new)
-            self.old self.new }
+    pub(crate) fn next_item<S: Sample>(&mut self) -> Option<Result<S>>
+        ensures { IsNext R.remaining S.refusal S.meaning result self.old self.new }
     {
         if self.samples_read >= self.num_samples as u64 {
             return None;
         }
-        let (sample, given) = read_counted::<R, S>(&mut self.reader, self.spec_ex, fault);
+        let (sample, given) = read_counted::<R, S>(&mut self.reader, self.spec_ex);
         let width = self.spec_ex.bytes_per_sample;
         self.samples_read += 1;
-        self.bytes_read += match sample {
-            Some(_) => width as u64,
-            None => taken_at_error(fault, given, width),
+        let no_sample = match sample {
+            Ok(sample) => {
+                self.bytes_read += width as u64;
+                return Some(Ok(sample));
+            }
+            Err(no_sample) => no_sample,
         };
-        Some(sample)
+        self.bytes_read += taken_without(no_sample, given, width);
+        Some(Err(error_of_item(no_sample, &self.reader.fault)))
     }
 }

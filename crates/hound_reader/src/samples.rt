@@ -1,5 +1,5 @@
 // The iterators over samples.
-ghost use Rattle.std.specs.Prelude.{◌≡◌, Err, IfSome, Some};
+ghost use Rattle.std.specs.Prelude.{◌≡◌, IfSome, Some};
 ghost use Rattle.std.specs.Iterator.{at_most, UpTo};
 ghost use Rattle.std.specs.Iterator.SizeHint.{IsWithinCount};
 ghost use Rattle.hound_reader.specs.Reader.{samples_left};
@@ -7,18 +7,9 @@ ghost use Rattle.hound_reader.specs.Samples.{lent_reader, lender, taken_reader, 
 
 use crate::reader::WavReader;
 use hound_sample::Sample;
-use hound_spec::{Error, Result};
+use hound_spec::Result;
 use std::io;
 use std::marker::PhantomData;
-
-// An item that has an error, out of the way of those that have a sample.
-#[cold]
-#[inline(never)]
-fn error_item<S>(error: Error) -> Option<Result<S>>
-    ensures { result ≡ Some (Err error) }
-{
-    Some(Err(error))
-}
 
 /// An iterator over the samples that a reader has left.
 ///
@@ -51,14 +42,9 @@ impl<R: io::Read + Drop, S: Sample> Iterator for WavSamples<'_, R, S> {
     ghost remaining = { λ s. at_most (samples_left (lent_reader s)) };
 
     // Not always inlined: so LLVM simplifies it by itself, and again in the loop that it goes into.
-    #[inline]
+    #[inline(always)]
     fn next(&mut self) -> Option<Result<S>> {
-        let mut fault = Error::Unsupported;
-        match self.reader.next_sample(&mut fault) {
-            Some(Some(sample)) => Some(Ok(sample)),
-            Some(None) => error_item(fault),
-            None => None,
-        }
+        self.reader.next_item()
     }
 
     fn size_hint(&self) -> (usize, Option<usize>)
@@ -103,14 +89,9 @@ impl<R: io::Read + Drop, S: Sample> Iterator for WavIntoSamples<R, S> {
     ghost remaining = { λ s. at_most (samples_left (taken_reader s)) };
 
     // Not always inlined: so LLVM simplifies it by itself, and again in the loop that it goes into.
-    #[inline]
+    #[inline(always)]
     fn next(&mut self) -> Option<Result<S>> {
-        let mut fault = Error::Unsupported;
-        match self.reader.next_sample(&mut fault) {
-            Some(Some(sample)) => Some(Ok(sample)),
-            Some(None) => error_item(fault),
-            None => None,
-        }
+        self.reader.next_item()
     }
 
     fn size_hint(&self) -> (usize, Option<usize>)

@@ -100,6 +100,17 @@ fn is_told(error: &Error, words: &str) -> bool {
     }
 }
 
+// Whether the input ended early, in the words of the original crate.
+fn is_early_end(error: &Error, alloc: Global) -> bool {
+    let Error::IoError(fault) = error else {
+        return false;
+    };
+    let Ok(words) = format!(in alloc; "{error}") else {
+        return false;
+    };
+    fault.kind() == ErrorKind::Other && words.as_str() == "Failed to read enough bytes."
+}
+
 fn is_refused_in(bytes: &[u8], most: usize, words: &str, taken: usize) -> bool {
     let mut pieces = Pieces::of(bytes, most);
     match WavReader::new(&mut pieces) {
@@ -341,7 +352,7 @@ fn torn_samples(rt: HostRuntime) -> Result<(), Fail> {
         let mut samples = reader.samples::<i16>();
         assert!(rt; matches!(samples.next(), Some(Ok(2))));
         match samples.next() {
-            Some(Err(Error::IoError(e))) => assert_eq!(rt; e.kind(), ErrorKind::Other),
+            Some(Err(error)) => assert!(rt; is_early_end(&error, rt.alloc())),
             _ => return Err("an early end".into()),
         }
         assert_eq!(rt; samples.len(), 2);

@@ -84,12 +84,14 @@ impl ReaderWords {
     ghost use Rattle.hound.specs.Cause.{Cause};
     ghost use Rattle.hound.specs.Chunks.{Head, Readable, Refused, Unreadable, bound_of, chunk_fault, content_fault, front_fault, taken_of};
     ghost use Rattle.hound.specs.Containers.{AreContainers};
-    ghost use Rattle.hound.specs.Counting.{HasGiven, HasGiven-prop, answer_of, item_of, taken_at_error};
+    ghost use Rattle.hound.specs.Counting.{HasGiven, HasGiven-prop};
     ghost use Rattle.hound.specs.Fmt.{IsSoundSpec, by_subformat, by_tag, fmt_of, wave_format, wave_format_extensible, wave_format_ieee_float, wave_format_pcm};
     ghost use Rattle.hound.specs.Front.{ReportsFront, TakesFront};
+    ghost use Rattle.hound.specs.Item.{AnswersRead, answer_of, error_of_item, reason_of, taken_without};
     ghost use Rattle.hound.specs.Items.{AreItems, GivesItems};
+    ghost use Rattle.hound.specs.NoSample.{NoSample};
     ghost use Rattle.hound.specs.Outcome.{CountsFailed, Gives, Refuses, UnlessReadFailed};
-    ghost use Rattle.hound.specs.Reader.{AreTaken, HasSoundCounts, HasWholeFrames, IsNext, ReaderState, meaning_at, refusal_at, samples_left};
+    ghost use Rattle.hound.specs.Reader.{HasSoundCounts, HasWholeFrames, IsNext, ReaderState, meaning_at, refusal_at, samples_left};
     ghost use Rattle.hound.specs.Refusals.{FailsAs, IsRefusal, Names, OpensAs, ReportsError, reason_text};
     ghost use Rattle.hound.specs.Samples.{LendsNext, TakesNext, lender, lent_reader, taken_reader};
     ghost use Rattle.hound.specs.Seeking.{Follows, HasSought, IsAtCount, IsMeaningOf, PassesItem, ReadsInPlace, Recounts, Seeks, StandsAsCounted, bytes_before, container_at, samples_before, way_to};

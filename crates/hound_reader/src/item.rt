@@ -1,0 +1,69 @@
+// Items that have no sample.
+ghost use Rattle.std.specs.Prelude.{◌≡◌};
+ghost use Rattle.hound_reader.specs.Item.{error_of_item, reason_of, taken_without};
+
+use hound_spec::Error;
+use std::io;
+
+/// Why an item has no sample.
+///
+/// An `Error` has 96 bytes, which would be filled with zeros and copied for each item; this has one.
+#[derive(Clone, Copy)]
+pub(crate) enum NoSample {
+    /// A read failed or the input ended, by a fault that was kept aside.
+    Failed,
+
+    /// Samples of this format aren't read as the type.
+    OtherFormat,
+
+    /// The samples have more bytes than the type.
+    Wider,
+
+    /// Samples of these bits and bytes aren't read as the type.
+    OtherPair,
+}
+
+/// What an error of `Sample::read` says; there are no others than these.
+#[inline(always)]
+pub(crate) fn reason_of(error: Error) -> NoSample
+    ensures { result ≡ reason_of error }
+{
+    match error {
+        Error::IoError(_) => NoSample::Failed,
+        Error::InvalidSampleFormat => NoSample::OtherFormat,
+        Error::TooWide => NoSample::Wider,
+        _ => NoSample::OtherPair,
+    }
+}
+
+/// The error of an item, where this fault was kept aside.
+///
+/// It begins as the fault and is changed in its place: so the one copy that is made of the fault
+/// goes to where the caller wants the item.
+#[inline(always)]
+pub(crate) fn error_of_item(no_sample: NoSample, fault: &io::Error) -> Error
+    ensures { result ≡ error_of_item no_sample fault.now }
+{
+    let mut error = Error::IoError(*fault);
+    if let NoSample::OtherFormat = no_sample {
+        error = Error::InvalidSampleFormat;
+    }
+    if let NoSample::Wider = no_sample {
+        error = Error::TooWide;
+    }
+    if let NoSample::OtherPair = no_sample {
+        error = Error::Unsupported;
+    }
+    error
+}
+
+/// How many bytes an item without a sample took, of those that were given for it.
+#[inline(always)]
+pub(crate) fn taken_without(no_sample: NoSample, given: u64, width: u16) -> u64
+    ensures { result ≡ taken_without no_sample given width }
+{
+    match no_sample {
+        NoSample::Failed => given.min(width as u64),
+        _ => 0,
+    }
+}
