@@ -11,6 +11,7 @@ use crate::append::append_at;
 use hound_reader::{error_of, read_until_data};
 use hound_spec::{Error, Result, WavSpec};
 use std::alloc::Global;
+use std::io::Seek;
 use std::path::Path;
 use std::rt::Files;
 use std::{fs, io};
@@ -53,8 +54,9 @@ impl WavWriter<io::BufWriter<fs::File>> {
     /// its data chunk, over what may stand there.
     ///
     /// A refusal leaves the file as it was. The errors, in their order: `IoError`, where the file
-    /// can't be opened for reading and writing; those of a reader's walk to the data; `OutOfMemory`,
-    /// where there is none for the buffer; those of [`WavWriter::try_append`] after the walk.
+    /// can't be opened for reading and writing or has no place, as a pipe; `OutOfMemory`, where there is no memory for the
+    /// buffer of the walk; those of a reader's walk to the data; `OutOfMemory`, where there is none
+    /// for the writer's buffer; those of [`WavWriter::try_append`] after the walk.
     pub fn append(
         rt: &impl Files<File = fs::File>,
         alloc: Global,
@@ -66,11 +68,17 @@ impl WavWriter<io::BufWriter<fs::File>> {
             .read(true)
             .write(true)
             .open(rt, path)?;
-        let head = match read_until_data(&mut file) {
+
+        // A pipe or a terminal has no place, and a read of it may wait for ever.
+        file.stream_position()?;
+        let Ok(mut reader) = io::BufReader::new(alloc, file) else {
+            return Err(Error::OutOfMemory);
+        };
+        let head = match read_until_data(&mut reader) {
             Ok(head) => head,
             Err(error) => return Err(error_of(error)),
         };
-        let writer = buffered(alloc, file)?;
+        let writer = buffered(alloc, reader.into_inner())?;
         match append_at(writer, head) {
             Ok(writer) => Ok(writer),
             Err((_, error)) => Err(error),
