@@ -2,10 +2,18 @@
 #![tactic(auto)]
 
 #[cfg(test)]
+mod cut;
+#[cfg(test)]
 mod definition;
+#[cfg(test)]
+mod endless;
 #[cfg(test)]
 mod helpers;
 #[cfg(test)]
 mod made;
 #[cfg(test)]
 mod many;
+#[cfg(test)]
+mod memory;
+#[cfg(test)]
+mod refused;
