@@ -34,6 +34,9 @@ const PCM: [u8; 16] = [1, 0, 0, 0, 0, 0, 16, 0, 128, 0, 0, 170, 0, 56, 155, 113]
 
 const FLOAT: [u8; 16] = [3, 0, 0, 0, 0, 0, 16, 0, 128, 0, 0, 170, 0, 56, 155, 113];
 
+// What is refused, and how many bytes were taken then.
+type Fault = (&'static str, u64);
+
 // What is refused, and how many bytes have to be taken to see it.
 #[derive(Clone, Copy)]
 struct Row {
@@ -50,8 +53,8 @@ fn refusing(needs: u64, fails: bool, words: &'static str) -> Row {
     }
 }
 
-// The first row that fails or whose bytes aren't there, and how many bytes were taken then.
-fn first_fault(bytes: &[u8], rows: &[Row]) -> Option<(&'static str, u64)> {
+// The first row that fails or whose bytes aren't there.
+fn first_fault(bytes: &[u8], rows: &[Row]) -> Option<Fault> {
     let len = bytes.len() as u64;
     for row in rows {
         if len < row.needs {
@@ -206,8 +209,44 @@ struct Head {
     start: u64,
 }
 
-// The head of a file, or the words of its fault and how many bytes were taken then.
-fn head_of(bytes: &[u8]) -> Result<Head, (&'static str, u64)> {
+// What a fmt chunk says, and how many bytes of its content are taken.
+fn fmt_of(content: &[u8], length: u64) -> Result<(Fmt, u64), Fault> {
+    let fmt = fields(content);
+    if let Some(fault) = first_fault(content, &rows_of_all(fmt, length)) {
+        return Err(fault);
+    }
+    let rows = rows_of_tag(fmt, length, content);
+    if let Some(fault) = first_fault(content, &rows) {
+        return Err(fault);
+    }
+    let rest = if fmt.tag == 0xfffe {
+        extensible_rest(length)
+    } else {
+        0
+    };
+    Ok((meant(fmt, content), rows[2].needs.saturating_add(rest)))
+}
+
+// How many bytes of another chunk's content are taken.
+fn content_of(chunk: &[u8], length: u64) -> u64 {
+    if chunk.starts_with(b"fact") {
+        fact_content(length)
+    } else {
+        length
+    }
+}
+
+// For how many bytes the content of a chunk counts at the limit.
+fn bound_of(chunk: &[u8], length: u64) -> u64 {
+    if chunk.starts_with(b"fmt ") {
+        fmt_bound(length)
+    } else {
+        content_of(chunk, length).saturating_add(pad(length))
+    }
+}
+
+// The head of a file.
+fn head_of(bytes: &[u8]) -> Result<Head, Fault> {
     let front = [
         refusing(4, !bytes.starts_with(b"RIFF"), "no RIFF tag found"),
         refusing(
@@ -233,7 +272,6 @@ fn head_of(bytes: &[u8]) -> Result<Head, (&'static str, u64)> {
             return Err(ended);
         }
         let length = number(chunk, 4, 4);
-        let content = from(chunk, 8);
         at = at.saturating_add(8);
         if chunk.starts_with(b"data") {
             return match found {
@@ -245,34 +283,18 @@ fn head_of(bytes: &[u8]) -> Result<Head, (&'static str, u64)> {
                 None => Err(("missing fmt chunk", at)),
             };
         }
-        let is_fmt = chunk.starts_with(b"fmt ");
-        let is_fact = chunk.starts_with(b"fact");
-        let whole = if is_fact {
-            fact_content(length)
-        } else {
-            length
-        };
-        let bound = if is_fmt {
-            fmt_bound(length)
-        } else {
-            whole.saturating_add(pad(length))
-        };
-        if counted.saturating_add(bound) > LIMIT {
+        if counted.saturating_add(bound_of(chunk, length)) > LIMIT {
             return Err(("missing data chunk", at));
         }
-        let mut takes = whole;
-        if is_fmt {
-            let fmt = fields(content);
-            let rows = rows_of_tag(fmt, length, content);
-            if let Some((words, taken)) = first_fault(content, &rows_of_all(fmt, length)).or(
-                first_fault(content, &rows),
-            ) {
-                return Err((words, at.saturating_add(taken)));
-            }
-            found = Some(meant(fmt, content));
-            takes = rows[2].needs;
-            if fmt.tag == 0xfffe {
-                takes = takes.saturating_add(extensible_rest(length));
+        let content = from(bytes, at);
+        let mut takes = content_of(chunk, length);
+        if chunk.starts_with(b"fmt ") {
+            match fmt_of(content, length) {
+                Ok((fmt, taken)) => {
+                    found = Some(fmt);
+                    takes = taken;
+                }
+                Err((words, taken)) => return Err((words, at.saturating_add(taken))),
             }
         }
         takes = takes.saturating_add(pad(length));

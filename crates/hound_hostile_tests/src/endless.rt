@@ -62,7 +62,8 @@ fn one_byte_for_ever_behind_the_front(rt: HostRuntime) -> Result<(), Fail> {
     Ok(())
 }
 
-// Chunks without content, behind one that leaves room for a million of them.
+// Chunks without content, behind one that leaves room for a million of them: with no such chunk there
+// are 536870911, which take half a minute.
 #[test]
 fn headers_for_ever(rt: HostRuntime) -> Result<(), Fail> {
     let room = 8_000_003;

@@ -1,4 +1,8 @@
 // Many hostile files, each read by the library and by the definition.
+//
+// More of them are read by the program that `rt test` leaves in the folder of the crate:
+// `HOUND_INPUTS=1000000 out/hound_hostile_tests_tests
+// many::the_library_reads_what_the_definition_says`. It prints how often each refusal came.
 use crate::definition::reading_of;
 use crate::helpers::{ENDED, Fed, ITEMS, Item, Reading, Shown, read};
 use crate::made::input;
@@ -65,14 +69,28 @@ impl Tally {
     }
 }
 
+// The first two items that differ.
+fn differing(seen: Reading, defined: Reading) -> Option<(Item, Item)> {
+    for pair in seen.items.into_iter().zip(defined.items) {
+        if pair.0 != pair.1 {
+            return Some(pair);
+        }
+    }
+    None
+}
+
 // An error where something differs from the definition.
 fn compare(number: u64, seen: Reading, defined: Reading) -> Result<(), Fail> {
     if seen == defined {
         return Ok(());
     }
     Err(Fail::new(format_args!(
-        "input {number}: '{}' after {} bytes, by the definition '{}' after {}",
-        seen.refusal, seen.taken, defined.refusal, defined.taken
+        "input {number}: '{}' after {} bytes, by the definition '{}' after {}; items {:?}",
+        seen.refusal,
+        seen.taken,
+        defined.refusal,
+        defined.taken,
+        differing(seen, defined)
     )))
 }
 
