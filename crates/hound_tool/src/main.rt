@@ -10,14 +10,19 @@ mod run;
 mod tests;
 
 use run::{run, run_append};
-use std::io::BufWriter;
+use std::io::{BufWriter, ErrorKind};
 use std::path::Path;
 use std::process::ExitCode;
 use std::{env, io};
 
 fn main(rt: HostRuntime) -> io::Result<ExitCode> {
     let alloc = rt.alloc();
-    let arguments: Vec<String> = env::args(&rt)?.collect(alloc)?;
+    let arguments: Vec<String> = match env::args(&rt) {
+        Ok(arguments) => arguments.collect(alloc)?,
+        // Words that aren't UTF-8 are none that the program knows.
+        Err(fault) if fault.kind() == ErrorKind::InvalidData => Vec::new(alloc),
+        Err(fault) => return Err(fault),
+    };
     let words: Vec<&str> = arguments
         .iter()
         .skip(1)

@@ -8,12 +8,17 @@ use hound::{
     FloatBits, SampleFormat, Step, Tape, WavReader, WavSpec, WavSpecEx, WavWriter, run_sessions,
 };
 use std::alloc::{AllocError, Global};
+use std::fmt::Display;
+use std::io::Write;
 use std::path::Path;
 use std::rt::Files;
 use std::{fs, io};
 
 // The values of a batch.
 const BATCH_LENGTH: usize = 4096;
+
+// More bytes than a line on standard error has.
+const LINE_LENGTH: usize = 256;
 
 const USAGE: &str = "usage: hound_tool pack CHANNELS RATE BITS | show | append FILE";
 
@@ -70,16 +75,24 @@ fn status_of<E: io::Write>(outcome: Result<(), Failure>, errors: &mut E) -> u8
     match outcome {
         Ok(()) => 0,
         Err(failure) => {
-            let _ = writeln!(errors, "{failure}");
+            tell(&failure, errors);
             1
         }
     }
 }
 
+// A line on `errors`, which goes out in one write, so that those of two runs at a time don't mix.
+fn tell<T: Display, E: io::Write>(text: &T, errors: &mut E) {
+    let mut line = io::Cursor::new([0; LINE_LENGTH]);
+    let _ = writeln!(line, "{text}");
+    let length = line.position() as usize;
+    let _ = errors.write_all(&line.get_ref()[..length.min(LINE_LENGTH)]);
+}
+
 fn usage<E: io::Write>(errors: &mut E) -> u8
     ensures { result ≡ 2 }
 {
-    let _ = writeln!(errors, "{USAGE}");
+    tell(&USAGE, errors);
     2
 }
 

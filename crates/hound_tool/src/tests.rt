@@ -250,6 +250,72 @@ fn show_stops_at_the_first_fault(rt: HostRuntime) -> Result<(), Fail> {
     Ok(())
 }
 
+// The texts are those of the public format's checks, in their order.
+#[test]
+fn show_says_each_refusal(rt: HostRuntime) -> Result<(), Fail> {
+    let refusals = [
+        (0, 0x58, "no RIFF tag found"),
+        (8, 0x58, "no WAVE tag found"),
+        (12, 0x58, "missing fmt chunk"),
+        (16, 15, "invalid fmt chunk size"),
+        (22, 0, "file contains zero channels"),
+        (34, 24, "sample bits exceeds size of sample"),
+        (28, 0x89, "inconsistent fmt chunk"),
+        (34, 15, "bits per sample is not a multiple of 8"),
+        (34, 0, "bits per sample is 0"),
+        (16, 17, "unexpected fmt chunk size"),
+        (40, 7, "data chunk length is not a multiple of sample size"),
+    ];
+    for (at, byte, reason) in refusals {
+        let mut file = FOUR_SAMPLES;
+        file[at] = byte;
+        let Answer {
+            status,
+            output,
+            errors,
+        } = run_on(rt.alloc(), &["show"], &file);
+        let line = format!(in rt.alloc(); "Ill-formed WAVE file: {reason}\n")?;
+        assert_eq!(rt; status, 1, "{reason}");
+        assert!(rt; output.is_empty(), "{reason}");
+        assert_eq!(rt; errors.as_slice(), line.as_bytes(), "{reason}");
+    }
+    Ok(())
+}
+
+// Counts what is written to it, call by call.
+#[derive(Drop)]
+struct Calls {
+    writes: usize,
+    bytes: usize,
+}
+
+impl io::Write for Calls {
+    fn write(&mut self, buf: &[u8]) -> io::Result<usize> {
+        self.writes = self.writes.saturating_add(1);
+        self.bytes = self.bytes.saturating_add(buf.len());
+        Ok(buf.len())
+    }
+
+    fn flush(&mut self) -> io::Result<()> {
+        Ok(())
+    }
+}
+
+#[test]
+fn a_line_of_errors_is_one_write(rt: HostRuntime) {
+    for (words, length) in [(["show"].as_slice(), 40), ([].as_slice(), USAGE.len())] {
+        let mut output = Vec::new(rt.alloc());
+        let mut errors = Calls {
+            writes: 0,
+            bytes: 0,
+        };
+        let mut input = b"RIFX".as_slice();
+        run(rt.alloc(), words, &mut input, &mut output, &mut errors);
+        assert_eq!(rt; errors.writes, 1);
+        assert_eq!(rt; errors.bytes, length);
+    }
+}
+
 #[test]
 fn show_prints_floats_as_their_bits(rt: HostRuntime) -> Result<(), Fail> {
     // Mono, 44100 Hz, two floats: 1.0, and the least above 0.
