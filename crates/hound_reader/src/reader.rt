@@ -22,9 +22,10 @@ use crate::item::{NoSample, error_of_item, taken_without};
 use crate::keeping::KeepingReader;
 use crate::samples::{WavIntoSamples, WavSamples};
 use hound_medium::{Placed, Source};
-use hound_number::{Input, early_end};
+use hound_number::Input;
 use hound_sample::Sample;
 use hound_spec::{Error, Result, WavSpec, WavSpecEx};
+use std::io::ErrorKind;
 use std::marker::Model;
 use std::{io, result};
 
@@ -124,7 +125,7 @@ impl<R: io::Read + Drop> WavReader<R> {
         ensures unreadable { IfSome (R.remaining reader) (λ xs. (c : Cause) → Unreadable xs c →
             MatchResult result (λ _. ⊥) (λ e. FailsAs e c)) }
     {
-        let fault = early_end();
+        let fault = io::Error::from(ErrorKind::Other);
         let mut reader = KeepingReader { reader, fault };
         match read_until_samples(&mut reader) {
             Ok((spec_ex, num_samples)) => Ok(WavReader {
