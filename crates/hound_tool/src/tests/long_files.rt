@@ -257,3 +257,54 @@ fn a_full_output_is_told(rt: HostRuntime) -> Result<(), Fail> {
     expect_full(&rt, alloc, &["show"], &packed.output, &shown.output);
     Ok(())
 }
+
+// Gives numbers for ever, and takes all memory before the second part of them.
+#[derive(Drop)]
+struct Drains {
+    alloc: Global,
+    reads: usize,
+    taken: Vec<Vec<u8>>,
+}
+
+impl io::Read for Drains {
+    fn read(&mut self, buf: &mut [u8]) -> io::Result<usize> {
+        if self.reads == 1 {
+            let mut size = 1 << 34;
+            for _ in 0..200_000 {
+                match Vec::with_capacity(self.alloc, size) {
+                    Ok(block) => self.taken.push(block)?,
+                    Err(_) if size > 1 => size /= 2,
+                    Err(_) => break,
+                }
+            }
+        }
+        self.reads = self.reads.saturating_add(1);
+        buf.fill(b'1');
+        for byte in buf.iter_mut().step_by(2) {
+            *byte = b' ';
+        }
+        Ok(buf.len())
+    }
+}
+
+#[test]
+fn memory_that_is_gone_is_told(rt: HostRuntime) -> Result<(), Fail> {
+    let alloc = rt.alloc();
+    let mut output = Vec::new(alloc);
+    let mut errors = Vec::with_capacity(alloc, 100)?;
+    let taken = Vec::with_capacity(alloc, 200_000)?;
+    let mut input = Drains {
+        alloc,
+        reads: 0,
+        taken,
+    };
+    let status = run(alloc, &PACK, &mut input, &mut output, &mut errors);
+    drop(input);
+    assert_eq!(rt; status, 1);
+    assert!(rt; output.is_empty());
+    assert_eq!(rt;
+        errors.as_slice(),
+        b"There is not enough memory.\n".as_slice()
+    );
+    Ok(())
+}
