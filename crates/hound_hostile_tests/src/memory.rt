@@ -3,7 +3,9 @@
 ghost use Rattle.std.specs.Prelude.{◌≡◌};
 ghost use Rattle.hound.specs.Room.{IsSixteen};
 
-use hound::{Error, Journal, Medium, Placed, Tape, WavReader, WavWriter};
+use hound::{
+    Begin, End, Error, Journal, Medium, Placed, Step, Tape, WavReader, WavWriter, run_session,
+};
 use hound_tests::helpers::{FOUR_SAMPLES, empty_tape, integers, sixteen, tape_of, write_all};
 use std::alloc::Global;
 use std::io::ErrorKind;
@@ -227,6 +229,28 @@ fn a_writer_over_a_tape_that_grows(rt: HostRuntime) -> Result<(), Fail> {
     assert_eq!(rt; writer.len(), 4);
     writer.flush()?;
     assert_eq!(rt; writer.drop_into().bytes(), FOUR_SAMPLES.as_slice());
+    Ok(())
+}
+
+// A batch that finds no memory isn't done; the steps behind it are.
+#[test]
+fn a_batch_of_a_session(rt: HostRuntime) -> Result<(), Fail> {
+    let alloc = rt.alloc();
+    let steps = [Step::Batch(&[2, -3]), Step::Whole(5), Step::Whole(-7)];
+    let mut marks = [true, false, false];
+    let begin = Begin::New(integers(1, 44100, 16, 2));
+    let tape = tape_of(alloc, &FOUR_SAMPLES)?;
+    let blocks = take_all_but(alloc, 0)?;
+    let (tape, answer) = run_session(alloc, tape, begin, &steps, &mut marks, End::Finalize);
+    drop(blocks);
+    answer?;
+    assert_eq!(rt; marks, [false, true, true]);
+    // The last four bytes are those of the file that was there.
+    let mut file = FOUR_SAMPLES;
+    file[4] = 40;
+    file[40] = 4;
+    file[44..48].copy_from_slice(&FOUR_SAMPLES[48..]);
+    assert_eq!(rt; tape.bytes(), file.as_slice());
     Ok(())
 }
 
