@@ -25,9 +25,9 @@ for crate in number spec sample medium reader writer session; do
                 sub(/\};.*/, "", words)
                 is_variants = path ~ /TheVariants$/
                 if (is_variants != (kind == "variants")) next
-                # `Rows` serves tests alone, what is made of a contract is private, and so is
-                # `Outcome` of the writer.
-                if (path == "Rows" || path ~ /^contracts|^declared\.outcome/) next
+                # `Rows` serves tests alone, what is made of a contract is private, and so are
+                # `Outcome` of the writer and `NoSample` of the reader.
+                if (path == "Rows" || path ~ /^contracts|^declared\.(outcome|item)/) next
                 if (path ~ /^declared\./) {
                     split(path, parts, ".")
                     path = parts[3]

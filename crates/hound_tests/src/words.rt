@@ -89,7 +89,6 @@ impl ReaderWords {
     ghost use Rattle.hound.specs.Front.{ReportsFront, TakesFront};
     ghost use Rattle.hound.specs.Item.{AnswersRead, answer_of, error_of_item, reason_of, taken_without};
     ghost use Rattle.hound.specs.Items.{AreItems, GivesItems};
-    ghost use Rattle.hound.specs.NoSample.{NoSample};
     ghost use Rattle.hound.specs.Outcome.{CountsFailed, Gives, Refuses, UnlessReadFailed};
     ghost use Rattle.hound.specs.Reader.{HasSoundCounts, HasWholeFrames, IsNext, ReaderState, meaning_at, refusal_at, samples_left};
     ghost use Rattle.hound.specs.Refusals.{FailsAs, IsRefusal, Names, OpensAs, ReportsError, reason_text};
