@@ -102,6 +102,26 @@ fn the_first_batch(rt: HostRuntime) -> Result<(), Fail> {
     Ok(())
 }
 
+#[test]
+fn a_batch_uses_memory_that_is_kept(rt: HostRuntime) -> Result<(), Fail> {
+    let alloc = rt.alloc();
+    let mut writer = WavWriter::new(empty_tape(alloc), sixteen(1))?;
+    let mut batch = writer.get_i16_writer(alloc, 4)?;
+    batch.write_sample(2i16);
+    batch.write_sample(3i16);
+    batch.write_sample(5i16);
+    batch.write_sample(7i16);
+    batch.flush()?;
+    let blocks = take_all_but(alloc, 0)?;
+    let within = room_of(&mut writer, alloc, 2);
+    let beyond = room_of(&mut writer, alloc, 100_000);
+    drop(blocks);
+    assert!(rt; matches!(within, Ok(2)));
+    assert!(rt; matches!(beyond, Err(Error::OutOfMemory)));
+    assert_eq!(rt; writer.len(), 4);
+    Ok(())
+}
+
 fn is_out_of_memory<T>(answer: &io::Result<T>) -> bool {
     matches!(answer, Err(e) if e.kind() == ErrorKind::OutOfMemory)
 }

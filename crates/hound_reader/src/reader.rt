@@ -125,6 +125,7 @@ impl<R: io::Read + Drop> WavReader<R> {
         ensures unreadable { IfSome (R.remaining reader) (λ xs. (c : Cause) → Unreadable xs c →
             MatchResult result (λ _. ⊥) (λ e. FailsAs e c)) }
     {
+        // No item tells this one: an `IoError` comes behind a read that failed or ended.
         let fault = io::Error::from(ErrorKind::Other);
         let mut reader = KeepingReader { reader, fault };
         match read_until_samples(&mut reader) {

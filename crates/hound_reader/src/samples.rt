@@ -41,7 +41,6 @@ impl<R: io::Read + Drop, S: Sample> Iterator for WavSamples<'_, R, S> {
 
     ghost remaining = { λ s. at_most (samples_left (lent_reader s)) };
 
-    // Not always inlined: so LLVM simplifies it by itself, and again in the loop that it goes into.
     #[inline(always)]
     fn next(&mut self) -> Option<Result<S>> {
         self.reader.next_item()
@@ -88,7 +87,6 @@ impl<R: io::Read + Drop, S: Sample> Iterator for WavIntoSamples<R, S> {
 
     ghost remaining = { λ s. at_most (samples_left (taken_reader s)) };
 
-    // Not always inlined: so LLVM simplifies it by itself, and again in the loop that it goes into.
     #[inline(always)]
     fn next(&mut self) -> Option<Result<S>> {
         self.reader.next_item()

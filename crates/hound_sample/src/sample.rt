@@ -67,8 +67,8 @@ pub trait Sample: Sized + Drop {
     /// Reads a sample of so many bytes and used bits.
     ///
     /// A fault of the reader is passed on as `IoError`, `Interrupted` too; an early end is an
-    /// `IoError` of kind `Other`. A refusal of the format, the bytes or the bits leaves the reader
-    /// untouched.
+    /// `IoError` of kind `Other`. No `IoError` comes from elsewhere, so a `WavReader` tells the fault
+    /// that it met itself. A refusal of the format, the bytes or the bits leaves the reader untouched.
     fn read<R: io::Read>(reader: &mut R, fmt: SampleFormat, bytes: u16, bits: u16) -> Result<Self>
         ensures reads { Reads (refusal fmt bytes bits) (meaning bytes bits) bytes
             (R.remaining reader.old) (R.remaining reader.new) result }

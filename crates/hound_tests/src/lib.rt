@@ -20,8 +20,6 @@ mod channels;
 #[cfg(test)]
 mod files;
 #[cfg(test)]
-mod memory;
-#[cfg(test)]
 mod reading;
 #[cfg(test)]
 mod seeking;
