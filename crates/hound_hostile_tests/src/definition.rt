@@ -1,30 +1,10 @@
 // A second reading: the definition of the format as tables, over the whole list of bytes at once.
-//
-// Three rules of the chunks may change, and each stands in one place: what a fact chunk takes
-// (`fact_content`), what an extensible fmt chunk takes behind its forty bytes (`extensible_rest`),
-// and what follows a chunk of odd length (`pad`). What a fmt chunk counts for at the limit goes with
-// them (`fmt_bound`).
 use crate::helpers::{ENDED, ITEMS, Item, Reading};
 use hound::{SampleFormat, WavSpec};
 
-// How many bytes are taken of a fact chunk of this length.
-fn fact_content(_length: u64) -> u64 {
-    4
-}
-
-// How many bytes are taken behind the forty of an extensible fmt chunk of this length.
-fn extensible_rest(_length: u64) -> u64 {
-    0
-}
-
-// How many bytes are taken behind a chunk of this length.
-fn pad(_length: u64) -> u64 {
-    0
-}
-
-// For how many bytes the content of a fmt chunk of this length counts at the limit.
-fn fmt_bound(_length: u64) -> u64 {
-    40
+// The next even number: where a chunk that isn't the data ends.
+fn even(length: u64) -> u64 {
+    length.saturating_add(1) / 2 * 2
 }
 
 // How many bytes may be taken behind the WAVE tag.
@@ -209,8 +189,8 @@ struct Head {
     start: u64,
 }
 
-// What a fmt chunk says, and how many bytes of its content are taken.
-fn fmt_of(content: &[u8], length: u64) -> Result<(Fmt, u64), Fault> {
+// What a fmt chunk says.
+fn fmt_of(content: &[u8], length: u64) -> Result<Fmt, Fault> {
     let fmt = fields(content);
     if let Some(fault) = first_fault(content, &rows_of_all(fmt, length)) {
         return Err(fault);
@@ -219,30 +199,7 @@ fn fmt_of(content: &[u8], length: u64) -> Result<(Fmt, u64), Fault> {
     if let Some(fault) = first_fault(content, &rows) {
         return Err(fault);
     }
-    let rest = if fmt.tag == 0xfffe {
-        extensible_rest(length)
-    } else {
-        0
-    };
-    Ok((meant(fmt, content), rows[2].needs.saturating_add(rest)))
-}
-
-// How many bytes of another chunk's content are taken.
-fn content_of(chunk: &[u8], length: u64) -> u64 {
-    if chunk.starts_with(b"fact") {
-        fact_content(length)
-    } else {
-        length
-    }
-}
-
-// For how many bytes the content of a chunk counts at the limit.
-fn bound_of(chunk: &[u8], length: u64) -> u64 {
-    if chunk.starts_with(b"fmt ") {
-        fmt_bound(length)
-    } else {
-        content_of(chunk, length).saturating_add(pad(length))
-    }
+    Ok(meant(fmt, content))
 }
 
 // The head of a file.
@@ -283,21 +240,17 @@ fn head_of(bytes: &[u8]) -> Result<Head, Fault> {
                 None => Err(("missing fmt chunk", at)),
             };
         }
-        if counted.saturating_add(bound_of(chunk, length)) > LIMIT {
+        let takes = even(length);
+        if counted.saturating_add(takes) > LIMIT {
             return Err(("missing data chunk", at));
         }
         let content = from(bytes, at);
-        let mut takes = content_of(chunk, length);
         if chunk.starts_with(b"fmt ") {
             match fmt_of(content, length) {
-                Ok((fmt, taken)) => {
-                    found = Some(fmt);
-                    takes = taken;
-                }
+                Ok(fmt) => found = Some(fmt),
                 Err((words, taken)) => return Err((words, at.saturating_add(taken))),
             }
         }
-        takes = takes.saturating_add(pad(length));
         if (content.len() as u64) < takes {
             return Err(ended);
         }

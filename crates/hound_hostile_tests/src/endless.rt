@@ -7,8 +7,11 @@ use std::alloc::{AllocError, Global};
 use std::io::ErrorKind;
 use std::test::Fail;
 
-// How many bytes may be taken behind the WAVE tag, and where that ends.
+// How many bytes may be taken behind the WAVE tag, and how many can be, since each chunk ends at an
+// even place.
 const LIMIT: u64 = 4_294_967_295;
+
+const LAST: u64 = LIMIT - 1;
 
 const FRONT: u64 = 12;
 
@@ -48,7 +51,8 @@ fn one_byte_for_ever(rt: HostRuntime) -> Result<(), Fail> {
 #[test]
 fn one_byte_for_ever_behind_the_front(rt: HostRuntime) -> Result<(), Fail> {
     for byte in [1u8, 0x20, 0x7f, 0x80, 0xfe, 0xff] {
-        let chunk = 8 + u32::from_le_bytes([byte; 4]) as u64;
+        let length = u32::from_le_bytes([byte; 4]) as u64;
+        let chunk = 8 + length + length % 2;
         let whole = LIMIT / chunk * chunk;
         // The next header is taken where there is room for it.
         let header = if LIMIT - whole < 8 { 0 } else { 8 };
@@ -66,20 +70,20 @@ fn one_byte_for_ever_behind_the_front(rt: HostRuntime) -> Result<(), Fail> {
 // are 536870911, which take half a minute.
 #[test]
 fn headers_for_ever(rt: HostRuntime) -> Result<(), Fail> {
-    let room = 8_000_003;
-    let mut fed = apart(rt.alloc(), b"", LIMIT - 8 - room, b"")?;
+    let room = 8_000_002;
+    let mut fed = apart(rt.alloc(), b"", LAST - 8 - room, b"")?;
     fed.then = Then::Gives(0);
-    assert_eq!(rt; refusal(&mut fed), (NO_DATA, FRONT + LIMIT - 3));
+    assert_eq!(rt; refusal(&mut fed), (NO_DATA, FRONT + LAST - 2));
     Ok(())
 }
 
-// A fmt chunk, a fact chunk and an unknown one of 1000 bytes, again and again.
+// A fmt chunk, a fact chunk and an unknown one of 999 bytes with its pad byte, again and again.
 #[test]
 fn chunks_of_each_kind_for_ever(rt: HostRuntime) -> Result<(), Fail> {
     let mut fed = Fed::then(rt.alloc(), &NO_SAMPLES[..12], Then::Repeats)?;
     fed.behind.extend_from_slice(&NO_SAMPLES[12..36])?;
     fed.behind
-        .extend_from_slice(b"fact\x04\0\0\0abcdjunk\xe8\x03\0\0")?;
+        .extend_from_slice(b"fact\x04\0\0\0abcdjunk\xe7\x03\0\0")?;
     fed.behind.extend_from_slice(&[7; 1000])?;
     // 4113953 times 1044 bytes leave room for a fmt chunk, for a fact chunk and for a header.
     assert_eq!(rt;
@@ -92,10 +96,10 @@ fn chunks_of_each_kind_for_ever(rt: HostRuntime) -> Result<(), Fail> {
 // Reads that say that they gave all and wrote nothing.
 #[test]
 fn boasts_for_ever(rt: HostRuntime) -> Result<(), Fail> {
-    // An unknown chunk up to the last byte that may be taken.
-    let front = changed(rt.alloc(), &NO_SAMPLES[..20], 12, b"junk\xf7\xff\xff\xff")?;
+    // An unknown chunk up to the last byte that can be taken.
+    let front = changed(rt.alloc(), &NO_SAMPLES[..20], 12, b"junk\xf6\xff\xff\xff")?;
     let mut fed = Fed::then(rt.alloc(), &front, Then::Boasts)?;
-    assert_eq!(rt; refusal(&mut fed), (NO_DATA, FRONT + LIMIT));
+    assert_eq!(rt; refusal(&mut fed), (NO_DATA, FRONT + LAST));
     // Samples of any values, as many as the length says.
     let mut fed = Fed::then(rt.alloc(), &FOUR_SAMPLES[..44], Then::Boasts)?;
     let seen = read::<i32>(&mut fed, ITEMS);
@@ -126,40 +130,38 @@ fn faults_for_ever(rt: HostRuntime) -> Result<(), Fail> {
 #[test]
 fn data_at_the_limit(rt: HostRuntime) -> Result<(), Fail> {
     let fmt = &NO_SAMPLES[12..36];
-    let zeros = LIMIT - 24 - 8 - 8;
+    let zeros = LAST - 24 - 8 - 8;
     let mut fed = apart(rt.alloc(), fmt, zeros, &FOUR_SAMPLES[36..])?;
     let seen = read::<i32>(&mut fed, ITEMS);
     let last = seen.items[3];
     assert_eq!(rt; last, Item::Number(-7));
-    assert_eq!(rt; seen.taken, FRONT + LIMIT + 8);
-    let mut fed = apart(rt.alloc(), fmt, zeros + 1, &FOUR_SAMPLES[36..])?;
-    assert_eq!(rt; refusal(&mut fed), (NO_DATA, FRONT + LIMIT - 8 + 1));
+    assert_eq!(rt; seen.taken, FRONT + LAST + 8);
+    let mut fed = apart(rt.alloc(), fmt, zeros + 2, &FOUR_SAMPLES[36..])?;
+    assert_eq!(rt; refusal(&mut fed), (NO_DATA, FRONT + LAST - 8 + 2));
     Ok(())
 }
 
-// A fmt chunk counts for forty bytes, so one of sixteen leaves room for a header.
+// A fmt chunk as the last that can be taken, and two bytes later, where its content isn't.
 #[test]
 fn a_fmt_chunk_at_the_limit(rt: HostRuntime) -> Result<(), Fail> {
-    let zeros = LIMIT - 8 - 8 - 40;
-    let mut fed = apart(rt.alloc(), b"", zeros, &FOUR_SAMPLES[12..])?;
-    let seen = read::<i32>(&mut fed, ITEMS);
-    let last = seen.items[3];
-    assert_eq!(rt; last, Item::Number(-7));
-    assert_eq!(rt; seen.taken, FRONT + 8 + zeros + 40);
-    let mut fed = apart(rt.alloc(), b"", zeros + 1, &FOUR_SAMPLES[12..])?;
-    assert_eq!(rt; refusal(&mut fed), (NO_DATA, FRONT + 8 + zeros + 1 + 8));
+    let fmt = &NO_SAMPLES[12..36];
+    let zeros = LAST - 8 - 8 - 16;
+    let mut fed = apart(rt.alloc(), b"", zeros, fmt)?;
+    assert_eq!(rt; refusal(&mut fed), (NO_DATA, FRONT + LAST));
+    let mut fed = apart(rt.alloc(), b"", zeros + 2, fmt)?;
+    assert_eq!(rt; refusal(&mut fed), (NO_DATA, FRONT + LAST - 16 + 2));
     Ok(())
 }
 
-// A fact chunk counts for four bytes, whatever its length.
+// The same of a fact chunk of an odd length, whose pad byte counts.
 #[test]
 fn a_fact_chunk_at_the_limit(rt: HostRuntime) -> Result<(), Fail> {
     let fmt = &NO_SAMPLES[12..36];
-    let fact = b"fact\xff\xff\xff\xffabcddata\0\0\0\0";
-    let zeros = LIMIT - 24 - 8 - 8 - 4;
+    let fact = b"fact\x05\0\0\0abcde\0data\0\0\0\0";
+    let zeros = LAST - 24 - 8 - 8 - 6;
     let mut fed = apart(rt.alloc(), fmt, zeros, fact)?;
-    assert_eq!(rt; refusal(&mut fed), (NO_DATA, FRONT + LIMIT));
-    let mut fed = apart(rt.alloc(), fmt, zeros + 1, fact)?;
-    assert_eq!(rt; refusal(&mut fed), (NO_DATA, FRONT + LIMIT - 4 + 1));
+    assert_eq!(rt; refusal(&mut fed), (NO_DATA, FRONT + LAST));
+    let mut fed = apart(rt.alloc(), fmt, zeros + 2, fact)?;
+    assert_eq!(rt; refusal(&mut fed), (NO_DATA, FRONT + LAST - 6 + 2));
     Ok(())
 }

@@ -100,7 +100,7 @@ const PAIRS: [(u64, u64); 16] = [
 ];
 
 // Tags and lengths of fmt chunks.
-const KINDS: [(u64, u64); 8] = [
+const KINDS: [(u64, u64); 10] = [
     (1, 16),
     (1, 16),
     (1, 18),
@@ -109,6 +109,8 @@ const KINDS: [(u64, u64); 8] = [
     (3, 18),
     (0xfffe, 40),
     (0xfffe, 40),
+    (0xfffe, 42),
+    (0xfffe, 43),
 ];
 
 // The fields of a fmt chunk.
@@ -192,6 +194,11 @@ fn put_any(bytes: &mut Vec<u8>, count: u64, dice: &mut Dice) -> Result<(), Alloc
     Ok(())
 }
 
+// How many bytes a content of this length has with its pad byte.
+fn with_pad(length: u64) -> u64 {
+    length.saturating_add(length % 2)
+}
+
 // Puts a fmt chunk, of which at most 64 bytes of content stand there.
 fn put_fmt(bytes: &mut Vec<u8>, format: Format, dice: &mut Dice) -> Result<(), AllocError> {
     bytes.extend_from_slice(b"fmt ")?;
@@ -210,23 +217,24 @@ fn put_fmt(bytes: &mut Vec<u8>, format: Format, dice: &mut Dice) -> Result<(), A
     bytes.extend_from_slice(&[0, 0, 0, 0, 16, 0, 128, 0, 0, 170, 0, 56, 155])?;
     put(bytes, format.last, 1)?;
     put_any(bytes, 24, dice)?;
-    bytes.truncate(start.saturating_add(format.length.min(64) as usize));
+    bytes.truncate(start.saturating_add(with_pad(format.length).min(64) as usize));
     Ok(())
 }
 
-// Puts the head of a chunk and its content, which lacks or has a byte too many now and then.
+// Puts the head of a chunk and so many bytes, which lack or have one too many now and then.
 fn put_chunk(
     bytes: &mut Vec<u8>,
     tag: &[u8],
     length: u64,
+    content: u64,
     dice: &mut Dice,
 ) -> Result<(), AllocError> {
     bytes.extend_from_slice(tag)?;
     put(bytes, length, 4)?;
     let count = match dice.below(12) {
-        0 => length.saturating_sub(1),
-        1 => length.saturating_add(1),
-        _ => length,
+        0 => content.saturating_sub(1),
+        1 => content.saturating_add(1),
+        _ => content,
     };
     put_any(bytes, count.min(600), dice)
 }
@@ -236,17 +244,19 @@ fn put_other(bytes: &mut Vec<u8>, dice: &mut Dice) -> Result<(), AllocError> {
     let taken = (bytes.len() as u64).saturating_sub(12);
     let most = LIMIT.saturating_sub(taken).saturating_sub(8);
     let length = match dice.below(10) {
-        0 => most,
-        1 => most.saturating_add(1),
-        2 => dice.one_of(&LENGTH_EDGES),
+        0 => most.saturating_sub(1),
+        1 => most,
+        2 => most.saturating_add(1),
+        3 => dice.one_of(&LENGTH_EDGES),
         _ => dice.one_of(&[0, 1, 2, 4, 4, 7, 511, 512, 513]),
     };
+    let content = with_pad(length);
     match dice.below(6) {
-        0 => put_chunk(bytes, b"LIST", length, dice),
-        1 => put_chunk(bytes, b"FMT ", length, dice),
-        2 => put_chunk(bytes, b"fact", length, dice),
-        3 => put_chunk(bytes, b"fact", 4, dice),
-        _ => put_chunk(bytes, b"junk", length, dice),
+        0 => put_chunk(bytes, b"LIST", length, content, dice),
+        1 => put_chunk(bytes, b"FMT ", length, content, dice),
+        2 => put_chunk(bytes, b"fact", length, content, dice),
+        3 => put_chunk(bytes, b"fact", 4, 4, dice),
+        _ => put_chunk(bytes, b"junk", length, content, dice),
     }
 }
 
@@ -260,7 +270,7 @@ fn put_data(bytes: &mut Vec<u8>, format: Format, dice: &mut Dice) -> Result<(), 
         2 => dice.one_of(&[1, 2, 0xffff_fff8, 0xffff_fffe, 0xffff_ffff]),
         _ => whole,
     };
-    put_chunk(bytes, b"data", length, dice)
+    put_chunk(bytes, b"data", length, length, dice)
 }
 
 // A file with few faults.

@@ -8,7 +8,7 @@ use Rattle.hound_spec.specs.declared.spec.WavSpecEx.{WavSpecEx}
 use Rattle.hound_reader.specs.declared.chunks.FileHead.{FileHead}
 use Rattle.hound_reader.specs.declared.fault.Cause.{Cause}
 use Rattle.hound_number.specs.Number.{number}
-use Rattle.hound_reader.specs.Chunks.{Chunk, IsChunk, chunk_bytes, taken_of, bound_of, fmt_fault, first_fault, Chunks, joined, last_spec, Head, Refused, spec_after, front_fault, content_fault, chunk_fault}
+use Rattle.hound_reader.specs.Chunks.{Chunk, IsChunk, chunk_bytes, padded, fmt_fault, first_fault, Chunks, joined, last_spec, Head, Refused, spec_after, front_fault, content_fault, chunk_fault}
 use Rattle.hound_spec.specs.FmtChunk.{greatest_u32}
 use Rattle.hound_spec.specs.Header.{riff_tag, wave_tag, data_tag}
 use Rattle.hound_reader.proofs.WalkLemmas.{same_tag}
@@ -24,7 +24,7 @@ DataEnd c found bytes = (spec : WavSpecEx) × (size : List ℕ) × (rest : List 
 -- a chunk within the limit
 abbrev OneChunk : ℕ → List ℕ → Type 0
 OneChunk c bytes = (p : Chunk) × (rest : List ℕ) × IsChunk p
-    × (c + 8 + bound_of p.tag (number p.size) ≤ greatest_u32) × (bytes ≡ chunk_bytes p ++ rest)
+    × (c + 8 + padded (number p.size) ≤ greatest_u32) × (bytes ≡ chunk_bytes p ++ rest)
 
 guard_some : (b : Bool) (c : Cause) (o : Option Cause) → cond b (Some c) o ≡ None
     → (b ≡ false) × (o ≡ None)
@@ -56,14 +56,14 @@ none_first (Some c) b h = cc
 
 at_chunk : (c : ℕ) (found : Option WavSpecEx) (tag : List ℕ) (len : ℕ) (rest : List ℕ)
     → bytes_eq tag data_tag ≡ false → content_fault c found tag len rest ≡ None
-    → (c + 8 + bound_of tag len ≤ greatest_u32)
-    × (fmt_fault tag len (take (taken_of tag len) rest) ≡ None)
-    × (taken_of tag len ≤ length rest)
+    → (c + 8 + padded len ≤ greatest_u32)
+    × (fmt_fault tag len (take (padded len) rest) ≡ None)
+    × (padded len ≤ length rest)
 unfolding content_fault
 at_chunk c found tag len rest e h =
-    let g = guard_some (nat_lt greatest_u32 (c + 8 + bound_of tag len)) _ _ (rw e at h) in
-    let k = none_first (fmt_fault tag len (take (taken_of tag len) rest)) _ g.1 in
-    let l = guard_some (nat_lt (length rest) (taken_of tag len)) _ _ k.1 in
+    let g = guard_some (nat_lt greatest_u32 (c + 8 + padded len)) _ _ (rw e at h) in
+    let k = none_first (fmt_fault tag len (take (padded len) rest)) _ g.1 in
+    let l = guard_some (nat_lt (length rest) (padded len)) _ _ k.1 in
     (ltb-false _ _ g.0, k.0, ltb-false _ _ l.0)
 
 chunk_there : (c : ℕ) (found : Option WavSpecEx) (bytes : List ℕ) → c + 8 ≤ greatest_u32
@@ -91,7 +91,7 @@ chunk_there c found bytes room enough h =
                 ∙ ap (λ t. t ++ (size ++ rest)) (same_tag tag data_tag e),
           )
       | inr e ↦ let k = at_chunk c found tag len rest e h in
-          let n = taken_of tag len in
+          let n = padded len in
           let p : Chunk = record { tag = tag; size = size; content = take n rest } in
           inr (
             p,
@@ -125,7 +125,7 @@ Goes c found bytes = (ps : List Chunk) × (rest : List ℕ) × (bytes ≡ joined
     × Ending (c + length (joined ps)) (last_spec found ps) rest
 
 goes_more : (c : ℕ) (found : Option WavSpecEx) (bytes : List ℕ) (p : Chunk) (rest : List ℕ)
-    → IsChunk p → c + 8 + bound_of p.tag (number p.size) ≤ greatest_u32
+    → IsChunk p → c + 8 + padded (number p.size) ≤ greatest_u32
     → bytes ≡ chunk_bytes p ++ rest
     → Goes (c + length (chunk_bytes p)) (spec_after found p.tag (number p.size) p.content) rest
     → Goes c found bytes

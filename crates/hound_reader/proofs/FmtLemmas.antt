@@ -1,10 +1,10 @@
 -- The definitions of a fmt chunk at bytes in pieces.
-use Rattle.std.proofs.Common.{◌≡◌, ℕ, ◌-◌, ◌≤◌, true, ◌||◌, List, ◌++◌, length, take, refl, ap, ◌∙◌, arith, take_at, drop_at, length-append, le-ltb, Ok}
+use Rattle.std.proofs.Common.{◌≡◌, ℕ, ◌-◌, ◌≤◌, true, ◌||◌, List, ◌++◌, length, take, refl, ap, ◌∙◌, arith, take_at, take-take, length-take-le, drop_at, length-append, le-ltb, Ok}
 use Rattle.std.proofs.Common.{◌==◌}
 use Rattle.hound_spec.specs.declared.spec.WavSpecEx.{WavSpecEx}
 use Rattle.hound_number.specs.Number.{number}
 use Rattle.hound_spec.specs.FmtChunk.{fmt_fields, extension}
-use Rattle.hound_reader.specs.Fmt.{◌>>=◌, wave_format, fmt_of, wave_format_pcm, wave_format_extensible, by_subformat, by_tag}
+use Rattle.hound_reader.specs.Fmt.{◌>>=◌, wave_format, fmt_len, fmt_said, fmt_of, wave_format_pcm, wave_format_extensible, by_subformat, by_tag}
 use Rattle.hound_reader.proofs.Gives.{take_over}
 
 pub pcm_forty : (len : ℕ) (found : WavSpecEx) (after : List ℕ) → len ≡ 40 → length after ≡ 24
@@ -23,11 +23,22 @@ extensible_at len found size rest big two more is =
     let back = drop_at size rest 2 two in
     rw (long, all, front, back, is) refl
 
+-- a content says what its front says
+pub fmt_front : (len n : ℕ) (xs : List ℕ) → fmt_len len ≤ n → fmt_of len (take n xs) ≡ fmt_of len xs
+fmt_front len n xs l = ap (fmt_said len) (take-take (fmt_len len) n xs l)
+
+-- what was read of a content, and the rest of it
+pub fmt_and_rest : (len : ℕ) (xs rest : List ℕ) → fmt_len len ≤ length xs
+    → fmt_of len (take (fmt_len len) xs ++ rest) ≡ fmt_of len xs
+fmt_and_rest len xs rest l = let n = fmt_len len in
+    ap (fmt_said len) (take_at (take n xs) rest n (length-take-le n xs l))
+
 -- the first sixteen bytes of a content, and what stands behind them
-pub fmt_head : (len n : ℕ) (h zs : List ℕ) → 16 ≤ len → 16 ≤ n → length h ≡ 16
-    → fmt_of len (take n (h ++ zs)) ≡ (wave_format (fmt_fields h) >>= λ found. by_tag (fmt_fields h).tag len found (take (n - 16) zs))
-unfolding fmt_of
-fmt_head len n h zs big some l =
+pub fmt_head : (len : ℕ) (h zs : List ℕ) → 16 ≤ len → length h ≡ 16
+    → fmt_of len (h ++ zs) ≡ (wave_format (fmt_fields h) >>= λ found. by_tag (fmt_fields h).tag len found (take (fmt_len len - 16) zs))
+unfolding fmt_said
+fmt_head len h zs big l =
+    let n = fmt_len len in
     let cut : take n (h ++ zs) ≡ h ++ take (n - 16) zs = take_over n h zs (omega arith)
     ∙ ap (λ i. h ++ take (n - i) zs) l in
     let rest = take (n - 16) zs in

@@ -7,7 +7,7 @@ use Rattle.std.proofs.lemmas.Option.{same_Some}
 use Rattle.hound_spec.specs.declared.spec.WavSpecEx.{WavSpecEx}
 use Rattle.hound_reader.specs.declared.fault.Cause.{Cause}
 use Rattle.hound_number.specs.Number.{number}
-use Rattle.hound_reader.specs.Chunks.{Chunk, IsChunk, chunk_bytes, taken_of, bound_of, Chunks, joined, last_spec, Walk, Head, Refused, front_fault, content_fault, chunk_fault}
+use Rattle.hound_reader.specs.Chunks.{Chunk, IsChunk, chunk_bytes, padded, Chunks, joined, last_spec, Walk, Head, Refused, front_fault, content_fault, chunk_fault}
 use Rattle.hound_spec.specs.FmtChunk.{greatest_u32}
 use Rattle.hound_spec.specs.Header.{riff_tag, wave_tag, data_tag}
 
@@ -29,8 +29,7 @@ same_chunk p q x y isp isq e =
     ∙ spread q y) in
     let b = same_front p.size q.size _ _ (isp.size ∙ sym isq.size) a.1 in
     let n : length p.content ≡ length q.content = isp.content
-    ∙ ap (λ t. taken_of t (number p.size)) a.0 ∙ ap (λ s. taken_of q.tag (number s)) b.0
-    ∙ sym isq.content in
+    ∙ ap (λ s. padded (number s)) b.0 ∙ sym isq.content in
     let d = same_front p.content q.content x y n b.1 in
     let first : p ≡ record { tag = q.tag; size = p.size; content = p.content } = ap (λ (t : List ℕ). record { tag = t; size = p.size; content = p.content }) a.0 in
     let second : ◌≡◌ {A = Chunk} (record { tag = q.tag; size = p.size; content = p.content }) (record { tag = q.tag; size = q.size; content = p.content }) = ap (λ (t : List ℕ). record { tag = q.tag; size = t; content = p.content }) b.0 in
@@ -39,7 +38,7 @@ same_chunk p q x y isp isq e =
 
 -- no chunk begins here
 abbrev Ends : ℕ → List ℕ → Type 0
-Ends k bytes = (p : Chunk) (rest : List ℕ) → IsChunk p → k + 8 + bound_of p.tag (number p.size) ≤ greatest_u32 → bytes ≡ chunk_bytes p ++ rest → ⊥
+Ends k bytes = (p : Chunk) (rest : List ℕ) → IsChunk p → k + 8 + padded (number p.size) ≤ greatest_u32 → bytes ≡ chunk_bytes p ++ rest → ⊥
 
 same_walk : (c i j : ℕ) (ps qs : List Chunk) (x y : List ℕ) → Chunks c ps → Chunks c qs
     → joined ps ++ x ≡ joined qs ++ y → i ≡ c + length (joined ps) → j ≡ c + length (joined qs)
@@ -55,19 +54,19 @@ same_walk c i j (p ∷ ps) (q ∷ qs) x y (isp, lp, cp) (isq, lq, cq) e k l ex e
     (ap (λ t. t ∷ ps) one.0 ∙ ap (λ t. q ∷ t) more.0, more.1)
 
 content_sound : (c : ℕ) (found : Option WavSpecEx) (p : Chunk) (rest : List ℕ) → IsChunk p
-    → c + 8 + bound_of p.tag (number p.size) ≤ greatest_u32
+    → c + 8 + padded (number p.size) ≤ greatest_u32
     → content_fault c found p.tag (number p.size) (p.content ++ rest) ≡ None
 unfolding content_fault
 content_sound c found p rest is limit =
-    let n = taken_of p.tag (number p.size) in
-    let room = le-ltb greatest_u32 (c + 8 + bound_of p.tag (number p.size)) limit in
+    let n = padded (number p.size) in
+    let room = le-ltb greatest_u32 (c + 8 + padded (number p.size)) limit in
     let cut = take_at p.content rest n is.content in
     let enough = le-ltb (length (p.content ++ rest)) n (omega (arith, length-append p.content rest, is.content)) in
     rw (is.other, room, cut, is.sound, enough) refl
 
 -- a chunk within the limit has no fault
 chunk_sound : (c : ℕ) (found : Option WavSpecEx) (p : Chunk) (rest : List ℕ) → IsChunk p
-    → c + 8 + bound_of p.tag (number p.size) ≤ greatest_u32
+    → c + 8 + padded (number p.size) ≤ greatest_u32
     → chunk_fault c found (chunk_bytes p ++ rest) ≡ None
 unfolding chunk_fault
 chunk_sound c found p rest is limit =

@@ -9,7 +9,7 @@ use Rattle.hound_reader.specs.declared.fault.Reason.TheVariants.{NoRiffTag}
 use Rattle.hound_reader.specs.declared.chunks.ChunkRead.{ChunkRead}
 use Rattle.hound_reader.specs.declared.chunks.ChunkRead.TheVariants.{Data, Other}
 use Rattle.hound_number.specs.Number.{number}
-use Rattle.hound_reader.specs.Chunks.{Chunk, IsChunk, chunk_bytes, bound_of, Chunks, joined, last_spec, Head, spec_after, front_fault}
+use Rattle.hound_reader.specs.Chunks.{Chunk, IsChunk, chunk_bytes, padded, Chunks, joined, last_spec, Head, spec_after, front_fault}
 use Rattle.hound_spec.specs.FmtChunk.{greatest_u32}
 use Rattle.hound_spec.specs.Header.{riff_tag, wave_tag, data_tag}
 use Rattle.hound_reader.specs.Walk.{ReadsChunk, ReadsContent, Walked, ReachesData}
@@ -73,7 +73,7 @@ chunk_from c found h (Other next taken) ys zs l room (content, n, other, sound, 
     )
 
 Chunks-more : (c : ℕ) (ps : List Chunk) (p : Chunk) → Chunks c ps → IsChunk p
-    → c + length (joined ps) + 8 + bound_of p.tag (number p.size) ≤ greatest_u32
+    → c + length (joined ps) + 8 + padded (number p.size) ≤ greatest_u32
     → Chunks c (ps ++ p ∷ [])
 Chunks-more c [] p each is limit = (is, omega arith, tt)
 Chunks-more c (q ∷ ps) p (first, room, each) is limit =

@@ -15,8 +15,8 @@ use Rattle.hound_spec.specs.Header.{riff_tag, wave_tag, fmt_tag, data_tag, is_sh
 use Rattle.hound_spec.proofs.FmtLemmas.{number-bytes_of, fields_written}
 use Rattle.hound_spec.proofs.WritableLemmas.{PairFacts, pair_facts}
 use Rattle.hound_spec.proofs.HeaderLemmas.{sized_fmt-short, sized_fmt-long, length-long_fmt, length-header}
-use Rattle.hound_reader.specs.Fmt.{wave_format, by_tag, wave_format_pcm, wave_format_extensible, fmt_of}
-use Rattle.hound_reader.specs.Chunks.{Chunk, taken_of, bound_of, spec_after, Head, Readable, joined, fault_of, ok_of}
+use Rattle.hound_reader.specs.Fmt.{wave_format, by_tag, wave_format_pcm, wave_format_extensible, fmt_said, fmt_of}
+use Rattle.hound_reader.specs.Chunks.{Chunk, spec_after, Head, Readable, joined, fault_of, ok_of}
 use Rattle.hound_sample.specs.Container.{containers}
 use Rattle.hound_reader.specs.Containers.{AreContainers}
 
@@ -78,7 +78,7 @@ short_is_int Float b w p few = absurd (grind (arith, nat_tests))
 
 short_back : (s : WavSpecEx) → IsWritable s → s.spec.bits_per_sample ≤ 16
     → fmt_of 16 (short_fmt s) ≡ Ok s
-unfolding fmt_of by_tag wave_format_pcm
+unfolding fmt_said by_tag wave_format_pcm
 short_back s w few =
     let p = pair_facts s.spec.sample_format s.spec.bits_per_sample s.bytes_per_sample w.pair in
     let pass = bytes_pass pcm s.spec.bits_per_sample s w (lit< tt) p.some_bits p.whole_bytes p.in_width in
@@ -86,7 +86,7 @@ short_back s w few =
     rw pass (ap (λ f. Ok (with_fields s s.spec.bits_per_sample f)) (sym is_int))
 
 long_back : (s : WavSpecEx) → IsWritable s → fmt_of 40 (long_fmt s) ≡ Ok s
-unfolding fmt_of by_tag wave_format_extensible
+unfolding fmt_said by_tag wave_format_extensible
 long_back s w = back s.spec.sample_format
   where
     p : PairFacts s.spec.bits_per_sample s.bytes_per_sample
@@ -130,13 +130,16 @@ header-parts : (s : WavSpecEx) (size len n : ℕ) (content rest : List ℕ)
 unfolding header
 header-parts s size len n content rest e = rw e (ap (λ t. riff_tag ++ (bytes_of 4 size ++ (wave_tag ++ (fmt_tag ++ t)))) (regroup (bytes_of 4 n) content data_tag (bytes_of 4 len) rest))
 
+add_none : (n : ℕ) → n ≡ n + 0
+add_none n = omega arith
+
 -- a header with one fmt chunk that gives the spec
 head_of : (s : WavSpecEx) (size len n : ℕ) (content rest : List ℕ)
-    → sized_fmt s ≡ bytes_of 4 n ++ content → number (bytes_of 4 n) ≡ n → n ≤ 40
+    → sized_fmt s ≡ bytes_of 4 n ++ content → number (bytes_of 4 n) ≡ n → n ≤ 40 → n % 2 ≡ 0
     → length content ≡ n → fmt_of n content ≡ Ok s → len ≤ greatest_u32
     → Head (header s size len ++ rest) s len (28 + n)
-unfolding taken_of bound_of spec_after
-head_of s size len n content rest e back few l read fits = record {
+unfolding spec_after
+head_of s size len n content rest e back few even l read fits = record {
   chunks = fmt_chunk n content ∷ [];
   size = bytes_of 4 len;
   rest = rest;
@@ -145,7 +148,7 @@ head_of s size len n content rest e back few l read fits = record {
     four = refl;
     whole = header-parts s size len n content rest e
         ∙ ap (λ t. riff_tag ++ (bytes_of 4 size ++ (wave_tag ++ t))) (sym (joined-one n content (data_tag ++ (bytes_of 4 len ++ rest))));
-    each = (record { tag = refl; size = refl; content = omega (arith, l, back); other = refl; sound = rw back (ap fault_of read) }, omega arith, tt);
+    each = (record { tag = refl; size = refl; content = l ∙ sym (rw (back, even) (sym (add_none n))); other = refl; sound = rw back (ap fault_of read) }, omega (arith, back, even), tt);
   };
   four = refl;
   data_len = number-bytes_of 4 len (omega arith);
@@ -156,11 +159,11 @@ head_of s size len n content rest e back few l read fits = record {
 
 short_head : (s : WavSpecEx) (size len : ℕ) (rest : List ℕ) → IsWritable s → is_short s ≡ true
     → s.spec.bits_per_sample ≤ 16 → len ≤ greatest_u32 → Head (header s size len ++ rest) s len 44
-short_head s size len rest w short few fits = head_of s size len 16 (short_fmt s) rest (sized_fmt-short s short) refl (omega arith) refl (short_back s w few) fits
+short_head s size len rest w short few fits = head_of s size len 16 (short_fmt s) rest (sized_fmt-short s short) refl (omega arith) refl refl (short_back s w few) fits
 
 long_head : (s : WavSpecEx) (size len : ℕ) (rest : List ℕ) → IsWritable s → is_short s ≡ false
     → len ≤ greatest_u32 → Head (header s size len ++ rest) s len 68
-long_head s size len rest w long fits = head_of s size len 40 (long_fmt s) rest (sized_fmt-long s long) refl (omega arith) (length-long_fmt s) (long_back s w) fits
+long_head s size len rest w long fits = head_of s size len 40 (long_fmt s) rest (sized_fmt-long s long) refl (omega arith) refl (length-long_fmt s) (long_back s w) fits
 
 nat_le-true : (a b : ℕ) → nat_le a b ≡ true → a ≤ b
 nat_le-true a b h = grind (arith, nat_tests)
@@ -185,9 +188,6 @@ containers-concat w (c ∷ list) (one, each) =
     ap (λ t. t ∷ containers w (length list) (drop w (c ++ rest))) (take_at c rest w one)
     ∙ ap (λ t. c ∷ containers w (length list) t) (drop_at c rest w one)
     ∙ ap (λ t. c ∷ t) (containers-concat w list each)
-
-add_none : (n : ℕ) → n ≡ n + 0
-add_none n = omega arith
 
 -- what is written is read back
 pub canonical_back : (s : WavSpecEx) (list : List (List ℕ)) → IsWritable s → AreContainers s list

@@ -1,5 +1,5 @@
 -- A file as chunks (RIFF): what stands before the data, and what is wrong where it can't be read.
-use Rattle.std.specs.Prelude.{◌≡◌, ℕ, ◌+◌, ◌≤◌, ◌/◌, ◌%◌, ◌==◌, ◌⊎◌, min, false, not, List, [], ◌∷◌, ◌++◌, codes, length, take, drop, slice_range, Option, Some, None, is_none, Result, Ok, Err, nat_lt, if◌then◌else◌}
+use Rattle.std.specs.Prelude.{◌≡◌, ℕ, ◌+◌, ◌≤◌, ◌/◌, ◌%◌, ◌==◌, ◌⊎◌, false, not, List, [], ◌∷◌, ◌++◌, length, take, drop, slice_range, Option, Some, None, is_none, Result, Ok, Err, nat_lt, if◌then◌else◌}
 use Rattle.std.specs.Str.{bytes_eq}
 use Rattle.std.specs.List.{flat_map}
 use Rattle.hound_number.specs.Number.{number}
@@ -11,12 +11,8 @@ use Rattle.hound_reader.specs.declared.fault.Cause.{Cause}
 use Rattle.hound_reader.specs.declared.fault.Cause.TheVariants.{Ended, Format}
 use Rattle.hound_reader.specs.declared.fault.Reason.TheVariants.{NoRiffTag, NoWaveTag, NoDataChunk, NoFmtChunk, DataLength, FrameLength}
 
--- the tag of a fact chunk
-abbrev pub fact_tag : List ℕ
-fact_tag = codes "fact"
-
--- A chunk as it stands in the file: the tag, the length as four bytes, and what is taken of the
--- content (RIFF, "Chunks").
+-- A chunk as it stands in the file: the tag, the length as four bytes, and the content with its
+-- pad byte, if it has one (RIFF, "Chunks").
 pub record Chunk : Type 0 where
   pub tag : List ℕ
   pub size : List ℕ
@@ -30,15 +26,10 @@ chunk_bytes p = p.tag ++ (p.size ++ p.content)
 abbrev pub joined : List Chunk → List ℕ
 joined ps = flat_map chunk_bytes ps
 
--- How many bytes of the content are taken: of a fmt chunk at most forty, of a fact chunk four, else
--- as many as its length says.
-unfoldable pub taken_of : List ℕ → ℕ → ℕ
-taken_of tag len =
-    if bytes_eq tag fmt_tag then min len 40 else if bytes_eq tag fact_tag then 4 else len
-
--- What the limit counts for the content, before it is taken: for a fmt chunk always forty.
-unfoldable pub bound_of : List ℕ → ℕ → ℕ
-bound_of tag len = if bytes_eq tag fmt_tag then 40 else if bytes_eq tag fact_tag then 4 else len
+-- How many bytes the content of a chunk of this length takes: one of an odd length is followed by a
+-- pad byte, of any value (RIFF, "Chunks").
+abbrev pub padded : ℕ → ℕ
+padded len = len + len % 2
 
 -- the spec or the fault of an answer
 abbrev pub ok_of : Result WavSpecEx Cause → Option WavSpecEx
@@ -49,7 +40,7 @@ abbrev pub fault_of : Result WavSpecEx Cause → Option Cause
 fault_of (Ok found) = None
 fault_of (Err c) = Some c
 
--- the fault of the content that is taken, if it is that of a fmt chunk and has one
+-- the fault of the content, if it is that of a fmt chunk and has one
 abbrev pub fmt_fault : List ℕ → ℕ → List ℕ → Option Cause
 fmt_fault tag len content = if bytes_eq tag fmt_tag then fault_of (fmt_of len content) else None
 
@@ -58,14 +49,14 @@ fmt_fault tag len content = if bytes_eq tag fmt_tag then fault_of (fmt_of len co
 pub record IsChunk (p : Chunk) : Type 0 where
   pub tag : length p.tag ≡ 4
   pub size : length p.size ≡ 4
-  pub content : length p.content ≡ taken_of p.tag (number p.size)
+  pub content : length p.content ≡ padded (number p.size)
   pub other : bytes_eq p.tag data_tag ≡ false
   pub sound : fmt_fault p.tag (number p.size) p.content ≡ None
 
 -- Chunks from c bytes behind the WAVE tag on, each within the limit of 32 bits.
 abbrev pub Chunks : ℕ → List Chunk → Type 0
 Chunks c [] = Unit {0}
-Chunks c (p ∷ ps) = IsChunk p × (c + 8 + bound_of p.tag (number p.size) ≤ greatest_u32)
+Chunks c (p ∷ ps) = IsChunk p × (c + 8 + padded (number p.size) ≤ greatest_u32)
     × Chunks (c + length (chunk_bytes p)) ps
 
 -- the spec behind a chunk, and behind chunks: that of the last fmt chunk
@@ -111,14 +102,17 @@ abbrev pub first_fault : Option Cause → Option Cause → Option Cause
 first_fault None second = second
 first_fault (Some c) second = Some c
 
+-- the fault of fewer bytes than these
+abbrev pub cut_fault : ℕ → List ℕ → Option Cause
+cut_fault n bytes = if nat_lt (length bytes) n then Some Ended else None
+
 -- The fault of a chunk with this tag and length, and the rest behind them, where c bytes and a spec
 -- so far came before.
 unfoldable pub content_fault : ℕ → Option WavSpecEx → List ℕ → ℕ → List ℕ → Option Cause
 content_fault c found tag len rest =
     if bytes_eq tag data_tag then (if is_none found then Some (Format NoFmtChunk) else None)
-    else if nat_lt greatest_u32 (c + 8 + bound_of tag len) then Some (Format NoDataChunk)
-    else first_fault (fmt_fault tag len (take (taken_of tag len) rest))
-    (if nat_lt (length rest) (taken_of tag len) then Some Ended else None)
+    else if nat_lt greatest_u32 (c + 8 + padded len) then Some (Format NoDataChunk)
+    else first_fault (fmt_fault tag len (take (padded len) rest)) (cut_fault (padded len) rest)
 
 -- The fault of a chunk that begins here, if it has one.
 unfoldable pub chunk_fault : ℕ → Option WavSpecEx → List ℕ → Option Cause

@@ -1,5 +1,5 @@
 -- What the content of a fmt chunk says, or the first check that fails.
-use Rattle.std.specs.Prelude.{ℕ, ◌<◌, ◌≤◌, ◌-◌, ◌*◌, ◌/◌, ◌%◌, not, ◌||◌, List, length, take, drop, Result, Ok, Err, nat_lt, ◌==◌, if◌then◌else◌}
+use Rattle.std.specs.Prelude.{ℕ, ◌<◌, ◌≤◌, ◌-◌, ◌*◌, ◌/◌, ◌%◌, not, ◌||◌, min, List, length, take, drop, Result, Ok, Err, nat_lt, ◌==◌, if◌then◌else◌}
 use Rattle.std.specs.Str.{bytes_eq}
 use Rattle.hound_number.specs.Number.{number}
 use Rattle.hound_spec.specs.FmtChunk.{FmtFields, fmt_fields, Extension, extension, extension_size, subformat, pcm, ieee_float, extensible, greatest_u16, greatest_u32}
@@ -99,14 +99,21 @@ by_tag tag len found after =
     else if tag == extensible then wave_format_extensible len found after
     else Err Unsupported
 
--- A fmt chunk of this length with this content, of which the bytes behind what is taken may be
--- missing.
-unfoldable pub fmt_of : ℕ → List ℕ → Result WavSpecEx Cause
-fmt_of len content =
+-- How many bytes of a fmt chunk of this length say something (WAVEFORMATEXTENSIBLE).
+abbrev pub fmt_len : ℕ → ℕ
+fmt_len len = min len 40
+
+-- what these bytes of a fmt chunk of this length say, of which the last ones may be missing
+unfoldable pub fmt_said : ℕ → List ℕ → Result WavSpecEx Cause
+fmt_said len bytes =
     if nat_lt len 16 then Err (Format FmtSize)
-    else if nat_lt (length content) 16 then Err Ended
-    else wave_format (fmt_fields (take 16 content)) >>= λ found.
-    by_tag (fmt_fields (take 16 content)).tag len found (drop 16 content)
+    else if nat_lt (length bytes) 16 then Err Ended
+    else wave_format (fmt_fields (take 16 bytes)) >>= λ found.
+    by_tag (fmt_fields (take 16 bytes)).tag len found (drop 16 bytes)
+
+-- What the content of a fmt chunk of this length says: bytes behind those say nothing.
+abbrev pub fmt_of : ℕ → List ℕ → Result WavSpecEx Cause
+fmt_of len content = fmt_said len (take (fmt_len len) content)
 
 -- what a reader divides by is not 0, and a frame has at most 65535 bytes
 abbrev pub IsSoundSpec : WavSpecEx → Type 0

@@ -1,5 +1,5 @@
 -- Items that have no sample.
-use Rattle.std.specs.Prelude.{◌≡◌, ℕ, min, List, Option, Result, Ok, Err}
+use Rattle.std.specs.Prelude.{ℕ, min, List, Option, Result, Ok, Err}
 use Rattle.std.specs.declared.io.Error.{Error as IoFault}
 use Rattle.hound_spec.specs.declared.error.Error.{Error}
 use Rattle.hound_spec.specs.declared.error.Error.TheVariants.{IoError, TooWide, Unsupported, InvalidSampleFormat}

@@ -1,11 +1,10 @@
 -- Files that were written elsewhere, as bytes.
 use Rattle.std.specs.Prelude.{◌≡◌, ℕ, ℤ, List, [], ◌∷◌, ◌++◌, codes, length, map}
-use Rattle.hound_spec.specs.declared.spec.SampleFormat.TheVariants.{Int}
+use Rattle.hound_spec.specs.declared.spec.SampleFormat.TheVariants.{Int, Float}
 use Rattle.hound_spec.specs.declared.spec.WavSpecEx.{WavSpecEx}
 use Rattle.hound_spec.specs.Header.{riff_tag, wave_tag, fmt_tag, data_tag}
 use Rattle.hound_sample.specs.Meaning.{int_meaning}
 use Rattle.hound_sample.specs.Container.{containers}
-use Rattle.hound_reader.specs.Chunks.{fact_tag}
 use Rattle.hound_reader.specs.Reader.{ReaderState}
 
 -- the content of a fmt chunk: mono, 44100 Hz, 16 bits
@@ -50,21 +49,74 @@ abbrev pub padded_containers : List ℕ
 padded_containers = 0xa0 ∷ 0xff ∷ 0xff ∷ 0x00 ∷ 0x0c ∷ 0x5a ∷ 0x00 ∷ 0x00
     ∷ 0xff ∷ 0xff ∷ 0x7f ∷ 0x00 ∷ 0x20 ∷ 0x6d ∷ 0x80 ∷ 0x00 ∷ []
 
+-- the file of the mono samples, with other chunks before the data
+abbrev pub before_data : List ℕ → List ℕ
+before_data chunks =
+    mono_front ++ chunks ++ data_tag ++ (0x08 ∷ 0x00 ∷ 0x00 ∷ 0x00 ∷ []) ++ four_containers
+
 -- the file of the mono samples
 abbrev pub four_samples : List ℕ
-four_samples = mono_front ++ data_tag ++ (0x08 ∷ 0x00 ∷ 0x00 ∷ 0x00 ∷ []) ++ four_containers
+four_samples = before_data []
 
--- the same with a fact chunk of eight bytes before the data
+-- the tag of a fact chunk
+abbrev pub fact_tag : List ℕ
+fact_tag = codes "fact"
+
+-- the same with a fact chunk of eight bytes, and with one of none
 abbrev pub long_fact : List ℕ
-long_fact = mono_front
-    ++ fact_tag ++ (0x08 ∷ 0x00 ∷ 0x00 ∷ 0x00 ∷ [])
-    ++ (0x04 ∷ 0x00 ∷ 0x00 ∷ 0x00 ∷ 0x00 ∷ 0x00 ∷ 0x00 ∷ 0x00 ∷ [])
-    ++ data_tag ++ (0x08 ∷ 0x00 ∷ 0x00 ∷ 0x00 ∷ []) ++ four_containers
+long_fact = before_data (fact_tag ++ (0x08 ∷ 0x00 ∷ 0x00 ∷ 0x00 ∷ [])
+    ++ (0x04 ∷ 0x00 ∷ 0x00 ∷ 0x00 ∷ 0x00 ∷ 0x00 ∷ 0x00 ∷ 0x00 ∷ []))
 
--- RIFF, a size, WAVE, "junk", and a length that passes the limit
+abbrev pub empty_fact : List ℕ
+empty_fact = before_data (fact_tag ++ (0x00 ∷ 0x00 ∷ 0x00 ∷ 0x00 ∷ []))
+
+-- the tag of a chunk that says nothing
+abbrev pub junk_tag : List ℕ
+junk_tag = codes "junk"
+
+-- the same with three bytes of junk and their pad byte
+abbrev pub odd_junk : List ℕ
+odd_junk = before_data (junk_tag ++ (0x03 ∷ 0x00 ∷ 0x00 ∷ 0x00 ∷ [])
+    ++ (0x61 ∷ 0x62 ∷ 0x63 ∷ 0x00 ∷ []))
+
+-- the content of an extensible fmt chunk: mono, 44100 Hz, floats, and two bytes more
+abbrev pub float_fmt : List ℕ
+float_fmt = 0xfe ∷ 0xff ∷ 0x01 ∷ 0x00 ∷ 0x44 ∷ 0xac ∷ 0x00 ∷ 0x00
+    ∷ 0x10 ∷ 0xb1 ∷ 0x02 ∷ 0x00 ∷ 0x04 ∷ 0x00 ∷ 0x20 ∷ 0x00
+    ∷ 0x16 ∷ 0x00 ∷ 0x20 ∷ 0x00 ∷ 0x01 ∷ 0x00 ∷ 0x00 ∷ 0x00
+    ∷ 0x03 ∷ 0x00 ∷ 0x00 ∷ 0x00 ∷ 0x00 ∷ 0x00 ∷ 0x10 ∷ 0x00
+    ∷ 0x80 ∷ 0x00 ∷ 0x00 ∷ 0xaa ∷ 0x00 ∷ 0x38 ∷ 0x9b ∷ 0x71 ∷ 0x00 ∷ 0x00 ∷ []
+
+abbrev pub mono_float : WavSpecEx
+mono_float = record {
+  spec = record { channels = 1; sample_rate = 44100; bits_per_sample = 32; sample_format = Float };
+  bytes_per_sample = 4;
+}
+
+-- RIFF, a size and WAVE
+abbrev pub front : List ℕ
+front = riff_tag ++ (0x00 ∷ 0x00 ∷ 0x00 ∷ 0x00 ∷ []) ++ wave_tag
+
+-- the file of one float, 1.0
+abbrev pub long_fmt : List ℕ
+long_fmt = front ++ fmt_tag ++ (0x2a ∷ 0x00 ∷ 0x00 ∷ 0x00 ∷ []) ++ float_fmt
+    ++ data_tag ++ (0x04 ∷ 0x00 ∷ 0x00 ∷ 0x00 ∷ []) ++ (0x00 ∷ 0x00 ∷ 0x80 ∷ 0x3f ∷ [])
+
+-- junk of a length that passes the limit
 abbrev pub past_the_limit : List ℕ
-past_the_limit = riff_tag ++ (0x00 ∷ 0x00 ∷ 0x00 ∷ 0x00 ∷ []) ++ wave_tag
-    ++ codes "junk" ++ (0xff ∷ 0xff ∷ 0xff ∷ 0xff ∷ 0x00 ∷ 0x00 ∷ [])
+past_the_limit = front ++ junk_tag ++ (0xff ∷ 0xff ∷ 0xff ∷ 0xff ∷ 0x00 ∷ 0x00 ∷ [])
+
+-- Junk behind a fmt chunk: of an odd length whose pad byte passes the limit, and of the greatest
+-- length within it.
+abbrev pub odd_at_the_limit : List ℕ
+odd_at_the_limit = mono_front ++ junk_tag ++ (0xdf ∷ 0xff ∷ 0xff ∷ 0xff ∷ [])
+
+abbrev pub even_at_the_limit : List ℕ
+even_at_the_limit = mono_front ++ junk_tag ++ (0xde ∷ 0xff ∷ 0xff ∷ 0xff ∷ [])
+
+-- a fmt chunk of a length that passes the limit
+abbrev pub fmt_at_the_limit : List ℕ
+fmt_at_the_limit = front ++ fmt_tag ++ (0xff ∷ 0xff ∷ 0xff ∷ 0xff ∷ []) ++ mono_fmt
 
 -- the containers of so many bytes and bits are these numbers
 abbrev pub AreRead : ℕ → ℕ → List ℕ → List ℤ → Type 0

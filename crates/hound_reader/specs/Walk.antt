@@ -1,10 +1,10 @@
 -- The walk over chunks, step by step.
-use Rattle.std.specs.Prelude.{◌≡◌, ℕ, ◌+◌, ◌≤◌, List, ◌++◌, length, ⊤, Option, Some, None, true, false}
+use Rattle.std.specs.Prelude.{◌≡◌, ℕ, ◌+◌, ◌≤◌, List, ◌++◌, length, ⊤, Option, Some, None, Ok, true, false}
 use Rattle.hound_number.specs.Number.{number}
 use Rattle.hound_spec.specs.FmtChunk.{greatest_u32}
 use Rattle.hound_spec.specs.Header.{data_tag}
-use Rattle.hound_reader.specs.Chunks.{Chunks, joined, last_spec, chunk_fault, Chunk, IsChunk, chunk_bytes, bound_of, spec_after, taken_of, fmt_fault}
-use Rattle.hound_reader.specs.Fmt.{IsSoundSpec}
+use Rattle.hound_reader.specs.Chunks.{Chunks, joined, last_spec, chunk_fault, Chunk, IsChunk, chunk_bytes, padded, spec_after, fmt_fault}
+use Rattle.hound_reader.specs.Fmt.{fmt_of, IsSoundSpec}
 use Rattle.std.specs.Str.{bytes_eq}
 use Rattle.hound_spec.specs.declared.spec.WavSpecEx.{WavSpecEx}
 use Rattle.hound_reader.specs.declared.fault.Cause.{Cause}
@@ -17,7 +17,7 @@ abbrev pub ReadsChunk : ℕ → Option WavSpecEx → ChunkRead → List ℕ → 
 ReadsChunk c found (Data spec len) xs ys = (found ≡ Some spec) × (c + 8 ≤ greatest_u32)
     × (size : List ℕ) × (length size ≡ 4) × (number size ≡ len) × (xs ≡ data_tag ++ (size ++ ys))
 ReadsChunk c found (Other next taken) xs ys = (p : Chunk) × IsChunk p
-    × (c + 8 + bound_of p.tag (number p.size) ≤ greatest_u32)
+    × (c + 8 + padded (number p.size) ≤ greatest_u32)
     × (next ≡ spec_after found p.tag (number p.size) p.content)
     × (taken ≡ c + length (chunk_bytes p)) × (xs ≡ chunk_bytes p ++ ys)
 
@@ -26,11 +26,16 @@ abbrev pub ReadsContent : ℕ → Option WavSpecEx → List ℕ → ℕ → Chun
 ReadsContent c found tag len (Data spec n) xs ys = (bytes_eq tag data_tag ≡ true)
     × (found ≡ Some spec) × (n ≡ len) × (xs ≡ ys)
 ReadsContent c found tag len (Other next taken) xs ys = (content : List ℕ)
-    × (length content ≡ taken_of tag len)
+    × (length content ≡ padded len)
     × (bytes_eq tag data_tag ≡ false)
-    × (fmt_fault tag len content ≡ None) × (c + 8 + bound_of tag len ≤ greatest_u32)
+    × (fmt_fault tag len content ≡ None) × (c + 8 + padded len ≤ greatest_u32)
     × (next ≡ spec_after found tag len content) × (taken ≡ c + 8 + length content)
     × (xs ≡ content ++ ys)
+
+-- What was taken of xs, of which ys are left, where the content of a fmt chunk was read.
+abbrev pub ReadsFmt : ℕ → WavSpecEx → List ℕ → List ℕ → Type 0
+ReadsFmt len found xs ys = (content : List ℕ) × (length content ≡ padded len)
+    × (fmt_of len content ≡ Ok found) × (xs ≡ content ++ ys)
 
 -- A chunk before the data takes at least its header's eight bytes, and stays within the limit.
 abbrev pub Advances : ℕ → ChunkRead → Type 0

@@ -1,18 +1,18 @@
 // The walk over chunks to the data.
 ghost use Rattle.hound_medium.specs.State.{WhereTells};
-ghost use Rattle.std.specs.Prelude.{◌≡◌, ℕ, ◌+◌, ◌++◌, ◌<◌, ◌≤◌, List, length, drop, Some, IsTrue, OnOk, IfOk, IfErr};
+ghost use Rattle.std.specs.Prelude.{◌≡◌, ℕ, ◌+◌, ◌++◌, ◌<◌, ◌≤◌, List, length, take, drop, Ok, Some, IsTrue, OnOk, IfOk, IfErr};
 ghost use Rattle.std.specs.Io.KnownBytes.{Consumes};
 ghost use Rattle.hound_number.specs.Input.{Known};
 ghost use Rattle.hound_number.specs.Number.{number};
 ghost use Rattle.hound_spec.specs.FmtChunk.{greatest_u32};
 ghost use Rattle.hound_spec.specs.Header.{riff_tag, wave_tag};
 ghost use Rattle.hound_reader.specs.Outcome.{CountsFailed, Refuses, UnlessReadFailed};
-ghost use Rattle.hound_reader.specs.Fmt.{IsSoundSpec};
-ghost use Rattle.hound_reader.specs.Chunks.{Head, Refused, taken_of, bound_of, front_fault, content_fault, chunk_fault};
+ghost use Rattle.hound_reader.specs.Fmt.{fmt_of, IsSoundSpec};
+ghost use Rattle.hound_reader.specs.Chunks.{Head, Refused, padded, fault_of, first_fault, cut_fault, front_fault, content_fault, chunk_fault};
 ghost use Rattle.hound_reader.specs.Sources.{FindsData};
 ghost use Rattle.hound_reader.specs.Front.{TakesFront};
 ghost use Rattle.hound_reader.specs.Answer.{Answer, Answers, ReportsAnswer};
-ghost use Rattle.hound_reader.specs.Walk.{ReadsChunk, ReadsContent, Advances, ReachesData, MeetsFault, IsSoundOption, IsSoundChunk};
+ghost use Rattle.hound_reader.specs.Walk.{ReadsChunk, ReadsContent, ReadsFmt, Advances, ReachesData, MeetsFault, IsSoundOption, IsSoundChunk};
 
 use crate::fault::{Cause, HeadError, Reason};
 use crate::fmt::read_fmt_chunk;
@@ -26,8 +26,6 @@ const RIFF: [u8; 4] = *b"RIFF";
 const WAVE: [u8; 4] = *b"WAVE";
 
 const FMT: [u8; 4] = *b"fmt ";
-
-const FACT: [u8; 4] = *b"fact";
 
 const DATA: [u8; 4] = *b"data";
 
@@ -94,33 +92,29 @@ pub(crate) fn read_riff_header<R: Input>(reader: &mut R) -> Result<u32, HeadErro
     Ok(u32_at(&rest, 0))
 }
 
-// How many bytes the limit counts for the content.
-#[tactic(auto, unfolding(crate::specs::Chunks::bound_of))]
-fn bound(tag: &[u8], chunk_len: u32) -> u32
-    ensures { result ≡ bound_of tag.now chunk_len }
+// How many bytes a content of this length takes, with its pad byte.
+fn with_pad_byte(chunk_len: u32) -> u64
+    ensures { result ≡ padded chunk_len }
 {
-    if tag == FMT.as_slice() {
-        40
-    } else if tag == FACT.as_slice() {
-        4
-    } else {
-        chunk_len
-    }
+    chunk_len as u64 + chunk_len as u64 % 2
 }
 
-// How many bytes of the content are taken.
-#[tactic(auto, unfolding(crate::specs::Chunks::taken_of, crate::specs::Chunks::bound_of))]
-fn content_len(tag: &[u8], chunk_len: u32) -> u32
-    ensures taken { result ≡ taken_of tag.now chunk_len }
-    ensures within { result ≤ bound_of tag.now chunk_len }
+// Takes the content of a fmt chunk of this length, so many bytes: what says something, and the rest.
+fn read_fmt_content<R: Input>(
+    reader: &mut R,
+    chunk_len: u32,
+    content: u32,
+) -> Result<WavSpecEx, HeadError>
+    requires { content ≡ padded chunk_len }
+    ensures sound { IfOk result IsSoundSpec }
+    ensures failures { CountsFailed (R.account reader.old) (R.account reader.new) result }
+    ensures ok { IfOk result (λ found. Known (R.left reader.old) (R.left reader.new) (ReadsFmt chunk_len found)) }
+    ensures err { IfErr result (λ e. Refuses e (λ c. Known (R.left reader.old) (R.left reader.new) (λ xs ys.
+        first_fault (fault_of (fmt_of chunk_len (take content xs))) (cut_fault content xs) ≡ Some c))) }
 {
-    if tag == FMT.as_slice() {
-        chunk_len.min(40)
-    } else if tag == FACT.as_slice() {
-        4
-    } else {
-        chunk_len
-    }
+    let spec_ex = read_fmt_chunk(reader, chunk_len)?;
+    skip_bytes(reader, content - chunk_len.min(40))?;
+    Ok(spec_ex)
 }
 
 // Takes the content of a chunk, after the eight bytes of its header.
@@ -146,13 +140,13 @@ fn read_content<R: Input>(
             Some(spec_ex) => Ok(ChunkRead::Data(spec_ex, chunk_len)),
         };
     }
-    let most = bound(tag, chunk_len);
-    if most > 4_294_967_287 - taken {
+    let content = with_pad_byte(chunk_len);
+    if content > 4_294_967_287 - taken as u64 {
         return Err(HeadError::Refused(Cause::Format(Reason::NoDataChunk)));
     }
-    let content = content_len(tag, chunk_len);
+    let content = content as u32;
     if tag == FMT.as_slice() {
-        let spec_ex = read_fmt_chunk(reader, chunk_len)?;
+        let spec_ex = read_fmt_content(reader, chunk_len, content)?;
         return Ok(ChunkRead::Other(Some(spec_ex), taken + 8 + content));
     }
     skip_bytes(reader, content)?;

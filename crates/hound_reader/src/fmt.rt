@@ -1,10 +1,8 @@
 // The content of a fmt chunk.
 ghost use Rattle.std.specs.Prelude.{◌≡◌, ◌-◌, ◌≤◌, length, take, IfOk};
 ghost use Rattle.hound_spec.specs.FmtChunk.{fmt_fields, extension};
-ghost use Rattle.hound_spec.specs.Header.{fmt_tag};
-ghost use Rattle.hound_reader.specs.Chunks.{taken_of};
 ghost use Rattle.hound_reader.specs.Outcome.{Gives, CountsFailed};
-ghost use Rattle.hound_reader.specs.Fmt.{wave_format, wave_format_pcm, wave_format_ieee_float, wave_format_extensible, by_subformat, by_tag, fmt_of, IsSoundSpec};
+ghost use Rattle.hound_reader.specs.Fmt.{wave_format, wave_format_pcm, wave_format_ieee_float, wave_format_extensible, by_subformat, by_tag, fmt_len, fmt_of, IsSoundSpec};
 
 use crate::fault::{Cause, HeadError, Reason};
 use crate::input::fill;
@@ -62,7 +60,7 @@ fn check_wave_format(head: &[u8]) -> Result<WavSpecEx, Cause>
 }
 
 // Behind the first sixteen bytes of integers: nothing, or bytes that say nothing more.
-#[tactic(auto, unfolding(crate::specs::Fmt::wave_format_pcm, crate::specs::Chunks::taken_of))]
+#[tactic(auto, unfolding(crate::specs::Fmt::wave_format_pcm))]
 fn read_wave_format_pcm<R: Input>(
     reader: &mut R,
     chunk_len: u32,
@@ -73,8 +71,8 @@ fn read_wave_format_pcm<R: Input>(
     ensures sound { IfOk result IsSoundSpec }
     ensures failures { CountsFailed (R.account reader.old) (R.account reader.new) result }
     ensures gives { Gives (R.left reader.old) (R.left reader.new)
-        (taken_of fmt_tag chunk_len - 16) result
-        (λ xs. wave_format_pcm chunk_len found (take (taken_of fmt_tag chunk_len - 16) xs)) }
+        (fmt_len chunk_len - 16) result
+        (λ xs. wave_format_pcm chunk_len found (take (fmt_len chunk_len - 16) xs)) }
 {
     if chunk_len == 16 {
         return Ok(found);
@@ -94,7 +92,7 @@ fn read_wave_format_pcm<R: Input>(
 }
 
 // Behind the first sixteen bytes of floats: nothing, or the size of nothing more.
-#[tactic(auto, unfolding(crate::specs::Fmt::wave_format_ieee_float, crate::specs::Chunks::taken_of))]
+#[tactic(auto, unfolding(crate::specs::Fmt::wave_format_ieee_float))]
 fn read_wave_format_ieee_float<R: Input>(
     reader: &mut R,
     chunk_len: u32,
@@ -105,8 +103,8 @@ fn read_wave_format_ieee_float<R: Input>(
     ensures sound { IfOk result IsSoundSpec }
     ensures failures { CountsFailed (R.account reader.old) (R.account reader.new) result }
     ensures gives { Gives (R.left reader.old) (R.left reader.new)
-        (taken_of fmt_tag chunk_len - 16) result
-        (λ xs. wave_format_ieee_float chunk_len found (take (taken_of fmt_tag chunk_len - 16) xs)) }
+        (fmt_len chunk_len - 16) result
+        (λ xs. wave_format_ieee_float chunk_len found (take (fmt_len chunk_len - 16) xs)) }
 {
     if chunk_len != 16 && chunk_len != 18 {
         return Err(HeadError::Refused(Cause::Format(Reason::UnexpectedFmtSize)));
@@ -158,7 +156,7 @@ fn choose_subformat(found: WavSpecEx, rest: &[u8]) -> Result<WavSpecEx, Cause>
 }
 
 // Behind the first sixteen bytes of an extensible chunk: its size, and 22 bytes.
-#[tactic(auto, unfolding(crate::specs::Fmt::wave_format_extensible, crate::specs::Chunks::taken_of))]
+#[tactic(auto, unfolding(crate::specs::Fmt::wave_format_extensible))]
 fn read_wave_format_extensible<R: Input>(
     reader: &mut R,
     chunk_len: u32,
@@ -169,8 +167,8 @@ fn read_wave_format_extensible<R: Input>(
     ensures sound { IfOk result IsSoundSpec }
     ensures failures { CountsFailed (R.account reader.old) (R.account reader.new) result }
     ensures gives { Gives (R.left reader.old) (R.left reader.new)
-        (taken_of fmt_tag chunk_len - 16) result
-        (λ xs. wave_format_extensible chunk_len found (take (taken_of fmt_tag chunk_len - 16) xs)) }
+        (fmt_len chunk_len - 16) result
+        (λ xs. wave_format_extensible chunk_len found (take (fmt_len chunk_len - 16) xs)) }
 {
     if chunk_len < 40 {
         return Err(HeadError::Refused(Cause::Format(Reason::UnexpectedFmtSize)));
@@ -186,7 +184,7 @@ fn read_wave_format_extensible<R: Input>(
     Ok(found)
 }
 
-#[tactic(auto, unfolding(crate::specs::Fmt::by_tag, crate::specs::Chunks::taken_of))]
+#[tactic(auto, unfolding(crate::specs::Fmt::by_tag))]
 fn read_by_tag<R: Input>(
     reader: &mut R,
     tag: u16,
@@ -198,8 +196,8 @@ fn read_by_tag<R: Input>(
     ensures sound { IfOk result IsSoundSpec }
     ensures failures { CountsFailed (R.account reader.old) (R.account reader.new) result }
     ensures gives { Gives (R.left reader.old) (R.left reader.new)
-        (taken_of fmt_tag chunk_len - 16) result
-        (λ xs. by_tag tag chunk_len found (take (taken_of fmt_tag chunk_len - 16) xs)) }
+        (fmt_len chunk_len - 16) result
+        (λ xs. by_tag tag chunk_len found (take (fmt_len chunk_len - 16) xs)) }
 {
     match tag {
         PCM => read_wave_format_pcm(reader, chunk_len, found),
@@ -209,9 +207,9 @@ fn read_by_tag<R: Input>(
     }
 }
 
-/// Reads the content of a fmt chunk of this length: of a longer one than forty bytes the first
-/// forty.
-#[tactic(auto, unfolding(crate::specs::Fmt::fmt_of, crate::specs::Chunks::taken_of))]
+/// Reads what says something in the content of a fmt chunk of this length: of a longer one than forty
+/// bytes the first forty.
+#[tactic(auto, unfolding(crate::specs::Fmt::fmt_said))]
 pub(crate) fn read_fmt_chunk<R: Input>(
     reader: &mut R,
     chunk_len: u32,
@@ -219,8 +217,7 @@ pub(crate) fn read_fmt_chunk<R: Input>(
     ensures sound { IfOk result IsSoundSpec }
     ensures failures { CountsFailed (R.account reader.old) (R.account reader.new) result }
     ensures gives { Gives (R.left reader.old) (R.left reader.new)
-        (taken_of fmt_tag chunk_len) result
-        (λ xs. fmt_of chunk_len (take (taken_of fmt_tag chunk_len) xs)) }
+        (fmt_len chunk_len) result (fmt_of chunk_len) }
 {
     if chunk_len < 16 {
         return Err(HeadError::Refused(Cause::Format(Reason::FmtSize)));

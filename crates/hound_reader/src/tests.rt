@@ -2,14 +2,14 @@
 // The expected values are those of the public format and of files that were written elsewhere.
 ghost use Rattle.std.specs.Prelude.{◌≡◌, pos, negsuc, [], ◌∷◌, take};
 ghost use Rattle.hound_reader.specs.Chunks.{Head, Refused};
-ghost use Rattle.hound_reader.specs.Rows.{four_samples, four_containers, padded_containers, long_fact, past_the_limit, mono_16, stereo_24, counted, AreRead};
+ghost use Rattle.hound_reader.specs.Rows.{four_samples, four_containers, padded_containers, long_fact, empty_fact, odd_junk, long_fmt, past_the_limit, odd_at_the_limit, even_at_the_limit, fmt_at_the_limit, mono_16, mono_float, stereo_24, counted, AreRead};
 ghost use Rattle.hound_reader.specs.Seeking.{way_to, container_at};
 ghost use Rattle.hound_reader.specs.declared.fault.Cause.TheVariants.{Ended, Format};
 ghost use Rattle.hound_reader.specs.declared.fault.Reason.TheVariants.{NoDataChunk};
 
 use super::*;
 use hound_medium::Tape;
-use hound_sample::Sample;
+use hound_sample::{FloatBits, Sample};
 use hound_spec::{Error, SampleFormat};
 use std::alloc::Global;
 use std::io;
@@ -258,14 +258,6 @@ fn other_chunks(rt: HostRuntime) -> Result<(), Fail> {
         &FOUR_SAMPLES[36..],
     )?;
     assert!(rt; both_read(&fact, &four));
-    // A fact chunk counts four bytes, whatever its length says.
-    let long_fact = with_chunks(
-        alloc,
-        &FOUR_SAMPLES[..36],
-        b"fact\x08\0\0\0\x04\0\0\0\0\0\0\0",
-        &FOUR_SAMPLES[36..],
-    )?;
-    assert!(rt; is_refused(&long_fact, "Other", 68));
     // The last of two fmt chunks counts.
     let mut first = [0; 24];
     first.copy_from_slice(&FOUR_SAMPLES[12..36]);
@@ -278,6 +270,37 @@ fn other_chunks(rt: HostRuntime) -> Result<(), Fail> {
     assert!(rt; both_read(&two, &four));
     let reader = WavReader::new(two.as_slice()).ok().ok_or("a file")?;
     assert_eq!(rt; reader.spec().sample_rate, 44100);
+    Ok(())
+}
+
+// Fact chunks of any length, and chunks of odd lengths with their pad byte, which has any value.
+#[test]
+fn lengths_are_obeyed(rt: HostRuntime) -> Result<(), Fail> {
+    let alloc = rt.alloc();
+    for chunk in [
+        b"fact\x08\0\0\0\x04\0\0\0\0\0\0\0".as_slice(),
+        b"fact\0\0\0\0".as_slice(),
+        b"fact\x05\0\0\0\x04\0\0\0d\0".as_slice(),
+        b"junk\x03\0\0\0abc\0".as_slice(),
+        b"junk\x03\0\0\0abcj".as_slice(),
+        b"LIST\x01\0\0\0I\xffbext\x01\0\0\0b\0".as_slice(),
+    ] {
+        let first = with_chunks(alloc, &FOUR_SAMPLES[..12], chunk, &FOUR_SAMPLES[12..])?;
+        assert!(rt; both_read(&first, &[2, -3, 5, -7]));
+        let before_data = with_chunks(alloc, &FOUR_SAMPLES[..36], chunk, &FOUR_SAMPLES[36..])?;
+        assert!(rt; both_read(&before_data, &[2, -3, 5, -7]));
+    }
+    // A pad byte that is missing is an early end.
+    let cut = with_chunks(alloc, &FOUR_SAMPLES[..36], b"junk\x03\0\0\0", b"abc")?;
+    assert!(rt; is_refused(&cut, "Other", 47));
+    // An odd chunk without a pad byte: the tag that follows loses its first byte.
+    let unpadded = with_chunks(
+        alloc,
+        &FOUR_SAMPLES[..36],
+        b"junk\x03\0\0\0abc",
+        &FOUR_SAMPLES[36..],
+    )?;
+    assert!(rt; is_refused(&unpadded, "Other", 63));
     Ok(())
 }
 
@@ -399,28 +422,31 @@ fn refused_heads(rt: HostRuntime) {
     // The data of unknown length: 4294967295 bytes are no whole samples of two.
     let unknown = [(40, 0xff), (41, 0xff), (42, 0xff), (43, 0xff)];
     assert!(rt; is_refused_with(&unknown, length, 44));
-    let past = [
-        (36, 0x6a),
-        (37, 0x75),
-        (38, 0x6e),
-        (39, 0x6b),
-        (40, 0xe0),
-        (41, 0xff),
-        (42, 0xff),
-        (43, 0xff),
+    // An unknown chunk at the limit: one of an odd length counts for its pad byte too.
+    let limits = [
+        (0xe0, "missing data chunk", 44),
+        (0xdf, "missing data chunk", 44),
+        (0xde, "Other", 52),
     ];
-    assert!(rt; is_refused_with(&past, "missing data chunk", 44));
-    let last = [
-        (36, 0x6a),
-        (37, 0x75),
-        (38, 0x6e),
-        (39, 0x6b),
-        (40, 0xdf),
-        (41, 0xff),
-        (42, 0xff),
-        (43, 0xff),
-    ];
-    assert!(rt; is_refused_with(&last, "Other", 52));
+    for (length, words, taken) in limits {
+        let junk = [
+            (36, 0x6a),
+            (37, 0x75),
+            (38, 0x6e),
+            (39, 0x6b),
+            (40, length),
+            (41, 0xff),
+            (42, 0xff),
+            (43, 0xff),
+        ];
+        assert!(rt; is_refused_with(&junk, words, taken));
+    }
+    // The limit comes before any check of a fmt chunk.
+    let longest = [(16, 0xff), (17, 0xff), (18, 0xff), (19, 0xff)];
+    assert!(rt; is_refused_with(&longest, "missing data chunk", 20));
+    // One of the greatest length within it has its checks, and then a rest.
+    let last = [(16, 0xf6), (17, 0xff), (18, 0xff), (19, 0xff)];
+    assert!(rt; is_refused_with(&last, "unexpected fmt chunk size", 36));
 }
 
 #[test]
@@ -505,6 +531,25 @@ fn waveformatextensible(rt: HostRuntime) -> Result<(), Fail> {
         )
     );
     assert_eq!(rt; reader.into_inner().taken, 68);
+    // The rest behind the forty bytes is taken, and a pad byte where it is odd.
+    for (length, rest) in [(42, b"\0\0".as_slice()), (43, b"abc\0".as_slice())] {
+        let (head, data) = float.split_at_checked(60).ok_or("a head")?;
+        let mut longer = with_chunks(alloc, head, rest, data)?;
+        if let Some(byte) = longer.get_mut(16) {
+            *byte = length;
+        }
+        let mut reader = WavReader::new(Pieces::of(&longer, 1)).ok().ok_or("a file")?;
+        assert_eq!(rt; reader.spec().sample_format, SampleFormat::Float);
+        let sample = reader.samples::<FloatBits>().next();
+        assert!(rt; matches!(sample, Some(Ok(FloatBits(0x3f80_0000)))));
+        assert_eq!(rt; reader.into_inner().taken, rest.len().saturating_add(72));
+        // It is taken behind the checks.
+        assert!(rt; is_refused(longer.get(..61).unwrap_or(&[]), "Other", 61));
+        if let Some(byte) = longer.get_mut(44) {
+            *byte = 6;
+        }
+        assert!(rt; is_refused(&longer, "Unsupported", 60));
+    }
     // Another subformat.
     let other = file(
         alloc,
@@ -538,7 +583,13 @@ fn definitions_at_files()
     ensures four_samples { Head four_samples mono_16 8 44 }
     ensures cut { Refused (take 30 four_samples) Ended }
     ensures limit { Refused past_the_limit (Format NoDataChunk) }
-    ensures fact { Refused long_fact Ended }
+    ensures long_fact { Head long_fact mono_16 8 60 }
+    ensures empty_fact { Head empty_fact mono_16 8 52 }
+    ensures odd_junk { Head odd_junk mono_16 8 56 }
+    ensures long_fmt { Head long_fmt mono_float 4 70 }
+    ensures odd_limit { Refused odd_at_the_limit (Format NoDataChunk) }
+    ensures even_limit { Refused even_at_the_limit Ended }
+    ensures fmt_limit { Refused fmt_at_the_limit (Format NoDataChunk) }
     ensures one_byte { AreRead 1 8 (0x93 ∷ 0x4b ∷ 0xd9 ∷ 0x01 ∷ 0x00 ∷ []) (pos 19 ∷ negsuc 52 ∷ pos 89 ∷ negsuc 126 ∷ negsuc 127 ∷ []) }
     ensures two_bytes { AreRead 2 16 four_containers (pos 2 ∷ negsuc 2 ∷ pos 5 ∷ negsuc 6 ∷ []) }
     ensures three_bytes { AreRead 3 24 (0xef ∷ 0xff ∷ 0xff ∷ 0x0f ∷ 0x00 ∷ 0x40 ∷ 0x13 ∷ 0x00 ∷ 0xa0 ∷ 0xe9 ∷ 0x7f ∷ 0x7f ∷ []) (negsuc 16 ∷ pos 4194319 ∷ negsuc 6291436 ∷ pos 8355817 ∷ []) }

@@ -21,7 +21,7 @@ struct SpecWords;
 
 impl SpecWords {
     ghost use Rattle.hound.specs.FmtChunk.{Extension, FieldsFit, FmtFields, extension, extension_bytes, extension_size, fmt_bytes, fmt_fields, greatest_u32, subformat};
-    ghost use Rattle.hound.specs.Header.{canonical, data_start, fields, fmt_tag, header, is_short, long_fmt, mask, riff_size, riff_tag, short_fmt, sized_fmt, wave_tag};
+    ghost use Rattle.hound.specs.Header.{canonical, data_start, fields, header, is_short, long_fmt, mask, riff_size, riff_tag, short_fmt, sized_fmt, wave_tag};
     ghost use Rattle.hound.specs.Writable.{IsPair, IsWritable, is_pair, with_default_width};
     ghost use Rattle.hound.specs.declared.Error.{Error};
     ghost use Rattle.hound.specs.declared.SampleFormat.{SampleFormat};
@@ -82,10 +82,10 @@ struct ReaderWords;
 impl ReaderWords {
     ghost use Rattle.hound.specs.Answer.{Answer, Answers, HasOneAnswer, HasOneFileAnswer, ReportsAnswer};
     ghost use Rattle.hound.specs.Cause.{Cause};
-    ghost use Rattle.hound.specs.Chunks.{Head, Readable, Refused, Unreadable, bound_of, chunk_fault, content_fault, front_fault, taken_of};
+    ghost use Rattle.hound.specs.Chunks.{Head, Readable, Refused, Unreadable, chunk_fault, content_fault, cut_fault, fault_of, first_fault, front_fault, padded};
     ghost use Rattle.hound.specs.Containers.{AreContainers};
     ghost use Rattle.hound.specs.Counting.{HasGiven, HasGiven-prop};
-    ghost use Rattle.hound.specs.Fmt.{IsSoundSpec, by_subformat, by_tag, fmt_of, wave_format, wave_format_extensible, wave_format_ieee_float, wave_format_pcm};
+    ghost use Rattle.hound.specs.Fmt.{IsSoundSpec, by_subformat, by_tag, fmt_len, fmt_of, wave_format, wave_format_extensible, wave_format_ieee_float, wave_format_pcm};
     ghost use Rattle.hound.specs.Front.{ReportsFront, TakesFront};
     ghost use Rattle.hound.specs.Item.{AnswersRead, answer_of, error_of_item, reason_of, taken_without};
     ghost use Rattle.hound.specs.Items.{AreItems, GivesItems};
@@ -95,7 +95,7 @@ impl ReaderWords {
     ghost use Rattle.hound.specs.Samples.{LendsNext, TakesNext, lender, lent_reader, taken_reader};
     ghost use Rattle.hound.specs.Seeking.{Follows, HasSought, IsAtCount, IsMeaningOf, PassesItem, ReadsInPlace, Recounts, Seeks, StandsAsCounted, bytes_before, container_at, samples_before, way_to};
     ghost use Rattle.hound.specs.Sources.{FindsData, Untouched, account_of, unread};
-    ghost use Rattle.hound.specs.Walk.{Advances, IsSoundChunk, IsSoundOption, MeetsFault, ReachesData, ReadsChunk, ReadsContent};
+    ghost use Rattle.hound.specs.Walk.{Advances, IsSoundChunk, IsSoundOption, MeetsFault, ReachesData, ReadsChunk, ReadsContent, ReadsFmt};
 
     fn read() -> bool
         ensures { result ≡ result }

@@ -1,7 +1,6 @@
 use Rattle.std.proofs.Common.{◌++◌, arith, sym, ap, ◌∙◌, length-append, take_all}
 use Rattle.std.proofs.lemmas.Result.{err_from_is_err_and}
 use Rattle.std.proofs.KnownBytes.{Consumes-trans}
-use Rattle.hound_reader.specs.Chunks.{taken_of}
 use Rattle.hound_reader.specs.Fmt.{wave_format_extensible}
 use Rattle.hound_number.specs.Number.{number}
 use Rattle.hound_reader.proofs.Gives.{ok_from_taken, err_from_taken}
@@ -9,7 +8,6 @@ use Rattle.hound_reader.proofs.FmtLemmas.{extensible_at}
 use Rattle.hound_reader.proofs.fmt.read_wave_format_extensible.Goals as goal
 
 pub returns-in_err-found-clause-gives : goal.returns-in_err-found-clause-gives
-unfolding taken_of
 returns-in_err-found-clause-gives g c =
     let p = err_from_is_err_and c.from_residual-in_err-found.result c.from_residual-in_err-found.ensures.1 in
     let a = c.fill.new.buf in
@@ -21,7 +19,6 @@ returns-in_err-found-clause-gives g c =
     (at ∙ sym c.choose_subformat.ensures.subformat ∙ c.in_err-found.was))
 
 pub returns-clause-gives : goal.returns-clause-gives
-unfolding taken_of
 returns-clause-gives g c =
     let a = c.fill.new.buf in
     let b = c.fill-2.new.buf in

@@ -1,7 +1,6 @@
 use Rattle.std.proofs.Common.{◌≡◌, true, ◌||◌, ◌==◌, ◌++◌, arith, length-append}
 use Rattle.std.proofs.lemmas.Bool.Decides.{nat_tests}
 use Rattle.std.proofs.KnownBytes.{Consumes-trans}
-use Rattle.hound_reader.specs.Chunks.{taken_of}
 use Rattle.hound_reader.specs.Fmt.{wave_format_pcm}
 use Rattle.hound_reader.proofs.Gives.{ok_from_taken}
 use Rattle.hound_reader.proofs.FmtLemmas.{pcm_forty}
@@ -9,7 +8,6 @@ use Rattle.hound_reader.proofs.fmt.read_wave_format_pcm.Goals as goal
 use Rattle.hound_reader.proofs.fmt.read_wave_format_pcm.Goals.{else-bits-ne8-via-then-bits-ne8+then-bits-ne16+else-bits-ne24, else-bits-ne8-via-then-bits-ne8+else-bits-ne16, else-bits-ne8-via-else-bits-ne8}
 
 pub returns-in_ok-fill-2-clause-gives : goal.returns-in_ok-fill-2-clause-gives
-unfolding taken_of
 returns-in_ok-fill-2-clause-gives g c =
     let bits = c.args.found.spec.bits_per_sample in
     let a = c.fill.new.buf in
