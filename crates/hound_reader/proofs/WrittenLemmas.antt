@@ -11,7 +11,7 @@ use Rattle.hound_spec.specs.declared.spec.SampleFormat.TheVariants.{Int, Float}
 use Rattle.hound_spec.specs.declared.spec.WavSpecEx.{WavSpecEx}
 use Rattle.hound_spec.specs.Writable.{IsPair, IsWritable}
 use Rattle.hound_spec.specs.FmtChunk.{FieldsFit, fmt_bytes, fmt_fields, Extension, extension_bytes, subformat, pcm, extensible, greatest_u16, greatest_u32}
-use Rattle.hound_spec.specs.Header.{riff_tag, wave_tag, fmt_tag, data_tag, is_short, mask, fields, short_fmt, long_fmt, sized_fmt, header, data_start, canonical}
+use Rattle.hound_spec.specs.Header.{riff_tag, wave_tag, fmt_tag, data_tag, is_short, mask, fields, short_fmt, long_fmt, sized_fmt, header, data_start, riff_size, padding, canonical}
 use Rattle.hound_spec.proofs.FmtLemmas.{number-bytes_of, fields_written}
 use Rattle.hound_spec.proofs.WritableLemmas.{PairFacts, pair_facts}
 use Rattle.hound_spec.proofs.HeaderLemmas.{sized_fmt-short, sized_fmt-long, length-long_fmt, length-header}
@@ -180,14 +180,15 @@ length-concat : (w : ℕ) (list : List (List ℕ)) → AllByRecursion (λ c. len
 length-concat w [] each = omega arith
 length-concat w (c ∷ list) (one, each) = let more = length-concat w list each in omega (arith, one, more, length-append c (concat list))
 
-containers-concat : (w : ℕ) (list : List (List ℕ)) → AllByRecursion (λ c. length c ≡ w) list
-    → containers w (length list) (concat list) ≡ list
-containers-concat w [] each = refl
-containers-concat w (c ∷ list) (one, each) =
-    let rest = concat list in
-    ap (λ t. t ∷ containers w (length list) (drop w (c ++ rest))) (take_at c rest w one)
-    ∙ ap (λ t. c ∷ containers w (length list) t) (drop_at c rest w one)
-    ∙ ap (λ t. c ∷ t) (containers-concat w list each)
+containers-concat : (w : ℕ) (list : List (List ℕ)) (rest : List ℕ)
+    → AllByRecursion (λ c. length c ≡ w) list → containers w (length list) (concat list ++ rest) ≡ list
+containers-concat w [] rest each = refl
+containers-concat w (c ∷ list) rest (one, each) =
+    let bytes = concat list ++ rest in
+    ap (containers w (suc (length list))) (append_assoc c (concat list) rest)
+    ∙ ap (λ t. t ∷ containers w (length list) (drop w (c ++ bytes))) (take_at c bytes w one)
+    ∙ ap (λ t. c ∷ containers w (length list) t) (drop_at c bytes w one)
+    ∙ ap (λ t. c ∷ t) (containers-concat w list rest each)
 
 -- what is written is read back
 pub canonical_back : (s : WavSpecEx) (list : List (List ℕ)) → IsWritable s → AreContainers s list
@@ -197,13 +198,15 @@ canonical_back s list w a =
     let bytes = concat list in
     let n = length-concat s.bytes_per_sample list a.each in
     let p = pair_facts s.spec.sample_format s.spec.bits_per_sample s.bytes_per_sample w.pair in
-    let size = data_start s - 8 + length bytes in
+    let size = riff_size (data_start s) (length bytes) in
+    let behind = bytes ++ padding (length bytes) in
     let div : length bytes / s.bytes_per_sample ≡ length list = ap (λ t. t / s.bytes_per_sample) (n
     ∙ add_none (length list * s.bytes_per_sample)) ∙ div-mul-add (length list) s.bytes_per_sample 0 p.some in
     let whole : length bytes % s.bytes_per_sample ≡ 0 = ap (λ t. t % s.bytes_per_sample) n
     ∙ mul-mod_left (length list) s.bytes_per_sample in
     let t1 = eq-eqb (length bytes % s.bytes_per_sample) 0 whole in
     let t2 = eq-eqb ((length bytes / s.bytes_per_sample) % s.spec.channels) 0 (ap (λ t. t % s.spec.channels) div ∙ a.frames) in (
-      record { len = length bytes; head = header_head s size (length bytes) bytes w (omega (arith, a.fits, n)); frames = rw (t1, t2) refl; count = sym div },
-      ap (containers s.bytes_per_sample (length list)) (drop_at (header s size (length bytes)) bytes (data_start s) (length-header s size (length bytes))) ∙ containers-concat s.bytes_per_sample list a.each,
+      record { len = length bytes; head = header_head s size (length bytes) behind w (omega (arith, a.fits, n)); frames = rw (t1, t2) refl; count = sym div },
+      ap (containers s.bytes_per_sample (length list)) (drop_at (header s size (length bytes)) behind (data_start s) (length-header s size (length bytes)))
+          ∙ containers-concat s.bytes_per_sample list (padding (length bytes)) a.each,
     )

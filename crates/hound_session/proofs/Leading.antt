@@ -7,7 +7,7 @@ use Rattle.hound_spec.specs.declared.error.Error.TheVariants.{IoError}
 use Rattle.hound_medium.specs.State.{MediumState}
 use Rattle.hound_writer.specs.Answers.{UnlessFailed, faults_told, mark_of}
 use Rattle.hound_writer.specs.Sizes.{ChangesSizesOnly}
-use Rattle.hound_writer.specs.Writer.{WriterState, IsWhole, IsBegun, accepted_samples, data_length, data_end}
+use Rattle.hound_writer.specs.Writer.{WriterState, IsWhole, IsBegun, accepted_samples, data_length, padded_end}
 use Rattle.hound_session.specs.declared.session.Step.{Step}
 use Rattle.hound_session.specs.Run.{Runs, NoFault}
 use Rattle.hound_session.specs.Steps.{accepted_by, accepted_by_all}
@@ -63,7 +63,7 @@ pub record Leads {M : Type 0} (state : M → MediumState) (steps : List Step) (m
   pub whole : IsWhole state old → IsWhole state new
   pub accepted : IsWhole state old → accepted_samples state new ≡ accepted_samples state old ++ accepted_by_all old.spec_ex steps marks
   pub faults : FaultsGrow (state old.medium) (state new.medium)
-  pub reach : NoFault (state old.medium) (state new.medium) → length (state new.medium).contents ≤ max (length (state old.medium).contents) (data_end new)
+  pub reach : NoFault (state old.medium) (state new.medium) → length (state new.medium).contents ≤ max (length (state old.medium).contents) (padded_end new)
 
 module _ {M : Type 0} (tells keeps : Bool) (state : M → MediumState) (told : IsTrue tells) where
   leads_still : (w : WriterState M) → Leads state [] [] w w

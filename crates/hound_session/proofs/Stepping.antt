@@ -1,5 +1,5 @@
 -- What one step did, of whatever kind it was.
-use Rattle.std.proofs.Common.{◌≡◌, ℕ, ◌+◌, ◌-◌, ◌≤◌, max, Bool, true, false, List, [], ◌++◌, length, take, drop, Result, Ok, IsTrue, refl, sym, ◌∙◌, ap, subst, arith}
+use Rattle.std.proofs.Common.{◌≡◌, ℕ, ◌+◌, ◌-◌, ◌%◌, ◌≤◌, max, Bool, true, false, List, [], ◌++◌, length, take, drop, Result, Ok, IsTrue, refl, sym, ◌∙◌, ap, subst, arith}
 use Rattle.std.proofs.lemmas.List.{append-nil, take-take}
 use Rattle.std.specs.List.{concat}
 use Rattle.hound_spec.specs.declared.error.Error.{Error}
@@ -13,8 +13,8 @@ use Rattle.hound_writer.specs.Answers.{UnlessFailed, faults_told, if_marked, mar
 use Rattle.hound_writer.specs.Counts.{Counts}
 use Rattle.hound_writer.specs.Publishing.{Checkpoints}
 use Rattle.hound_writer.specs.Sizes.{ChangesSizesOnly}
-use Rattle.hound_writer.specs.Writer.{WriterState, HasHeader, IsWhole, IsBegun, IsCounted, accepted_samples, data_length, data_end}
-use Rattle.hound_writer.proofs.Answers.{unless_failed}
+use Rattle.hound_writer.specs.Writer.{WriterState, HasHeader, IsWhole, IsBegun, IsCounted, accepted_samples, data_length, padded_end}
+use Rattle.hound_writer.proofs.Answers.{unless_failed, unless_then}
 use Rattle.hound_session.specs.declared.session.Step.{Step}
 use Rattle.hound_session.specs.declared.session.Step.TheVariants.{Whole, Bits, Batch, Flush}
 use Rattle.hound_session.specs.Run.{Takes}
@@ -53,7 +53,7 @@ pub record Did {M : Type 0} (state : M → MediumState) (asked : Result (List (L
   pub accepted : IsWhole state old → accepted_samples state new ≡ accepted_samples state old ++ if_marked (mark_of answer) asked
   pub counts : IsWhole state old → IsCounted state new
   pub faults : (state new.medium).faults ≡ faults_told answer (state old.medium).faults
-  pub reach : UnlessFailed answer (length (state new.medium).contents ≤ max (length (state old.medium).contents) (data_end new))
+  pub reach : UnlessFailed answer (length (state new.medium).contents ≤ max (length (state old.medium).contents) (padded_end new))
 
 module _ {M : Type 0} (tells keeps : Bool) (state : M → MediumState) (told : IsTrue tells) where
   accepts_did : (memory : Bool) (asked : Result (List (List ℕ)) Refusal) (answer : Result (Unit {0}) Error) (old new : WriterState M) → Accepts tells keeps state memory asked answer old new → Did state asked answer old new
@@ -70,7 +70,7 @@ module _ {M : Type 0} (tells keeps : Bool) (state : M → MediumState) (told : I
         accepted = file.accepted;
         counts = file.counts;
         faults = file.faults;
-        reach = file.reach;
+        reach = unless_then answer (λ le. omega (arith, le)) file.reach;
       }
 
   checkpoint_did : (answer : Result (Unit {0}) Error) (old new : WriterState M) → Checkpoints tells keeps state answer old new → Did state (Ok []) answer old new
@@ -87,7 +87,7 @@ module _ {M : Type 0} (tells keeps : Bool) (state : M → MediumState) (told : I
         accepted = λ whole. c.accepted told whole ∙ sym (append-nil (accepted_samples state old)) ∙ ap (λ l. accepted_samples state old ++ l) (sym none);
         counts = λ whole. subst (λ (x : _ × (ℕ × List (List ℕ))). Counts x.0 x.1.0 x.1.1 (state new.medium).contents) (λ i. (sym c.samples.spec_ex i, (sym c.samples.data_start i, sym (c.accepted told whole) i))) (p.counts whole);
         faults = p.faults;
-        reach = unless_failed answer (omega (arith, p.reach, c.samples.data_start, c.samples.data_length));
+        reach = unless_failed answer (omega (arith, p.reach, c.samples.data_start, c.samples.data_length, ap (λ n. n % 2) c.samples.data_length));
       }
     where
       nothing : (mark : Bool) → if_marked mark (Ok []) ≡ []

@@ -6,8 +6,8 @@ use Rattle.std.specs.Io.{StartsWith}
 use Rattle.hound_spec.specs.declared.error.Error.{Error}
 use Rattle.hound_spec.specs.declared.error.Error.TheVariants.{IoError, UnfinishedSample}
 use Rattle.hound_spec.specs.declared.spec.WavSpecEx.{WavSpecEx}
-use Rattle.hound_spec.specs.Header.{header, data_start, canonical, riff_size}
-use Rattle.hound_spec.proofs.HeaderLemmas.{length-header}
+use Rattle.hound_spec.specs.Header.{header, data_start, canonical}
+use Rattle.hound_spec.proofs.HeaderLemmas.{length-canonical, length-header}
 use Rattle.hound_sample.specs.Container.{containers}
 use Rattle.hound_medium.specs.State.{MediumState, WhereTells, WhereKeeps}
 use Rattle.hound_medium.specs.Bytes.{placed, overlay}
@@ -53,11 +53,6 @@ all_published (Err e) w f small same is here = absurd is
 ended : {M : Type 0} (tells keeps : Bool) (state : M → MediumState) (end : End) (last : WriterState M) (answer : Result (Unit {0}) Error) (medium : M) → Ends tells keeps state end last answer medium → (a : Result (Unit {0}) Error) × Finishes tells keeps state last a medium
 ended tells keeps state Finalize last answer medium ends = (answer, ends)
 ended tells keeps state Drop last answer medium (told, a, ends) = (a, ends)
-
-pub length-canonical : (s : WavSpecEx) (list : List (List ℕ)) → length (canonical s list) ≡ data_start s + length (concat list)
-length-canonical s list =
-    let n = length (concat list) in
-    length-append (header s (riff_size (data_start s) n) n) (concat list) ∙ ap (λ k. k + n) (length-header s (riff_size (data_start s) n) n)
 
 module _ {M : Type 0} (tells keeps : Bool) (state : M → MediumState) (begin : Begin) (steps : List Step) (marks : List Bool) (end : End) (old : M) (answer : Result (Unit {0}) Error) (medium : M) (first last : WriterState M) (answers : List (Result (Unit {0}) Error)) (cuts : List ℕ)
     (begins : Begins tells keeps state begin old first) (runs : Runs tells keeps state steps answers cuts first last) (marked : marks ≡ map mark_of answers) (ends : Ends tells keeps state end last answer medium) where

@@ -9,7 +9,7 @@ use Rattle.hound_spec.specs.declared.error.Error.TheVariants.{IoError, Unfinishe
 use Rattle.hound_spec.specs.declared.spec.WavSpecEx.{WavSpecEx}
 use Rattle.hound_spec.specs.Writable.{IsWritable}
 use Rattle.hound_spec.specs.Header.{header, data_start, canonical, riff_size}
-use Rattle.hound_spec.proofs.HeaderLemmas.{length-header, data_start_least}
+use Rattle.hound_spec.proofs.HeaderLemmas.{length-canonical, length-header, data_start_least}
 use Rattle.hound_medium.specs.State.{MediumState, one_more}
 use Rattle.hound_medium.specs.Bytes.{placed, overlay}
 use Rattle.hound_reader.specs.Chunks.{Head, data_fault}
@@ -36,7 +36,7 @@ use Rattle.hound_session.specs.Sessions.{AreSessions, RunsAgain, RunsOk, RunsOn,
 use Rattle.hound_session.specs.Steps.{accepted_by_all, accepted_by, containers_of, step_containers}
 use Rattle.hound_session.proofs.Leading.{FaultsGrow, leads, grow_then, grows_told, length-concat-append, no_fault_parts, unless_told}
 use Rattle.hound_session.proofs.Stepping.{did}
-use Rattle.hound_session.proofs.Whole.{all_published, length-canonical, none_accepted}
+use Rattle.hound_session.proofs.Whole.{all_published, none_accepted}
 
 containers_of-append : (s : WavSpecEx) (xs ys : List Step) → containers_of s (xs ++ ys) ≡ containers_of s xs ++ containers_of s ys
 containers_of-append s [] ys = refl

@@ -1,12 +1,14 @@
 -- How long a header is.
-use Rattle.std.proofs.Common.{◌≡◌, ℕ, ◌+◌, ◌≤◌, true, false, List, ◌++◌, length, refl, sym, ◌∙◌, ap, inl, inr, arith, append_assoc, length-append}
+use Rattle.std.proofs.Common.{◌≡◌, ℕ, ◌+◌, ◌%◌, ◌≤◌, true, false, List, ◌++◌, length, refl, sym, ◌∙◌, ap, inl, inr, arith, append_assoc, length-append}
 use Rattle.std.proofs.lemmas.Bool.{cases_Bool}
+use Rattle.std.proofs.lemmas.List.{length-replicate}
+use Rattle.std.specs.List.{concat}
 use Rattle.hound_number.specs.Number.{bytes_of}
 use Rattle.hound_spec.specs.declared.spec.SampleFormat.{SampleFormat}
 use Rattle.hound_spec.specs.declared.spec.SampleFormat.TheVariants.{Int, Float}
 use Rattle.hound_spec.specs.declared.spec.WavSpecEx.{WavSpecEx}
 use Rattle.hound_spec.specs.FmtChunk.{subformat}
-use Rattle.hound_spec.specs.Header.{is_short, riff_tag, wave_tag, fmt_tag, data_tag, short_fmt, long_fmt, sized_fmt, header, data_start}
+use Rattle.hound_spec.specs.Header.{is_short, riff_tag, wave_tag, fmt_tag, data_tag, short_fmt, long_fmt, sized_fmt, header, data_start, riff_size, padding, canonical}
 
 pub length-subformat : (f : SampleFormat) → length (subformat f) ≡ 16
 length-subformat Int = refl
@@ -73,3 +75,13 @@ header-parts s size data_length =
 pub length-described : (s : WavSpecEx) → length (described s) + 12 ≡ data_start s
 length-described s =
     omega (arith, length-header s 0 0, ap length (header-parts s 0 0), length-append riff_tag (bytes_of 4 0 ++ (described s ++ bytes_of 4 0)), length-append (bytes_of 4 0) (described s ++ bytes_of 4 0), length-append (described s) (bytes_of 4 0))
+
+-- the pad byte is there for an odd length
+pub length-padding : (n : ℕ) → length (padding n) ≡ n % 2
+length-padding n = length-replicate (n % 2) 0
+
+pub length-canonical : (s : WavSpecEx) (list : List (List ℕ)) → length (canonical s list) ≡ data_start s + length (concat list) + length (concat list) % 2
+length-canonical s list =
+    let n = length (concat list) in
+    length-append (header s (riff_size (data_start s) n) n) (concat list ++ padding n)
+    ∙ omega (arith, length-header s (riff_size (data_start s) n) n, length-append (concat list) (padding n), length-padding n)

@@ -1,5 +1,5 @@
 -- The header of a file that is written, and the whole file.
-use Rattle.std.specs.Prelude.{ℕ, ◌+◌, ◌-◌, ◌*◌, ◌^◌, min, Bool, ◌&&◌, nat_le, if◌then◌else◌, List, ◌++◌, length, codes}
+use Rattle.std.specs.Prelude.{ℕ, ◌+◌, ◌-◌, ◌*◌, ◌^◌, ◌%◌, min, Bool, ◌&&◌, nat_le, if◌then◌else◌, List, ◌++◌, length, codes, replicate}
 use Rattle.std.specs.List.{concat}
 use Rattle.hound_number.specs.Number.{bytes_of}
 use Rattle.hound_spec.specs.FmtChunk.{FmtFields, fmt_bytes, Extension, extension_bytes, extension_size, subformat, pcm, extensible}
@@ -71,13 +71,18 @@ abbrev pub data_start : WavSpecEx → ℕ
 data_start s = if is_short s then 44 else 68
 
 -- The RIFF size of a file whose data begin here and are so many bytes: all that stands behind the
--- size field.
+-- size field, with the pad byte of data of an odd length.
 abbrev pub riff_size : ℕ → ℕ → ℕ
-riff_size start data_length = start - 8 + data_length
+riff_size start data_length = start - 8 + data_length + data_length % 2
+
+-- The pad byte behind data of an odd length, which the data length doesn't count (RIFF, "Chunks").
+abbrev pub padding : ℕ → List ℕ
+padding data_length = replicate (data_length % 2) 0
 
 -- The canonical file of a spec and a list of containers: the header with the two sizes, then the
--- containers joined.
+-- containers joined, then the pad byte.
 abbrev pub canonical : WavSpecEx → List (List ℕ) → List ℕ
 canonical s containers =
     let data_length = length (concat containers) in
-    header s (riff_size (data_start s) data_length) data_length ++ concat containers
+    header s (riff_size (data_start s) data_length) data_length
+    ++ (concat containers ++ padding data_length)

@@ -16,6 +16,7 @@ use Rattle.hound_writer.proofs.Accepting.{accepts_all, at_each, data_stays, fron
 use Rattle.hound_writer.proofs.Containers.{joined_bytes, none_whole, whole_more}
 use Rattle.hound_writer.proofs.Counted.{counts_more}
 use Rattle.hound_writer.proofs.Keeping.{consistent_moved}
+use Rattle.hound_writer.proofs.PutsFrom.{puts_from}
 use Rattle.hound_writer.proofs.Samples.{counts_at, samples_more, samples_parts}
 use Rattle.hound_writer.proofs.Standing.{stands_more}
 
@@ -142,12 +143,13 @@ module _ {W : Type 0} (tells keeps : Bool) (state : W → MediumState) (w : Writ
     moments_out told kept = record {
       adds = moments (at_each tells keeps state shorter refl sound_shorter stands m w.waiting (all_out all) told (puts told) kept (replays told kept));
       front = front_at_each tells keeps state shorter refl sound_shorter stands m w.waiting (all_out all) told (puts told) kept (replays told kept);
+      behind = puts_from w.data_start end (take (puts told).count w.waiting) old (state m) (omega arith) ((puts told).past kept);
     }
 
     same_out : (told : IsTrue tells) → IsWhole state w → take w.out (drop w.data_start (state m).contents) ≡ take w.out (drop w.data_start old.contents)
     same_out told = data_stays tells keeps state shorter refl sound_shorter stands m w.waiting (all_out all) told (puts told)
 
-    around : IsTrue tells → StaysAround state w (state m)
+    around : IsTrue tells → StaysAround state (data_end w) w (state m)
     around told =
         let p = puts told in
         let at : end + length w.waiting ≡ data_end w = omega arith in
@@ -160,7 +162,7 @@ module _ {W : Type 0} (tells keeps : Bool) (state : W → MediumState) (w : Writ
           reach = omega (arith, reach tells keeps state shorter refl sound_shorter stands m w.waiting (all_out all) told p);
         }
 
-  pub goes_out : (all : Bool) → WhereTells tells (PutsAt keeps (w.data_start + w.out) w.waiting (all_out all) (state w.medium) (state m)) → GoesOut tells keeps state all w (after_out all m w)
+  pub goes_out : (all : Bool) → WhereTells tells (PutsAt keeps (w.data_start + w.out) w.waiting (all_out all) (state w.medium) (state m)) → GoesOut tells keeps state (data_end w) all w (after_out all m w)
   goes_out true puts = record {
     value = refl;
     sound = known.sound;
@@ -221,9 +223,9 @@ module _ {W : Type 0} (tells keeps : Bool) (state : W → MediumState) (w : Writ
   consistent_cut puts = consistent_moved tells state w m moved limit known (λ told. (around false puts told).stands)
 
 -- where nothing waits nothing goes out
-pub goes_out_nothing : {W : Type 0} (tells keeps : Bool) (state : W → MediumState) (w : WriterState W) (moved : Bool) (limit : ℕ) → IsConsistent tells state w moved limit
-    → WhereKeeps tells keeps ((state w.medium).contents ≡ overlay (state w.medium).start (state w.medium).past) → length w.waiting ≡ 0 → GoesOut tells keeps state true w w
-goes_out_nothing tells keeps state w moved limit known replays none =
+pub goes_out_nothing : {W : Type 0} (tells keeps : Bool) (state : W → MediumState) (far : ℕ) (w : WriterState W) (moved : Bool) (limit : ℕ) → IsConsistent tells state w moved limit
+    → WhereKeeps tells keeps ((state w.medium).contents ≡ overlay (state w.medium).start (state w.medium).past) → length w.waiting ≡ 0 → GoesOut tells keeps state far true w w
+goes_out_nothing tells keeps state far w moved limit known replays none =
     let old = state w.medium in
     let end = w.data_start + w.out in
     let counts : IsTrue tells → IsWhole state w → Counts w.spec_ex w.data_start (accepted_samples state w) old.contents =
@@ -244,6 +246,7 @@ goes_out_nothing tells keeps state w moved limit known replays none =
           front = λ whole. span_still (λ _ c. take end c ≡ take end old.contents) 0 old old (replays told kept) refl refl refl;
         };
         front = span_still (λ _ c. take w.data_start c ≡ take w.data_start old.contents) 0 old old (replays told kept) refl refl refl;
+        behind = λ i from to. absurd (omega (arith, from, to));
       };
     }
 
@@ -253,15 +256,15 @@ pub puts_same : {T E : Type 0} (tells keeps : Bool) (at : ℕ) (bytes same : Lis
 puts_same tells keeps at bytes same result old new is puts told = subst (λ l. PutsAt keeps at l result old new) is (puts told)
 
 -- the same of writers as contracts see them
-pub goes_out_seen : {W : Type 0} (tells keeps : Bool) (state : W → MediumState) (all : Bool) (a w new : WriterState W) (m : W) → a ≡ w → new ≡ after_out all m a → GoesOut tells keeps state all a (after_out all m a) → GoesOut tells keeps state all w new
+pub goes_out_seen : {W : Type 0} (tells keeps : Bool) (state : W → MediumState) (all : Bool) (a w new : WriterState W) (m : W) → a ≡ w → new ≡ after_out all m a → GoesOut tells keeps state (data_end a) all a (after_out all m a) → GoesOut tells keeps state (data_end w) all w new
 goes_out_seen tells keeps state all a w new m same is out =
-    subst (GoesOut tells keeps state all w) (sym is) (subst (λ v. GoesOut tells keeps state all v (after_out all m a)) same out)
+    subst (GoesOut tells keeps state (data_end w) all w) (sym is) (subst (λ v. GoesOut tells keeps state (data_end v) all v (after_out all m a)) same out)
 
 -- containers are put at once, where nothing waits
 module _ {W : Type 0} (tells keeps : Bool) (state : W → MediumState) (w : WriterState W) (moved : Bool) (limit : ℕ) (known : IsConsistent tells state w moved limit) (none : w.waiting ≡ [])
     (m : W) (bytes : List ℕ) where
-  pub cut_at_once : WhereTells tells (PutsAt keeps (w.data_start + w.out) bytes (all_out false) (state w.medium) (state m)) → IsConsistent tells state (record w { medium = m }) true limit
-  cut_at_once puts = consistent_moved tells state w m moved limit known (λ told. still tells keeps state w none known.sound known.stands m bytes (all_out false) told (puts told))
+  pub cut_at_once : (all : Bool) → WhereTells tells (PutsAt keeps (w.data_start + w.out) bytes (all_out all) (state w.medium) (state m)) → IsConsistent tells state (record w { medium = m }) true limit
+  cut_at_once all puts = consistent_moved tells state w m moved limit known (λ told. still tells keeps state w none known.sound known.stands m bytes (all_out all) told (puts told))
 
   pub kept_at_once : (next : ℕ) → IsLimit w.data_start (w.out + length bytes) next → HasRoom w (length bytes) → length bytes % w.spec_ex.bytes_per_sample ≡ 0
       → WhereTells tells (PutsAt keeps (w.data_start + w.out) bytes (all_out true) (state w.medium) (state m)) → IsConsistent tells state (record w { medium = m; out = w.out + length bytes }) false next

@@ -18,7 +18,7 @@ use Rattle.hound_writer.proofs.Answers.{unless_then}
 use Rattle.hound_writer.specs.Writer.{WriterState, HasRoom, IsWhole, accepted_samples, data_length, data_end}
 
 -- bytes behind others that stay, stay
-drop_later : (n m : ℕ) (a b : List ℕ) → n ≤ m → drop n a ≡ drop n b → drop m a ≡ drop m b
+pub drop_later : (n m : ℕ) (a b : List ℕ) → n ≤ m → drop n a ≡ drop n b → drop m a ≡ drop m b
 drop_later n m a b le same =
     let at : n + (m - n) ≡ m = omega (arith, le) in
     (λ i. drop (sym at i) a) ∙ sym (drop-drop (m - n) n a) ∙ ap (drop (m - n)) same ∙ drop-drop (m - n) n b ∙ (λ i. drop (at i) b)
@@ -31,7 +31,7 @@ answers_same memory (Ok list) answer a b start size here =
 answers_same memory (Err refusal) answer a b start size here = here
 
 -- all of it
-module _ {W : Type 0} (tells keeps : Bool) (state : W → MediumState) (a : WriterState W) (m : W) (out : GoesOut tells keeps state true a (after_out true m a)) where
+module _ {W : Type 0} (tells keeps : Bool) (state : W → MediumState) (far : ℕ) (a : WriterState W) (m : W) (out : GoesOut tells keeps state far true a (after_out true m a)) where
   abbrev b : WriterState W
   b = after_out true m a
 
@@ -71,9 +71,9 @@ module _ {W : Type 0} (tells keeps : Bool) (state : W → MediumState) (a : Writ
             (λ j c same. front_later told whole c same) (at_each.front (f.whole whole)));
       }
 
-  accepts_after : (memory : Bool) (asked : Result (List (List ℕ)) Refusal) (answer : Result (Unit {0}) Error) (c : WriterState W) → IfErr answer IsIoError
+  accepts_after : far ≤ data_end a → (memory : Bool) (asked : Result (List (List ℕ)) Refusal) (answer : Result (Unit {0}) Error) (c : WriterState W) → IfErr answer IsIoError
       → Accepts tells keeps state memory asked answer b c → Accepts tells keeps state memory asked answer a c
-  accepts_after memory asked answer c failed accepts =
+  accepts_after near memory asked answer c failed accepts =
       let adds = accepts.adds in
       let end : data_end a ≤ data_end c = omega (arith, adds.data_start, adds.data_length, length_same) in
       record {
@@ -91,8 +91,8 @@ module _ {W : Type 0} (tells keeps : Bool) (state : W → MediumState) (a : Writ
             record {
               faults = g.faults ∙ ap (faults_told answer) f.faults;
               front = g.front ∙ f.around.front;
-              rest = unless_then answer (λ same. same ∙ drop_later (data_end a) (data_end c) then first end f.around.rest) g.rest;
-              reach = unless_then answer (λ le. omega (arith, le, f.around.reach, end)) g.reach;
+              rest = unless_then answer (λ same. same ∙ drop_later far (data_end c) then first (omega (arith, near, end)) f.around.rest) g.rest;
+              reach = unless_then answer (λ le. omega (arith, le, f.around.reach, near, end)) g.reach;
               whole = λ whole. g.whole (f.whole whole);
               accepted = λ whole. g.accepted (f.whole whole) ∙ ap (λ l. l ++ if_marked (mark_of answer) asked) (f.accepted whole);
               counts = λ whole. g.counts (f.whole whole);
@@ -101,17 +101,17 @@ module _ {W : Type 0} (tells keeps : Bool) (state : W → MediumState) (a : Writ
       }
 
 -- containers that are accepted once what waited is out
-pub accepts_later : {W : Type 0} (tells keeps : Bool) (state : W → MediumState) (a b c : WriterState W) (bytes : List ℕ) (answer : Result (Unit {0}) Error) → GoesOut tells keeps state true a b → IfErr answer IsIoError
+pub accepts_later : {W : Type 0} (tells keeps : Bool) (state : W → MediumState) (a b c : WriterState W) (bytes : List ℕ) (answer : Result (Unit {0}) Error) → GoesOut tells keeps state (data_end a) true a b → IfErr answer IsIoError
     → Accepts tells keeps state false (Ok (containers b.spec_ex.bytes_per_sample (length bytes / b.spec_ex.bytes_per_sample) bytes)) answer b c
     → Accepts tells keeps state false (Ok (containers a.spec_ex.bytes_per_sample (length bytes / a.spec_ex.bytes_per_sample) bytes)) answer a c
 accepts_later tells keeps state a b c bytes answer out failed accepts =
-    accepts_after tells keeps state a b.medium (subst (GoesOut tells keeps state true a) out.value out) false (Ok (containers a.spec_ex.bytes_per_sample (length bytes / a.spec_ex.bytes_per_sample) bytes)) answer c failed
+    accepts_after tells keeps state (data_end a) a b.medium (subst (GoesOut tells keeps state (data_end a) true a) out.value out) (omega arith) false (Ok (containers a.spec_ex.bytes_per_sample (length bytes / a.spec_ex.bytes_per_sample) bytes)) answer c failed
     (subst (λ v. Accepts tells keeps state false (Ok (containers v.spec_ex.bytes_per_sample (length bytes / v.spec_ex.bytes_per_sample) bytes)) answer v c) out.value accepts)
 
 -- containers that aren't, since it didn't go out
-pub accepts_cut : {W : Type 0} (tells keeps : Bool) (state : W → MediumState) (a b : WriterState W) (bytes : List ℕ) (e : IoFault) → GoesOut tells keeps state false a b → HasRoom a (length bytes) → length bytes % a.spec_ex.bytes_per_sample ≡ 0
+pub accepts_cut : {W : Type 0} (tells keeps : Bool) (state : W → MediumState) (far : ℕ) (a b : WriterState W) (bytes : List ℕ) (e : IoFault) → GoesOut tells keeps state far false a b → HasRoom a (length bytes) → length bytes % a.spec_ex.bytes_per_sample ≡ 0
     → Accepts tells keeps state false (Ok (containers a.spec_ex.bytes_per_sample (length bytes / a.spec_ex.bytes_per_sample) bytes)) (Err (IoError e)) a b
-accepts_cut tells keeps state a b bytes e out room whole = record {
+accepts_cut tells keeps state far a b bytes e out room whole = record {
   adds = record {
     answers = subst (λ fits. FitAnswer {T = Unit {0}} fits false (Err (IoError e))) (sym (room_fits a bytes room whole)) tt;
     refused = tt;
@@ -136,3 +136,28 @@ accepts_cut tells keeps state a b bytes e out room whole = record {
 pub kept_fails : (done : Bool) (fault : IoFault) → IfErr (or_fault done fault) IsIoError
 kept_fails true fault = tt
 kept_fails false fault = tt
+
+-- what bytes leave as it was that reach no further than a place, they leave so behind a later one
+pub goes_further : {W : Type 0} (tells keeps : Bool) (state : W → MediumState) (near far : ℕ) (all : Bool) (a b : WriterState W) → near ≤ far → GoesOut tells keeps state near all a b → GoesOut tells keeps state far all a b
+goes_further tells keeps state near far all a b le out = record {
+  value = out.value;
+  sound = out.sound;
+  file = λ told.
+      let f = out.file told in
+      let around = f.around in
+      record {
+        faults = f.faults;
+        around = record {
+          stands = around.stands;
+          front = around.front;
+          out = around.out;
+          rest = drop_later near far (state b.medium).contents (state a.medium).contents le around.rest;
+          grows = around.grows;
+          reach = omega (arith, around.reach, le);
+        };
+        whole = f.whole;
+        accepted = f.accepted;
+        counts = f.counts;
+      };
+  moments = out.moments;
+}

@@ -8,7 +8,9 @@ pub mod Keeping
 pub mod Answers
 pub mod Samples
 pub mod Accepting
+pub mod PutsFrom
 pub mod Blocks
+pub mod Padding
 pub mod Patching
 pub mod PatchMoments
 pub mod Publishing

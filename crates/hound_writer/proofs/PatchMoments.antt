@@ -3,12 +3,13 @@ use Rattle.std.proofs.Common.{◌≡◌, ℕ, suc, ◌+◌, ◌-◌, ◌<◌, �
 use Rattle.std.proofs.lemmas.Bool.{cases_lt, false≢true}
 use Rattle.std.proofs.lemmas.List.{take-take, length-take-le, get_or_at}
 use Rattle.std.proofs.lemmas.Result.{on_ok_weaker}
+use Rattle.std.specs.Io.{StartsWith}
 use Rattle.std.specs.declared.io.Error.{Error as IoFault}
 use Rattle.hound_number.specs.Number.{bytes_of, mix, AreBytes}
 use Rattle.hound_number.proofs.Mixing.{mix_none, mix_all}
 use Rattle.hound_medium.specs.Bytes.{placed, overlay, moment}
 use Rattle.hound_medium.specs.State.{MediumState, Stays, WhereTells, WhereKeeps}
-use Rattle.hound_spec.specs.Header.{riff_size}
+use Rattle.hound_spec.specs.Header.{riff_size, padding}
 use Rattle.hound_sample.specs.Container.{containers}
 use Rattle.hound_medium.specs.Spans.{Span}
 use Rattle.hound_medium.proofs.Outcomes.{from_ok}
@@ -21,8 +22,9 @@ use Rattle.hound_writer.specs.Parts.{HasSize, IsPatched, Patches, PatchesAtEach,
 use Rattle.hound_writer.specs.Answers.{IsPublishing}
 use Rattle.hound_writer.specs.Publishing.{Checkpoints, Finishes, Publishes, IsHalfPublished, IsOldOrNew, PublishesAtEach, PutsLast, place_of}
 use Rattle.hound_writer.specs.Sizes.{field}
-use Rattle.hound_writer.specs.Writer.{WriterState, AreFrames, IsSound, IsWhole, accepted_samples, data_length, sample_count}
+use Rattle.hound_writer.specs.Writer.{WriterState, AreFrames, IsPadded, IsSound, IsWhole, accepted_samples, data_length, data_end, sample_count}
 use Rattle.hound_writer.proofs.Answers.{published}
+use Rattle.hound_writer.proofs.Later.{drop_later}
 use Rattle.hound_writer.proofs.Publishing.{publishes}
 use Rattle.hound_writer.proofs.Samples.{counts_at, length_out, whole_out}
 use Rattle.hound_writer.proofs.Sizes.{same_reflexive, same_transitive, same_riff, field_riff, same_length}
@@ -150,9 +152,9 @@ old_or_new p new split a b has small span puts whole k from to outside =
     ]
 
 -- what a patch of a writer's file is at each moment, by the answer of the call that does it
-pub publishes_at_each : {W : Type 0} (state : W → MediumState) (w : WriterState W) (none : w.waiting ≡ []) → IsSound w → IsStanding w.spec_ex w.data_start w.out (state w.medium).contents → AreBytes (state w.medium).contents
+pub publishes_at_each : {W : Type 0} (state : W → MediumState) (w : WriterState W) (none : w.waiting ≡ []) → IsSound w → IsStanding w.spec_ex w.data_start w.out (state w.medium).contents → IsPadded w (state w.medium).contents → AreBytes (state w.medium).contents
     → (end : W) (patched : Result (Unit {0}) IoFault) (are_frames : Bool) (told : Result (Unit {0}) Error) → IsTold patched are_frames told → PatchesAtEach (w.data_start - 4) w.out patched (state w.medium) (state end) → PublishesAtEach state w told end
-publishes_at_each state w none sound stands small end patched are_frames told is patches =
+publishes_at_each state w none sound stands padded small end patched are_frames told is patches =
     let p = w.data_start - 4 in
     let old = (state w.medium).contents in
     let split = patches.split in
@@ -164,6 +166,8 @@ publishes_at_each state w none sound stands small end patched are_frames told is
     λ c same. ap (take w.out) ((λ i. drop (sym start i) c) ∙ same ∙ (λ i. drop (start i) old)) in
     let counts : IsWhole state w → (j : ℕ) (c : List ℕ) → IsPatched p old w.out j c → Counts w.spec_ex w.data_start (accepted_samples state w) c =
     λ whole j c at. counts_at state w sound (whole_out state w none sound) c whole (stands_patched w.spec_ex w.data_start w.out old c stands j at.same at.field) (samples c at.same.behind) in
+    let behind : (c : List ℕ) → drop (p + 4) c ≡ drop (p + 4) old → drop (data_end w) c ≡ drop (data_end w) old =
+    λ c same. drop_later (p + 4) (data_end w) c old (omega (arith, start)) same in
     let half : (j : ℕ) (c : List ℕ) → IsPatched p old w.out j c → IsHalfPublished w old j c =
     λ j c at. record { front = record { front = at.same.front; middle = at.same.middle }; out = λ _. samples c at.same.behind; length_is = at.field ∙ ap (mix j (field p old)) all } in
     record {
@@ -174,6 +178,8 @@ publishes_at_each state w none sound stands small end patched are_frames told is
       whole = published (length (state end).past ≡ split + 4) patched are_frames told is patches.whole;
       old_or_new = subst (λ n. IsOldOrNew p (field p old) n (state w.medium) (state end)) all
           (old_or_new p w.out split (state w.medium) (state end) has (omega (arith, sound.fits, sound.after_head, all)) span patches.puts);
+      padded = λ i k from more before later to. let c = moment (state end).start (state end).past k in
+          subst (λ l. StartsWith l (padding (data_length w))) (sym (behind c (span.each k (omega (arith, from, later)) to).same.behind)) padded;
     }
 
 pub patches_at_each_seen : {W : Type 0} (state : W → MediumState) (a b : WriterState W) (result : Result (Unit {0}) IoFault) (end : MediumState) → a ≡ b
@@ -182,7 +188,7 @@ patches_at_each_seen state a b result end same patches = subst (λ w. PatchesAtE
 
 -- a call of a writer that patches, and the answer by its frames
 module _ {W : Type 0} (tells keeps : Bool) (state : W → MediumState) (w : WriterState W) (end : W) (none : w.waiting ≡ []) (sound : IsSound w)
-    (stands : WhereTells tells (IsStanding w.spec_ex w.data_start w.out (state w.medium).contents))
+    (stands : WhereTells tells (IsStanding w.spec_ex w.data_start w.out (state w.medium).contents)) (padded : WhereTells tells (IsPadded w (state w.medium).contents))
     (patched : Result (Unit {0}) IoFault) (are_frames : Bool) (told : Result (Unit {0}) Error) (is : IsTold patched are_frames told)
     (new : WriterState W) (same : new ≡ record w { medium = end }) (of_new : (IsTrue are_frames → AreFrames new) × (AreFrames new → IsTrue are_frames))
     (before : WhereTells tells (AreBytes (state w.medium).contents)) (after : WhereTells tells (AreBytes (state end).contents))
@@ -200,10 +206,10 @@ module _ {W : Type 0} (tells keeps : Bool) (state : W → MediumState) (w : Writ
       go (Ok x) false told is frames = subst (λ t. IsPublishing t w) (sym is) (λ are. absurd (false≢true (frames.1 are)))
 
   published_all : WhereTells tells (Publishes state w told end)
-  published_all known = publishes state w none sound (stands known) end patched are_frames told is frames.0 (after known) (patches known)
+  published_all known = publishes state w none sound (stands known) (padded known) end patched are_frames told is frames.0 (after known) (patches known)
 
   at_each : WhereKeeps tells keeps (PublishesAtEach state w told end)
-  at_each known kept = publishes_at_each state w none sound (stands known) (before known) end patched are_frames told is (moments known kept)
+  at_each known kept = publishes_at_each state w none sound (stands known) (padded known) (before known) end patched are_frames told is (moments known kept)
 
   -- `flush`
   pub checkpoints : Checkpoints tells keeps state told w new

@@ -1,7 +1,7 @@
--- A call that publishes: what waits goes out before, and where it doesn't nothing is patched.
+-- A call that publishes: what waits goes out before, and the pad byte, and where they don't nothing is patched.
 use Rattle.std.proofs.Common.{◌≡◌, ℕ, ◌+◌, ◌-◌, ◌≤◌, inl, inr, Bool, true, false, IsTrue, ◌/◌, ◌%◌, Result, Ok, Err, OnOk, List, length, take, drop, refl, sym, ◌∙◌, ap, subst, arith, length-append, length-take}
 use Rattle.std.proofs.lemmas.Bool.{cases_lt}
-use Rattle.std.proofs.lemmas.List.{take-take}
+use Rattle.std.proofs.lemmas.List.{get_or_append_left, take-take}
 use Rattle.std.specs.List.{concat}
 use Rattle.std.specs.Io.{StartsWith}
 use Rattle.std.specs.declared.io.Error.{Error as IoFault}
@@ -15,16 +15,16 @@ use Rattle.hound_medium.proofs.Spans.{join, moment_before, span_weaker}
 use Rattle.hound_medium.proofs.Torn.{number_at_small}
 use Rattle.hound_spec.specs.declared.error.Error.{Error}
 use Rattle.hound_spec.specs.declared.error.Error.TheVariants.{IoError, UnfinishedSample}
-use Rattle.hound_spec.specs.Header.{canonical, header, riff_size}
+use Rattle.hound_spec.specs.Header.{canonical, header, padding, riff_size}
 use Rattle.hound_spec.proofs.HeaderLemmas.{length-header}
 use Rattle.hound_writer.specs.Answers.{IsPublishing, OnPublished, faults_told}
 use Rattle.hound_writer.specs.Block.{GoesAtEach, GoesOut, StaysAround, after_out}
 use Rattle.hound_writer.specs.Counts.{Counts}
-use Rattle.hound_writer.specs.Publishing.{Checkpoints, Finishes, IsHalfPublished, IsOldOrNew, Publishes, PublishesAtEach, ReadsAs}
+use Rattle.hound_writer.specs.Publishing.{Checkpoints, Finishes, IsHalfPublished, IsOldOrNew, OncePutBefore, Publishes, PublishesAtEach, ReadsAs, place_of}
 use Rattle.hound_writer.specs.Sizes.{ChangesSizesOnly, field}
-use Rattle.hound_writer.specs.Writer.{WriterState, AreFrames, IsBegun, IsSound, HasHeader, accepted_samples, data_length}
+use Rattle.hound_writer.specs.Writer.{WriterState, AreFrames, IsBegun, IsPadded, IsSound, HasHeader, accepted_samples, data_length, padded_end}
 use Rattle.hound_writer.proofs.Answers.{on_published_then}
-use Rattle.hound_writer.proofs.Later.{counts_later, length_same}
+use Rattle.hound_writer.proofs.Later.{counts_later, goes_further, length_same}
 use Rattle.hound_writer.proofs.Standing.{inside}
 
 -- bytes before the data that stay
@@ -61,7 +61,7 @@ module _ {W : Type 0} (state : W → MediumState) (a : WriterState W) (sound : I
   data_of c same = front_part (start + a.out) start a.out c first (omega arith) same
 
   -- while what waits goes out the data length is the old one
-  module _ (small : AreBytes (state a.medium).contents) (m : MediumState) (around : StaysAround state a m) (goes : GoesAtEach state a m) where
+  module _ {far : ℕ} (small : AreBytes (state a.medium).contents) (m : MediumState) (around : StaysAround state far a m) (goes : GoesAtEach state a m) where
     there : start ≤ length first
     there = omega (arith, ap length around.front, length-take start m.contents, length-take start first, inside a.spec_ex start a.out m.contents m.contents around.stands)
 
@@ -89,7 +89,7 @@ module _ {W : Type 0} (state : W → MediumState) (a : WriterState W) (sound : I
     }
 
 -- nothing is published where it doesn't go out
-module _ {W : Type 0} (tells keeps : Bool) (state : W → MediumState) (a : WriterState W) (m : W) (out : GoesOut tells keeps state false a (after_out false m a)) (e : IoFault) where
+module _ {W : Type 0} (tells keeps : Bool) (state : W → MediumState) (a : WriterState W) (m : W) (out : GoesOut tells keeps state (padded_end a) false a (after_out false m a)) (e : IoFault) where
   publishes_cut : IsTrue tells → Publishes state a (Err (IoError e)) m
   publishes_cut told =
       let f = out.file told in
@@ -107,6 +107,7 @@ module _ {W : Type 0} (tells keeps : Bool) (state : W → MediumState) (a : Writ
         riff_says = tt;
         length_says = tt;
         stand = λ _. tt;
+        padded = tt;
         read = λ _. tt;
         canonical = λ _ _. tt;
       }
@@ -123,6 +124,7 @@ module _ {W : Type 0} (tells keeps : Bool) (state : W → MediumState) (a : Writ
         puts = record { later = longer state a out.sound small (state m) around goes; within = omega arith; first = λ more. absurd (omega (arith, more)) };
         whole = tt;
         old_or_new = λ each k from to outside. inl (field_of state a out.sound (moment (state m).start (state m).past k) (goes.front.each k from to));
+        padded = λ i k from to before later last. absurd (omega (arith, before, goes.behind i from to));
       }
 
   checkpoints_of : WhereTells tells (AreBytes (state a.medium).contents) → Checkpoints tells keeps state (Err (IoError e)) a (after_out false m a)
@@ -139,17 +141,20 @@ module _ {W : Type 0} (tells keeps : Bool) (state : W → MediumState) (a : Writ
   finishes_of small = record { answers = tt; publishes = publishes_cut; place = λ _. tt; moments = λ told kept. publishes_at_each_cut told kept (small told) }
 
 -- the same of a writer as contracts see it
-pub checkpoints_cut : {W : Type 0} (tells keeps : Bool) (state : W → MediumState) (a b : WriterState W) (e : IoFault) → GoesOut tells keeps state false a b → WhereTells tells (AreBytes (state a.medium).contents)
+pub checkpoints_cut : {W : Type 0} (tells keeps : Bool) (state : W → MediumState) (far : ℕ) (a b : WriterState W) (e : IoFault) → far ≤ padded_end a → GoesOut tells keeps state far false a b → WhereTells tells (AreBytes (state a.medium).contents)
     → Checkpoints tells keeps state (Err (IoError e)) a b
-checkpoints_cut tells keeps state a b e out small =
-    subst (Checkpoints tells keeps state (Err (IoError e)) a) (sym out.value) (checkpoints_of tells keeps state a b.medium (subst (GoesOut tells keeps state false a) out.value out) e small)
+checkpoints_cut tells keeps state far a b e within out small =
+    let further = goes_further tells keeps state far (padded_end a) false a b within out in
+    subst (Checkpoints tells keeps state (Err (IoError e)) a) (sym out.value) (checkpoints_of tells keeps state a b.medium (subst (GoesOut tells keeps state (padded_end a) false a) out.value further) e small)
 
-pub finishes_cut : {W : Type 0} (tells keeps : Bool) (state : W → MediumState) (a b : WriterState W) (e : IoFault) → GoesOut tells keeps state false a b → WhereTells tells (AreBytes (state a.medium).contents)
+pub finishes_cut : {W : Type 0} (tells keeps : Bool) (state : W → MediumState) (far : ℕ) (a b : WriterState W) (e : IoFault) → far ≤ padded_end a → GoesOut tells keeps state far false a b → WhereTells tells (AreBytes (state a.medium).contents)
     → Finishes tells keeps state a (Err (IoError e)) b.medium
-finishes_cut tells keeps state a b e out small = finishes_of tells keeps state a b.medium (subst (GoesOut tells keeps state false a) out.value out) e small
+finishes_cut tells keeps state far a b e within out small =
+    let further = goes_further tells keeps state far (padded_end a) false a b within out in
+    finishes_of tells keeps state a b.medium (subst (GoesOut tells keeps state (padded_end a) false a) out.value further) e small
 
 -- what is published once all went out
-module _ {W : Type 0} (tells keeps : Bool) (state : W → MediumState) (a : WriterState W) (m : W) (out : GoesOut tells keeps state true a (after_out true m a)) where
+module _ {W : Type 0} (tells keeps : Bool) (state : W → MediumState) (a : WriterState W) (m : W) (out : GoesOut tells keeps state (padded_end a) true a (after_out true m a)) where
   abbrev b : WriterState W
   b = after_out true m a
 
@@ -163,7 +168,11 @@ module _ {W : Type 0} (tells keeps : Bool) (state : W → MediumState) (a : Writ
   mid = (state m).contents
 
   same_length : data_length b ≡ data_length a
-  same_length = length_same tells keeps state a m out
+  same_length = length_same tells keeps state (padded_end a) a m out
+
+  -- the pad byte of as many bytes
+  padded_as_first : (c : List ℕ) → IsPadded b c → IsPadded a c
+  padded_as_first c here = subst (λ n. StartsWith (drop (a.data_start + n) c) (padding n)) same_length here
 
   module _ (answer : Result (Unit {0}) Error) (end : W) where
     abbrev new : List ℕ
@@ -179,15 +188,16 @@ module _ {W : Type 0} (tells keeps : Bool) (state : W → MediumState) (a : Writ
           front = sizes_then state a sound mid new around.front g.front;
           out = λ whole. sym (take-take a.out (data_length a) (drop a.data_start new) (omega arith)) ∙ ap (take a.out) (g.out (f.whole whole))
               ∙ take-take a.out (data_length a) (drop a.data_start mid) (omega arith) ∙ data_of state a sound mid (around.out whole);
-          rest = subst (λ n. drop (a.data_start + n) new ≡ drop (a.data_start + n) mid) same_length g.rest ∙ around.rest;
+          rest = subst (λ n. drop (a.data_start + n + n % 2) new ≡ drop (a.data_start + n + n % 2) mid) same_length g.rest ∙ around.rest;
           grows = omega (arith, around.grows, g.grows);
-          reach = omega (arith, around.reach, g.reach);
-          counts = λ whole. counts_later tells keeps state a m out told whole new (g.counts (f.whole whole));
+          reach = omega (arith, around.reach, g.reach, ap (λ n. n % 2) same_length);
+          counts = λ whole. counts_later tells keeps state (padded_end a) a m out told whole new (g.counts (f.whole whole));
           begun = λ is. g.begun (begun is);
           flushed = g.flushed;
           riff_says = on_published_then answer (λ e. e ∙ ap (riff_size a.data_start) same_length) g.riff_says;
           length_says = on_published_then answer (λ e. e ∙ same_length) g.length_says;
           stand = λ whole. on_published_then answer (λ e. (λ i. take (sym same_length i) (drop a.data_start new)) ∙ e ∙ ap concat (f.accepted whole)) (g.stand (f.whole whole));
+          padded = on_published_then answer (padded_as_first new) g.padded;
           read = λ whole. subst (λ l. OnOk answer (ReadsAs a.spec_ex a.data_start l new)) (f.accepted whole) (g.read (f.whole whole));
           canonical = λ whole is. subst (λ l. OnPublished answer (StartsWith new (canonical a.spec_ex l))) (f.accepted whole) (g.canonical (f.whole whole) (begun is));
         }
@@ -229,13 +239,24 @@ module _ {W : Type 0} (tells keeps : Bool) (state : W → MediumState) (a : Writ
             | inr before ↦ inl (at_first k from before)
           ]
 
+      -- no byte is put before the data while it goes out
+      padded_later : OncePutBefore a.data_start (IsPadded a) (state a.medium) (state end)
+      padded_later i k from to before later last =
+          elim (cases_lt i (length (state m).past)) [
+            | inl sooner ↦
+                let same : place_of (state end).past i ≡ place_of (state m).past i =
+                ap (λ l. place_of l i) g.half.past ∙ ap (λ (x : ℕ × ℕ). x.0) (get_or_append_left (state m).past g.half.added (0, 0) i sooner) in
+                absurd (omega (arith, before, same, goes.behind i from sooner))
+            | inr then ↦ padded_as_first (moment (state end).start (state end).past k) (g.padded i k then to before later last)
+          ]
+
       publishes_at_each_later : PublishesAtEach state a answer end
       publishes_at_each_later =
           let of_a : ℕ → List ℕ → Type 0 = λ _ c. Counts a.spec_ex a.data_start (accepted_samples state a) c in
           let of_b : ℕ → List ℕ → Type 0 = λ _ c. Counts a.spec_ex a.data_start (accepted_samples state b) c in
           record {
             counts = λ whole. join of_a 0 (state a.medium) (state m) (state end) (goes.adds.counts whole)
-                (span_weaker of_b of_a 0 (state m) (state end) (λ j c counts. counts_later tells keeps state a m out told whole c counts) (g.counts ((out.file told).whole whole)));
+                (span_weaker of_b of_a 0 (state m) (state end) (λ j c counts. counts_later tells keeps state (padded_end a) a m out told whole c counts) (g.counts ((out.file told).whole whole)));
             split = g.split;
             half = join (IsHalfPublished a old) g.split (state a.medium) (state m) (state end)
                 (half_out state a sound small (state m) (out.file told).around goes g.split before_split)
@@ -243,6 +264,7 @@ module _ {W : Type 0} (tells keeps : Bool) (state : W → MediumState) (a : Writ
             puts = record { later = omega (arith, before_split, longer state a sound small (state m) (out.file told).around goes); within = g.puts.within; first = g.puts.first };
             whole = g.whole;
             old_or_new = old_or_new_later;
+            padded = padded_later;
           }
 
     answers_later : IsPublishing answer b → IsPublishing answer a
@@ -278,12 +300,14 @@ module _ {W : Type 0} (tells keeps : Bool) (state : W → MediumState) (a : Writ
   }
 
 -- the same of a writer as contracts see it
-pub finishes_later : {W : Type 0} (tells keeps : Bool) (state : W → MediumState) (a b : WriterState W) (answer : Result (Unit {0}) Error) (end : W) → GoesOut tells keeps state true a b → WhereTells tells (AreBytes (state a.medium).contents)
+pub finishes_later : {W : Type 0} (tells keeps : Bool) (state : W → MediumState) (far : ℕ) (a b : WriterState W) (answer : Result (Unit {0}) Error) (end : W) → far ≤ padded_end a → GoesOut tells keeps state far true a b → WhereTells tells (AreBytes (state a.medium).contents)
     → Finishes tells keeps state b answer end → Finishes tells keeps state a answer end
-finishes_later tells keeps state a b answer end out small g =
-    finishes_after tells keeps state a b.medium (subst (GoesOut tells keeps state true a) out.value out) answer end small (subst (λ v. Finishes tells keeps state v answer end) out.value g)
+finishes_later tells keeps state far a b answer end within out small g =
+    let further = goes_further tells keeps state far (padded_end a) true a b within out in
+    finishes_after tells keeps state a b.medium (subst (GoesOut tells keeps state (padded_end a) true a) out.value further) answer end small (subst (λ v. Finishes tells keeps state v answer end) out.value g)
 
-pub checkpoints_later : {W : Type 0} (tells keeps : Bool) (state : W → MediumState) (a b c : WriterState W) (answer : Result (Unit {0}) Error) → GoesOut tells keeps state true a b → WhereTells tells (AreBytes (state a.medium).contents)
+pub checkpoints_later : {W : Type 0} (tells keeps : Bool) (state : W → MediumState) (far : ℕ) (a b c : WriterState W) (answer : Result (Unit {0}) Error) → far ≤ padded_end a → GoesOut tells keeps state far true a b → WhereTells tells (AreBytes (state a.medium).contents)
     → Checkpoints tells keeps state answer b c → Checkpoints tells keeps state answer a c
-checkpoints_later tells keeps state a b c answer out small g =
-    checkpoints_after tells keeps state a b.medium (subst (GoesOut tells keeps state true a) out.value out) answer c small (subst (λ v. Checkpoints tells keeps state answer v c) out.value g)
+checkpoints_later tells keeps state far a b c answer within out small g =
+    let further = goes_further tells keeps state far (padded_end a) true a b within out in
+    checkpoints_after tells keeps state a b.medium (subst (GoesOut tells keeps state (padded_end a) true a) out.value further) answer c small (subst (λ v. Checkpoints tells keeps state answer v c) out.value g)

@@ -6,10 +6,11 @@ use Rattle.std.specs.Io.{StartsWith}
 use Rattle.std.specs.List.{concat}
 use Rattle.hound_number.specs.Number.{bytes_of, AreBytes}
 use Rattle.hound_medium.specs.State.{MediumState, WhereTells}
+use Rattle.hound_medium.proofs.Outcomes.{on_ok}
 use Rattle.hound_medium.proofs.Torn.{bytes_at}
 use Rattle.hound_spec.specs.declared.error.Error.{Error}
 use Rattle.hound_spec.specs.declared.spec.WavSpecEx.{WavSpecEx}
-use Rattle.hound_spec.specs.Header.{riff_tag, data_start, header, riff_size, canonical}
+use Rattle.hound_spec.specs.Header.{riff_tag, data_start, header, riff_size, padding, canonical}
 use Rattle.hound_spec.proofs.HeaderLemmas.{described, header-parts, length-header, length-described}
 use Rattle.hound_sample.specs.Container.{containers}
 use Rattle.hound_writer.specs.Fields.{IsConsistent}
@@ -17,9 +18,10 @@ use Rattle.hound_writer.specs.Parts.{IsTold, Patches, IsStanding}
 use Rattle.hound_writer.specs.Sizes.{SameButSizes, with_sizes, field}
 use Rattle.hound_writer.specs.Counts.{Counts, ReadsFirst}
 use Rattle.hound_writer.specs.Publishing.{Publishes, ReadsAs}
-use Rattle.hound_writer.specs.Writer.{WriterState, AreFrames, IsSound, IsWhole, IsBegun, HasHeader, accepted_samples, data_length, data_end}
+use Rattle.hound_writer.specs.Writer.{WriterState, AreFrames, IsPadded, IsSound, IsWhole, IsBegun, HasHeader, accepted_samples, data_length, data_end, padded_end}
 use Rattle.hound_writer.proofs.Answers.{on_ok_then, published, told_faults, told_ok}
 use Rattle.hound_writer.proofs.Keeping.{consistent_moved}
+use Rattle.hound_writer.proofs.Later.{drop_later}
 use Rattle.hound_writer.proofs.Samples.{concat-samples, counts_at, length-samples, length_out, whole_out}
 use Rattle.hound_reader.specs.declared.fault.Cause.{Cause}
 use Rattle.hound_reader.specs.Chunks.{Readable, data_fault}
@@ -49,17 +51,22 @@ module _ (s : WavSpecEx) (size length_before : ℕ) (start p : ℕ) (before : p 
       ∙ ap (λ l. riff_tag ++ (bytes_of 4 n ++ l)) (sym (append_assoc (described s) (bytes_of 4 data_length) (drop start c)))
       ∙ ap (λ l. l ++ drop start c) (sym (header-parts s n data_length))
 
--- so much data behind a header with its sizes is the canonical file of its containers
-pub canonical_begins : (s : WavSpecEx) (containers : List (List ℕ)) (n start : ℕ) (samples contents : List ℕ) → data_start s ≡ start → n ≤ length samples → concat containers ≡ take n samples → contents ≡ header s (riff_size start n) n ++ samples
+-- so much data behind a header with its sizes, and their pad byte, are the canonical file of its containers
+pub canonical_begins : (s : WavSpecEx) (containers : List (List ℕ)) (n start : ℕ) (samples contents : List ℕ) → data_start s ≡ start → n ≤ length samples → concat containers ≡ take n samples → StartsWith (drop n samples) (padding n) → contents ≡ header s (riff_size start n) n ++ samples
     → StartsWith contents (canonical s containers)
-canonical_begins s containers n start samples contents is_start enough joined is =
+canonical_begins s containers n start samples contents is_start enough joined padded is =
     let size : length (concat containers) ≡ n = ap length joined ∙ length-take-le n samples enough in
-    let file : contents ≡ canonical s containers ++ drop n samples =
+    let pad = padding n in
+    let rest = drop (length pad) (drop n samples) in
+    let behind : drop n samples ≡ pad ++ rest = sym (take-append-drop (length pad) (drop n samples)) ∙ ap (λ l. l ++ rest) padded in
+    let data_now : samples ≡ (concat containers ++ pad) ++ rest =
+    sym (take-append-drop n samples) ∙ (λ i. sym joined i ++ behind i) ∙ sym (append_assoc (concat containers) pad rest) in
+    let file : contents ≡ canonical s containers ++ rest =
     is
-    ∙ (λ i. header s (riff_size (sym is_start i) (sym size i)) (sym size i) ++ sym (take-append-drop n samples) i)
-    ∙ ap (λ l. header s (riff_size (data_start s) (length (concat containers))) (length (concat containers)) ++ (l ++ drop n samples)) (sym joined)
-    ∙ sym (append_assoc (header s (riff_size (data_start s) (length (concat containers))) (length (concat containers))) (concat containers) (drop n samples)) in
-    ap (take (length (canonical s containers))) file ∙ take_at (canonical s containers) (drop n samples) (length (canonical s containers)) refl
+    ∙ (λ i. header s (riff_size (sym is_start i) (sym size i)) (sym size i) ++ data_now i)
+    ∙ ap (λ k. header s (riff_size (data_start s) (length (concat containers))) (length (concat containers)) ++ ((concat containers ++ padding k) ++ rest)) (sym size)
+    ∙ sym (append_assoc (header s (riff_size (data_start s) (length (concat containers))) (length (concat containers))) (concat containers ++ padding (length (concat containers))) rest) in
+    ap (take (length (canonical s containers))) file ∙ take_at (canonical s containers) rest (length (canonical s containers)) refl
 
 -- the contents once only the two sizes changed, as these sizes
 sizes_of : (p : ℕ) (old new : List ℕ) → 8 ≤ p → p + 4 ≤ length new → AreBytes new → SameButSizes p old new → new ≡ with_sizes p (field 4 new) (field p new) old
@@ -97,7 +104,7 @@ reads_all s start n samples contents whole frames size says counts =
     }
 
 -- a writer's file with its sizes
-module _ {W : Type 0} (state : W → MediumState) (w : WriterState W) (none : w.waiting ≡ []) (sound : IsSound w) (stands : IsStanding w.spec_ex w.data_start w.out (state w.medium).contents) (end : W) where
+module _ {W : Type 0} (state : W → MediumState) (w : WriterState W) (none : w.waiting ≡ []) (sound : IsSound w) (stands : IsStanding w.spec_ex w.data_start w.out (state w.medium).contents) (padded : IsPadded w (state w.medium).contents) (end : W) where
   abbrev p : ℕ
   p = w.data_start - 4
 
@@ -123,12 +130,17 @@ module _ {W : Type 0} (state : W → MediumState) (w : WriterState W) (none : w.
     length_says : field p (state end).contents ≡ w.out
     length_says = ap (field p) put ∙ data_length_of_sizes p size w.out old (omega (arith, sound.after_head)) there (omega (arith, sound.fits, sound.after_head, all))
 
+    -- the pad byte, seen from the first data byte on
+    pad_stands : StartsWith (drop w.out (drop w.data_start old)) (padding w.out)
+    pad_stands = subst (λ l. StartsWith l (padding w.out)) (sym (drop-drop w.out w.data_start old))
+        (subst (λ n. StartsWith (drop (w.data_start + n) old) (padding n)) (sym all) padded)
+
     is_canonical : IsWhole state w → IsBegun state w → StartsWith (state end).contents (canonical w.spec_ex (accepted_samples state w))
     is_canonical whole ((size_before, length_before, begins), at) =
         let long : length (header w.spec_ex size_before length_before) ≡ w.data_start = length-header w.spec_ex size_before length_before ∙ sym at in
         let front : take w.data_start old ≡ header w.spec_ex size_before length_before = ap (λ n. take n old) (sym long) ∙ begins in
         canonical_begins w.spec_ex (accepted_samples state w) w.out w.data_start (drop w.data_start old) (state end).contents (sym at)
-        (omega (arith, whole, length-drop w.data_start old)) (concat-samples state w none sound)
+        (omega (arith, whole, length-drop w.data_start old)) (concat-samples state w none sound) pad_stands
         (put ∙ header_with w.spec_ex size_before length_before w.data_start p before (sym at) old front size w.out)
 
   -- What a patch leaves, and the answer of a call that has done one.
@@ -142,11 +154,12 @@ module _ {W : Type 0} (state : W → MediumState) (w : WriterState W) (none : w.
       let counts : IsWhole state w → Counts w.spec_ex w.data_start (accepted_samples state w) (state end).contents =
       λ whole. counts_at state w sound (whole_out state w none sound) (state end).contents whole still (ap (take w.out) samples) in
       let data_after : (c : List ℕ) → drop (data_end w) c ≡ drop (data_length w) (drop w.data_start c) = λ c. sym (drop-drop (data_length w) w.data_start c) in
+      let behind : drop (data_end w) (state end).contents ≡ drop (data_end w) old = data_after (state end).contents ∙ ap (drop (data_length w)) samples ∙ sym (data_after old) in
       record {
         faults = told_faults patched are_frames told (state w.medium).faults (state end).faults is patches.faults;
         front = record { front = same.front; middle = same.middle };
         out = λ _. ap (take w.out) samples;
-        rest = data_after (state end).contents ∙ ap (drop (data_length w)) samples ∙ sym (data_after old);
+        rest = drop_later (data_end w) (padded_end w) (state end).contents old (omega arith) behind;
         grows = omega (arith, same.long);
         reach = omega (arith, same.long);
         counts = counts;
@@ -156,6 +169,7 @@ module _ {W : Type 0} (state : W → MediumState) (w : WriterState W) (none : w.
         length_says = published (field (w.data_start - 4) (state end).contents ≡ data_length w) patched are_frames told is (on_ok_then patched (λ put. length_says put ∙ all) patches.contents);
         stand = λ whole. published (take (data_length w) (drop w.data_start (state end).contents) ≡ concat (accepted_samples state w)) patched are_frames told is
             (on_ok_then patched (λ _. (λ i. take (sym all i) (samples i)) ∙ sym (concat-samples state w none sound)) patches.contents);
+        padded = published (IsPadded w (state end).contents) patched are_frames told is (on_ok patched (subst (λ l. StartsWith l (padding (data_length w))) (sym behind) padded));
         read = λ whole. told_ok (ReadsAs w.spec_ex w.data_start (accepted_samples state w) (state end).contents) patched are_frames told is
             (λ yes. on_ok_then patched (λ put. reads_all w.spec_ex w.data_start w.out (accepted_samples state w) (state end).contents (whole_out state w none sound)
             (ap (λ n. n / w.spec_ex.bytes_per_sample % w.spec_ex.spec.channels) all ∙ frames yes) (length-samples state w none sound) (length_says put) (counts whole)) patches.contents);

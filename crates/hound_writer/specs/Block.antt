@@ -8,9 +8,10 @@ use Rattle.hound_medium.specs.State.{MediumState, WhereTells, WhereKeeps, faults
 use Rattle.hound_medium.specs.Spans.{Span}
 use Rattle.hound_writer.specs.Accepting.{AddsAtEach}
 use Rattle.hound_writer.specs.Parts.{IsStanding}
+use Rattle.hound_writer.specs.Publishing.{PutsFrom}
 use Rattle.hound_writer.specs.declared.outcome.Outcome.{Outcome}
 use Rattle.hound_writer.specs.declared.outcome.Outcome.TheVariants.{Accepted, OutOfRange, WrongPair, NoRoom, Failed}
-use Rattle.hound_writer.specs.Writer.{WriterState, IsSound, IsWhole, IsCounted, accepted_samples, data_length, data_end}
+use Rattle.hound_writer.specs.Writer.{WriterState, IsSound, IsWhole, IsCounted, accepted_samples, data_length}
 
 -- Ok where all went out, else an Err
 abbrev pub all_out : Bool → Result (Unit {0}) (Unit {0})
@@ -35,43 +36,44 @@ abbrev pub after_out : {W : Type 0} → Bool → W → WriterState W → WriterS
 after_out true medium w = record w { medium = medium; out = data_length w; waiting = [] }
 after_out false medium w = record w { medium = medium }
 
--- What bytes leave as it was that are put where those wait that wait: the head stands, and nothing
--- before them nor after the accepted data has changed.
-pub record StaysAround {W : Type 0} (state : W → MediumState) (old : WriterState W)
+-- What bytes leave as it was that are put after those that are out, up to `end`: the head stands,
+-- and nothing before them nor after `end` has changed.
+pub record StaysAround {W : Type 0} (state : W → MediumState) (end : ℕ) (old : WriterState W)
     (new : MediumState) : Type 0 where
   pub stands : IsStanding old.spec_ex old.data_start old.out new.contents
   pub front : take old.data_start new.contents ≡ take old.data_start (state old.medium).contents
   pub out : IsWhole state old →
       take (old.data_start + old.out) new.contents
       ≡ take (old.data_start + old.out) (state old.medium).contents
-  pub rest : drop (data_end old) new.contents ≡ drop (data_end old) (state old.medium).contents
+  pub rest : drop end new.contents ≡ drop end (state old.medium).contents
   pub grows : length (state old.medium).contents ≤ length new.contents
-  pub reach : length new.contents ≤ max (length (state old.medium).contents) (data_end old)
+  pub reach : length new.contents ≤ max (length (state old.medium).contents) end
 
--- what the samples that waited left in the medium, all of them or a beginning
-pub record GoesToFile {W : Type 0} (state : W → MediumState) (all : Bool)
+-- what these bytes left in the medium, all of them or a beginning
+pub record GoesToFile {W : Type 0} (state : W → MediumState) (end : ℕ) (all : Bool)
     (old new : WriterState W) : Type 0 where
   pub faults : (state new.medium).faults ≡ faults_after (all_out all) (state old.medium).faults
-  pub around : StaysAround state old (state new.medium)
+  pub around : StaysAround state end old (state new.medium)
   pub whole : IsWhole state old → IsWhole state new
   pub accepted : IsWhole state old → accepted_samples state new ≡ accepted_samples state old
   pub counts : IsWhole state old → IsCounted state new
 
--- the medium at each moment meanwhile
+-- the medium at each moment meanwhile: nothing is put before the data
 pub record GoesAtEach {W : Type 0} (state : W → MediumState) (old : WriterState W)
     (new : MediumState) : Type 0 where
   pub adds : AddsAtEach state old new
   pub front : Span
       (λ _ c. take old.data_start c ≡ take old.data_start (state old.medium).contents) 0
       (state old.medium) new
+  pub behind : PutsFrom old.data_start (state old.medium) new
 
--- What waits goes out, or a beginning of it where the medium fails, and then all of it goes on
--- waiting.
-pub record GoesOut {W : Type 0} (tells keeps : Bool) (state : W → MediumState) (all : Bool)
-    (old new : WriterState W) : Type 0 where
+-- What waits goes out, and after it bytes up to `end` may, or a beginning of that where the medium
+-- fails, and then all that waited goes on waiting.
+pub record GoesOut {W : Type 0} (tells keeps : Bool) (state : W → MediumState) (end : ℕ)
+    (all : Bool) (old new : WriterState W) : Type 0 where
   pub value : new ≡ after_out all new.medium old
   pub sound : IsSound old
-  pub file : WhereTells tells (GoesToFile state all old new)
+  pub file : WhereTells tells (GoesToFile state end all old new)
   pub moments : WhereKeeps tells keeps (GoesAtEach state old (state new.medium))
 
 -- Below so many waiting bytes there is room for a sample of any width: in the block, and in the

@@ -14,7 +14,7 @@ use Rattle.hound_reader.specs.Chunks.{Readable}
 use Rattle.hound_writer.specs.Answers.{IsPublishing, OnPublished, faults_told}
 use Rattle.hound_writer.specs.Counts.{Counts}
 use Rattle.hound_writer.specs.Sizes.{ChangesSizesOnly, field}
-use Rattle.hound_writer.specs.Writer.{WriterState, KeepsSamples, IsWhole, IsBegun, HasHeader, accepted_samples, data_length, data_end}
+use Rattle.hound_writer.specs.Writer.{WriterState, KeepsSamples, IsWhole, IsBegun, IsPadded, HasHeader, accepted_samples, data_length, padded_end}
 
 -- The contents are read as exactly these samples, with this spec, from this place on.
 pub record ReadsAs (s : WavSpecEx) (start : ℕ) (samples : List (List ℕ))
@@ -24,9 +24,10 @@ pub record ReadsAs (s : WavSpecEx) (start : ℕ) (samples : List (List ℕ))
 
 -- What a call that publishes leaves in the medium, by its answer. Whatever it is, before the data
 -- only the two sizes changed, the bytes that were out stand where they all did, what stands after
--- the accepted data stays, and the data length counts no more than the accepted samples. Where all
--- was published both sizes are right, all samples stand, the medium was flushed, and whole frames
--- are read back; a file that was begun with its header is then the canonical one.
+-- the accepted data and their pad byte stays, and the data length counts no more than the accepted
+-- samples. Where all was published both sizes are right, all samples stand and so does the pad
+-- byte, the medium was flushed, and whole frames are read back; a file that was begun with its
+-- header is then the canonical one.
 pub record Publishes {W : Type 0} (state : W → MediumState) (w : WriterState W)
     (answer : Result (Unit {0}) Error) (end : W) : Type 0 where
   pub faults : (state end).faults ≡ faults_told answer (state w.medium).faults
@@ -34,9 +35,10 @@ pub record Publishes {W : Type 0} (state : W → MediumState) (w : WriterState W
   pub out : IsWhole state w →
       take w.out (drop w.data_start (state end).contents)
       ≡ take w.out (drop w.data_start (state w.medium).contents)
-  pub rest : drop (data_end w) (state end).contents ≡ drop (data_end w) (state w.medium).contents
+  pub rest : drop (padded_end w) (state end).contents
+      ≡ drop (padded_end w) (state w.medium).contents
   pub grows : length (state w.medium).contents ≤ length (state end).contents
-  pub reach : length (state end).contents ≤ max (length (state w.medium).contents) (data_end w)
+  pub reach : length (state end).contents ≤ max (length (state w.medium).contents) (padded_end w)
   pub counts : IsWhole state w →
       Counts w.spec_ex w.data_start (accepted_samples state w) (state end).contents
   pub begun : IsBegun state w → HasHeader w.spec_ex (state end).contents
@@ -48,6 +50,7 @@ pub record Publishes {W : Type 0} (state : W → MediumState) (w : WriterState W
   pub stand : IsWhole state w → OnPublished answer
       (take (data_length w) (drop w.data_start (state end).contents)
       ≡ concat (accepted_samples state w))
+  pub padded : OnPublished answer (IsPadded w (state end).contents)
   pub read : IsWhole state w →
       OnOk answer (ReadsAs w.spec_ex w.data_start (accepted_samples state w) (state end).contents)
   pub canonical : IsWhole state w → IsBegun state w →
@@ -68,6 +71,16 @@ pub record IsHalfPublished {W : Type 0} (w : WriterState W) (first : List ℕ) (
 -- the place of the byte with this number among all that were put, from 0
 abbrev pub place_of : List (ℕ × ℕ) → ℕ → ℕ
 place_of past i = let x : ℕ × ℕ = slice_index_or past i (0, 0) in x.0
+
+-- no byte was put before this place
+abbrev pub PutsFrom : ℕ → MediumState → MediumState → Type 0
+PutsFrom p old new = (i : ℕ) → length old.past ≤ i → i < length new.past → p ≤ place_of new.past i
+
+-- P of the contents at each moment from the first byte on that was put before this place
+abbrev pub OncePutBefore : ℕ → (List ℕ → Type 0) → MediumState → MediumState → Type 0
+OncePutBefore p P old new =
+    (i k : ℕ) → length old.past ≤ i → i < length new.past → place_of new.past i < p → i ≤ k →
+    k ≤ length new.past → P (moment new.start new.past k)
 
 -- The last bytes that were put, from the moment `split` on, are at most four, and the first of them
 -- went to p.
@@ -101,7 +114,7 @@ IsOldOrNew p before after old new =
 
 -- The medium at each moment of such a call: the accepted samples count, and the data length takes
 -- on the bytes of their length one by one, the low one first, from the moment `split` on, all four
--- where all was published.
+-- where all was published. Once a byte was put before the data the pad byte stands.
 pub record PublishesAtEach {W : Type 0} (state : W → MediumState) (w : WriterState W)
     (answer : Result (Unit {0}) Error) (end : W) : Type 0 where
   pub counts : IsWhole state w →
@@ -114,6 +127,7 @@ pub record PublishesAtEach {W : Type 0} (state : W → MediumState) (w : WriterS
   pub old_or_new : IsOldOrNew (w.data_start - 4)
       (field (w.data_start - 4) (state w.medium).contents) (data_length w) (state w.medium)
       (state end)
+  pub padded : OncePutBefore w.data_start (IsPadded w) (state w.medium) (state end)
 
 -- What `flush` does, by its answer: it publishes, and the writer goes on with the same samples.
 pub record Checkpoints {W : Type 0} (tells keeps : Bool) (state : W → MediumState)

@@ -2,7 +2,7 @@
 use Rattle.std.specs.Prelude.{◌≡◌, ℕ, ◌+◌, ◌/◌, ◌%◌, ◌≤◌, List, ◌++◌, length, take, drop}
 use Rattle.std.specs.Io.{StartsWith}
 use Rattle.hound_spec.specs.declared.spec.WavSpecEx.{WavSpecEx}
-use Rattle.hound_spec.specs.Header.{header, data_start, riff_size}
+use Rattle.hound_spec.specs.Header.{header, data_start, riff_size, padding}
 use Rattle.hound_spec.specs.Writable.{IsPair}
 use Rattle.hound_sample.specs.Container.{containers}
 use Rattle.hound_medium.specs.State.{MediumState}
@@ -26,6 +26,14 @@ data_length w = w.out + length w.waiting
 -- the place after the last of them
 abbrev pub data_end : {W : Type 0} → WriterState W → ℕ
 data_end w = w.data_start + data_length w
+
+-- the place after the pad byte that data of an odd length have behind them
+abbrev pub padded_end : {W : Type 0} → WriterState W → ℕ
+padded_end w = data_end w + data_length w % 2
+
+-- behind the accepted data these contents have the pad byte, where the data have an odd length
+abbrev pub IsPadded : {W : Type 0} → WriterState W → List ℕ → Type 0
+IsPadded w contents = StartsWith (drop (data_end w) contents) (padding (data_length w))
 
 -- how many samples were accepted, of all channels together
 abbrev pub sample_count : {W : Type 0} → WriterState W → ℕ

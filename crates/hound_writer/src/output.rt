@@ -54,7 +54,7 @@ impl<W: Medium> Model for Output<W> {
         (bytes_kept (λ buffer. buffer.items) w.buffer)) w.may_have_moved w.limit };
 }
 
-/// The RIFF size of a file whose data begin here and are so many bytes.
+/// The RIFF size of a file whose data begin here and are so many bytes, with their pad byte.
 #[inline(always)]
 pub(crate) fn riff_size(data_start: u64, data_length: u64) -> u64
     requires behind { 8 ≤ data_start }
@@ -62,7 +62,7 @@ pub(crate) fn riff_size(data_start: u64, data_length: u64) -> u64
     requires few { data_length ≤ 2 ^ 34 }
     ensures { result ≡ riff_size data_start data_length }
 {
-    data_start - 8 + data_length
+    data_start - 8 + data_length + data_length % 2
 }
 
 // Below how many waiting bytes a block has room for a sample of any width, where so many bytes are
@@ -102,7 +102,7 @@ impl<W: Medium> Output<W> {
     ghost use Rattle.hound_writer.specs.Fields.{of_fields};
     ghost use Rattle.hound_writer.specs.Parts.{IsStanding, Patches, PatchesAtEach};
     ghost use Rattle.hound_writer.specs.Publishing.{Checkpoints, Finishes};
-    ghost use Rattle.hound_writer.specs.Writer.{AreFrames, HasRoom, IsSound, IsWhole, IsCounted, data_length, sample_count};
+    ghost use Rattle.hound_writer.specs.Writer.{AreFrames, HasRoom, IsPadded, IsSound, IsWhole, IsCounted, data_end, data_length, padded_end, sample_count};
 
     /// A file whose data begin here and have so many bytes, after which its medium stands.
     pub(crate) fn at_end(
@@ -150,7 +150,7 @@ impl<W: Medium> Output<W> {
     // Puts out what waits, and keeps a fault aside: then all of it goes on waiting.
     #[inline(never)]
     fn put_block(&mut self, fault: &mut io::Error) -> bool
-        ensures { GoesOut W.tells W.keeps W.state result self.old self.new }
+        ensures { GoesOut W.tells W.keeps W.state (data_end self.old) result self.old self.new }
     {
         if self.block.len() == 0 {
             return true;
@@ -170,6 +170,22 @@ impl<W: Medium> Output<W> {
         self.block.clear();
         self.limit = limit_of(self.data_start, self.data_bytes_written);
         true
+    }
+
+    // Puts the pad byte behind data of an odd length, once nothing waits, and keeps a fault aside.
+    // The medium then stands elsewhere than where the next sample goes.
+    fn put_pad(&mut self, fault: &mut io::Error) -> bool
+        requires { self.old.waiting ≡ [] }
+        ensures goes { GoesOut W.tells W.keeps W.state (padded_end self.old) result self.old self.new }
+        ensures padded { WhereTells W.tells (IsTrue result → IsPadded self.new (W.state self.new.medium).contents) }
+    {
+        if self.data_bytes_written % 2 == 0 {
+            return true;
+        }
+        let end = self.data_start + self.data_bytes_written as u64;
+        let is_put = put_at_end(&mut self.writer, &mut self.may_have_moved, fault, end, &[0]);
+        self.may_have_moved = true;
+        is_put
     }
 
     // Puts out whole containers that nothing waits before, and accepts them once they are out.
@@ -348,6 +364,9 @@ impl<W: Medium> Output<W> {
         if !self.put_block(fault) {
             return Err(Error::IoError(*fault));
         }
+        if !self.put_pad(fault) {
+            return Err(Error::IoError(*fault));
+        }
         let published = self.publish_and_return();
         told(published, self.are_frames())
     }
@@ -357,6 +376,9 @@ impl<W: Medium> Output<W> {
         ensures { Finishes W.tells W.keeps W.state self.old result self.new.medium }
     {
         if !self.put_block(fault) {
+            return Err(Error::IoError(*fault));
+        }
+        if !self.put_pad(fault) {
             return Err(Error::IoError(*fault));
         }
         let published = self.publish();

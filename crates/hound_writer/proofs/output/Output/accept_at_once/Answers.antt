@@ -1,4 +1,4 @@
-use Rattle.std.proofs.Common.{refl, sym, rules}
+use Rattle.std.proofs.Common.{false, refl, sym, rules}
 use Rattle.hound_writer.proofs.Accepting.{accepts_all, accepts_none, accepts_seen}
 use Rattle.hound_writer.proofs.Blocks.{cut_at_once, kept_at_once}
 use Rattle.hound_writer.proofs.Keeping.{consistent_seen}
@@ -8,7 +8,7 @@ pub invariant_of-self : goal.invariant_of-self
 invariant_of-self g c =
     let W = g.W.Placed in
     consistent_seen W.tells W.state _ _ _ _ _ refl (sym c.if-not-put_at_end.ensures.moved)
-    (cut_at_once W.tells W.keeps W.state _ _ _ c.self.invariant (search rules) c.put_at_end.new.medium c.args.bytes.now c.if-not-put_at_end.ensures.puts)
+    (cut_at_once W.tells W.keeps W.state _ _ _ c.self.invariant (search rules) c.put_at_end.new.medium c.args.bytes.now false c.if-not-put_at_end.ensures.puts)
 
 pub returns-then-not-put_at_end-clause-accepts : goal.returns-then-not-put_at_end-clause-accepts
 returns-then-not-put_at_end-clause-accepts g c =

@@ -1,4 +1,5 @@
-use Rattle.std.proofs.Common.{ap}
+use Rattle.std.proofs.Common.{◌∙◌, ap, arith, refl}
+use Rattle.hound_writer.specs.Writer.{data_end, padded_end}
 use Rattle.hound_writer.proofs.PatchMoments.{finishes}
 use Rattle.hound_writer.proofs.PublishLater.{finishes_cut, finishes_later}
 use Rattle.hound_writer.proofs.output.Output.finish.Goals as goal
@@ -6,15 +7,29 @@ use Rattle.hound_writer.proofs.output.Output.finish.Goals as goal
 pub returns-then-not-put_block : goal.returns-then-not-put_block
 returns-then-not-put_block g c =
     let W = g.W.Placed in
-    finishes_cut W.tells W.keeps W.state c.args.self.now c.put_block.new.self c.put_block.new.fault c.if-not-put_block.ensures (g.met.W.Placed.bytes c.args.self.now.medium)
+    let first = c.args.self.now in
+    finishes_cut W.tells W.keeps W.state (data_end first) first c.put_block.new.self c.put_block.new.fault (omega arith) c.if-not-put_block.ensures (g.met.W.Placed.bytes first.medium)
+
+pub returns-then-not-put_pad : goal.returns-then-not-put_pad
+returns-then-not-put_pad g c =
+    let W = g.W.Placed in
+    let first = c.args.self.now in
+    let mid = c.put_block.new.self in
+    finishes_later W.tells W.keeps W.state (data_end first) first mid _ c.put_pad.new.self.medium (omega arith) c.if-not-put_block.ensures (g.met.W.Placed.bytes first.medium)
+    (finishes_cut W.tells W.keeps W.state (padded_end mid) mid c.put_pad.new.self c.put_pad.new.fault (omega arith) c.if-not-put_pad.ensures.goes (g.met.W.Placed.bytes mid.medium))
 
 pub returns : goal.returns
 returns g c =
     let W = g.W.Placed in
+    let first = c.args.self.now in
     let out = c.if-not-put_block.ensures in
     let mid = c.put_block.new.self in
+    let pad = c.if-not-put_pad.ensures in
+    let padded = c.put_pad.new.self in
+    let none = ap (λ w. w.waiting) pad.goes.value in
     let publish = c.publish-published in
     let e = publish.ensures in
-    finishes_later W.tells W.keeps W.state c.args.self.now mid c.told.result publish.new.self.medium out (g.met.W.Placed.bytes c.args.self.now.medium)
-    (finishes W.tells W.keeps W.state mid publish.new.self.medium (ap (λ w. w.waiting) out.value) e.sound e.stands publish.result c.are_frames.result c.told.result c.told.ensures
-    publish.new.self e.stays c.are_frames.ensures (g.met.W.Placed.bytes mid.medium) (g.met.W.Placed.bytes publish.new.self.medium) e.patches e.moments e.place)
+    finishes_later W.tells W.keeps W.state (data_end first) first mid c.told.result publish.new.self.medium (omega arith) out (g.met.W.Placed.bytes first.medium)
+    (finishes_later W.tells W.keeps W.state (padded_end mid) mid padded c.told.result publish.new.self.medium (omega arith) pad.goes (g.met.W.Placed.bytes mid.medium)
+    (finishes W.tells W.keeps W.state padded publish.new.self.medium none e.sound e.stands (λ told. pad.padded told refl) publish.result c.are_frames.result c.told.result c.told.ensures
+    publish.new.self e.stays c.are_frames.ensures (g.met.W.Placed.bytes padded.medium) (g.met.W.Placed.bytes publish.new.self.medium) e.patches e.moments e.place))

@@ -1,6 +1,7 @@
 use Rattle.std.proofs.Common.{◌+◌, true, false, subst, refl, sym, rules}
 use Rattle.hound_writer.specs.Block.{GoesOut, IsLimit}
 use Rattle.hound_writer.specs.Fields.{bytes_kept, of_fields}
+use Rattle.hound_writer.specs.Writer.{data_end}
 use Rattle.hound_writer.proofs.Blocks.{consistent_cut, consistent_out, goes_out, goes_out_nothing, goes_out_seen, puts_same}
 use Rattle.hound_writer.proofs.Keeping.{consistent_seen}
 use Rattle.hound_writer.proofs.output.Output.put_block.Goals as goal
@@ -8,8 +9,8 @@ use Rattle.hound_writer.proofs.output.Output.put_block.Goals as goal
 pub returns-then-len-eq0 : goal.returns-then-len-eq0
 returns-then-len-eq0 g c =
     let W = g.W.Placed in
-    subst (λ w. GoesOut W.tells W.keeps W.state true w w) c.self.view_is
-    (goes_out_nothing W.tells W.keeps W.state _ _ _ c.self.invariant (λ tells keeps. g.met.W.Medium.replays c.self.inside.writer tells keeps) (search rules))
+    subst (λ w. GoesOut W.tells W.keeps W.state (data_end w) true w w) c.self.view_is
+    (goes_out_nothing W.tells W.keeps W.state _ _ _ _ c.self.invariant (λ tells keeps. g.met.W.Medium.replays c.self.inside.writer tells keeps) (search rules))
 
 pub invariant_of-self : goal.invariant_of-self
 invariant_of-self g c =
