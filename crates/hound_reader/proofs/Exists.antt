@@ -8,9 +8,9 @@ use Rattle.hound_spec.specs.declared.spec.WavSpecEx.{WavSpecEx}
 use Rattle.hound_reader.specs.declared.chunks.FileHead.{FileHead}
 use Rattle.hound_reader.specs.declared.fault.Cause.{Cause}
 use Rattle.hound_number.specs.Number.{number}
-use Rattle.hound_reader.specs.Chunks.{Chunk, IsChunk, chunk_bytes, padded, fmt_fault, first_fault, Chunks, joined, last_spec, Head, Refused, spec_after, front_fault, content_fault, chunk_fault}
+use Rattle.hound_reader.specs.Chunks.{Chunk, IsChunk, chunk_bytes, fmt_fault, first_fault, Chunks, joined, last_spec, Head, Refused, spec_after, front_fault, content_fault, chunk_fault}
 use Rattle.hound_spec.specs.FmtChunk.{greatest_u32}
-use Rattle.hound_spec.specs.Header.{riff_tag, wave_tag, data_tag}
+use Rattle.hound_spec.specs.Header.{padded, riff_tag, wave_tag, data_tag}
 use Rattle.hound_reader.proofs.WalkLemmas.{same_tag}
 use Rattle.hound_reader.specs.Answer.{Answer, readable, unreadable, Answers, HasOneAnswer, ReportsAnswer}
 use Rattle.hound_reader.specs.declared.fault.HeadError.TheVariants as stops

@@ -9,9 +9,9 @@ use Rattle.hound_reader.specs.declared.fault.Reason.TheVariants.{NoRiffTag}
 use Rattle.hound_reader.specs.declared.chunks.ChunkRead.{ChunkRead}
 use Rattle.hound_reader.specs.declared.chunks.ChunkRead.TheVariants.{Data, Other}
 use Rattle.hound_number.specs.Number.{number}
-use Rattle.hound_reader.specs.Chunks.{Chunk, IsChunk, chunk_bytes, padded, Chunks, joined, last_spec, Head, spec_after, front_fault}
+use Rattle.hound_reader.specs.Chunks.{Chunk, IsChunk, chunk_bytes, Chunks, joined, last_spec, Head, spec_after, front_fault}
 use Rattle.hound_spec.specs.FmtChunk.{greatest_u32}
-use Rattle.hound_spec.specs.Header.{riff_tag, wave_tag, data_tag}
+use Rattle.hound_spec.specs.Header.{padded, riff_tag, wave_tag, data_tag}
 use Rattle.hound_reader.specs.Walk.{ReadsChunk, ReadsContent, Walked, ReachesData}
 
 -- what a test of the code says

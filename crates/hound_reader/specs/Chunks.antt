@@ -4,7 +4,7 @@ use Rattle.std.specs.Str.{bytes_eq}
 use Rattle.std.specs.List.{flat_map}
 use Rattle.hound_number.specs.Number.{number}
 use Rattle.hound_spec.specs.FmtChunk.{greatest_u32}
-use Rattle.hound_spec.specs.Header.{riff_tag, wave_tag, fmt_tag, data_tag}
+use Rattle.hound_spec.specs.Header.{padded, riff_tag, wave_tag, fmt_tag, data_tag}
 use Rattle.hound_reader.specs.Fmt.{fmt_of}
 use Rattle.hound_spec.specs.declared.spec.WavSpecEx.{WavSpecEx}
 use Rattle.hound_reader.specs.declared.fault.Cause.{Cause}
@@ -25,11 +25,6 @@ chunk_bytes p = p.tag ++ (p.size ++ p.content)
 -- the bytes of chunks, one behind the other
 abbrev pub joined : List Chunk → List ℕ
 joined ps = flat_map chunk_bytes ps
-
--- How many bytes the content of a chunk of this length takes: one of an odd length is followed by a
--- pad byte, of any value (RIFF, "Chunks").
-abbrev pub padded : ℕ → ℕ
-padded len = len + len % 2
 
 -- the spec or the fault of an answer
 abbrev pub ok_of : Result WavSpecEx Cause → Option WavSpecEx

@@ -2,8 +2,8 @@
 use Rattle.std.specs.Prelude.{◌≡◌, ℕ, ◌+◌, ◌≤◌, List, ◌++◌, length, ⊤, Option, Some, None, Ok, true, false}
 use Rattle.hound_number.specs.Number.{number}
 use Rattle.hound_spec.specs.FmtChunk.{greatest_u32}
-use Rattle.hound_spec.specs.Header.{data_tag}
-use Rattle.hound_reader.specs.Chunks.{Chunks, joined, last_spec, chunk_fault, Chunk, IsChunk, chunk_bytes, padded, spec_after, fmt_fault}
+use Rattle.hound_spec.specs.Header.{padded, data_tag}
+use Rattle.hound_reader.specs.Chunks.{Chunks, joined, last_spec, chunk_fault, Chunk, IsChunk, chunk_bytes, spec_after, fmt_fault}
 use Rattle.hound_reader.specs.Fmt.{fmt_of, IsSoundSpec}
 use Rattle.std.specs.Str.{bytes_eq}
 use Rattle.hound_spec.specs.declared.spec.WavSpecEx.{WavSpecEx}

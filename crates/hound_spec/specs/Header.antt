@@ -70,10 +70,15 @@ header s size data_length = riff_tag ++ bytes_of 4 size ++ wave_tag
 abbrev pub data_start : WavSpecEx → ℕ
 data_start s = if is_short s then 44 else 68
 
+-- How many bytes the content of a chunk of this length takes: one of an odd length is followed by a
+-- pad byte (RIFF, "Chunks").
+abbrev pub padded : ℕ → ℕ
+padded len = len + len % 2
+
 -- The RIFF size of a file whose data begin here and are so many bytes: all that stands behind the
--- size field, with the pad byte of data of an odd length.
+-- size field.
 abbrev pub riff_size : ℕ → ℕ → ℕ
-riff_size start data_length = start - 8 + data_length + data_length % 2
+riff_size start data_length = start - 8 + padded data_length
 
 -- The pad byte behind data of an odd length, which the data length doesn't count (RIFF, "Chunks").
 abbrev pub padding : ℕ → List ℕ

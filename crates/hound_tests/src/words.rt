@@ -21,7 +21,7 @@ struct SpecWords;
 
 impl SpecWords {
     ghost use Rattle.hound.specs.FmtChunk.{Extension, FieldsFit, FmtFields, extension, extension_bytes, extension_size, fmt_bytes, fmt_fields, greatest_u32, subformat};
-    ghost use Rattle.hound.specs.Header.{canonical, data_start, fields, header, is_short, long_fmt, mask, riff_size, riff_tag, short_fmt, sized_fmt, wave_tag};
+    ghost use Rattle.hound.specs.Header.{canonical, data_start, fields, header, is_short, long_fmt, mask, padded, riff_size, riff_tag, short_fmt, sized_fmt, wave_tag};
     ghost use Rattle.hound.specs.Writable.{IsPair, IsWritable, is_pair, with_default_width};
     ghost use Rattle.hound.specs.declared.Error.{Error};
     ghost use Rattle.hound.specs.declared.SampleFormat.{SampleFormat};
@@ -82,7 +82,7 @@ struct ReaderWords;
 impl ReaderWords {
     ghost use Rattle.hound.specs.Answer.{Answer, Answers, HasOneAnswer, HasOneFileAnswer, ReportsAnswer};
     ghost use Rattle.hound.specs.Cause.{Cause};
-    ghost use Rattle.hound.specs.Chunks.{Head, Readable, Refused, Unreadable, chunk_fault, content_fault, cut_fault, fault_of, first_fault, front_fault, padded};
+    ghost use Rattle.hound.specs.Chunks.{Head, Readable, Refused, Unreadable, chunk_fault, content_fault, cut_fault, fault_of, first_fault, front_fault};
     ghost use Rattle.hound.specs.Containers.{AreContainers};
     ghost use Rattle.hound.specs.Counting.{HasGiven, HasGiven-prop};
     ghost use Rattle.hound.specs.Fmt.{IsSoundSpec, by_subformat, by_tag, fmt_len, fmt_of, wave_format, wave_format_extensible, wave_format_ieee_float, wave_format_pcm};
@@ -131,7 +131,7 @@ impl WriterWords {
     ghost use Rattle.hound.specs.Parts.{HasSize, IsPatched, IsStanding, IsTold, Patches, PatchesAtEach, PutsAt};
     ghost use Rattle.hound.specs.Publishing.{Checkpoints, Finishes};
     ghost use Rattle.hound.specs.Room.{IsSixteen};
-    ghost use Rattle.hound.specs.Writer.{AreFrames, HasRoom, IsCounted, IsSound, IsWhole, WriterState, accepted_samples, data_length, sample_count};
+    ghost use Rattle.hound.specs.Writer.{AreFrames, HasRoom, IsCounted, IsPadded, IsSound, IsWhole, WriterState, accepted_samples, data_end, data_length, padded_end, sample_count};
 
     fn read() -> bool
         ensures { result ≡ result }

@@ -15,7 +15,7 @@ use Rattle.hound_medium.proofs.Spans.{join, moment_before, span_weaker}
 use Rattle.hound_medium.proofs.Torn.{number_at_small}
 use Rattle.hound_spec.specs.declared.error.Error.{Error}
 use Rattle.hound_spec.specs.declared.error.Error.TheVariants.{IoError, UnfinishedSample}
-use Rattle.hound_spec.specs.Header.{canonical, header, padding, riff_size}
+use Rattle.hound_spec.specs.Header.{canonical, header, padded, padding, riff_size}
 use Rattle.hound_spec.proofs.HeaderLemmas.{length-header}
 use Rattle.hound_writer.specs.Answers.{IsPublishing, OnPublished, faults_told}
 use Rattle.hound_writer.specs.Block.{GoesAtEach, GoesOut, StaysAround, after_out}
@@ -188,7 +188,7 @@ module _ {W : Type 0} (tells keeps : Bool) (state : W → MediumState) (a : Writ
           front = sizes_then state a sound mid new around.front g.front;
           out = λ whole. sym (take-take a.out (data_length a) (drop a.data_start new) (omega arith)) ∙ ap (take a.out) (g.out (f.whole whole))
               ∙ take-take a.out (data_length a) (drop a.data_start mid) (omega arith) ∙ data_of state a sound mid (around.out whole);
-          rest = subst (λ n. drop (a.data_start + n + n % 2) new ≡ drop (a.data_start + n + n % 2) mid) same_length g.rest ∙ around.rest;
+          rest = subst (λ n. drop (a.data_start + padded n) new ≡ drop (a.data_start + padded n) mid) same_length g.rest ∙ around.rest;
           grows = omega (arith, around.grows, g.grows);
           reach = omega (arith, around.reach, g.reach, ap (λ n. n % 2) same_length);
           counts = λ whole. counts_later tells keeps state (padded_end a) a m out told whole new (g.counts (f.whole whole));

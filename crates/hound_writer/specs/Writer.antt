@@ -2,7 +2,7 @@
 use Rattle.std.specs.Prelude.{◌≡◌, ℕ, ◌+◌, ◌/◌, ◌%◌, ◌≤◌, List, ◌++◌, length, take, drop}
 use Rattle.std.specs.Io.{StartsWith}
 use Rattle.hound_spec.specs.declared.spec.WavSpecEx.{WavSpecEx}
-use Rattle.hound_spec.specs.Header.{header, data_start, riff_size, padding}
+use Rattle.hound_spec.specs.Header.{header, data_start, riff_size, padded, padding}
 use Rattle.hound_spec.specs.Writable.{IsPair}
 use Rattle.hound_sample.specs.Container.{containers}
 use Rattle.hound_medium.specs.State.{MediumState}
@@ -29,7 +29,7 @@ data_end w = w.data_start + data_length w
 
 -- the place after the pad byte that data of an odd length have behind them
 abbrev pub padded_end : {W : Type 0} → WriterState W → ℕ
-padded_end w = data_end w + data_length w % 2
+padded_end w = w.data_start + padded (data_length w)
 
 -- behind the accepted data these contents have the pad byte, where the data have an odd length
 abbrev pub IsPadded : {W : Type 0} → WriterState W → List ℕ → Type 0
