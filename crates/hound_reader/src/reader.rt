@@ -105,10 +105,10 @@ impl<R: io::Read + Drop> WavReader<R> {
     /// Takes exactly what stands before the data.
     ///
     /// Files are RIFF and WAVE with a fmt chunk before the data, of a PCMWAVEFORMAT, a WAVEFORMATEX
-    /// or a WAVEFORMATEXTENSIBLE. Other chunks before the data are passed over, and of several fmt
-    /// chunks the last counts. Faults are told in the order of the bytes: first those of the
-    /// chunks, then data that are no whole samples, then data that are no whole frames. An early
-    /// end is an `IoError` of kind `Other`.
+    /// or a WAVEFORMATEXTENSIBLE. Other chunks before the data are passed over, each with its whole
+    /// length and the pad byte behind an odd one, and of several fmt chunks the last counts. Faults
+    /// are told in the order of the bytes: first those of the chunks, then data that are no whole
+    /// samples, then data that are no whole frames. An early end is an `IoError` of kind `Other`.
     pub fn new(reader: R) -> Result<WavReader<R>>
         ensures found { IfOk result (λ r. Known (R.remaining reader) (R.remaining r.reader)
             (λ xs ys.
