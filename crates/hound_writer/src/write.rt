@@ -11,7 +11,8 @@ use std::{io, result};
 ///
 /// Up to 4096 bytes of accepted samples wait in the writer. They go out when no more fit, and before
 /// the sizes are put. Where the medium fails meanwhile all of them go on waiting, and go out again
-/// from the first one on.
+/// from the first one on. Behind an odd number of bytes a pad byte goes out before the sizes are put,
+/// and the next sample goes over it.
 ///
 /// A writer that is dropped publishes what was accepted, as [`WavWriter::finalize`] does, and its
 /// fault goes unseen.
@@ -134,9 +135,10 @@ impl<W: Medium> WavWriter<W> {
         Err(error_of(outcome, &self.fault))
     }
 
-    /// Publishes the accepted samples: puts out those that wait, then both sizes into the header,
-    /// and flushes the medium, so that a reader finds them all, whatever becomes of the writer until
-    /// it patches the header again. The next sample follows.
+    /// Publishes the accepted samples: puts out those that wait, the pad byte behind an odd number of
+    /// bytes, then both sizes into the header, and flushes the medium, so that a reader finds them
+    /// all, whatever becomes of the writer until it patches the header again. The next sample
+    /// follows them, over the pad byte.
     ///
     /// The errors, in their order: `IoError`, at the first fault of the medium, after which writing
     /// may go on; `UnfinishedSample`, where the samples are no whole number of frames, although all
@@ -172,8 +174,8 @@ impl<W: Medium> WavWriter<W> {
         result
     }
 
-    /// Puts out the samples that wait, then both sizes into the header, flushes the medium, and
-    /// hands it back: it stands where the data begin.
+    /// Puts out the samples that wait, the pad byte behind an odd number of bytes, then both sizes
+    /// into the header, flushes the medium, and hands it back: it stands where the data begin.
     ///
     /// The errors, in their order: `IoError`, at the first fault of the medium, after which nothing
     /// is tried again; `UnfinishedSample`, where the samples are no whole number of frames, although

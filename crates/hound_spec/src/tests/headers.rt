@@ -1,6 +1,6 @@
 // Headers, byte by byte as a file has them: the definitions, and the bytes that are made.
-ghost use Rattle.std.specs.Prelude.{◌≡◌};
-ghost use Rattle.hound_spec.specs.Header.{header, mask};
+ghost use Rattle.std.specs.Prelude.{◌≡◌, ◌∷◌, []};
+ghost use Rattle.hound_spec.specs.Header.{canonical, header, mask, riff_size};
 
 use crate::{SampleFormat, WavSpec, WavSpecEx, header_of};
 
@@ -82,6 +82,48 @@ fn the_definition_gives_the_headers()
     ensures widest { header WIDEST 60 0 ≡ WIDEST_HEADER }
     ensures mono_float { header MONO_FLOAT 64 4 ≡ MONO_FLOAT_HEADER }
 {}
+
+const MONO_8: WavSpecEx = WavSpecEx {
+    spec: WavSpec {
+        channels: 1,
+        sample_rate: 8000,
+        bits_per_sample: 8,
+        sample_format: SampleFormat::Int,
+    },
+    bytes_per_sample: 1,
+};
+
+// One sample, and a pad byte behind it.
+const MONO_8_FILE: [u8; 46] = [
+    0x52, 0x49, 0x46, 0x46, 0x26, 0x00, 0x00, 0x00, 0x57, 0x41, 0x56, 0x45, 0x66, 0x6d, 0x74, 0x20,
+    0x10, 0x00, 0x00, 0x00, 0x01, 0x00, 0x01, 0x00, 0x40, 0x1f, 0x00, 0x00, 0x40, 0x1f, 0x00, 0x00,
+    0x01, 0x00, 0x08, 0x00, 0x64, 0x61, 0x74, 0x61, 0x01, 0x00, 0x00, 0x00, 0x80, 0x00,
+];
+
+// Two samples, and nothing behind them.
+const MONO_8_EVEN_FILE: [u8; 46] = [
+    0x52, 0x49, 0x46, 0x46, 0x26, 0x00, 0x00, 0x00, 0x57, 0x41, 0x56, 0x45, 0x66, 0x6d, 0x74, 0x20,
+    0x10, 0x00, 0x00, 0x00, 0x01, 0x00, 0x01, 0x00, 0x40, 0x1f, 0x00, 0x00, 0x40, 0x1f, 0x00, 0x00,
+    0x01, 0x00, 0x08, 0x00, 0x64, 0x61, 0x74, 0x61, 0x02, 0x00, 0x00, 0x00, 0x81, 0x82,
+];
+
+// The definition of a whole file at these samples, and of the greatest sizes, by computing.
+#[tactic(auto, unfolding(crate::specs::Header::header, crate::specs::Header::sized_fmt))]
+fn the_definition_gives_the_files()
+    ensures odd { canonical MONO_8 ((0x80 ∷ []) ∷ []) ≡ MONO_8_FILE }
+    ensures even { canonical MONO_8 ((0x81 ∷ []) ∷ (0x82 ∷ []) ∷ []) ≡ MONO_8_EVEN_FILE }
+    ensures most_behind_44 { riff_size 44 4294967258 ≡ 4294967294 }
+    ensures more_behind_44 { riff_size 44 4294967259 ≡ 4294967296 }
+    ensures most_behind_68 { riff_size 68 4294967234 ≡ 4294967294 }
+    ensures more_behind_68 { riff_size 68 4294967235 ≡ 4294967296 }
+{}
+
+#[test]
+fn files_begin_with_their_header(rt: HostRuntime) {
+    the_definition_gives_the_files();
+    assert!(rt; is_header(MONO_8, 38, 1, &MONO_8_FILE[..44]));
+    assert!(rt; is_header(MONO_8, 38, 2, &MONO_8_EVEN_FILE[..44]));
+}
 
 // Whether this is the header of a writable spec.
 fn is_header(spec_ex: WavSpecEx, riff_size: u32, data_length: u32, bytes: &[u8]) -> bool {

@@ -1,4 +1,4 @@
-use Rattle.std.proofs.Common.{◌∙◌, ap, arith, refl}
+use Rattle.std.proofs.Common.{ap, arith, refl}
 use Rattle.hound_writer.specs.Writer.{data_end, padded_end}
 use Rattle.hound_writer.proofs.PatchMoments.{finishes}
 use Rattle.hound_writer.proofs.PublishLater.{finishes_cut, finishes_later}
