@@ -1,4 +1,5 @@
-//! Tests of hostile input: readers that lie, bytes that no writer made, and memory that isn't there.
+//! Tests of hostile input: readers that lie, bytes that no writer made, and memory that isn't there;
+//! and of files that other programs wrote.
 #![tactic(auto)]
 
 #[cfg(test)]
@@ -7,6 +8,10 @@ mod cut;
 mod definition;
 #[cfg(test)]
 mod endless;
+#[cfg(test)]
+mod foreign;
+#[cfg(test)]
+mod foreign_files;
 #[cfg(test)]
 mod helpers;
 #[cfg(test)]

@@ -12,15 +12,25 @@ pub struct Recorded {
     pub is_whole: bool,
 }
 
-/// Writes a mono file of sixteen bits, in so many lots of so many samples, and publishes after each.
+// The sample behind so many: they count up, and begin anew at the greatest number of their bits.
+fn sample_behind(accepted: u32, bits: u16) -> i16 {
+    if bits == 8 {
+        (accepted & 0x7f) as i16
+    } else {
+        (accepted & 0x7fff) as i16
+    }
+}
+
+/// Writes a mono file of so many bits, in so many lots of so many samples, and publishes after each.
 ///
-/// The samples count up from 0, and at 32768 they begin anew. After each lot that was published the
-/// output has a line with the number of samples that the file then counts, and is flushed. A sample
-/// that the file refuses is tried again as the next one, and a lot that it doesn't publish has no line.
-/// The errors are those of `create`, and of the output.
+/// The samples count up from 0, and begin anew at 32768, or at 128 where they have eight bits. After
+/// each lot that was published the output has a line with the number of samples that the file then
+/// counts, and is flushed. A sample that the file refuses is tried again as the next one, and a lot
+/// that it doesn't publish has no line. The errors are those of `create`, and of the output.
 pub fn record<O: io::Write>(
     rt: &HostRuntime,
     path: Path<'_>,
+    bits: u16,
     lots: u32,
     length: u32,
     output: &mut O,
@@ -28,7 +38,7 @@ pub fn record<O: io::Write>(
     let spec = WavSpec {
         channels: 1,
         sample_rate: 44100,
-        bits_per_sample: 16,
+        bits_per_sample: bits,
         sample_format: SampleFormat::Int,
     };
     let mut writer = WavWriter::create(rt, rt.alloc(), path, spec)?;
@@ -36,7 +46,7 @@ pub fn record<O: io::Write>(
     let mut is_whole = true;
     for _ in 0..lots {
         for _ in 0..length {
-            match writer.write_sample((accepted & 0x7fff) as i16) {
+            match writer.write_sample(sample_behind(accepted, bits)) {
                 Ok(()) => accepted = accepted.wrapping_add(1),
                 Err(_) => is_whole = false,
             }

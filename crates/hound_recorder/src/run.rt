@@ -5,10 +5,11 @@ use crate::record::record;
 use std::io;
 use std::path::Path;
 
-const USAGE: &str = "usage: hound_recorder FILE LOTS LENGTH";
+const USAGE: &str = "usage: hound_recorder FILE LOTS LENGTH [BITS]";
 
-/// Carries out the words `FILE LOTS LENGTH`, and answers the status: 0 where each call was Ok, 1
-/// where one failed, 2 for words that it doesn't know.
+/// Carries out the words `FILE LOTS LENGTH`, with the bits of a sample behind them where they aren't
+/// sixteen, and answers the status: 0 where each call was Ok, 1 where one failed, 2 for words that it
+/// doesn't know.
 ///
 /// The output has a line for each lot that was published, and at the end, where a call failed, one
 /// with the word `accepted` and the number of samples that were. A file that can't be made has one
@@ -21,18 +22,19 @@ pub fn run<O: io::Write, E: io::Write>(
 ) -> u8
     ensures { result ≤ 2 }
 {
-    let (file, lots, length) = match words {
-        [file, lots, length] => (*file, lots.parse::<u32>(), length.parse::<u32>()),
+    let (file, lots, length, bits) = match words {
+        [file, lots, length] => (*file, *lots, *length, "16"),
+        [file, lots, length, bits] => (*file, *lots, *length, *bits),
         _ => {
             let _ = writeln!(errors, "{USAGE}");
             return 2;
         }
     };
-    let (Ok(lots), Ok(length)) = (lots, length) else {
+    let (Ok(lots), Ok(length), Ok(bits)) = (lots.parse(), length.parse(), bits.parse()) else {
         let _ = writeln!(errors, "{USAGE}");
         return 2;
     };
-    match record(rt, Path::new(file), lots, length, output) {
+    match record(rt, Path::new(file), bits, lots, length, output) {
         Ok(recorded) if recorded.is_whole => 0,
         Ok(recorded) => {
             let accepted = recorded.accepted;
