@@ -3,7 +3,7 @@ use Rattle.hound_spec.specs.Header.{fmt_tag}
 use Rattle.hound_reader.specs.Chunks.{Chunk, fact_tag, taken_of, bound_of, spec_after, chunk_fault, content_fault}
 use Rattle.hound_reader.specs.Fmt.{fmt_of, wave_format, by_tag, wave_format_pcm}
 use Rattle.hound_reader.specs.Rows.{mono_fmt}
-use Rattle.hound_reader.proofs.tests.definitions_at_files.Goals as goal
+use Rattle.hound_layer_tests.proofs.reading.definitions_at_files.Goals as goal
 
 abbrev fmt_chunk : Chunk
 fmt_chunk = record { tag = fmt_tag; size = 0x10 ∷ 0x00 ∷ 0x00 ∷ 0x00 ∷ []; content = mono_fmt }
