@@ -25,6 +25,3 @@ pub use laws::{
 };
 pub use reader::{WavReader, read_wave_header};
 pub use samples::{WavIntoSamples, WavSamples};
-
-#[cfg(test)]
-mod tests;

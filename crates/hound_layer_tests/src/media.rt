@@ -3,7 +3,7 @@
 ghost use Rattle.std.specs.Prelude.{◌+◌, [], true};
 ghost use Rattle.std.proofs.Common.{rules};
 
-use super::*;
+use hound_medium::{Journal, Medium, Placed, Source, Tape, put_all};
 use std::alloc::Global;
 use std::io::{BufReader, BufWriter, ErrorKind, Read};
 use std::path::{Path, PathBuf};

@@ -2,8 +2,13 @@
 // reads and writes can succeed and fail.
 ghost use Rattle.std.specs.Prelude.{Some};
 
-use super::*;
+use hound_number::{
+    ReadError, early_end, i16_from_le, i24_from_le, i32_from_le, le_i16, le_i32, le_u16, le_u32,
+    read_into, signed_from_u8, u8_from_signed, u16_at, u32_at, write_bytes,
+};
 use std::alloc::Global;
+use std::io;
+use std::io::{Error, ErrorKind};
 use std::test::Fail;
 
 #[test]

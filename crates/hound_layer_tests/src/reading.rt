@@ -7,8 +7,8 @@ ghost use Rattle.hound_reader.specs.Seeking.{way_to, container_at};
 ghost use Rattle.hound_reader.specs.declared.fault.Cause.TheVariants.{Ended, Format};
 ghost use Rattle.hound_reader.specs.declared.fault.Reason.TheVariants.{NoDataChunk};
 
-use super::*;
 use hound_medium::Tape;
+use hound_reader::{WavReader, find_data, read_wave_header};
 use hound_sample::{FloatBits, Sample};
 use hound_spec::{Error, SampleFormat};
 use std::alloc::Global;
