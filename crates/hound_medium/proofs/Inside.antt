@@ -29,8 +29,10 @@ module _ (c : List ℕ) (at : ℕ) (bs : List ℕ) (inside : at + length bs ≤ 
   drop_behind n h =
       let m = n - (at + length bs) in
       let e : n ≡ at + length bs + m = omega arith in
-      let all : new ≡ (take at c ++ bs) ++ drop (at + length bs) c = parts ∙ sym (append_assoc (take at c) bs (drop (at + length bs) c)) in
-      let size : length (take at c ++ bs) ≡ at + length bs = length-append (take at c) bs ∙ ap (λ k. k + length bs) front in
+      let all : new ≡ (take at c ++ bs) ++ drop (at + length bs) c =
+      parts ∙ sym (append_assoc (take at c) bs (drop (at + length bs) c)) in
+      let size : length (take at c ++ bs) ≡ at + length bs =
+      length-append (take at c) bs ∙ ap (λ k. k + length bs) front in
       ap (drop n) all
       ∙ ap (λ k. drop k ((take at c ++ bs) ++ drop (at + length bs) c)) e
       ∙ sym (drop-drop m (at + length bs) ((take at c ++ bs) ++ drop (at + length bs) c))
@@ -42,7 +44,13 @@ module _ (c : List ℕ) (at : ℕ) (bs : List ℕ) (inside : at + length bs ≤ 
   unfolding new
   same_size =
       ap length parts ∙ length-append (take at c) (bs ++ drop (at + length bs) c)
-      ∙ omega (arith, front, length-append bs (drop (at + length bs) c), length-drop (at + length bs) c, inside)
+      ∙ omega (
+        arith,
+        front,
+        length-append bs (drop (at + length bs) c),
+        length-drop (at + length bs) c,
+        inside,
+      )
 
   -- from their place on: the bytes, and what stood behind them
   pub drop_to : drop at (overlay c (placed at bs)) ≡ bs ++ drop (at + length bs) c

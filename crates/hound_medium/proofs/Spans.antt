@@ -9,25 +9,34 @@ use Rattle.hound_medium.specs.Spans.{Span}
 use Rattle.hound_medium.proofs.Overlays.{overlay-append, length-placed, take-placed}
 
 -- a moment of a past stays what it was, however the past goes on
-pub moment_before : (start : List ℕ) (past added : List (ℕ × ℕ)) (k : ℕ) → k ≤ length past → moment start (past ++ added) k ≡ moment start past k
+pub moment_before : (start : List ℕ) (past added : List (ℕ × ℕ)) (k : ℕ) → k ≤ length past
+    → moment start (past ++ added) k ≡ moment start past k
 moment_before start past added k within = ap (overlay start) (take-append-le k past added within)
 
 -- a moment behind a past: its last contents, and then the first of what was added
-pub moment_after : (start : List ℕ) (past added : List (ℕ × ℕ)) (k : ℕ) → moment start (past ++ added) (length past + k) ≡ overlay (overlay start past) (take k added)
-moment_after start past added k = ap (overlay start) (take-append-add past added k) ∙ overlay-append start past (take k added)
+pub moment_after : (start : List ℕ) (past added : List (ℕ × ℕ)) (k : ℕ)
+    → moment start (past ++ added) (length past + k) ≡ overlay (overlay start past) (take k added)
+moment_after start past added k =
+    ap (overlay start) (take-append-add past added k) ∙ overlay-append start past (take k added)
 
 -- the last moment is the contents
-pub moment_last : (s : MediumState) → s.contents ≡ overlay s.start s.past → moment s.start s.past (length s.past) ≡ s.contents
-moment_last s replays = ap (overlay s.start) (take_all (length s.past) s.past (omega arith)) ∙ sym replays
+pub moment_last : (s : MediumState) → s.contents ≡ overlay s.start s.past
+    → moment s.start s.past (length s.past) ≡ s.contents
+moment_last s replays =
+    ap (overlay s.start) (take_all (length s.past) s.past (omega arith)) ∙ sym replays
 
 module _ (At : ℕ → List ℕ → Type 0) (split : ℕ) where
   -- bytes are put at a place, all at once or by several calls: at its level is what the first k of them leave
-  pub span_puts : (old new : MediumState) (at : ℕ) (bytes : List ℕ) → old.contents ≡ overlay old.start old.past → new.start ≡ old.start → new.past ≡ old.past ++ placed at bytes
-      → ((k : ℕ) → k ≤ length bytes → At (length old.past + k - split) (overlay old.contents (placed at (take k bytes))))
+  pub span_puts : (old new : MediumState) (at : ℕ) (bytes : List ℕ)
+      → old.contents ≡ overlay old.start old.past → new.start ≡ old.start
+      → new.past ≡ old.past ++ placed at bytes
+      → ((k : ℕ) → k ≤ length bytes
+      → At (length old.past + k - split) (overlay old.contents (placed at (take k bytes))))
       → Span At split old new
   span_puts old new at bytes replays start past each =
       let size : length new.past ≡ length old.past + length bytes =
-      ap length past ∙ length-append old.past (placed at bytes) ∙ ap (λ n. length old.past + n) (length-placed at bytes) in
+      ap length past ∙ length-append old.past (placed at bytes)
+      ∙ ap (λ n. length old.past + n) (length-placed at bytes) in
       record {
         start = start;
         added = placed at bytes;
@@ -35,54 +44,70 @@ module _ (At : ℕ → List ℕ → Type 0) (split : ℕ) where
         each = λ k from to.
             let n = k - length old.past in
             let is_k : length old.past + n ≡ k = omega arith in
-            let here : overlay old.contents (placed at (take n bytes)) ≡ moment new.start new.past k =
+            let here : overlay old.contents
+            (placed at (take n bytes)) ≡ moment new.start new.past k =
             (λ i. overlay (replays i) (sym (take-placed n at bytes) i))
             ∙ sym (moment_after old.start old.past (placed at bytes) n)
             ∙ (λ i. moment (sym start i) (sym past i) (is_k i)) in
-            subst (At (k - split)) here (subst (λ m. At (m - split) (overlay old.contents (placed at (take n bytes)))) is_k (each n (omega (arith, size))));
+            subst (At (k - split)) here
+            (subst (λ m. At (m - split) (overlay old.contents (placed at (take n bytes)))) is_k
+            (each n (omega (arith, size))));
       }
 
   -- nothing is put
-  pub span_still : (old new : MediumState) → old.contents ≡ overlay old.start old.past → new.start ≡ old.start → new.past ≡ old.past → At (length old.past - split) old.contents → Span At split old new
+  pub span_still : (old new : MediumState) → old.contents ≡ overlay old.start old.past
+      → new.start ≡ old.start → new.past ≡ old.past → At (length old.past - split) old.contents
+      → Span At split old new
   span_still old new replays start past at =
       span_puts old new 0 [] replays start (past ∙ sym (append-nil old.past))
       (λ k within. let none : length old.past ≡ length old.past + k = omega (arith, within) in
-      subst (λ l. At (length old.past + k - split) (overlay old.contents (placed 0 l))) (sym (take_all k [] (omega arith))) (subst (λ m. At (m - split) old.contents) none at))
+      subst (λ l. At (length old.past + k - split) (overlay old.contents (placed 0 l)))
+      (sym (take_all k [] (omega arith))) (subst (λ m. At (m - split) old.contents) none at))
 
   -- one span and then another
   pub join : (a b c : MediumState) → Span At split a b → Span At split b c → Span At split a c
   join a b c first then = record {
     start = then.start ∙ first.start;
     added = first.added ++ then.added;
-    past = then.past ∙ ap (λ (l : List (ℕ × ℕ)). l ++ then.added) first.past ∙ append_assoc a.past first.added then.added;
+    past = then.past ∙ ap (λ (l : List (ℕ × ℕ)). l ++ then.added) first.past
+        ∙ append_assoc a.past first.added then.added;
     each = λ k from to. ⊎_elim
         (λ later. then.each k (omega arith) to)
         (λ sooner.
         let same : moment b.start b.past k ≡ moment c.start c.past k =
-        sym (moment_before b.start b.past then.added k sooner) ∙ (λ i. moment (sym then.start i) (sym then.past i) k) in
+        sym (moment_before b.start b.past then.added k sooner)
+        ∙ (λ i. moment (sym then.start i) (sym then.past i) k) in
         subst (At (k - split)) same (first.each k from sooner))
         (cases_lt (length b.past) k);
   }
 
   -- what holds at the end
-  pub span_end : (old new : MediumState) → new.contents ≡ overlay new.start new.past → Span At split old new → At (length new.past - split) new.contents
+  pub span_end : (old new : MediumState) → new.contents ≡ overlay new.start new.past
+      → Span At split old new → At (length new.past - split) new.contents
   span_end old new replays span =
       let n = length new.past in
-      let longer : n ≡ length old.past + length span.added = ap length span.past ∙ length-append old.past span.added in
-      subst (At (n - split)) (moment_last new replays) (span.each n (omega (arith, longer)) (omega arith))
+      let longer : n ≡ length old.past + length span.added =
+      ap length span.past ∙ length-append old.past span.added in
+      subst (At (n - split)) (moment_last new replays)
+      (span.each n (omega (arith, longer)) (omega arith))
 
   -- a span, and then a call that puts nothing
-  pub and_still : (a b c : MediumState) → Span At split a b → b.contents ≡ overlay b.start b.past → Stays b c → Span At split a c
-  and_still a b c span replays stays = join a b c span (span_still b c replays stays.start stays.past (span_end a b replays span))
+  pub and_still : (a b c : MediumState) → Span At split a b → b.contents ≡ overlay b.start b.past
+      → Stays b c → Span At split a c
+  and_still a b c span replays stays =
+      join a b c span (span_still b c replays stays.start stays.past (span_end a b replays span))
 
 -- what holds at the end of a span that is at level 0 throughout
-pub span_end_zero : (At : ℕ → List ℕ → Type 0) (old new : MediumState) → new.contents ≡ overlay new.start new.past → Span At (length new.past) old new → At 0 new.contents
+pub span_end_zero : (At : ℕ → List ℕ → Type 0) (old new : MediumState)
+    → new.contents ≡ overlay new.start new.past → Span At (length new.past) old new
+    → At 0 new.contents
 span_end_zero At old new replays span =
     let none : length new.past - length new.past ≡ 0 = omega arith in
     subst (λ j. At j new.contents) none (span_end At (length new.past) old new replays span)
 
 -- what follows at each level
-pub span_weaker : (At Bt : ℕ → List ℕ → Type 0) (split : ℕ) (old new : MediumState) → ((j : ℕ) (c : List ℕ) → At j c → Bt j c) → Span At split old new → Span Bt split old new
+pub span_weaker : (At Bt : ℕ → List ℕ → Type 0) (split : ℕ) (old new : MediumState)
+    → ((j : ℕ) (c : List ℕ) → At j c → Bt j c) → Span At split old new → Span Bt split old new
 span_weaker At Bt split old new weaker span = record {
   start = span.start;
   added = span.added;

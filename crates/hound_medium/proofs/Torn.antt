@@ -11,7 +11,9 @@ use Rattle.hound_medium.proofs.Inside.{drop_to}
 
 module _ (p : ℕ) (c : List ℕ) (inside : p + 4 ≤ length c) where
   -- the four bytes at p, when a few bytes were put there
-  four_bytes : (bytes : List ℕ) → length bytes ≤ 4 → take 4 (drop p (overlay c (placed p bytes))) ≡ bytes ++ drop (length bytes) (take 4 (drop p c))
+  four_bytes : (bytes : List ℕ) → length bytes ≤ 4
+      → take 4 (drop p (overlay c (placed p bytes))) ≡ bytes ++ drop (length bytes)
+      (take 4 (drop p c))
   four_bytes bytes few =
       let n = 4 - length bytes in
       let all : 4 ≡ length bytes + n = omega (arith, few) in
@@ -37,12 +39,17 @@ module _ (p : ℕ) (c : List ℕ) (inside : p + 4 ≤ length c) where
 
     -- the four bytes are those of their number
     pub bytes_at : bytes_of 4 (number (take 4 (drop p c))) ≡ take 4 (drop p c)
-    bytes_at = ap (λ n. bytes_of n (number (take 4 (drop p c)))) (sym four) ∙ bytes_of-number (take 4 (drop p c)) are_bytes
+    bytes_at =
+        ap (λ n. bytes_of n (number (take 4 (drop p c)))) (sym four)
+        ∙ bytes_of-number (take 4 (drop p c)) are_bytes
 
     -- the number at p, when k bytes of a new one were put over it
-    pub number_at_mix : (new k : ℕ) → k ≤ 4 → number (take 4 (drop p (overlay c (placed p (take k (bytes_of 4 new)))))) ≡ mix k (number (take 4 (drop p c))) new
+    pub number_at_mix : (new k : ℕ) → k ≤ 4
+        → number (take 4 (drop p (overlay c (placed p (take k (bytes_of 4 new)))))) ≡ mix k
+        (number (take 4 (drop p c))) new
     number_at_mix new k h =
-        let size : length (take k (bytes_of 4 new)) ≡ k = length-take-le k (bytes_of 4 new) (omega (arith, h, length-bytes_of 4 new)) in
+        let size : length (take k (bytes_of 4 new)) ≡ k =
+        length-take-le k (bytes_of 4 new) (omega (arith, h, length-bytes_of 4 new)) in
         ap number (four_bytes (take k (bytes_of 4 new)) (omega (arith, size, h))
         ∙ ap (λ n. take k (bytes_of 4 new) ++ drop n (take 4 (drop p c))) size
         ∙ ap (λ l. take k (bytes_of 4 new) ++ drop k l) (sym bytes_at))

@@ -73,7 +73,8 @@ pub record Goes {T E : Type 0} (to : ℕ) (result : Result T E) (old new : Mediu
 pub record Shifts {T E : Type 0} (by : ℤ) (result : Result T E) (old new : MediumState) : Type 0
   where
     pub stays : Stays old new
-    pub place : MatchResult result (λ _. IsMoved old.place by new.place) (λ _. new.place ≡ old.place)
+    pub place : MatchResult result (λ _. IsMoved old.place by new.place)
+        (λ _. new.place ≡ old.place)
     pub within : OnOk result (new.place < 2 ^ 64)
     pub flushed : new.flushed ≡ old.flushed
     pub faults : new.faults ≡ faults_after result old.faults

@@ -2,7 +2,8 @@
 use Rattle.std.proofs.Common.{◌∙◌, Option, Some, None}
 use Rattle.hound_number.specs.Input.{Account, NoneFailed}
 
-pub NoneFailed-trans : {K : Type 0} (o m n : Option (Account K)) → NoneFailed o m → NoneFailed m n → NoneFailed o n
+pub NoneFailed-trans : {K : Type 0} (o m n : Option (Account K)) → NoneFailed o m → NoneFailed m n
+    → NoneFailed o n
 NoneFailed-trans None m n s t = tt
 NoneFailed-trans (Some a) None n s t = absurd s
 NoneFailed-trans (Some a) (Some b) None s t = t

@@ -40,7 +40,9 @@ parts : (bytes : List ℕ) → 8 ≤ length bytes
     → bytes ≡ take 4 bytes ++ (slice_range bytes 4 8 ++ drop 8 bytes)
 parts bytes l =
     sym (take-append-drop 4 bytes)
-    ∙ ap (λ t. take 4 bytes ++ t) (sym (take-append-drop 4 (drop 4 bytes)) ∙ ap (λ t. slice_range bytes 4 8 ++ t) (drop-drop 4 4 bytes))
+    ∙ ap (λ t. take 4 bytes ++ t)
+    (sym (take-append-drop 4 (drop 4 bytes))
+    ∙ ap (λ t. slice_range bytes 4 8 ++ t) (drop-drop 4 4 bytes))
 
 at_data : (c : ℕ) (found : Option WavSpecEx) (tag : List ℕ) (len : ℕ) (rest : List ℕ)
     → bytes_eq tag data_tag ≡ true → content_fault c found tag len rest ≡ None
@@ -96,7 +98,13 @@ chunk_there c found bytes room enough h =
           inr (
             p,
             drop n rest,
-            record { tag = tag_four; size = four; content = length-take-le n rest k.2; other = e; sound = k.1 },
+            record {
+              tag = tag_four;
+              size = four;
+              content = length-take-le n rest k.2;
+              other = e;
+              sound = k.1;
+            },
             k.0,
             whole ∙ ap (λ t. tag ++ (size ++ t)) (sym (take-append-drop n rest))
                 ∙ sym (spread p (drop n rest)),
@@ -130,20 +138,30 @@ goes_more : (c : ℕ) (found : Option WavSpecEx) (bytes : List ℕ) (p : Chunk) 
     → Goes (c + length (chunk_bytes p)) (spec_after found p.tag (number p.size) p.content) rest
     → Goes c found bytes
 goes_more c found bytes p rest is limit e (ps, end, f, each, ending) =
-    let n : c + length (chunk_bytes p) + length (joined ps) ≡ c + length (chunk_bytes p ++ joined ps) = omega (arith, length-append (chunk_bytes p) (joined ps)) in (
+    let n : c + length (chunk_bytes p) + length (joined ps) ≡ c + length
+    (chunk_bytes p ++ joined ps) = omega (arith, length-append (chunk_bytes p) (joined ps)) in (
       p ∷ ps,
       end,
       e ∙ ap (λ t. chunk_bytes p ++ t) f ∙ sym (append_assoc (chunk_bytes p) (joined ps) end),
       (is, limit, each),
-      subst (λ i. Ending i (last_spec (spec_after found p.tag (number p.size) p.content) ps) end) n ending,
+      subst (λ i.
+          Ending i (last_spec (spec_after found p.tag (number p.size) p.content) ps) end) n ending,
     )
 
 goes_none : (c : ℕ) (found : Option WavSpecEx) (bytes : List ℕ) → Ending c found bytes
     → Goes c found bytes
-goes_none c found bytes e = let n : c ≡ c + 0 = omega arith in ([], bytes, refl, tt, subst (λ i. Ending i found bytes) n e)
+goes_none c found bytes e = let n : c ≡ c + 0 = omega arith in
+    ([], bytes, refl, tt, subst (λ i. Ending i found bytes) n e)
 
 long_chunk : (p : Chunk) → IsChunk p → 8 ≤ length (chunk_bytes p)
-long_chunk p is = omega (arith, is.tag, is.size, length-append p.tag (p.size ++ p.content), length-append p.size p.content)
+long_chunk p is =
+    omega (
+      arith,
+      is.tag,
+      is.size,
+      length-append p.tag (p.size ++ p.content),
+      length-append p.size p.content,
+    )
 
 goes : (fuel c : ℕ) (found : Option WavSpecEx) (bytes : List ℕ) → length bytes ≤ fuel
     → Goes c found bytes
@@ -151,7 +169,8 @@ goes zero c found bytes l = elim (fault_or_none (chunk_fault c found bytes)) [
   | inl f ↦ goes_none c found bytes (inl f)
   | inr f ↦ elim (no_fault_there c found bytes f) [
     | inl d ↦ goes_none c found bytes (inr d)
-    | inr (p, rest, is, limit, e) ↦ absurd (omega (arith, ap length e, length-append (chunk_bytes p) rest, long_chunk p is))
+    | inr (p, rest, is, limit, e) ↦
+        absurd (omega (arith, ap length e, length-append (chunk_bytes p) rest, long_chunk p is))
   ]
 ]
 goes (suc fuel) c found bytes l = elim (fault_or_none (chunk_fault c found bytes)) [
@@ -159,12 +178,15 @@ goes (suc fuel) c found bytes l = elim (fault_or_none (chunk_fault c found bytes
   | inr f ↦ elim (no_fault_there c found bytes f) [
     | inl d ↦ goes_none c found bytes (inr d)
     | inr (p, rest, is, limit, e) ↦ goes_more c found bytes p rest is limit e
-        (goes fuel (c + length (chunk_bytes p)) (spec_after found p.tag (number p.size) p.content) rest (omega (arith, ap length e, length-append (chunk_bytes p) rest, long_chunk p is)))
+        (goes fuel (c + length (chunk_bytes p))
+        (spec_after found p.tag (number p.size) p.content) rest
+        (omega (arith, ap length e, length-append (chunk_bytes p) rest, long_chunk p is)))
   ]
 ]
 
 front_there : (bytes : List ℕ) → front_fault bytes ≡ None
-    → (size : List ℕ) × (rest : List ℕ) × (length size ≡ 4) × (bytes ≡ riff_tag ++ (size ++ (wave_tag ++ rest)))
+    → (size : List ℕ) × (rest : List ℕ) × (length size ≡ 4)
+    × (bytes ≡ riff_tag ++ (size ++ (wave_tag ++ rest)))
 unfolding front_fault
 front_there bytes h =
     let g1 = guard_some (nat_lt (length bytes) 4) _ _ h in
@@ -201,35 +223,40 @@ ending_answer bytes size rest four e (ps, end, w, each, inl (cause, f)) = (
     rw (zero-add (length (joined ps))) at f,
   ),
 )
-ending_answer bytes size rest four e (ps, end, w, each, inr (spec, dsize, after, f, limit, dfour, d)) = (
-  readable spec (number dsize) (12 + length (joined ps) + 8),
-  record {
-    chunks = ps;
-    size = dsize;
-    rest = after;
-    walk = record {
-      size = size;
-      four = four;
-      whole = e
-          ∙ ap (λ t. riff_tag ++ (size ++ (wave_tag ++ t))) (w ∙ ap (λ t. joined ps ++ t) d);
-      each = each;
-    };
-    four = dfour;
-    data_len = refl;
-    limit = omega arith;
-    spec_is = f;
-    place = refl;
-  },
-)
+ending_answer bytes size rest four e
+    (ps, end, w, each, inr (spec, dsize, after, f, limit, dfour, d)) = (
+      readable spec (number dsize) (12 + length (joined ps) + 8),
+      record {
+        chunks = ps;
+        size = dsize;
+        rest = after;
+        walk = record {
+          size = size;
+          four = four;
+          whole = e
+              ∙ ap (λ t. riff_tag ++ (size ++ (wave_tag ++ t))) (w ∙ ap (λ t. joined ps ++ t) d);
+          each = each;
+        };
+        four = dfour;
+        data_len = refl;
+        limit = omega arith;
+        spec_is = f;
+        place = refl;
+      },
+    )
 
 pub some_answer : (bytes : List ℕ) → (a : Answer) × Answers bytes a
 some_answer bytes = elim (fault_or_none (front_fault bytes)) [
   | inl (c, f) ↦ (unreadable c, inl f)
-  | inr f ↦ let p = front_there bytes f in ending_answer bytes p.0 p.1 p.2 p.3 (goes (length p.1) 0 None p.1 (le_refl _))
+  | inr f ↦ let p = front_there bytes f in
+      ending_answer bytes p.0 p.1 p.2 p.3 (goes (length p.1) 0 None p.1 (le_refl _))
 ]
 
 pub same_answer : (bytes : List ℕ) (a b : Answer) → Answers bytes a → Answers bytes b → b ≡ a
-same_answer bytes (readable s m h) (readable t n k) a b = let e = heads_agree bytes s t m n h k a b in ap (λ x. readable x n k) (sym e.0) ∙ ap (λ x. readable s x k) (sym e.1) ∙ ap (λ x. readable s m x) (sym e.2)
+same_answer bytes (readable s m h) (readable t n k) a b = let e =
+    heads_agree bytes s t m n h k a b in
+    ap (λ x. readable x n k) (sym e.0) ∙ ap (λ x. readable s x k) (sym e.1)
+    ∙ ap (λ x. readable s m x) (sym e.2)
 same_answer bytes (readable s m h) (unreadable c) a b = absurd (head_no_fault bytes s m h c a b)
 same_answer bytes (unreadable c) (readable s m h) a b = absurd (head_no_fault bytes s m h c b a)
 same_answer bytes (unreadable c) (unreadable d) a b = ap unreadable (faults_agree bytes d c b a)
@@ -241,8 +268,11 @@ one_answer bytes = let s = some_answer bytes in (s.0, s.1, λ b h. same_answer b
 pub tells_ok : (bytes rest : List ℕ) (r : FileHead) (a : Answer)
     → Head bytes r.spec_ex r.data_length r.data_start → rest ≡ drop r.data_start bytes
     → Answers bytes a → ReportsAnswer (Ok r) bytes rest a
-tells_ok bytes rest r (readable s n k) head e b = let g = heads_agree bytes r.spec_ex s r.data_length n r.data_start k head b in (g.0, g.1, g.2, e ∙ ap (λ i. drop i bytes) g.2)
-tells_ok bytes rest r (unreadable c) head e b = head_no_fault bytes r.spec_ex r.data_length r.data_start c head b
+tells_ok bytes rest r (readable s n k) head e b = let g =
+    heads_agree bytes r.spec_ex s r.data_length n r.data_start k head b in
+    (g.0, g.1, g.2, e ∙ ap (λ i. drop i bytes) g.2)
+tells_ok bytes rest r (unreadable c) head e b =
+    head_no_fault bytes r.spec_ex r.data_length r.data_start c head b
 
 pub tells_err : (bytes rest : List ℕ) (c : Cause) (a : Answer) → Refused bytes c → Answers bytes a
     → ReportsAnswer (Err (stops.Refused c)) bytes rest a

@@ -8,7 +8,8 @@ use Rattle.hound_reader.specs.Fmt.{◌>>=◌, wave_format, fmt_len, fmt_said, fm
 use Rattle.hound_reader.proofs.Gives.{take_over}
 
 pub pcm_forty : (len : ℕ) (found : WavSpecEx) (after : List ℕ) → len ≡ 40 → length after ≡ 24
-    → (found.spec.bits_per_sample == 8 || found.spec.bits_per_sample == 16 || found.spec.bits_per_sample == 24) ≡ true → wave_format_pcm len found after ≡ Ok found
+    → (found.spec.bits_per_sample == 8 || found.spec.bits_per_sample == 16 ||
+    found.spec.bits_per_sample == 24) ≡ true → wave_format_pcm len found after ≡ Ok found
 unfolding wave_format_pcm
 pcm_forty len found after e l b = rw (e, l, b) refl
 
@@ -35,7 +36,9 @@ fmt_and_rest len xs rest l = let n = fmt_len len in
 
 -- the first sixteen bytes of a content, and what stands behind them
 pub fmt_head : (len : ℕ) (h zs : List ℕ) → 16 ≤ len → length h ≡ 16
-    → fmt_of len (h ++ zs) ≡ (wave_format (fmt_fields h) >>= λ found. by_tag (fmt_fields h).tag len found (take (fmt_len len - 16) zs))
+    → fmt_of len (h ++ zs) ≡
+    (wave_format (fmt_fields h) >>= λ found.
+    by_tag (fmt_fields h).tag len found (take (fmt_len len - 16) zs))
 unfolding fmt_said
 fmt_head len h zs big l =
     let n = fmt_len len in

@@ -21,31 +21,46 @@ use Rattle.hound_reader.specs.declared.fault.HeadError.{HeadError}
 use Rattle.hound_reader.specs.declared.fault.HeadError.TheVariants.{Failed, Refused}
 
 -- these bytes were taken
-pub all_taken : (bytes : List ℕ) (k : ℕ) (o n : Option (List ℕ)) → Consumes o n bytes → length bytes ≡ k → Known o n (AreTaken k)
-all_taken bytes k o n taken l = known_from bytes o n (AreTaken k) taken (λ ys. (omega (arith, l, length-append bytes ys), sym (drop_at bytes ys k l)))
+pub all_taken : (bytes : List ℕ) (k : ℕ) (o n : Option (List ℕ)) → Consumes o n bytes
+    → length bytes ≡ k → Known o n (AreTaken k)
+all_taken bytes k o n taken l =
+    known_from bytes o n (AreTaken k) taken
+    (λ ys. (omega (arith, l, length-append bytes ys), sym (drop_at bytes ys k l)))
 
 -- h was taken, and then a part of what was wanted: a fault cut it, or the end
-pub front_cut : (h : List ℕ) (k : ℕ) (o m n : Option (List ℕ)) (e : HeadError) → Consumes o m h → length h + k ≤ 12 → (bytes : List ℕ) × (length bytes < k) × Consumes m n bytes
-    → Refuses e (λ c. (c ≡ Ended) × Known m n (λ xs ys. (length xs < k) × (ys ≡ []))) → Known o n (TakesFront e)
+pub front_cut : (h : List ℕ) (k : ℕ) (o m n : Option (List ℕ)) (e : HeadError) → Consumes o m h
+    → length h + k ≤ 12 → (bytes : List ℕ) × (length bytes < k) × Consumes m n bytes
+    → Refuses e (λ c. (c ≡ Ended) × Known m n (λ xs ys. (length xs < k) × (ys ≡ [])))
+    → Known o n (TakesFront e)
 front_cut h k o m n (Failed e) taken room (bytes, less, part) r =
     known_from (h ++ bytes) o n TakesLess (Consumes-trans o m n h bytes taken part) (λ ys. (
       length (h ++ bytes),
       omega (arith, length-append h bytes, less, room),
-      (omega (arith, length-append (h ++ bytes) ys), sym (drop_at (h ++ bytes) ys (length (h ++ bytes)) refl)),
+      (
+        omega (arith, length-append (h ++ bytes) ys),
+        sym (drop_at (h ++ bytes) ys (length (h ++ bytes)) refl),
+      ),
     ))
 front_cut h k o m n (Refused c) taken room part (is, end) =
     subst (λ d. Known o n (λ xs ys. AreTaken (front_taken d xs) xs ys)) (sym is)
-    (known_then h o m n _ (λ xs ys. AreTaken (length xs) xs ys) taken end (λ ys zs p. (omega arith, p.1 ∙ sym (drop-length (h ++ ys)))))
+    (known_then h o m n _ (λ xs ys. AreTaken (length xs) xs ys) taken end
+    (λ ys zs p. (omega arith, p.1 ∙ sym (drop-length (h ++ ys)))))
 
 -- an early end: there are less than twelve bytes
-ended_so : (a b c d : Bool) → (if a then Some Ended else if b then Some (Format NoRiffTag) else if c then Some Ended else if d then Some (Format NoWaveTag) else None) ≡ Some Ended → (a ≡ true) ⊎ (c ≡ true)
+ended_so : (a b c d : Bool)
+    → (if a then Some Ended else if b then Some
+    (Format NoRiffTag) else if c then Some Ended else if d then Some (Format NoWaveTag) else None)
+    ≡ Some Ended → (a ≡ true) ⊎ (c ≡ true)
 ended_so true b c d e = inl refl
 ended_so false true c d e = absurd (let no : ⊥ = cc in no)
 ended_so false false true d e = inr refl
 ended_so false false false true e = absurd (let no : ⊥ = cc in no)
 ended_so false false false false e = absurd (let no : ⊥ = cc in no)
 
-no_unsupported_so : (a b c d : Bool) → (if a then Some Ended else if b then Some (Format NoRiffTag) else if c then Some Ended else if d then Some (Format NoWaveTag) else None) ≡ Some Unsupported → ⊥
+no_unsupported_so : (a b c d : Bool)
+    → (if a then Some Ended else if b then Some
+    (Format NoRiffTag) else if c then Some Ended else if d then Some (Format NoWaveTag) else None)
+    ≡ Some Unsupported → ⊥
 no_unsupported_so true b c d e = cc
 no_unsupported_so false true c d e = cc
 no_unsupported_so false false true d e = cc
@@ -54,17 +69,22 @@ no_unsupported_so false false false false e = cc
 
 ended_short : (xs : List ℕ) → front_fault xs ≡ Some Ended → length xs < 12
 unfolding front_fault
-ended_short xs e = elim (ended_so (nat_lt (length xs) 4) (not (bytes_eq (take 4 xs) riff_tag)) (nat_lt (length xs) 12) (not (bytes_eq (slice_range xs 8 12) wave_tag)) e) [
-  | inl a ↦ let l : length xs < 4 = ltb-true (length xs) 4 a in omega (arith, l)
-  | inr c ↦ ltb-true (length xs) 12 c
-]
+ended_short xs e =
+    elim (ended_so (nat_lt (length xs) 4) (not (bytes_eq (take 4 xs) riff_tag))
+    (nat_lt (length xs) 12) (not (bytes_eq (slice_range xs 8 12) wave_tag)) e) [
+      | inl a ↦ let l : length xs < 4 = ltb-true (length xs) 4 a in omega (arith, l)
+      | inr c ↦ ltb-true (length xs) 12 c
+    ]
 
 no_unsupported : (xs : List ℕ) → front_fault xs ≡ Some Unsupported → ⊥
 unfolding front_fault
-no_unsupported xs e = no_unsupported_so (nat_lt (length xs) 4) (not (bytes_eq (take 4 xs) riff_tag)) (nat_lt (length xs) 12) (not (bytes_eq (slice_range xs 8 12) wave_tag)) e
+no_unsupported xs e =
+    no_unsupported_so (nat_lt (length xs) 4) (not (bytes_eq (take 4 xs) riff_tag))
+    (nat_lt (length xs) 12) (not (bytes_eq (slice_range xs 8 12) wave_tag)) e
 
 -- what callers are told of it
-told : (e : HeadError) (error : Error) (xs ys : List ℕ) → ReportsError e error → Refuses e (λ c. front_fault xs ≡ Some c) → TakesFront e xs ys → ReportsFront error xs ys
+told : (e : HeadError) (error : Error) (xs ys : List ℕ) → ReportsError e error
+    → Refuses e (λ c. front_fault xs ≡ Some c) → TakesFront e xs ys → ReportsFront error xs ys
 told (Failed e) error xs ys r f t = subst (λ x. ReportsFront x xs ys) (sym r) t
 told (Refused c) (errors.IoError e) xs ys r f t =
     let taken : AreTaken (length xs) xs ys = subst (λ d. AreTaken (front_taken d xs) xs ys) r.0 t in
@@ -78,7 +98,9 @@ told (Refused c) errors.InvalidSampleFormat xs ys r f t = r
 told (Refused c) errors.TooLong xs ys r f t = r
 told (Refused c) errors.OutOfMemory xs ys r f t = r
 
-pub front_told : (e : HeadError) (error : Error) (o n : Option (List ℕ)) → ReportsError e error → Refuses e (λ c. Known o n (λ xs ys. front_fault xs ≡ Some c)) → Known o n (TakesFront e) → Known o n (ReportsFront error)
+pub front_told : (e : HeadError) (error : Error) (o n : Option (List ℕ)) → ReportsError e error
+    → Refuses e (λ c. Known o n (λ xs ys. front_fault xs ≡ Some c)) → Known o n (TakesFront e)
+    → Known o n (ReportsFront error)
 front_told e error None n r f t = tt
 front_told e error (Some xs) None r f t = t
 front_told (Failed x) error (Some xs) (Some ys) r f t = told (Failed x) error xs ys r tt t

@@ -16,41 +16,76 @@ use Rattle.hound_reader.specs.declared.item.NoSample.{NoSample}
 use Rattle.hound_reader.specs.Items.{AreItems, GivesItems}
 
 -- an Ok took exactly a container
-a_container_is_taken : {A : Type 0} (refusal : Option ReadRefusal) (meaning : List ℕ → A) (width : ℕ) (old new : Option (List ℕ)) (value : A) → Reads refusal meaning width old new (Ok value) → Known old new (AreTaken width)
-a_container_is_taken {A = A} (Some refusal) meaning width old new value read = absurd (false≢true (subst (IsOk {T = A} {E = Error}) read.0 refl))
+a_container_is_taken : {A : Type 0} (refusal : Option ReadRefusal) (meaning : List ℕ → A)
+    (width : ℕ) (old new : Option (List ℕ)) (value : A)
+    → Reads refusal meaning width old new (Ok value) → Known old new (AreTaken width)
+a_container_is_taken {A = A} (Some refusal) meaning width old new value read =
+    absurd (false≢true (subst (IsOk {T = A} {E = Error}) read.0 refl))
 a_container_is_taken None meaning width None new value read = tt
 a_container_is_taken None meaning width (Some xs) None value read = absurd read
 a_container_is_taken None meaning width (Some xs) (Some ys) value read = (read.0, read.2)
 
 -- a sample was given, as `read` of its type does it
-pub a_sample_is_given : {R A : Type 0} (left : R → Option (List ℕ)) (refusal : SampleFormat → ℕ → ℕ → Option ReadRefusal) (meaning : ℕ → ℕ → List ℕ → A) (old new : ReaderState R) (answer : Result A NoSample) (fault : IoFault) (value : A)
-    → old.samples_read < old.num_samples → new ≡ record { reader = new.reader; spec_ex = old.spec_ex; num_samples = old.num_samples; samples_read = old.samples_read + 1; bytes_read = old.bytes_read + old.spec_ex.bytes_per_sample }
-    → Reads (refusal_at refusal old.spec_ex) (meaning_at meaning old.spec_ex) old.spec_ex.bytes_per_sample (left old.reader) (left new.reader) (answer_of answer fault) → (IsSome (refusal_at refusal old.spec_ex) → new.reader ≡ old.reader) → answer ≡ Ok value
+pub a_sample_is_given : {R A : Type 0} (left : R → Option (List ℕ))
+    (refusal : SampleFormat → ℕ → ℕ → Option ReadRefusal) (meaning : ℕ → ℕ → List ℕ → A)
+    (old new : ReaderState R) (answer : Result A NoSample) (fault : IoFault) (value : A)
+    → old.samples_read < old.num_samples
+    → new ≡ record {
+      reader = new.reader;
+      spec_ex = old.spec_ex;
+      num_samples = old.num_samples;
+      samples_read = old.samples_read + 1;
+      bytes_read =
+          old.bytes_read + old.spec_ex.bytes_per_sample;
+    }
+    → Reads (refusal_at refusal old.spec_ex)
+    (meaning_at meaning old.spec_ex) old.spec_ex.bytes_per_sample (left old.reader)
+    (left new.reader) (answer_of answer fault)
+    → (IsSome (refusal_at refusal old.spec_ex) → new.reader ≡ old.reader) → answer ≡ Ok value
     → IsNext left refusal meaning (Some (Ok value)) old new
 a_sample_is_given left refusal meaning old new answer fault value inside is read untouched ok =
-    let whole = subst (λ a. Reads (refusal_at refusal old.spec_ex) (meaning_at meaning old.spec_ex) old.spec_ex.bytes_per_sample (left old.reader) (left new.reader) (answer_of a fault)) ok read in
+    let whole =
+    subst (λ a. Reads (refusal_at refusal old.spec_ex)
+    (meaning_at meaning old.spec_ex) old.spec_ex.bytes_per_sample (left old.reader)
+    (left new.reader) (answer_of a fault)) ok read in
     record {
       inside = inside;
       counted = ap (λ (r : ReaderState _). r.samples_read) is;
       read = whole;
       untouched = untouched;
       bytes = ap (λ (r : ReaderState _). r.bytes_read) is;
-      taken = (old.spec_ex.bytes_per_sample, ap (λ (r : ReaderState _). r.bytes_read) is, a_container_is_taken (refusal_at refusal old.spec_ex) (meaning_at meaning old.spec_ex) old.spec_ex.bytes_per_sample (left old.reader) (left new.reader) value whole);
+      taken = (
+        old.spec_ex.bytes_per_sample,
+        ap (λ (r : ReaderState _). r.bytes_read) is,
+        a_container_is_taken (refusal_at refusal old.spec_ex)
+            (meaning_at meaning old.spec_ex) old.spec_ex.bytes_per_sample (left old.reader)
+            (left new.reader) value whole,
+      );
       spec_ex = ap (λ (r : ReaderState _). r.spec_ex) is;
       num_samples = ap (λ (r : ReaderState _). r.num_samples) is;
     }
 
-no_bytes : {A : Type 0} (left : Option (List ℕ)) (refusal : Option ReadRefusal) (meaning : List ℕ → A) (width : ℕ) → IfSome left (λ bytes. AreItems refusal meaning width bytes [])
+no_bytes : {A : Type 0} (left : Option (List ℕ)) (refusal : Option ReadRefusal)
+    (meaning : List ℕ → A) (width : ℕ)
+    → IfSome left (λ bytes. AreItems refusal meaning width bytes [])
 no_bytes None refusal meaning width = tt
 no_bytes (Some bytes) refusal meaning width = tt
 
 -- an item before items
-item_more : {A : Type 0} (refusal : Option ReadRefusal) (meaning : List ℕ → A) (width : ℕ) (old new : Option (List ℕ)) (item : Result A Error) (items : List (Result A Error)) → Reads refusal meaning width old new item
-    → IfSome new (λ bytes. AreItems refusal meaning width bytes items) → IfSome old (λ bytes. AreItems refusal meaning width bytes (item ∷ items))
+item_more : {A : Type 0} (refusal : Option ReadRefusal) (meaning : List ℕ → A) (width : ℕ)
+    (old new : Option (List ℕ)) (item : Result A Error) (items : List (Result A Error))
+    → Reads refusal meaning width old new item
+    → IfSome new (λ bytes. AreItems refusal meaning width bytes items)
+    → IfSome old (λ bytes. AreItems refusal meaning width bytes (item ∷ items))
 item_more refusal meaning width None new item items read rest = tt
-item_more (Some refusal) meaning width (Some bytes) new item items read rest = (read.0, subst (λ left. IfSome left (λ bytes. AreItems (Some refusal) meaning width bytes items)) read.1 rest)
+item_more (Some refusal) meaning width (Some bytes) new item items read rest = (
+  read.0,
+  subst (λ left. IfSome left
+      (λ bytes. AreItems (Some refusal) meaning width bytes items)) read.1 rest,
+)
 item_more None meaning width (Some bytes) None (Ok value) items read rest = absurd read
-item_more None meaning width (Some bytes) (Some behind) (Ok value) items read rest = (read.0, read.1, subst (λ bytes. AreItems None meaning width bytes items) read.2 rest)
+item_more None meaning width (Some bytes) (Some behind) (Ok value) items read rest =
+    (read.0, read.1, subst (λ bytes. AreItems None meaning width bytes items) read.2 rest)
 item_more None meaning width (Some bytes) new (Err (IoError e)) items read rest = tt
 item_more None meaning width (Some bytes) new (Err (FormatError s)) items read rest = read
 item_more None meaning width (Some bytes) new (Err TooWide) items read rest = read
@@ -60,34 +95,57 @@ item_more None meaning width (Some bytes) new (Err InvalidSampleFormat) items re
 item_more None meaning width (Some bytes) new (Err TooLong) items read rest = read
 item_more None meaning width (Some bytes) new (Err OutOfMemory) items read rest = read
 
-module _ {R A : Type 0} (left : R → Option (List ℕ)) (refusal : SampleFormat → ℕ → ℕ → Option ReadRefusal) (meaning : ℕ → ℕ → List ℕ → A) where
+module _ {R A : Type 0} (left : R → Option (List ℕ))
+    (refusal : SampleFormat → ℕ → ℕ → Option ReadRefusal) (meaning : ℕ → ℕ → List ℕ → A) where
   -- a run gives the items of the bytes that were left
-  pub items_given : (items : List (Result A Error)) (old new : ReaderState R) → GivesItems left refusal meaning items old new → IfSome (left old.reader) (λ bytes. AreItems (refusal_at refusal old.spec_ex) (meaning_at meaning old.spec_ex) old.spec_ex.bytes_per_sample bytes items)
-  items_given [] old new run = no_bytes (left old.reader) (refusal_at refusal old.spec_ex) (meaning_at meaning old.spec_ex) old.spec_ex.bytes_per_sample
+  pub items_given : (items : List (Result A Error)) (old new : ReaderState R)
+      → GivesItems left refusal meaning items old new
+      → IfSome (left old.reader)
+      (λ bytes. AreItems (refusal_at refusal old.spec_ex)
+      (meaning_at meaning old.spec_ex) old.spec_ex.bytes_per_sample bytes items)
+  items_given [] old new run =
+      no_bytes (left old.reader) (refusal_at refusal old.spec_ex)
+      (meaning_at meaning old.spec_ex) old.spec_ex.bytes_per_sample
   items_given (item ∷ items) old new (mid, step, run) =
-      let P : WavSpecEx → Type 0 = λ s. IfSome (left mid.reader) (λ bytes. AreItems (refusal_at refusal s) (meaning_at meaning s) s.bytes_per_sample bytes items) in
-      item_more (refusal_at refusal old.spec_ex) (meaning_at meaning old.spec_ex) old.spec_ex.bytes_per_sample (left old.reader) (left mid.reader) item items step.read (subst P step.spec_ex (items_given items mid new run))
+      let P : WavSpecEx → Type 0 =
+      λ s. IfSome (left mid.reader)
+      (λ bytes. AreItems (refusal_at refusal s)
+      (meaning_at meaning s) s.bytes_per_sample bytes items) in
+      item_more (refusal_at refusal old.spec_ex)
+      (meaning_at meaning old.spec_ex) old.spec_ex.bytes_per_sample (left old.reader)
+      (left mid.reader) item items step.read
+      (subst P step.spec_ex (items_given items mid new run))
 
   -- and counts each of them
-  pub items_counted : (items : List (Result A Error)) (old new : ReaderState R) → GivesItems left refusal meaning items old new → (new.samples_read ≡ old.samples_read + length items) × (length items ≤ samples_left old)
-  items_counted [] old new run = (ap (λ (r : ReaderState R). r.samples_read) run ∙ omega arith, omega arith)
+  pub items_counted : (items : List (Result A Error)) (old new : ReaderState R)
+      → GivesItems left refusal meaning items old new
+      → (new.samples_read ≡ old.samples_read + length items) × (length items ≤ samples_left old)
+  items_counted [] old new run =
+      (ap (λ (r : ReaderState R). r.samples_read) run ∙ omega arith, omega arith)
   items_counted (item ∷ items) old new (mid, step, run) =
-      let rest = items_counted items mid new run in
-      (omega (arith, rest.0, step.counted), omega (arith, rest.1, step.counted, step.inside, step.num_samples))
+      let rest = items_counted items mid new run in (
+        omega (arith, rest.0, step.counted),
+        omega (arith, rest.1, step.counted, step.inside, step.num_samples),
+      )
 
   -- a run leaves the number of samples of the file
-  run_keeps : (items : List (Result A Error)) (old new : ReaderState R) → GivesItems left refusal meaning items old new → new.num_samples ≡ old.num_samples
+  run_keeps : (items : List (Result A Error)) (old new : ReaderState R)
+      → GivesItems left refusal meaning items old new → new.num_samples ≡ old.num_samples
   run_keeps [] old new run = ap (λ (r : ReaderState R). r.num_samples) run
   run_keeps (item ∷ items) old new (mid, step, run) = run_keeps items mid new run ∙ step.num_samples
 
   -- where none comes after a run, it gave all that were left
-  pub items_all : (items : List (Result A Error)) (old new end : ReaderState R) → GivesItems left refusal meaning items old new → IsNext {A = A} left refusal meaning None new end → length items ≡ samples_left old
+  pub items_all : (items : List (Result A Error)) (old new end : ReaderState R)
+      → GivesItems left refusal meaning items old new
+      → IsNext {A = A} left refusal meaning None new end → length items ≡ samples_left old
   items_all items old new end run none =
       let counted = items_counted items old new run in
       omega (arith, counted.0, counted.1, none.0, run_keeps items old new run)
 
   -- and where it gave all that were left, none comes
-  pub none_behind : (items : List (Result A Error)) (next : Option (Result A Error)) (old new end : ReaderState R) → GivesItems left refusal meaning items old new → length items ≡ samples_left old → IsNext left refusal meaning next new end → next ≡ None
+  pub none_behind : (items : List (Result A Error)) (next : Option (Result A Error))
+      (old new end : ReaderState R) → GivesItems left refusal meaning items old new
+      → length items ≡ samples_left old → IsNext left refusal meaning next new end → next ≡ None
   none_behind items None old new end run all step = refl
   none_behind items (Some item) old new end run all step =
       let counted = items_counted items old new run in

@@ -17,12 +17,18 @@ use Rattle.hound_reader.specs.Refusals.{Names, ReportsError, IsRefusal, OpensAs,
 use Rattle.hound_number.proofs.KnownSteps.{known_some}
 use Rattle.hound_reader.proofs.Unique.{heads_agree, head_no_fault, faults_agree}
 
-pub readable_one : (xs : List ℕ) (s t : WavSpecEx) (n m h k : ℕ) → Readable xs s n h → Readable xs t m k → (s ≡ t) × (n ≡ m) × (h ≡ k)
+pub readable_one : (xs : List ℕ) (s t : WavSpecEx) (n m h k : ℕ) → Readable xs s n h
+    → Readable xs t m k → (s ≡ t) × (n ≡ m) × (h ≡ k)
 readable_one xs s t n m h k a b =
-    let g = heads_agree xs s t a.len b.len h k a.head b.head in
-    (g.0, a.count ∙ ap (λ l. l / s.bytes_per_sample) g.1 ∙ ap (λ (x : WavSpecEx). b.len / x.bytes_per_sample) g.0 ∙ sym b.count, g.2)
+    let g = heads_agree xs s t a.len b.len h k a.head b.head in (
+      g.0,
+      a.count ∙ ap (λ l. l / s.bytes_per_sample) g.1
+          ∙ ap (λ (x : WavSpecEx). b.len / x.bytes_per_sample) g.0 ∙ sym b.count,
+      g.2,
+    )
 
-pub readable_no_fault : (xs : List ℕ) (s : WavSpecEx) (n h : ℕ) (c : Cause) → Readable xs s n h → Unreadable xs c → ⊥
+pub readable_no_fault : (xs : List ℕ) (s : WavSpecEx) (n h : ℕ) (c : Cause) → Readable xs s n h
+    → Unreadable xs c → ⊥
 readable_no_fault xs s n h c a (inl f) = head_no_fault xs s a.len h c a.head f
 readable_no_fault xs s n h c a (inr (t, len, k, head, fault)) =
     let g = heads_agree xs s t a.len len h k a.head head in
@@ -32,29 +38,43 @@ readable_no_fault xs s n h c a (inr (t, len, k, head, fault)) =
 
 pub unreadable_one : (xs : List ℕ) (c d : Cause) → Unreadable xs c → Unreadable xs d → c ≡ d
 unreadable_one xs c d (inl e) (inl f) = faults_agree xs c d e f
-unreadable_one xs c d (inl e) (inr (t, len, k, head, fault)) = absurd (head_no_fault xs t len k c head e)
-unreadable_one xs c d (inr (t, len, k, head, fault)) (inl f) = absurd (head_no_fault xs t len k d head f)
+unreadable_one xs c d (inl e) (inr (t, len, k, head, fault)) =
+    absurd (head_no_fault xs t len k c head e)
+unreadable_one xs c d (inr (t, len, k, head, fault)) (inl f) =
+    absurd (head_no_fault xs t len k d head f)
 unreadable_one xs c d (inr (s, m, h, a, e)) (inr (t, n, k, b, f)) =
     let g = heads_agree xs s t m n h k a b in
     let there : data_fault s m ≡ Some d = rw (g.0, g.1) f in
     same_Some c d (sym e ∙ there)
 
 -- a head can be read, or its data length is at fault
-file_of_head : (bytes : List ℕ) (s : WavSpecEx) (len h : ℕ) → Head bytes s len h → (a : Answer) × AnswersFile bytes a
+file_of_head : (bytes : List ℕ) (s : WavSpecEx) (len h : ℕ) → Head bytes s len h → (a : Answer)
+    × AnswersFile bytes a
 file_of_head bytes s len h head = elim (fault_or_none (data_fault s len)) [
   | inl (c, f) ↦ (unreadable c, inr (s, len, h, head, f))
-  | inr f ↦ (readable s (len / s.bytes_per_sample) h, record { len = len; head = head; frames = f; count = refl })
+  | inr f ↦ (
+    readable s (len / s.bytes_per_sample) h,
+    record { len = len; head = head; frames = f; count = refl },
+  )
 ]
 
-file_of_answer : (bytes : List ℕ) (a : Answer) → Answers bytes a → (b : Answer) × AnswersFile bytes b
+file_of_answer : (bytes : List ℕ) (a : Answer) → Answers bytes a → (b : Answer)
+    × AnswersFile bytes b
 file_of_answer bytes (readable s len h) head = file_of_head bytes s len h head
 file_of_answer bytes (unreadable c) f = (unreadable c, inl f)
 
-same_file_answer : (bytes : List ℕ) (a b : Answer) → AnswersFile bytes a → AnswersFile bytes b → b ≡ a
-same_file_answer bytes (readable s m h) (readable t n k) a b = let e = readable_one bytes s t m n h k a b in ap (λ x. readable x n k) (sym e.0) ∙ ap (λ x. readable s x k) (sym e.1) ∙ ap (λ x. readable s m x) (sym e.2)
-same_file_answer bytes (readable s m h) (unreadable c) a b = absurd (readable_no_fault bytes s m h c a b)
-same_file_answer bytes (unreadable c) (readable s m h) a b = absurd (readable_no_fault bytes s m h c b a)
-same_file_answer bytes (unreadable c) (unreadable d) a b = ap unreadable (sym (unreadable_one bytes c d a b))
+same_file_answer : (bytes : List ℕ) (a b : Answer) → AnswersFile bytes a → AnswersFile bytes b
+    → b ≡ a
+same_file_answer bytes (readable s m h) (readable t n k) a b = let e =
+    readable_one bytes s t m n h k a b in
+    ap (λ x. readable x n k) (sym e.0) ∙ ap (λ x. readable s x k) (sym e.1)
+    ∙ ap (λ x. readable s m x) (sym e.2)
+same_file_answer bytes (readable s m h) (unreadable c) a b =
+    absurd (readable_no_fault bytes s m h c a b)
+same_file_answer bytes (unreadable c) (readable s m h) a b =
+    absurd (readable_no_fault bytes s m h c b a)
+same_file_answer bytes (unreadable c) (unreadable d) a b =
+    ap unreadable (sym (unreadable_one bytes c d a b))
 
 pub one_file_answer : (bytes : List ℕ) → HasOneFileAnswer bytes
 one_file_answer bytes =
@@ -63,7 +83,8 @@ one_file_answer bytes =
     (file.0, file.1, λ b is. same_file_answer bytes file.0 b file.1 is)
 
 -- the error of a cause is a refusal for it
-refusal_is : (e : Error) (cause : Cause) (P : Cause → Type 0) → Names e cause → P cause → IsRefusal e P
+refusal_is : (e : Error) (cause : Cause) (P : Cause → Type 0) → Names e cause → P cause
+    → IsRefusal e P
 refusal_is (errors.IoError e) cause P n p = tt
 refusal_is (errors.FormatError s) cause P (reason, e, t) p = (reason, subst P e p, t)
 refusal_is errors.Unsupported cause P n p = subst P n p
@@ -77,7 +98,9 @@ if_some : (o : Option (List ℕ)) (Q : List ℕ → Type 0) → ((xs : List ℕ)
 if_some None Q f = tt
 if_some (Some xs) Q f = f xs
 
-pub refusal_told : (o n : Option (List ℕ)) (stop : HeadError) (e : Error) (P : List ℕ → Cause → Type 0) → ReportsError stop e → Refuses stop (λ c. Known o n (λ xs ys. P xs c)) → IfSome o (λ xs. IsRefusal e (P xs))
+pub refusal_told : (o n : Option (List ℕ)) (stop : HeadError) (e : Error)
+    (P : List ℕ → Cause → Type 0) → ReportsError stop e
+    → Refuses stop (λ c. Known o n (λ xs ys. P xs c)) → IfSome o (λ xs. IsRefusal e (P xs))
 refusal_told o n (Failed x) e P r f = if_some o _ (λ xs. subst (λ y. IsRefusal y (P xs)) (sym r) tt)
 refusal_told o n (Refused' c) e P r f = known_some o n _ _ f (λ xs ys u. refusal_is e c (P xs) r u)
 
@@ -87,12 +110,24 @@ is_told (Failed x) e r = subst (λ y. IsRefusal y (λ _. ⊤)) (sym r) tt
 is_told (Refused' c) e r = refusal_is e c (λ _. ⊤) r tt
 
 -- what can be read is opened, unless a read failed
-pub opens_told : {A : Type 0} (o n : Option (List ℕ)) (stop : HeadError) (e : Error) (P : WavSpecEx → ℕ → A → Type 0) → ReportsError stop e → Refuses stop (λ c. Known o n (λ xs ys. Unreadable xs c)) → IfSome o (λ xs. (spec : WavSpecEx) (samples h : ℕ) → Readable xs spec samples h → OpensAs (Err e) (P spec samples))
-opens_told o n (Failed x) e P r f = if_some o _ (λ xs spec samples h a. subst (λ y. OpensAs (Err y) (P spec samples)) (sym r) tt)
-opens_told o n (Refused' c) e P r f = known_some o n _ _ f (λ xs ys u spec samples h a. absurd (readable_no_fault xs spec samples h c a u))
+pub opens_told : {A : Type 0} (o n : Option (List ℕ)) (stop : HeadError) (e : Error)
+    (P : WavSpecEx → ℕ → A → Type 0) → ReportsError stop e
+    → Refuses stop (λ c. Known o n (λ xs ys. Unreadable xs c))
+    → IfSome o (λ xs. (spec : WavSpecEx) (samples h : ℕ) → Readable xs spec samples h
+    → OpensAs (Err e) (P spec samples))
+opens_told o n (Failed x) e P r f =
+    if_some o _ (λ xs spec samples h a. subst (λ y. OpensAs (Err y) (P spec samples)) (sym r) tt)
+opens_told o n (Refused' c) e P r f =
+    known_some o n _ _ f
+    (λ xs ys u spec samples h a. absurd (readable_no_fault xs spec samples h c a u))
 
-pub opens_ok : (o n : Option (List ℕ)) (spec : WavSpecEx) (samples : ℕ) → Known o n (λ xs ys. (h : ℕ) × Readable xs spec samples h × (ys ≡ drop h xs)) → IfSome o (λ xs. (s : WavSpecEx) (m h : ℕ) → Readable xs s m h → (spec ≡ s) × (samples ≡ m))
-opens_ok o n spec samples k = known_some o n _ (λ xs. (s : WavSpecEx) (m h : ℕ) → Readable xs s m h → (spec ≡ s) × (samples ≡ m)) k (λ xs ys p s m h a. let e = readable_one xs spec s samples m p.0 h p.1 a in (e.0, e.1))
+pub opens_ok : (o n : Option (List ℕ)) (spec : WavSpecEx) (samples : ℕ)
+    → Known o n (λ xs ys. (h : ℕ) × Readable xs spec samples h × (ys ≡ drop h xs))
+    → IfSome o (λ xs. (s : WavSpecEx) (m h : ℕ) → Readable xs s m h → (spec ≡ s) × (samples ≡ m))
+opens_ok o n spec samples k =
+    known_some o n _ (λ xs. (s : WavSpecEx) (m h : ℕ) → Readable xs s m h → (spec ≡ s)
+    × (samples ≡ m)) k (λ xs ys p s m h a. let e = readable_one xs spec s samples m p.0 h p.1 a in
+    (e.0, e.1))
 
 names_fails : (e : Error) (c : Cause) → Names e c → FailsAs e c
 names_fails (errors.IoError e) c n = tt
@@ -104,9 +139,17 @@ names_fails errors.InvalidSampleFormat c n = n
 names_fails errors.TooLong c n = n
 names_fails errors.OutOfMemory c n = n
 
-pub no_fault_ok : (o n : Option (List ℕ)) (spec : WavSpecEx) (samples : ℕ) → Known o n (λ xs ys. (h : ℕ) × Readable xs spec samples h × (ys ≡ drop h xs)) → IfSome o (λ xs. (c : Cause) → Unreadable xs c → ⊥)
-no_fault_ok o n spec samples k = known_some o n _ (λ xs. (c : Cause) → Unreadable xs c → ⊥) k (λ xs ys p c u. readable_no_fault xs spec samples p.0 c p.1 u)
+pub no_fault_ok : (o n : Option (List ℕ)) (spec : WavSpecEx) (samples : ℕ)
+    → Known o n (λ xs ys. (h : ℕ) × Readable xs spec samples h × (ys ≡ drop h xs))
+    → IfSome o (λ xs. (c : Cause) → Unreadable xs c → ⊥)
+no_fault_ok o n spec samples k =
+    known_some o n _ (λ xs. (c : Cause) → Unreadable xs c → ⊥) k
+    (λ xs ys p c u. readable_no_fault xs spec samples p.0 c p.1 u)
 
-pub fails_told : (o n : Option (List ℕ)) (stop : HeadError) (e : Error) → ReportsError stop e → Refuses stop (λ c. Known o n (λ xs ys. Unreadable xs c)) → IfSome o (λ xs. (c : Cause) → Unreadable xs c → FailsAs e c)
+pub fails_told : (o n : Option (List ℕ)) (stop : HeadError) (e : Error) → ReportsError stop e
+    → Refuses stop (λ c. Known o n (λ xs ys. Unreadable xs c))
+    → IfSome o (λ xs. (c : Cause) → Unreadable xs c → FailsAs e c)
 fails_told o n (Failed x) e r f = if_some o _ (λ xs c u. subst (λ y. FailsAs y c) (sym r) tt)
-fails_told o n (Refused' d) e r f = known_some o n _ _ f (λ xs ys v c u. names_fails e c (subst (Names e) (unreadable_one xs d c v u) r))
+fails_told o n (Refused' d) e r f =
+    known_some o n _ _ f
+    (λ xs ys v c u. names_fails e c (subst (Names e) (unreadable_one xs d c v u) r))

@@ -15,22 +15,27 @@ use Rattle.hound_spec.specs.declared.spec.WavSpecEx.{WavSpecEx}
 use Rattle.hound_reader.specs.Reader.{ReaderState, IsNext, CountsTaken, AreTaken, refusal_at, meaning_at}
 use Rattle.hound_reader.specs.Seeking.{HasSought, Seeks, StandsAsCounted, IsAtCount, ReadsInPlace, PassesItem, Follows, IsMeaningOf, container_at, samples_before, bytes_before}
 use Rattle.hound_reader.specs.Sources.{unread}
+use Rattle.hound_spec.specs.FmtChunk.{greatest_u32}
 
 -- the place of a frame is one that 63 bits can say
-pub frame_small : (time channels width : ℕ) → time ≤ 4294967295 → channels * width ≤ 65535 → time * channels * width < 2 ^ 63
+pub frame_small : (time channels width : ℕ) → time ≤ greatest_u32 → channels * width ≤ 65535
+    → time * channels * width < 2 ^ 63
 frame_small time channels width t f =
-    let p : time * (channels * width) ≤ 4294967295 * 65535 = mul-le-mul t f in
+    let p : time * (channels * width) ≤ greatest_u32 * 65535 = mul-le-mul t f in
     omega (arith, p, mul_assoc time channels width)
 
 -- and so is the place that a reader counts
-pub counted_small : (samples bytes channels width : ℕ) → samples ≤ 4294967295 * channels → bytes ≤ samples * width → channels * width ≤ 65535 → bytes < 2 ^ 63
+pub counted_small : (samples bytes channels width : ℕ) → samples ≤ greatest_u32 * channels
+    → bytes ≤ samples * width → channels * width ≤ 65535 → bytes < 2 ^ 63
 counted_small samples bytes channels width s b f =
-    let p : samples * width ≤ 4294967295 * channels * width = mul-le-mul_right width s in
-    omega (arith, p, b, f, mul_assoc 4294967295 channels width)
+    let p : samples * width ≤ greatest_u32 * channels * width = mul-le-mul_right width s in
+    omega (arith, p, b, f, mul_assoc greatest_u32 channels width)
 
 -- the same shift, by what its number and its answer are
-pub shifts_so : {T E : Type 0} (by way : ℤ) (result : Result T E) (x : T) (old new : MediumState) → by ≡ way → result ≡ Ok x → Shifts by result old new → Shifts {E = E} way (Ok x) old new
-shifts_so {T} {E} by way result x old new b r s = subst (λ z. Shifts {E = E} z (Ok x) old new) b (subst (λ y. Shifts by y old new) r s)
+pub shifts_so : {T E : Type 0} (by way : ℤ) (result : Result T E) (x : T) (old new : MediumState)
+    → by ≡ way → result ≡ Ok x → Shifts by result old new → Shifts {E = E} way (Ok x) old new
+shifts_so {T} {E} by way result x old new b r s =
+    subst (λ z. Shifts {E = E} z (Ok x) old new) b (subst (λ y. Shifts by y old new) r s)
 
 -- a shift as an equation of signed numbers
 moved : (place new : ℕ) (by : ℤ) → IsMoved place by new → pos new ≡ pos place +ℤ by
@@ -38,41 +43,58 @@ moved place new (pos n) m = omega (arith, ints, m)
 moved place new (negsuc n) m = omega (arith, ints, m)
 
 -- a shift by the way between two places leads from the one to the other
-pub arrives : (start from to place new : ℕ) → place ≡ start + from → IsMoved place (pos to -ℤ pos from) new → new ≡ start + to
+pub arrives : (start from to place new : ℕ) → place ≡ start + from
+    → IsMoved place (pos to -ℤ pos from) new → new ≡ start + to
 arrives start from to place new stood m =
     let e = moved place new (pos to -ℤ pos from) m in
     omega (arith, ints, stood, e)
 
 -- the first sample of a frame that the file has is one of its samples
-pub frame_inside : (time channels samples : ℕ) → time < samples / channels → time * channels < samples
+pub frame_inside : (time channels samples : ℕ) → time < samples / channels
+    → time * channels < samples
 frame_inside time zero samples t = absurd (omega (arith, t, div-zero samples))
 frame_inside time (suc channels) samples t =
-    let p : suc time * suc channels ≤ samples / suc channels * suc channels = mul-le-mul_right (suc channels) t in
+    let p : suc time * suc channels ≤ samples / suc channels * suc channels =
+    mul-le-mul_right (suc channels) t in
     omega (arith, p, div-mul-le_self samples (suc channels))
 
-module _ {R : Type 0} (state : R → MediumState) (start time : ℕ) (old new : ReaderState R) (sought : HasSought state start time old new) where
+module _ {R : Type 0} (state : R → MediumState) (start time : ℕ) (old new : ReaderState R)
+    (sought : HasSought state start time old new) where
   -- where the source stands after a seek
   pub sought_place : (state new.reader).place ≡ start + bytes_before time old.spec_ex
-  sought_place = arrives start old.bytes_read (bytes_before time old.spec_ex) (state old.reader).place (state new.reader).place sought.stood sought.seeks.source.place
+  sought_place =
+      arrives start old.bytes_read (bytes_before time old.spec_ex) (state old.reader).place
+      (state new.reader).place sought.stood sought.seeks.source.place
 
   -- which the reader counts
   pub sought_counted : (state new.reader).place ≡ start + new.bytes_read
   sought_counted = omega (arith, sought_place, sought.seeks.counts.bytes)
 
   -- what is left there
-  pub sought_unread : unread (state new.reader) ≡ drop (start + bytes_before time old.spec_ex) (state old.reader).contents
-  sought_unread = ap (λ n. drop n (state new.reader).contents) sought_place ∙ ap (drop (start + bytes_before time old.spec_ex)) sought.seeks.source.stays.contents
+  pub sought_unread : unread (state new.reader) ≡ drop (start + bytes_before time old.spec_ex)
+      (state old.reader).contents
+  sought_unread =
+      ap (λ n. drop n (state new.reader).contents) sought_place
+      ∙ ap (drop (start + bytes_before time old.spec_ex)) sought.seeks.source.stays.contents
 
   -- and it has the whole container, where the data have all of theirs
-  pub sought_there : time < old.num_samples / old.spec_ex.spec.channels → start + old.num_samples * old.spec_ex.bytes_per_sample ≤ length (state old.reader).contents → old.spec_ex.bytes_per_sample ≤ length (unread (state new.reader))
+  pub sought_there : time < old.num_samples / old.spec_ex.spec.channels
+      → start + old.num_samples * old.spec_ex.bytes_per_sample ≤ length (state old.reader).contents
+      → old.spec_ex.bytes_per_sample ≤ length (unread (state new.reader))
   sought_there t whole =
       let width = old.spec_ex.bytes_per_sample in
-      let p : suc (time * old.spec_ex.spec.channels) * width ≤ old.num_samples * width = mul-le-mul_right width (frame_inside time old.spec_ex.spec.channels old.num_samples t) in
-      let l : length (unread (state new.reader)) ≡ length (state old.reader).contents - (start + bytes_before time old.spec_ex) = ap length sought_unread ∙ length-drop (start + bytes_before time old.spec_ex) (state old.reader).contents in
+      let p : suc (time * old.spec_ex.spec.channels) * width ≤ old.num_samples * width =
+      mul-le-mul_right width (frame_inside time old.spec_ex.spec.channels old.num_samples t) in
+      let l : length (unread (state new.reader)) ≡ length (state old.reader).contents -
+      (start + bytes_before time old.spec_ex) =
+      ap length sought_unread
+      ∙ length-drop (start + bytes_before time old.spec_ex) (state old.reader).contents in
       omega (arith, p, l, whole)
 
 -- what a type that reads the samples takes is the first container
-reads_first : {A : Type 0} (meaning : List ℕ → A) (width : ℕ) (bytes : List ℕ) (new : Option (List ℕ)) (item : Result A Error) → Reads None meaning width (Some bytes) new item → IsMeaningOf meaning (take width bytes) (Some item)
+reads_first : {A : Type 0} (meaning : List ℕ → A) (width : ℕ) (bytes : List ℕ)
+    (new : Option (List ℕ)) (item : Result A Error) → Reads None meaning width (Some bytes) new item
+    → IsMeaningOf meaning (take width bytes) (Some item)
 reads_first meaning width bytes None (Ok value) read = absurd read
 reads_first meaning width bytes (Some behind) (Ok value) read = read.1
 reads_first meaning width bytes new (Err (IoError e)) read = tt
@@ -84,41 +106,74 @@ reads_first meaning width bytes new (Err InvalidSampleFormat) read = read
 reads_first meaning width bytes new (Err TooLong) read = read
 reads_first meaning width bytes new (Err OutOfMemory) read = read
 
-module _ {R A : Type 0} (state : R → MediumState) (left : R → Option (List ℕ)) (refusal : SampleFormat → ℕ → ℕ → Option ReadRefusal) (meaning : ℕ → ℕ → List ℕ → A) where
+module _ {R A : Type 0} (state : R → MediumState) (left : R → Option (List ℕ))
+    (refusal : SampleFormat → ℕ → ℕ → Option ReadRefusal) (meaning : ℕ → ℕ → List ℕ → A) where
   -- the item after a seek
-  pub sought_item : (start time : ℕ) (old mid new : ReaderState R) (next : Option (Result A Error)) → left mid.reader ≡ Some (unread (state mid.reader)) → HasSought state start time old mid → time < old.num_samples / old.spec_ex.spec.channels → refusal_at refusal old.spec_ex ≡ None
-      → IsNext left refusal meaning next mid new → IsMeaningOf (meaning_at meaning old.spec_ex) (container_at old.spec_ex.bytes_per_sample (samples_before time old.spec_ex) (drop start (state old.reader).contents)) next
+  pub sought_item : (start time : ℕ) (old mid new : ReaderState R) (next : Option (Result A Error))
+      → left mid.reader ≡ Some (unread (state mid.reader)) → HasSought state start time old mid
+      → time < old.num_samples / old.spec_ex.spec.channels → refusal_at refusal old.spec_ex ≡ None
+      → IsNext left refusal meaning next mid new
+      → IsMeaningOf (meaning_at meaning old.spec_ex)
+      (container_at old.spec_ex.bytes_per_sample (samples_before time old.spec_ex)
+      (drop start (state old.reader).contents)) next
   sought_item start time old mid new None known sought t taken step =
       let inside = frame_inside time old.spec_ex.spec.channels old.num_samples t in
-      absurd (omega (arith, inside, step.0, sought.seeks.counts.samples, sought.seeks.counts.num_samples))
+      absurd (omega (
+        arith,
+        inside,
+        step.0,
+        sought.seeks.counts.samples,
+        sought.seeks.counts.num_samples,
+      ))
   sought_item start time old mid new (Some item) known sought t taken step =
       let width = old.spec_ex.bytes_per_sample in
-      let there = known ∙ ap Some (sought_unread state start time old mid sought ∙ sym (drop-drop (bytes_before time old.spec_ex) start (state old.reader).contents)) in
-      let read = subst (λ s. Reads (refusal_at refusal s) (meaning_at meaning s) s.bytes_per_sample (left mid.reader) (left new.reader) item) sought.seeks.counts.spec_ex step.read in
-      let known_read = subst (λ o. Reads (refusal_at refusal old.spec_ex) (meaning_at meaning old.spec_ex) width o (left new.reader) item) there read in
-      reads_first (meaning_at meaning old.spec_ex) width (drop (bytes_before time old.spec_ex) (drop start (state old.reader).contents)) (left new.reader) item
-      (subst (λ o. Reads o (meaning_at meaning old.spec_ex) width (Some (drop (bytes_before time old.spec_ex) (drop start (state old.reader).contents))) (left new.reader) item) taken known_read)
+      let there =
+      known ∙ ap Some (sought_unread state start time old mid sought
+      ∙ sym (drop-drop (bytes_before time old.spec_ex) start (state old.reader).contents)) in
+      let read =
+      subst (λ s. Reads (refusal_at refusal s) (meaning_at meaning s) s.bytes_per_sample
+      (left mid.reader) (left new.reader) item) sought.seeks.counts.spec_ex step.read in
+      let known_read =
+      subst (λ o. Reads (refusal_at refusal old.spec_ex)
+      (meaning_at meaning old.spec_ex) width o (left new.reader) item) there read in
+      reads_first (meaning_at meaning old.spec_ex) width
+      (drop (bytes_before time old.spec_ex) (drop start (state old.reader).contents))
+      (left new.reader) item
+      (subst (λ o. Reads o (meaning_at meaning old.spec_ex) width
+      (Some (drop (bytes_before time old.spec_ex) (drop start (state old.reader).contents)))
+      (left new.reader) item) taken known_read)
 
-known_left : (o n : Option (List ℕ)) (xs : List ℕ) (P : List ℕ → List ℕ → Type 0) → o ≡ Some xs → Known o n P → (ys : List ℕ) × (n ≡ Some ys) × P xs ys
+known_left : (o n : Option (List ℕ)) (xs : List ℕ) (P : List ℕ → List ℕ → Type 0) → o ≡ Some xs
+    → Known o n P → (ys : List ℕ) × (n ≡ Some ys) × P xs ys
 known_left None n xs P e k = absurd (let no : ⊥ = cc in no)
 known_left (Some zs) None xs P e k = absurd k
 known_left (Some zs) (Some ys) xs P e k = (ys, refl, subst (λ l. P l ys) (same_Some zs xs e) k)
 
 module _ {R : Type 0} (left : R → Option (List ℕ)) where
   -- what an item took is counted
-  took_counted : (bytes : List ℕ) (old new : ReaderState R) → StandsAsCounted left bytes old → CountsTaken left old new → StandsAsCounted left bytes new
+  took_counted : (bytes : List ℕ) (old new : ReaderState R) → StandsAsCounted left bytes old
+      → CountsTaken left old new → StandsAsCounted left bytes new
   took_counted bytes old new stands (n, count, known) =
-      let p = known_left (left old.reader) (left new.reader) (drop old.bytes_read bytes) (AreTaken n) stands known in
+      let p = known_left (left old.reader) (left new.reader) (drop old.bytes_read bytes)
+      (AreTaken n) stands known in
       p.1 ∙ ap Some (p.2.1 ∙ drop-drop n old.bytes_read bytes ∙ ap (λ i. drop i bytes) (sym count))
 
   -- an item keeps what is left as counted
-  pub item_counted : {A : Type 0} (refusal : SampleFormat → ℕ → ℕ → Option ReadRefusal) (meaning : ℕ → ℕ → List ℕ → A) (bytes : List ℕ) (old new : ReaderState R) (next : Option (Result A Error)) → StandsAsCounted left bytes old → IsNext left refusal meaning next old new → StandsAsCounted left bytes new
-  item_counted refusal meaning bytes old new None stands step = subst (StandsAsCounted left bytes) (sym step.1) stands
-  item_counted refusal meaning bytes old new (Some item) stands step = took_counted bytes old new stands step.taken
+  pub item_counted : {A : Type 0} (refusal : SampleFormat → ℕ → ℕ → Option ReadRefusal)
+      (meaning : ℕ → ℕ → List ℕ → A) (bytes : List ℕ) (old new : ReaderState R)
+      (next : Option (Result A Error)) → StandsAsCounted left bytes old
+      → IsNext left refusal meaning next old new → StandsAsCounted left bytes new
+  item_counted refusal meaning bytes old new None stands step =
+      subst (StandsAsCounted left bytes) (sym step.1) stands
+  item_counted refusal meaning bytes old new (Some item) stands step =
+      took_counted bytes old new stands step.taken
 
 module _ {R : Type 0} (left : R → Option (List ℕ)) (state : R → MediumState) where
   -- and so does an Ok seek that doesn't go back
-  pub ahead_counted : (bytes : List ℕ) (time : ℕ) (old new : ReaderState R) → left old.reader ≡ Some (unread (state old.reader)) → left new.reader ≡ Some (unread (state new.reader)) → StandsAsCounted left bytes old → Seeks state time old new
+  pub ahead_counted : (bytes : List ℕ) (time : ℕ) (old new : ReaderState R)
+      → left old.reader ≡ Some (unread (state old.reader))
+      → left new.reader ≡ Some (unread (state new.reader)) → StandsAsCounted left bytes old
+      → Seeks state time old new
       → old.bytes_read ≤ bytes_before time old.spec_ex → StandsAsCounted left bytes new
   ahead_counted bytes time old new before behind stands seeks ahead =
       let from = old.bytes_read in
@@ -129,25 +184,42 @@ module _ {R : Type 0} (left : R → Option (List ℕ)) (state : R → MediumStat
       let q : (state new.reader).place ≡ p + (to - from) = omega (arith, ints, e, ahead) in
       let here : drop p c ≡ drop from bytes = same_Some _ _ (sym before ∙ stands) in
       let sum : from + (to - from) ≡ to = omega (arith, ahead) in
-      behind ∙ ap Some (ap (λ n. drop n (state new.reader).contents) q ∙ ap (drop (p + (to - from))) seeks.source.stays.contents ∙ sym (drop-drop (to - from) p c) ∙ ap (drop (to - from)) here
+      behind ∙ ap Some (ap (λ n. drop n (state new.reader).contents) q
+      ∙ ap (drop (p + (to - from))) seeks.source.stays.contents
+      ∙ sym (drop-drop (to - from) p c) ∙ ap (drop (to - from)) here
       ∙ drop-drop (to - from) from bytes ∙ ap (λ i. drop i bytes) (sum ∙ sym seeks.counts.bytes))
 
   -- an item of a type passes
-  pub item_passes : {A : Type 0} (refusal : SampleFormat → ℕ → ℕ → Option ReadRefusal) (meaning : ℕ → ℕ → List ℕ → A) (old new : ReaderState R) (item : Result A Error) → IsNext left refusal meaning (Some item) old new → ReadsInPlace (state old.reader) (state new.reader) → PassesItem left state old new
-  item_passes refusal meaning old new item step place = record { taken = step.taken; in_place = place; spec_ex = step.spec_ex; num_samples = step.num_samples }
+  pub item_passes : {A : Type 0} (refusal : SampleFormat → ℕ → ℕ → Option ReadRefusal)
+      (meaning : ℕ → ℕ → List ℕ → A) (old new : ReaderState R) (item : Result A Error)
+      → IsNext left refusal meaning (Some item) old new
+      → ReadsInPlace (state old.reader) (state new.reader) → PassesItem left state old new
+  item_passes refusal meaning old new item step place =
+      record {
+        taken = step.taken;
+        in_place = place;
+        spec_ex = step.spec_ex;
+        num_samples = step.num_samples;
+      }
 
   module _ (told : (r : R) → left r ≡ Some (unread (state r))) where
     -- the source moved by what the item counts
-    passed : (start : ℕ) (old new : ReaderState R) → IsAtCount state start old → PassesItem left state old new → IsAtCount state start new
+    passed : (start : ℕ) (old new : ReaderState R) → IsAtCount state start old
+        → PassesItem left state old new → IsAtCount state start new
     passed start old new stood step =
-        let p = known_left (left old.reader) (left new.reader) (unread (state old.reader)) (AreTaken step.taken.0) (told old.reader) step.taken.2 in
+        let p = known_left (left old.reader) (left new.reader) (unread (state old.reader))
+        (AreTaken step.taken.0) (told old.reader) step.taken.2 in
         let same : p.0 ≡ unread (state new.reader) = same_Some _ _ (sym p.1 ∙ told new.reader) in
-        let l : length (unread (state new.reader)) ≡ length (unread (state old.reader)) - step.taken.0 = ap length (sym same ∙ p.2.1) ∙ length-drop step.taken.0 (unread (state old.reader)) in
+        let l : length (unread (state new.reader)) ≡ length
+        (unread (state old.reader)) - step.taken.0 =
+        ap length (sym same ∙ p.2.1) ∙ length-drop step.taken.0 (unread (state old.reader)) in
         omega (arith, stood, step.in_place.place, l, p.2.0, step.taken.1)
 
     -- after all calls the source stands as counted, over the same contents
-    pub stands_after : (start : ℕ) (calls : List (Option ℕ)) (old new : ReaderState R) → IsAtCount state start old → Follows left state calls old new
-        → IsAtCount state start new × ((state new.reader).contents ≡ (state old.reader).contents) × (new.spec_ex ≡ old.spec_ex) × (new.num_samples ≡ old.num_samples)
+    pub stands_after : (start : ℕ) (calls : List (Option ℕ)) (old new : ReaderState R)
+        → IsAtCount state start old → Follows left state calls old new
+        → IsAtCount state start new × ((state new.reader).contents ≡ (state old.reader).contents)
+        × (new.spec_ex ≡ old.spec_ex) × (new.num_samples ≡ old.num_samples)
     stands_after start [] old new stood run = (
       subst (IsAtCount state start) (sym run) stood,
       ap (λ (r : ReaderState R). (state r.reader).contents) run,
@@ -158,19 +230,36 @@ module _ {R : Type 0} (left : R → Option (List ℕ)) (state : R → MediumStat
         let p = stands_after start calls mid new (passed start old mid stood step) run in
         (p.0, p.1 ∙ step.in_place.contents, p.2 ∙ step.spec_ex, p.3 ∙ step.num_samples)
     stands_after start (Some time ∷ calls) old new stood (mid, step, run) =
-        let p = stands_after start calls mid new (sought_counted state start time old mid (record { stood = stood; seeks = step })) run in
-        (p.0, p.1 ∙ step.source.stays.contents, p.2 ∙ step.counts.spec_ex, p.3 ∙ step.counts.num_samples)
+        let p = stands_after start calls mid new
+        (sought_counted state start time old mid
+        (record { stood = stood; seeks = step })) run in (
+          p.0,
+          p.1 ∙ step.source.stays.contents,
+          p.2 ∙ step.counts.spec_ex,
+          p.3
+              ∙ step.counts.num_samples,
+        )
 
     -- the item after a seek, after any items and seeks since the data began
-    pub item_after : {A : Type 0} (refusal : SampleFormat → ℕ → ℕ → Option ReadRefusal) (meaning : ℕ → ℕ → List ℕ → A) (calls : List (Option ℕ)) (time : ℕ) (first old mid new : ReaderState R) (next : Option (Result A Error)) → first.bytes_read ≡ 0 → Follows left state calls first old
-        → Seeks state time old mid → time < first.num_samples / first.spec_ex.spec.channels → refusal_at refusal first.spec_ex ≡ None → IsNext left refusal meaning next mid new
-        → IsMeaningOf (meaning_at meaning first.spec_ex) (container_at first.spec_ex.bytes_per_sample (samples_before time first.spec_ex) (unread (state first.reader))) next
+    pub item_after : {A : Type 0} (refusal : SampleFormat → ℕ → ℕ → Option ReadRefusal)
+        (meaning : ℕ → ℕ → List ℕ → A) (calls : List (Option ℕ)) (time : ℕ)
+        (first old mid new : ReaderState R) (next : Option (Result A Error)) → first.bytes_read ≡ 0
+        → Follows left state calls first old
+        → Seeks state time old mid → time < first.num_samples / first.spec_ex.spec.channels
+        → refusal_at refusal first.spec_ex ≡ None → IsNext left refusal meaning next mid new
+        → IsMeaningOf (meaning_at meaning first.spec_ex)
+        (container_at first.spec_ex.bytes_per_sample (samples_before time first.spec_ex)
+        (unread (state first.reader))) next
     item_after {A} refusal meaning calls time first old mid new next fresh run seeks t taken step =
         let start = (state first.reader).place in
         let p = stands_after start calls first old (omega (arith, fresh)) run in
         let bytes = drop start (state old.reader).contents in
-        let P : WavSpecEx → List ℕ → Type 0 = λ s l. IsMeaningOf (meaning_at meaning s) (container_at s.bytes_per_sample (samples_before time s) l) next in
+        let P : WavSpecEx → List ℕ → Type 0 =
+        λ s l. IsMeaningOf (meaning_at meaning s)
+        (container_at s.bytes_per_sample (samples_before time s) l) next in
         let inside : time < old.num_samples / old.spec_ex.spec.channels = rw (p.2, p.3) t in
         let takes : refusal_at refusal old.spec_ex ≡ None = rw p.2 taken in
-        let there = sought_item state left refusal meaning start time old mid new next (told mid.reader) (record { stood = p.0; seeks = seeks }) inside takes step in
+        let there =
+        sought_item state left refusal meaning start time old mid new next (told mid.reader)
+        (record { stood = p.0; seeks = seeks }) inside takes step in
         subst (λ l. P first.spec_ex l) (ap (drop start) p.1) (subst (λ s. P s bytes) p.2 there)

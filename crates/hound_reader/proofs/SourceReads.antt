@@ -17,34 +17,96 @@ none_known buf (Ok n) = (tt, λ _ _. tt)
 none_known buf (Err e) = tt
 
 -- the bytes from the place on
-pub reads_told : {E : Type 0} (tells : Bool) (buf : List ℕ) (result : Result ℕ E) (old new : MediumState) → (IsTrue tells → Gets buf result old new) → ReadConsumes (cond tells (Some (unread old)) None) (cond tells (Some (unread new)) None) result buf
+pub reads_told : {E : Type 0} (tells : Bool) (buf : List ℕ) (result : Result ℕ E)
+    (old new : MediumState) → (IsTrue tells → Gets buf result old new)
+    → ReadConsumes (cond tells (Some (unread old)) None)
+    (cond tells (Some (unread new)) None) result buf
 reads_told true buf result old new gets = get_consumes buf result old new (gets refl)
 reads_told false buf result old new gets = none_known buf result
 
-same_account : (old new : MediumState) (faults : ℕ) → new.faults ≡ faults → new.contents ≡ old.contents → new.start ≡ old.start → new.past ≡ old.past → new.flushed ≡ old.flushed → account_of new ≡ record (account_of old) { failures = faults }
-same_account old new faults f c s p l i = record { failures = f i; kept = record { contents = c i; start = s i; past = p i; flushed = l i } }
+same_account : (old new : MediumState) (faults : ℕ) → new.faults ≡ faults
+    → new.contents ≡ old.contents → new.start ≡ old.start → new.past ≡ old.past
+    → new.flushed ≡ old.flushed → account_of new ≡ record (account_of old) { failures = faults }
+same_account old new faults f c s p l i =
+    record {
+      failures = f i;
+      kept = record { contents = c i; start = s i; past = p i; flushed = l i };
+    }
 
-account_counts : {E : Type 0} (buf : List ℕ) (result : Result ℕ E) (old new : MediumState) → Gets buf result old new → CountsRead (Some (account_of old)) (Some (account_of new)) result
-account_counts buf (Ok n) old new gets = same_account old new _ gets.faults gets.stays.contents gets.stays.start gets.stays.past gets.flushed
-account_counts buf (Err e) old new gets = same_account old new _ gets.faults gets.stays.contents gets.stays.start gets.stays.past gets.flushed
+account_counts : {E : Type 0} (buf : List ℕ) (result : Result ℕ E) (old new : MediumState)
+    → Gets buf result old new → CountsRead (Some (account_of old)) (Some (account_of new)) result
+account_counts buf (Ok n) old new gets =
+    same_account old new _ gets.faults gets.stays.contents gets.stays.start gets.stays.past
+    gets.flushed
+account_counts buf (Err e) old new gets =
+    same_account old new _ gets.faults gets.stays.contents gets.stays.start gets.stays.past
+    gets.flushed
 
 none_counted : {E : Type 0} (result : Result ℕ E) → CountsRead {Kept = Untouched} None None result
 none_counted (Ok n) = tt
 none_counted (Err e) = tt
 
 -- the faults, and what stays
-pub counts_told : {E : Type 0} (tells : Bool) (buf : List ℕ) (result : Result ℕ E) (old new : MediumState) → (IsTrue tells → Gets buf result old new) → CountsRead (cond tells (Some (account_of old)) None) (cond tells (Some (account_of new)) None) result
+pub counts_told : {E : Type 0} (tells : Bool) (buf : List ℕ) (result : Result ℕ E)
+    (old new : MediumState) → (IsTrue tells → Gets buf result old new)
+    → CountsRead (cond tells (Some (account_of old)) None)
+    (cond tells (Some (account_of new)) None) result
 counts_told true buf result old new gets = account_counts buf result old new (gets refl)
 counts_told false buf result old new gets = none_counted result
 
-finds : (result : Result FileHead HeadError) (old new : MediumState) → CountsFailed (Some (account_of old)) (Some (account_of new)) result → IfOk result (λ r. Head (unread old) r.spec_ex r.data_length r.data_start × (unread new ≡ drop r.data_start (unread old))) → IfErr result (λ e. Refuses e (λ c. Refused (unread old) c)) → FindsData result old new
-finds (Ok r) old new counts found refused = record { answer = found; faults = ap (λ (a : Account Untouched). a.failures) counts; contents = ap (λ (a : Account Untouched). a.kept.contents) counts; start = ap (λ (a : Account Untouched). a.kept.start) counts; past = ap (λ (a : Account Untouched). a.kept.past) counts; flushed = ap (λ (a : Account Untouched). a.kept.flushed) counts }
-finds (Err (variants.Failed e)) old new counts found refused = record { answer = tt; faults = ap (λ (a : Account Untouched). a.failures) counts; contents = ap (λ (a : Account Untouched). a.kept.contents) counts; start = ap (λ (a : Account Untouched). a.kept.start) counts; past = ap (λ (a : Account Untouched). a.kept.past) counts; flushed = ap (λ (a : Account Untouched). a.kept.flushed) counts }
-finds (Err (variants.Refused c)) old new counts found refused = record { answer = refused; faults = ap (λ (a : Account Untouched). a.failures) counts; contents = ap (λ (a : Account Untouched). a.kept.contents) counts; start = ap (λ (a : Account Untouched). a.kept.start) counts; past = ap (λ (a : Account Untouched). a.kept.past) counts; flushed = ap (λ (a : Account Untouched). a.kept.flushed) counts }
+finds : (result : Result FileHead HeadError) (old new : MediumState)
+    → CountsFailed (Some (account_of old)) (Some (account_of new)) result
+    → IfOk result (λ r. Head (unread old) r.spec_ex r.data_length r.data_start
+    × (unread new ≡ drop r.data_start (unread old)))
+    → IfErr result (λ e. Refuses e (λ c. Refused (unread old) c)) → FindsData result old new
+finds (Ok r) old new counts found refused =
+    record {
+      answer = found;
+      faults = ap (λ (a : Account Untouched). a.failures) counts;
+      contents = ap (λ (a : Account Untouched). a.kept.contents) counts;
+      start =
+          ap (λ (a : Account Untouched). a.kept.start) counts;
+      past =
+          ap (λ (a : Account Untouched). a.kept.past) counts;
+      flushed =
+          ap (λ (a : Account Untouched). a.kept.flushed) counts;
+    }
+finds (Err (variants.Failed e)) old new counts found refused =
+    record {
+      answer = tt;
+      faults = ap (λ (a : Account Untouched). a.failures) counts;
+      contents = ap (λ (a : Account Untouched). a.kept.contents) counts;
+      start =
+          ap (λ (a : Account Untouched). a.kept.start) counts;
+      past =
+          ap (λ (a : Account Untouched). a.kept.past) counts;
+      flushed =
+          ap (λ (a : Account Untouched). a.kept.flushed) counts;
+    }
+finds (Err (variants.Refused c)) old new counts found refused =
+    record {
+      answer = refused;
+      faults = ap (λ (a : Account Untouched). a.failures) counts;
+      contents = ap (λ (a : Account Untouched). a.kept.contents) counts;
+      start =
+          ap (λ (a : Account Untouched). a.kept.start) counts;
+      past =
+          ap (λ (a : Account Untouched). a.kept.past) counts;
+      flushed =
+          ap (λ (a : Account Untouched). a.kept.flushed) counts;
+    }
 
 -- the walk over a source that tells its bytes
-pub finds_told : (tells : Bool) (result : Result FileHead HeadError) (old new : MediumState) → IsTrue tells → CountsFailed (cond tells (Some (account_of old)) None) (cond tells (Some (account_of new)) None) result
-    → IfOk result (λ r. Known (cond tells (Some (unread old)) None) (cond tells (Some (unread new)) None) (λ xs ys. Head xs r.spec_ex r.data_length r.data_start × (ys ≡ drop r.data_start xs)))
-    → IfErr result (λ e. Refuses e (λ c. Known (cond tells (Some (unread old)) None) (cond tells (Some (unread new)) None) (λ xs ys. Refused xs c))) → FindsData result old new
+pub finds_told : (tells : Bool) (result : Result FileHead HeadError) (old new : MediumState)
+    → IsTrue tells
+    → CountsFailed (cond tells (Some (account_of old)) None)
+    (cond tells (Some (account_of new)) None) result
+    → IfOk result
+    (λ r. Known (cond tells (Some (unread old)) None) (cond tells (Some (unread new)) None)
+    (λ xs ys. Head xs r.spec_ex r.data_length r.data_start × (ys ≡ drop r.data_start xs)))
+    → IfErr result
+    (λ e. Refuses e
+    (λ c. Known (cond tells (Some (unread old)) None) (cond tells (Some (unread new)) None)
+    (λ xs ys. Refused xs c))) → FindsData result old new
 finds_told true result old new told counts found refused = finds result old new counts found refused
 finds_told false result old new told counts found refused = absurd (let h : ⊥ = cc in h)

@@ -31,26 +31,42 @@ same_chunk p q x y isp isq e =
     let n : length p.content ≡ length q.content = isp.content
     ∙ ap (λ s. padded (number s)) b.0 ∙ sym isq.content in
     let d = same_front p.content q.content x y n b.1 in
-    let first : p ≡ record { tag = q.tag; size = p.size; content = p.content } = ap (λ (t : List ℕ). record { tag = t; size = p.size; content = p.content }) a.0 in
-    let second : ◌≡◌ {A = Chunk} (record { tag = q.tag; size = p.size; content = p.content }) (record { tag = q.tag; size = q.size; content = p.content }) = ap (λ (t : List ℕ). record { tag = q.tag; size = t; content = p.content }) b.0 in
-    let third : record { tag = q.tag; size = q.size; content = p.content } ≡ q = ap (λ (t : List ℕ). record { tag = q.tag; size = q.size; content = t }) d.0 in
+    let first : p ≡ record { tag = q.tag; size = p.size; content = p.content } =
+    ap (λ (t : List ℕ). record { tag = t; size = p.size; content = p.content }) a.0 in
+    let second : ◌≡◌ {A = Chunk} (record { tag = q.tag; size = p.size; content = p.content })
+    (record { tag = q.tag; size = q.size; content = p.content }) =
+    ap (λ (t : List ℕ). record { tag = q.tag; size = t; content = p.content }) b.0 in
+    let third : record { tag = q.tag; size = q.size; content = p.content } ≡ q =
+    ap (λ (t : List ℕ). record { tag = q.tag; size = q.size; content = t }) d.0 in
     (first ∙ second ∙ third, d.1)
 
 -- no chunk begins here
 abbrev Ends : ℕ → List ℕ → Type 0
-Ends k bytes = (p : Chunk) (rest : List ℕ) → IsChunk p → k + 8 + padded (number p.size) ≤ greatest_u32 → bytes ≡ chunk_bytes p ++ rest → ⊥
+Ends k bytes =
+    (p : Chunk) (rest : List ℕ) → IsChunk p → k + 8 + padded (number p.size) ≤ greatest_u32
+    → bytes ≡ chunk_bytes p ++ rest → ⊥
 
 same_walk : (c i j : ℕ) (ps qs : List Chunk) (x y : List ℕ) → Chunks c ps → Chunks c qs
     → joined ps ++ x ≡ joined qs ++ y → i ≡ c + length (joined ps) → j ≡ c + length (joined qs)
     → Ends i x → Ends j y → (ps ≡ qs) × (x ≡ y)
 same_walk c i j [] [] x y cp cq e k l ex ey = (refl, e)
-same_walk c i j [] (q ∷ qs) x y cp (is, limit, cq) e k l ex ey = absurd (ex q (joined qs ++ y) is (omega arith) (e ∙ append_assoc (chunk_bytes q) (joined qs) y))
-same_walk c i j (p ∷ ps) [] x y (is, limit, cp) cq e k l ex ey = absurd (ey p (joined ps ++ x) is (omega arith) (sym e ∙ append_assoc (chunk_bytes p) (joined ps) x))
+same_walk c i j [] (q ∷ qs) x y cp (is, limit, cq) e k l ex ey =
+    absurd (ex q (joined qs ++ y) is (omega arith) (e ∙ append_assoc (chunk_bytes q) (joined qs) y))
+same_walk c i j (p ∷ ps) [] x y (is, limit, cp) cq e k l ex ey =
+    absurd (ey p (joined ps ++ x) is (omega arith)
+    (sym e ∙ append_assoc (chunk_bytes p) (joined ps) x))
 same_walk c i j (p ∷ ps) (q ∷ qs) x y (isp, lp, cp) (isq, lq, cq) e k l ex ey =
-    let one = same_chunk p q (joined ps ++ x) (joined qs ++ y) isp isq (sym (append_assoc (chunk_bytes p) (joined ps) x) ∙ e ∙ append_assoc (chunk_bytes q) (joined qs) y) in
+    let one =
+    same_chunk p q (joined ps ++ x) (joined qs ++ y) isp isq
+    (sym (append_assoc (chunk_bytes p) (joined ps) x) ∙ e
+    ∙ append_assoc (chunk_bytes q) (joined qs) y) in
     let cq' = subst (λ t. Chunks (c + length (chunk_bytes t)) qs) (sym one.0) cq in
-    let n : length (chunk_bytes p) ≡ length (chunk_bytes q) = ap (λ t. length (chunk_bytes t)) one.0 in
-    let more = same_walk (c + length (chunk_bytes p)) i j ps qs x y cp cq' one.1 (omega (arith, length-append (chunk_bytes p) (joined ps))) (omega (arith, n, length-append (chunk_bytes q) (joined qs))) ex ey in
+    let n : length (chunk_bytes p) ≡ length (chunk_bytes q) =
+    ap (λ t. length (chunk_bytes t)) one.0 in
+    let more =
+    same_walk (c + length (chunk_bytes p)) i j ps qs x y cp cq' one.1
+    (omega (arith, length-append (chunk_bytes p) (joined ps)))
+    (omega (arith, n, length-append (chunk_bytes q) (joined qs))) ex ey in
     (ap (λ t. t ∷ ps) one.0 ∙ ap (λ t. q ∷ t) more.0, more.1)
 
 content_sound : (c : ℕ) (found : Option WavSpecEx) (p : Chunk) (rest : List ℕ) → IsChunk p
@@ -61,7 +77,9 @@ content_sound c found p rest is limit =
     let n = padded (number p.size) in
     let room = le-ltb greatest_u32 (c + 8 + padded (number p.size)) limit in
     let cut = take_at p.content rest n is.content in
-    let enough = le-ltb (length (p.content ++ rest)) n (omega (arith, length-append p.content rest, is.content)) in
+    let enough =
+    le-ltb (length (p.content ++ rest)) n
+    (omega (arith, length-append p.content rest, is.content)) in
     rw (is.other, room, cut, is.sound, enough) refl
 
 -- a chunk within the limit has no fault
@@ -72,13 +90,24 @@ unfolding chunk_fault
 chunk_sound c found p rest is limit =
     let room = le-ltb greatest_u32 (c + 8) (omega arith) in
     let whole = spread p rest in
-    let enough = le-ltb (length (p.tag ++ (p.size ++ (p.content ++ rest)))) 8 (omega (arith, is.tag, is.size, length-append p.tag (p.size ++ (p.content ++ rest)), length-append p.size (p.content ++ rest))) in
-    let tag : take 4 (p.tag ++ (p.size ++ (p.content ++ rest))) ≡ p.tag = take_at p.tag _ 4 is.tag in
-    let back : drop 4 (p.tag ++ (p.size ++ (p.content ++ rest))) ≡ p.size ++ (p.content ++ rest) = drop_at p.tag _ 4 is.tag in
+    let enough =
+    le-ltb (length (p.tag ++ (p.size ++ (p.content ++ rest)))) 8
+    (omega (
+      arith,
+      is.tag,
+      is.size,
+      length-append p.tag (p.size ++ (p.content ++ rest)),
+      length-append p.size (p.content ++ rest),
+    )) in
+    let tag : take 4 (p.tag ++ (p.size ++ (p.content ++ rest))) ≡ p.tag =
+    take_at p.tag _ 4 is.tag in
+    let back : drop 4 (p.tag ++ (p.size ++ (p.content ++ rest))) ≡ p.size ++ (p.content ++ rest) =
+    drop_at p.tag _ 4 is.tag in
     let size : take 4 (p.size ++ (p.content ++ rest)) ≡ p.size = take_at p.size _ 4 is.size in
     let all : drop 8 (p.tag ++ (p.size ++ (p.content ++ rest))) ≡ p.content ++ rest =
     ap (drop 8) (sym (append_assoc p.tag p.size (p.content ++ rest)))
-    ∙ drop_at (p.tag ++ p.size) (p.content ++ rest) 8 (omega (arith, is.tag, is.size, length-append p.tag p.size)) in
+    ∙ drop_at (p.tag ++ p.size) (p.content ++ rest) 8
+    (omega (arith, is.tag, is.size, length-append p.tag p.size)) in
     ap (chunk_fault c found) whole
     ∙ rw (room, enough, tag, all, back, size) (content_sound c found p rest is limit)
 
@@ -99,16 +128,23 @@ data_sound : (c : ℕ) (spec : WavSpecEx) (size rest : List ℕ) → c + 8 ≤ g
 unfolding chunk_fault content_fault
 data_sound c spec size rest limit four =
     let room = le-ltb greatest_u32 (c + 8) limit in
-    let enough = le-ltb (length (data_tag ++ (size ++ rest))) 8 (omega (arith, four, length-append size rest)) in
+    let enough =
+    le-ltb (length (data_tag ++ (size ++ rest))) 8
+    (omega (arith, four, length-append size rest)) in
     rw (room, enough) refl
 
 front_sound : (size rest : List ℕ) → length size ≡ 4
     → front_fault (riff_tag ++ (size ++ (wave_tag ++ rest))) ≡ None
 unfolding front_fault
 front_sound size rest four =
-    let enough = le-ltb (length (riff_tag ++ (size ++ (wave_tag ++ rest)))) 12 (omega (arith, four, length-append size (wave_tag ++ rest))) in
-    let some = le-ltb (length (riff_tag ++ (size ++ (wave_tag ++ rest)))) 4 (omega (arith, four, length-append size (wave_tag ++ rest))) in
-    let back : drop 4 (size ++ (wave_tag ++ rest)) ≡ wave_tag ++ rest = drop_at size (wave_tag ++ rest) 4 four in
+    let enough =
+    le-ltb (length (riff_tag ++ (size ++ (wave_tag ++ rest)))) 12
+    (omega (arith, four, length-append size (wave_tag ++ rest))) in
+    let some =
+    le-ltb (length (riff_tag ++ (size ++ (wave_tag ++ rest)))) 4
+    (omega (arith, four, length-append size (wave_tag ++ rest))) in
+    let back : drop 4 (size ++ (wave_tag ++ rest)) ≡ wave_tag ++ rest =
+    drop_at size (wave_tag ++ rest) 4 four in
     rw (some, enough, back) refl
 
 no_front_fault : (bytes : List ℕ) (chunks : List Chunk) (rest : List ℕ) → Walk bytes chunks rest
@@ -124,12 +160,14 @@ same_walks bytes ps qs x y v w ex ey =
     let a = append_cancel_left riff_tag _ _ (sym v.whole ∙ w.whole) in
     let b = same_front v.size w.size _ _ (v.four ∙ sym w.four) a in
     let d = append_cancel_left wave_tag _ _ b.1 in
-    same_walk 0 (length (joined ps)) (length (joined qs)) ps qs x y v.each w.each d (omega arith) (omega arith) ex ey
+    same_walk 0 (length (joined ps)) (length (joined qs)) ps qs x y v.each w.each d (omega arith)
+    (omega arith) ex ey
 
 pub heads_agree : (bytes : List ℕ) (s t : WavSpecEx) (m n h k : ℕ) → Head bytes s m h
     → Head bytes t n k → (s ≡ t) × (m ≡ n) × (h ≡ k)
 heads_agree bytes s t m n h k a b =
-    let w = same_walks bytes a.chunks b.chunks _ _ a.walk b.walk (data_ends _ a.size a.rest) (data_ends _ b.size b.rest) in
+    let w = same_walks bytes a.chunks b.chunks _ _ a.walk b.walk (data_ends _ a.size a.rest)
+    (data_ends _ b.size b.rest) in
     let e = same_front a.size b.size a.rest b.rest (a.four
     ∙ sym b.four) (append_cancel_left data_tag _ _ w.1) in (
       same_Some s t (sym a.spec_is ∙ ap (last_spec None) w.0 ∙ b.spec_is),
@@ -141,17 +179,22 @@ pub head_no_fault : (bytes : List ℕ) (s : WavSpecEx) (m h : ℕ) (cause : Caus
     → Refused bytes cause → ⊥
 head_no_fault bytes s m h cause a (inl e) = let n = no_front_fault bytes a.chunks _ a.walk in cc
 head_no_fault bytes s m h cause a (inr (chunks, rest, walk, fault)) =
-    let w = same_walks bytes a.chunks chunks _ _ a.walk walk (data_ends _ a.size a.rest) (fault_ends _ (last_spec None chunks) rest cause fault) in
+    let w = same_walks bytes a.chunks chunks _ _ a.walk walk (data_ends _ a.size a.rest)
+    (fault_ends _ (last_spec None chunks) rest cause fault) in
     let none = data_sound (length (joined a.chunks)) s a.size a.rest a.limit a.four in
-    let there : chunk_fault (length (joined a.chunks)) (last_spec None a.chunks) (data_tag ++ (a.size ++ a.rest)) ≡ Some cause = rw (w.0, w.1) fault in
+    let there : chunk_fault (length (joined a.chunks)) (last_spec None a.chunks)
+    (data_tag ++ (a.size ++ a.rest)) ≡ Some cause = rw (w.0, w.1) fault in
     let found = a.spec_is in
     cc
 
 pub faults_agree : (bytes : List ℕ) (c d : Cause) → Refused bytes c → Refused bytes d → c ≡ d
 faults_agree bytes c d (inl e) (inl f) = same_Some c d (sym e ∙ f)
-faults_agree bytes c d (inl e) (inr (chunks, rest, walk, fault)) = let n = no_front_fault bytes chunks rest walk in absurd (let h : ⊥ = cc in h)
-faults_agree bytes c d (inr (chunks, rest, walk, fault)) (inl f) = let n = no_front_fault bytes chunks rest walk in absurd (let h : ⊥ = cc in h)
+faults_agree bytes c d (inl e) (inr (chunks, rest, walk, fault)) = let n =
+    no_front_fault bytes chunks rest walk in absurd (let h : ⊥ = cc in h)
+faults_agree bytes c d (inr (chunks, rest, walk, fault)) (inl f) = let n =
+    no_front_fault bytes chunks rest walk in absurd (let h : ⊥ = cc in h)
 faults_agree bytes c d (inr (ps, x, v, e)) (inr (qs, y, w, f)) =
-    let s = same_walks bytes ps qs x y v w (fault_ends _ (last_spec None ps) x c e) (fault_ends _ (last_spec None qs) y d f) in
+    let s = same_walks bytes ps qs x y v w (fault_ends _ (last_spec None ps) x c e)
+    (fault_ends _ (last_spec None qs) y d f) in
     let there : chunk_fault (length (joined ps)) (last_spec None ps) x ≡ Some d = rw (s.0, s.1) f in
     same_Some c d (sym e ∙ there)

@@ -76,13 +76,19 @@ Chunks-more : (c : ℕ) (ps : List Chunk) (p : Chunk) → Chunks c ps → IsChun
     → c + length (joined ps) + 8 + padded (number p.size) ≤ greatest_u32
     → Chunks c (ps ++ p ∷ [])
 Chunks-more c [] p each is limit = (is, omega arith, tt)
-Chunks-more c (q ∷ ps) p (first, room, each) is limit =
-    (first, room, Chunks-more (c + length (chunk_bytes q)) ps p each is (omega (arith, length-append (chunk_bytes q) (joined ps))))
+Chunks-more c (q ∷ ps) p (first, room, each) is limit = (
+  first,
+  room,
+  Chunks-more (c + length (chunk_bytes q)) ps p each is
+      (omega (arith, length-append (chunk_bytes q) (joined ps))),
+)
 
 last_spec-more : (found : Option WavSpecEx) (ps : List Chunk) (p : Chunk)
-    → last_spec found (ps ++ p ∷ []) ≡ spec_after (last_spec found ps) p.tag (number p.size) p.content
+    → last_spec found (ps ++ p ∷ []) ≡ spec_after (last_spec found ps) p.tag
+    (number p.size) p.content
 last_spec-more found [] p = refl
-last_spec-more found (q ∷ ps) p = last_spec-more (spec_after found q.tag (number q.size) q.content) ps p
+last_spec-more found (q ∷ ps) p =
+    last_spec-more (spec_after found q.tag (number q.size) q.content) ps p
 
 joined-more : (ps : List Chunk) (p : Chunk) (rest : List ℕ)
     → joined (ps ++ p ∷ []) ++ rest ≡ joined ps ++ (chunk_bytes p ++ rest)
@@ -121,8 +127,17 @@ head_from xs ys zs size spec len four e taken r h at =
     let all : xs ≡ riff_tag ++ (size ++ (wave_tag ++ (body ++ (data_tag ++ (r.size ++ zs))))) = e
     ∙ ap (λ t. riff_tag ++ (size ++ (wave_tag ++ t))) w.whole in
     let front = riff_tag ++ (size ++ (wave_tag ++ (body ++ (data_tag ++ r.size)))) in
-    let parted : riff_tag ++ (size ++ (wave_tag ++ (body ++ (data_tag ++ (r.size ++ zs))))) ≡ front ++ zs = simp append_assoc in
-    let n : length front ≡ 12 + length body + 8 = omega (arith, four, r.four, length-append size (wave_tag ++ (body ++ (data_tag ++ r.size))), length-append body (data_tag ++ r.size)) in let place : h ≡ 12 + length body + 8 = omega (arith, at, w.taken_is) in (
+    let parted : riff_tag ++ (size ++ (wave_tag ++ (body ++ (data_tag ++ (r.size ++ zs))))) ≡ front
+    ++ zs = simp append_assoc in
+    let n : length front ≡ 12 + length body + 8 =
+    omega (
+      arith,
+      four,
+      r.four,
+      length-append size (wave_tag ++ (body ++ (data_tag ++ r.size))),
+      length-append body (data_tag ++ r.size),
+    ) in let place : h ≡ 12 + length body + 8 = omega
+    (arith, at, w.taken_is) in (
       record {
         chunks = w.chunks;
         size = r.size;

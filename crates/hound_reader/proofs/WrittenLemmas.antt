@@ -34,11 +34,21 @@ fields_fit : (tag bits : ℕ) (s : WavSpecEx) → IsWritable s → tag < 256 ^ 2
 fields_fit tag bits s w small in_width =
     let p = pair_facts s.spec.sample_format s.spec.bits_per_sample s.bytes_per_sample w.pair in
     let frame = s.spec.channels * s.bytes_per_sample in
-    let whole_frame : s.bytes_per_sample ≤ frame = le_times s.bytes_per_sample s.spec.channels (omega (arith, w.channels)) in
+    let whole_frame : s.bytes_per_sample ≤ frame =
+    le_times s.bytes_per_sample s.spec.channels (omega (arith, w.channels)) in
     record {
       tag = small;
-      channels = omega (arith, le_times s.spec.channels s.bytes_per_sample (omega (arith, p.some)), w.align);
-      rate = omega (arith, le_times s.spec.sample_rate frame (omega (arith, whole_frame, p.some)), w.byte_rate);
+      channels =
+          omega (
+            arith,
+            le_times s.spec.channels s.bytes_per_sample (omega (arith, p.some)),
+            w.align,
+          );
+      rate = omega (
+        arith,
+        le_times s.spec.sample_rate frame (omega (arith, whole_frame, p.some)),
+        w.byte_rate,
+      );
       byte_rate = omega (arith, w.byte_rate);
       align = omega (arith, w.align);
       bits = omega (arith, in_width, p.few);
@@ -46,7 +56,16 @@ fields_fit tag bits s w small in_width =
 
 -- a spec with other bits and format
 abbrev with_fields : WavSpecEx → ℕ → SampleFormat → WavSpecEx
-with_fields s bits format = record { spec = record { channels = s.spec.channels; sample_rate = s.spec.sample_rate; bits_per_sample = bits; sample_format = format }; bytes_per_sample = s.bytes_per_sample }
+with_fields s bits format =
+    record {
+      spec = record {
+        channels = s.spec.channels;
+        sample_rate = s.spec.sample_rate;
+        bits_per_sample = bits;
+        sample_format = format;
+      };
+      bytes_per_sample = s.bytes_per_sample;
+    }
 
 -- the fields of a spec pass every check
 fields_pass : (tag bits : ℕ) (s : WavSpecEx) → IsWritable s → 0 < bits → bits % 8 ≡ 0
@@ -69,7 +88,9 @@ fields_pass tag bits s w some whole in_width =
 bytes_pass : (tag bits : ℕ) (s : WavSpecEx) → IsWritable s → tag < 256 ^ 2 → 0 < bits → bits % 8 ≡ 0
     → bits ≤ 8 * s.bytes_per_sample
     → wave_format (fmt_fields (fmt_bytes (fields tag bits s))) ≡ Ok (with_fields s bits Int)
-bytes_pass tag bits s w small some whole in_width = ap wave_format (fields_written (fields tag bits s) [] (fields_fit tag bits s w small in_width)) ∙ fields_pass tag bits s w some whole in_width
+bytes_pass tag bits s w small some whole in_width =
+    ap wave_format (fields_written (fields tag bits s) [] (fields_fit tag bits s w small in_width))
+    ∙ fields_pass tag bits s w some whole in_width
 
 -- the older fmt chunk is of integers
 short_is_int : (f : SampleFormat) (b w : ℕ) → IsPair f b w → b ≤ 16 → f ≡ Int
@@ -81,8 +102,10 @@ short_back : (s : WavSpecEx) → IsWritable s → s.spec.bits_per_sample ≤ 16
 unfolding fmt_said by_tag wave_format_pcm
 short_back s w few =
     let p = pair_facts s.spec.sample_format s.spec.bits_per_sample s.bytes_per_sample w.pair in
-    let pass = bytes_pass pcm s.spec.bits_per_sample s w (lit< tt) p.some_bits p.whole_bytes p.in_width in
-    let is_int = short_is_int s.spec.sample_format s.spec.bits_per_sample s.bytes_per_sample w.pair few in
+    let pass =
+    bytes_pass pcm s.spec.bits_per_sample s w (lit< tt) p.some_bits p.whole_bytes p.in_width in
+    let is_int =
+    short_is_int s.spec.sample_format s.spec.bits_per_sample s.bytes_per_sample w.pair few in
     rw pass (ap (λ f. Ok (with_fields s s.spec.bits_per_sample f)) (sym is_int))
 
 long_back : (s : WavSpecEx) → IsWritable s → fmt_of 40 (long_fmt s) ≡ Ok s
@@ -93,7 +116,12 @@ long_back s w = back s.spec.sample_format
     p = pair_facts s.spec.sample_format s.spec.bits_per_sample s.bytes_per_sample w.pair
 
     more : SampleFormat → Extension
-    more f = record { valid_bits = s.spec.bits_per_sample; mask = mask s.spec.channels; subformat = subformat f }
+    more f =
+        record {
+          valid_bits = s.spec.bits_per_sample;
+          mask = mask s.spec.channels;
+          subformat = subformat f;
+        }
 
     valid : number (bytes_of 2 s.spec.bits_per_sample) ≡ s.spec.bits_per_sample
     valid = number-bytes_of 2 s.spec.bits_per_sample (omega (arith, p.in_width, p.few))
@@ -101,11 +129,15 @@ long_back s w = back s.spec.sample_format
     some : (s.spec.bits_per_sample == 0) ≡ false
     some = ne_eqb s.spec.bits_per_sample 0 (λ e. omega (arith, p.some_bits))
 
-    pass : wave_format (fmt_fields (fmt_bytes (fields extensible (8 * s.bytes_per_sample) s))) ≡ Ok (with_fields s (8 * s.bytes_per_sample) Int)
-    pass = bytes_pass extensible (8 * s.bytes_per_sample) s w (lit< tt) (omega (arith, p.some)) (omega arith) (omega arith)
+    pass : wave_format (fmt_fields (fmt_bytes (fields extensible (8 * s.bytes_per_sample) s))) ≡ Ok
+        (with_fields s (8 * s.bytes_per_sample) Int)
+    pass = bytes_pass extensible (8 * s.bytes_per_sample) s w (lit< tt) (omega (arith, p.some))
+        (omega arith) (omega arith)
 
     back : (f : SampleFormat)
-        → fmt_of 40 (fmt_bytes (fields extensible (8 * s.bytes_per_sample) s) ++ bytes_of 2 22 ++ extension_bytes (more f)) ≡ Ok (with_fields s s.spec.bits_per_sample f)
+        → fmt_of 40
+        (fmt_bytes (fields extensible (8 * s.bytes_per_sample) s) ++ bytes_of 2 22
+        ++ extension_bytes (more f)) ≡ Ok (with_fields s s.spec.bits_per_sample f)
     back Int = rw (pass, valid, some) refl
     back Float = rw (pass, valid, some) refl
 
@@ -115,20 +147,27 @@ fmt_chunk len content = record { tag = fmt_tag; size = bytes_of 4 len; content =
 
 joined-one : (len : ℕ) (content rest : List ℕ)
     → joined (fmt_chunk len content ∷ []) ++ rest ≡ fmt_tag ++ (bytes_of 4 len ++ (content ++ rest))
-joined-one len content rest = ap (λ t. fmt_tag ++ (bytes_of 4 len ++ (t ++ rest))) (append-nil content)
+joined-one len content rest =
+    ap (λ t. fmt_tag ++ (bytes_of 4 len ++ (t ++ rest))) (append-nil content)
 
 length-joined-one : (len : ℕ) (content : List ℕ)
     → length (joined (fmt_chunk len content ∷ [])) ≡ 8 + length content
-length-joined-one len content = ap (λ t. length (fmt_tag ++ (bytes_of 4 len ++ t))) (append-nil content) ∙ omega arith
+length-joined-one len content =
+    ap (λ t. length (fmt_tag ++ (bytes_of 4 len ++ t))) (append-nil content) ∙ omega arith
 
 regroup : (a b c d e : List ℕ) → (((a ++ b) ++ c) ++ d) ++ e ≡ a ++ (b ++ (c ++ (d ++ e)))
 regroup a b c d e = simp append_assoc
 
 header-parts : (s : WavSpecEx) (size len n : ℕ) (content rest : List ℕ)
     → sized_fmt s ≡ bytes_of 4 n ++ content
-    → header s size len ++ rest ≡ riff_tag ++ (bytes_of 4 size ++ (wave_tag ++ (fmt_tag ++ (bytes_of 4 n ++ (content ++ (data_tag ++ (bytes_of 4 len ++ rest)))))))
+    → header s size len ++ rest ≡ riff_tag ++
+    (bytes_of 4 size ++
+    (wave_tag ++
+    (fmt_tag ++ (bytes_of 4 n ++ (content ++ (data_tag ++ (bytes_of 4 len ++ rest)))))))
 unfolding header
-header-parts s size len n content rest e = rw e (ap (λ t. riff_tag ++ (bytes_of 4 size ++ (wave_tag ++ (fmt_tag ++ t)))) (regroup (bytes_of 4 n) content data_tag (bytes_of 4 len) rest))
+header-parts s size len n content rest e =
+    rw e (ap (λ t. riff_tag ++ (bytes_of 4 size ++ (wave_tag ++ (fmt_tag ++ t))))
+    (regroup (bytes_of 4 n) content data_tag (bytes_of 4 len) rest))
 
 add_none : (n : ℕ) → n ≡ n + 0
 add_none n = omega arith
@@ -147,8 +186,21 @@ head_of s size len n content rest e back few even l read fits = record {
     size = bytes_of 4 size;
     four = refl;
     whole = header-parts s size len n content rest e
-        ∙ ap (λ t. riff_tag ++ (bytes_of 4 size ++ (wave_tag ++ t))) (sym (joined-one n content (data_tag ++ (bytes_of 4 len ++ rest))));
-    each = (record { tag = refl; size = refl; content = l ∙ sym (rw (back, even) (sym (add_none n))); other = refl; sound = rw back (ap fault_of read) }, omega (arith, back, even), tt);
+        ∙ ap (λ t. riff_tag ++ (bytes_of 4 size ++ (wave_tag ++ t)))
+        (sym (joined-one n content (data_tag ++ (bytes_of 4 len ++ rest))));
+    each = (
+      record {
+        tag = refl;
+        size = refl;
+        content = l
+            ∙ sym (rw (back, even) (sym (add_none n)));
+        other = refl;
+        sound =
+            rw back (ap fault_of read);
+      },
+      omega (arith, back, even),
+      tt,
+    );
   };
   four = refl;
   data_len = number-bytes_of 4 len (omega arith);
@@ -159,11 +211,15 @@ head_of s size len n content rest e back few even l read fits = record {
 
 short_head : (s : WavSpecEx) (size len : ℕ) (rest : List ℕ) → IsWritable s → is_short s ≡ true
     → s.spec.bits_per_sample ≤ 16 → len ≤ greatest_u32 → Head (header s size len ++ rest) s len 44
-short_head s size len rest w short few fits = head_of s size len 16 (short_fmt s) rest (sized_fmt-short s short) refl (omega arith) refl refl (short_back s w few) fits
+short_head s size len rest w short few fits =
+    head_of s size len 16 (short_fmt s) rest (sized_fmt-short s short) refl (omega arith) refl refl
+    (short_back s w few) fits
 
 long_head : (s : WavSpecEx) (size len : ℕ) (rest : List ℕ) → IsWritable s → is_short s ≡ false
     → len ≤ greatest_u32 → Head (header s size len ++ rest) s len 68
-long_head s size len rest w long fits = head_of s size len 40 (long_fmt s) rest (sized_fmt-long s long) refl (omega arith) refl (length-long_fmt s) (long_back s w) fits
+long_head s size len rest w long fits =
+    head_of s size len 40 (long_fmt s) rest (sized_fmt-long s long) refl (omega arith) refl
+    (length-long_fmt s) (long_back s w) fits
 
 nat_le-true : (a b : ℕ) → nat_le a b ≡ true → a ≤ b
 nat_le-true a b h = grind (arith, nat_tests)
@@ -171,17 +227,21 @@ nat_le-true a b h = grind (arith, nat_tests)
 pub header_head : (s : WavSpecEx) (size len : ℕ) (rest : List ℕ) → IsWritable s → len ≤ greatest_u32
     → Head (header s size len ++ rest) s len (data_start s)
 header_head s size len rest w fits = elim (cases_Bool (is_short s)) [
-  | inl e ↦ rw e (short_head s size len rest w e (nat_le-true s.spec.bits_per_sample 16 (and_parts _ _ e).1) fits)
+  | inl e ↦
+      rw e (short_head s size len rest w e
+      (nat_le-true s.spec.bits_per_sample 16 (and_parts _ _ e).1) fits)
   | inr e ↦ rw e (long_head s size len rest w e fits)
 ]
 
 length-concat : (w : ℕ) (list : List (List ℕ)) → AllByRecursion (λ c. length c ≡ w) list
     → length (concat list) ≡ length list * w
 length-concat w [] each = omega arith
-length-concat w (c ∷ list) (one, each) = let more = length-concat w list each in omega (arith, one, more, length-append c (concat list))
+length-concat w (c ∷ list) (one, each) = let more = length-concat w list each in
+    omega (arith, one, more, length-append c (concat list))
 
 containers-concat : (w : ℕ) (list : List (List ℕ)) (rest : List ℕ)
-    → AllByRecursion (λ c. length c ≡ w) list → containers w (length list) (concat list ++ rest) ≡ list
+    → AllByRecursion (λ c. length c ≡ w) list
+    → containers w (length list) (concat list ++ rest) ≡ list
 containers-concat w [] rest each = refl
 containers-concat w (c ∷ list) rest (one, each) =
     let bytes = concat list ++ rest in
@@ -201,12 +261,23 @@ canonical_back s list w a =
     let size = riff_size (data_start s) (length bytes) in
     let behind = bytes ++ padding (length bytes) in
     let div : length bytes / s.bytes_per_sample ≡ length list = ap (λ t. t / s.bytes_per_sample) (n
-    ∙ add_none (length list * s.bytes_per_sample)) ∙ div-mul-add (length list) s.bytes_per_sample 0 p.some in
+    ∙ add_none (length list * s.bytes_per_sample))
+    ∙ div-mul-add (length list) s.bytes_per_sample 0 p.some in
     let whole : length bytes % s.bytes_per_sample ≡ 0 = ap (λ t. t % s.bytes_per_sample) n
     ∙ mul-mod_left (length list) s.bytes_per_sample in
     let t1 = eq-eqb (length bytes % s.bytes_per_sample) 0 whole in
-    let t2 = eq-eqb ((length bytes / s.bytes_per_sample) % s.spec.channels) 0 (ap (λ t. t % s.spec.channels) div ∙ a.frames) in (
-      record { len = length bytes; head = header_head s size (length bytes) behind w (omega (arith, a.fits, n)); frames = rw (t1, t2) refl; count = sym div },
-      ap (containers s.bytes_per_sample (length list)) (drop_at (header s size (length bytes)) behind (data_start s) (length-header s size (length bytes)))
+    let t2 =
+    eq-eqb ((length bytes / s.bytes_per_sample) % s.spec.channels) 0
+    (ap (λ t. t % s.spec.channels) div ∙ a.frames) in (
+      record {
+        len = length bytes;
+        head = header_head s size (length bytes) behind w (omega (arith, a.fits, n));
+        frames =
+            rw (t1, t2) refl;
+        count = sym div;
+      },
+      ap (containers s.bytes_per_sample (length list))
+          (drop_at (header s size (length bytes)) behind (data_start s)
+          (length-header s size (length bytes)))
           ∙ containers-concat s.bytes_per_sample list (padding (length bytes)) a.each,
     )

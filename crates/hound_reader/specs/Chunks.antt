@@ -83,6 +83,10 @@ pub record Head (bytes : List ℕ) (spec : WavSpecEx) (len h : ℕ) : Type 0 whe
   pub spec_is : last_spec None chunks ≡ Some spec
   pub place : h ≡ 12 + length (joined chunks) + 8
 
+-- where data can begin: behind the front and a chunk's header, and within the limit
+abbrev pub IsDataPlace : ℕ → Type 0
+IsDataPlace h = (20 ≤ h) × (h ≤ 20 + greatest_u32)
+
 -- The fault of the first twelve bytes, if they have one.
 unfoldable pub front_fault : List ℕ → Option Cause
 front_fault bytes =

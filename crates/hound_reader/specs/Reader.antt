@@ -8,6 +8,7 @@ use Rattle.hound_spec.specs.declared.spec.WavSpecEx.{WavSpecEx}
 use Rattle.hound_sample.specs.Meaning.{ReadRefusal}
 use Rattle.hound_sample.specs.Reads.{Reads}
 use Rattle.hound_reader.specs.Fmt.{IsSoundSpec}
+use Rattle.hound_spec.specs.FmtChunk.{greatest_u32}
 
 -- A reader as contracts see it: what it reads from, the spec with the width of a sample, how many
 -- samples the file has, how many of them were asked for, and how many bytes these took since the
@@ -34,7 +35,7 @@ pub record HasSoundCounts (spec_ex : WavSpecEx) (num_samples samples_read bytes_
   where
     pub sound : IsSoundSpec spec_ex
     pub frames : num_samples % spec_ex.spec.channels ≡ 0
-    pub samples : samples_read ≤ 4294967295 * spec_ex.spec.channels
+    pub samples : samples_read ≤ greatest_u32 * spec_ex.spec.channels
     pub bytes : bytes_read ≤ samples_read * spec_ex.bytes_per_sample
 
 -- the bytes that an item took: the width of a container at an Ok, none at a refusal by type, and at

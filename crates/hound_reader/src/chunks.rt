@@ -8,7 +8,7 @@ ghost use Rattle.hound_spec.specs.FmtChunk.{greatest_u32};
 ghost use Rattle.hound_spec.specs.Header.{padded, riff_tag, wave_tag};
 ghost use Rattle.hound_reader.specs.Outcome.{CountsFailed, Refuses, UnlessReadFailed};
 ghost use Rattle.hound_reader.specs.Fmt.{fmt_of, IsSoundSpec};
-ghost use Rattle.hound_reader.specs.Chunks.{Head, Refused, fault_of, first_fault, cut_fault, front_fault, content_fault, chunk_fault};
+ghost use Rattle.hound_reader.specs.Chunks.{Head, IsDataPlace, Refused, fault_of, first_fault, cut_fault, front_fault, content_fault, chunk_fault};
 ghost use Rattle.hound_reader.specs.Sources.{FindsData};
 ghost use Rattle.hound_reader.specs.Front.{TakesFront};
 ghost use Rattle.hound_reader.specs.Answer.{Answer, Answers, ReportsAnswer};
@@ -54,7 +54,8 @@ pub struct FileHead {
 // Takes bytes and lets them go.
 fn skip_bytes<R: Input>(reader: &mut R, count: u32) -> Result<(), HeadError>
     ensures failures { CountsFailed (R.account reader.old) (R.account reader.new) result }
-    ensures ok { OnOk result ((bytes : List ℕ) × Consumes (R.left reader.old) (R.left reader.new) bytes × (length bytes ≡ count)) }
+    ensures ok { OnOk result ((bytes : List ℕ)
+        × Consumes (R.left reader.old) (R.left reader.new) bytes × (length bytes ≡ count)) }
     ensures err { IfErr result (λ e. Refuses e (λ c. (c ≡ Cause.Ended)
         × Known (R.left reader.old) (R.left reader.new) (λ xs ys. length xs < count))) }
 {
@@ -108,8 +109,10 @@ fn read_fmt_content<R: Input>(
     requires { content ≡ padded chunk_len }
     ensures sound { IfOk result IsSoundSpec }
     ensures failures { CountsFailed (R.account reader.old) (R.account reader.new) result }
-    ensures ok { IfOk result (λ found. Known (R.left reader.old) (R.left reader.new) (ReadsFmt chunk_len found)) }
-    ensures err { IfErr result (λ e. Refuses e (λ c. Known (R.left reader.old) (R.left reader.new) (λ xs ys.
+    ensures ok { IfOk result (λ found. Known (R.left reader.old) (R.left reader.new)
+        (ReadsFmt chunk_len found)) }
+    ensures err { IfErr result (λ e. Refuses e (λ c.
+        Known (R.left reader.old) (R.left reader.new) (λ xs ys.
         first_fault (fault_of (fmt_of chunk_len (take content xs))) (cut_fault content xs) ≡ Some c))) }
 {
     let spec_ex = read_fmt_chunk(reader, chunk_len)?;
@@ -131,8 +134,11 @@ fn read_content<R: Input>(
     ensures sound { IfOk result IsSoundChunk }
     ensures failures { CountsFailed (R.account reader.old) (R.account reader.new) result }
     ensures goes { IfOk result (Advances taken) }
-    ensures ok { IfOk result (λ chunk. Known (R.left reader.old) (R.left reader.new) (ReadsContent taken found tag.now chunk_len chunk)) }
-    ensures err { IfErr result (λ e. Refuses e (λ c. Known (R.left reader.old) (R.left reader.new) (λ xs ys. content_fault taken found tag.now chunk_len xs ≡ Some c))) }
+    ensures ok { IfOk result (λ chunk. Known (R.left reader.old) (R.left reader.new)
+        (ReadsContent taken found tag.now chunk_len chunk)) }
+    ensures err { IfErr result (λ e. Refuses e (λ c.
+        Known (R.left reader.old) (R.left reader.new) (λ xs ys.
+        content_fault taken found tag.now chunk_len xs ≡ Some c))) }
 {
     if tag == DATA.as_slice() {
         return match found {
@@ -164,8 +170,11 @@ fn read_next_chunk<R: Input>(
     ensures sound { IfOk result IsSoundChunk }
     ensures failures { CountsFailed (R.account reader.old) (R.account reader.new) result }
     ensures goes { IfOk result (Advances taken) }
-    ensures ok { IfOk result (λ chunk. Known (R.left reader.old) (R.left reader.new) (ReadsChunk taken found chunk)) }
-    ensures err { IfErr result (λ e. Refuses e (λ c. Known (R.left reader.old) (R.left reader.new) (λ xs ys. chunk_fault taken found xs ≡ Some c))) }
+    ensures ok { IfOk result (λ chunk. Known (R.left reader.old) (R.left reader.new)
+        (ReadsChunk taken found chunk)) }
+    ensures err { IfErr result (λ e. Refuses e (λ c.
+        Known (R.left reader.old) (R.left reader.new) (λ xs ys.
+        chunk_fault taken found xs ≡ Some c))) }
 {
     if taken > 4_294_967_287 {
         return Err(HeadError::Refused(Cause::Format(Reason::NoDataChunk)));
@@ -179,11 +188,12 @@ fn read_next_chunk<R: Input>(
 // Takes chunks from the WAVE tag on, up to the data.
 fn read_chunks<R: Input>(reader: &mut R) -> Result<FileHead, HeadError>
     ensures sound { IfOk result (λ r. IsSoundSpec r.spec_ex) }
-    ensures start { IfOk result (λ r. (20 ≤ r.data_start) × (r.data_start ≤ 4294967315)) }
+    ensures start { IfOk result (λ r. IsDataPlace r.data_start) }
     ensures failures { CountsFailed (R.account reader.old) (R.account reader.new) result }
     ensures ok { IfOk result (λ r. Known (R.left reader.old) (R.left reader.new) (λ xs ys.
         (taken : ℕ) × ReachesData xs ys r.spec_ex r.data_length taken × (r.data_start ≡ 12 + taken + 8))) }
-    ensures err { IfErr result (λ e. Refuses e (λ c. Known (R.left reader.old) (R.left reader.new) (λ xs ys. MeetsFault xs c))) }
+    ensures err { IfErr result (λ e. Refuses e (λ c.
+        Known (R.left reader.old) (R.left reader.new) (λ xs ys. MeetsFault xs c))) }
 {
     let mut found = None;
     let mut taken = 0;
@@ -207,11 +217,12 @@ fn read_chunks<R: Input>(reader: &mut R) -> Result<FileHead, HeadError>
 // Takes what stands before the data.
 fn read_head<R: Input>(reader: &mut R) -> Result<FileHead, HeadError>
     ensures sound { IfOk result (λ r. IsSoundSpec r.spec_ex) }
-    ensures start { IfOk result (λ r. (20 ≤ r.data_start) × (r.data_start ≤ 4294967315)) }
+    ensures start { IfOk result (λ r. IsDataPlace r.data_start) }
     ensures failures { CountsFailed (R.account reader.old) (R.account reader.new) result }
     ensures ok { IfOk result (λ r. Known (R.left reader.old) (R.left reader.new) (λ xs ys.
         Head xs r.spec_ex r.data_length r.data_start × (ys ≡ drop r.data_start xs))) }
-    ensures err { IfErr result (λ e. Refuses e (λ c. Known (R.left reader.old) (R.left reader.new) (λ xs ys. Refused xs c))) }
+    ensures err { IfErr result (λ e. Refuses e (λ c.
+        Known (R.left reader.old) (R.left reader.new) (λ xs ys. Refused xs c))) }
 {
     let _size = read_riff_header(reader)?;
     read_chunks(reader)
@@ -223,11 +234,12 @@ fn read_head<R: Input>(reader: &mut R) -> Result<FileHead, HeadError>
 /// and the only one that counts as failed.
 pub fn read_until_data<R: Input>(reader: &mut R) -> Result<FileHead, HeadError>
     ensures sound { IfOk result (λ r. IsSoundSpec r.spec_ex) }
-    ensures start { IfOk result (λ r. (20 ≤ r.data_start) × (r.data_start ≤ 4294967315)) }
+    ensures start { IfOk result (λ r. IsDataPlace r.data_start) }
     ensures failures { CountsFailed (R.account reader.old) (R.account reader.new) result }
     ensures found { IfOk result (λ r. Known (R.left reader.old) (R.left reader.new) (λ xs ys.
         Head xs r.spec_ex r.data_length r.data_start × (ys ≡ drop r.data_start xs))) }
-    ensures refused { IfErr result (λ e. Refuses e (λ c. Known (R.left reader.old) (R.left reader.new) (λ xs ys. Refused xs c))) }
+    ensures refused { IfErr result (λ e. Refuses e (λ c.
+        Known (R.left reader.old) (R.left reader.new) (λ xs ys. Refused xs c))) }
     ensures only { UnlessReadFailed result (Known (R.left reader.old) (R.left reader.new) (λ xs ys.
         (a : Answer) → Answers xs a → ReportsAnswer result xs ys a)) }
 {
@@ -239,7 +251,7 @@ pub fn read_until_data<R: Input>(reader: &mut R) -> Result<FileHead, HeadError>
 /// Nothing of the source changes but its place and its count of faults.
 pub fn find_data<S: Source>(source: S) -> (S, Result<FileHead, HeadError>)
     ensures sound { IfOk result.1 (λ r. IsSoundSpec r.spec_ex) }
-    ensures start { IfOk result.1 (λ r. (20 ≤ r.data_start) × (r.data_start ≤ 4294967315)) }
+    ensures start { IfOk result.1 (λ r. IsDataPlace r.data_start) }
     ensures finds { WhereTells S.tells (FindsData result.1 (S.state source) (S.state result.0)) }
 {
     let mut input = Counted { source };

@@ -184,7 +184,8 @@ pub(crate) fn read_counted<R: io::Read, S: Sample>(
         spec_ex.bytes_per_sample (R.remaining reader.old.reader) (R.remaining reader.new.reader)
         (answer_of result.0 reader.new.fault) }
     ensures untouched { IsSome (refusal_at S.refusal spec_ex) → reader.new ≡ reader.old }
-    ensures given { HasGiven (R.remaining reader.old.reader) result.1 (R.remaining reader.new.reader) }
+    ensures given { HasGiven (R.remaining reader.old.reader) result.1
+        (R.remaining reader.new.reader) }
 {
     let mut answer = Err(NoSample::Failed);
     let asked = ask_since::<R, S, Brand>(reader, spec_ex, &mut answer);

@@ -2,6 +2,7 @@
 ghost use Rattle.hound_medium.specs.State.{WhereTells};
 ghost use Rattle.std.specs.Prelude.{◌≡◌, ℕ, ◌+◌, ◌*◌, ◌/◌, List, length, drop, ◌++◌, ◌<◌, ◌≤◌, IsTrue, Option, None, Some, Result, IfSome};
 ghost use Rattle.hound_spec.specs.Writable.{IsWritable};
+ghost use Rattle.hound_spec.specs.FmtChunk.{greatest_u32};
 ghost use Rattle.hound_spec.specs.Header.{header, data_start, canonical};
 ghost use Rattle.hound_spec.specs.declared.spec.WavSpecEx.{WavSpecEx};
 ghost use Rattle.hound_reader.specs.Answer.{HasOneAnswer, HasOneFileAnswer};
@@ -29,7 +30,7 @@ pub fn one_answer()
 /// The header of a writable spec is a head with that spec and that length, whatever its RIFF size
 /// is and whatever follows.
 pub fn written_is_head()
-    ensures { (s : WavSpecEx) (size len : ℕ) (rest : List ℕ) → IsWritable s → len ≤ 4294967295 →
+    ensures { (s : WavSpecEx) (size len : ℕ) (rest : List ℕ) → IsWritable s → len ≤ greatest_u32 →
         Head (header s size len ++ rest) s len (data_start s) }
 {}
 

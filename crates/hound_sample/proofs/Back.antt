@@ -17,15 +17,19 @@ signed_of-pos k n h = rw (lt-ltb (2 * n) (256 ^ k) h) refl
 -- a number less one that is greater
 minus : (a p n : ℕ) → a + (n + 1) ≡ p → pos a -ℤ pos p ≡ negsuc n
 minus a zero n e = absurd (omega (arith, e))
-minus a (suc p) n e = let less : a < suc p = omega (arith, e) in rw (lt-ltb a (suc p) less) (ap negsuc (omega (arith, e)))
+minus a (suc p) n e = let less : a < suc p = omega (arith, e) in
+    rw (lt-ltb a (suc p) less) (ap negsuc (omega (arith, e)))
 
 -- a number from half of the range on counts from its end downwards
 signed_of-negsuc : (k n : ℕ) → 2 * (n + 1) ≤ 256 ^ k → signed_of k (256 ^ k - (n + 1)) ≡ negsuc n
 signed_of-negsuc k n h = go (256 ^ k) h
   where
     go : (p : ℕ) → 2 * (n + 1) ≤ p
-        → cond (ltb (2 * (p - (n + 1))) p) (pos (p - (n + 1))) (pos (p - (n + 1)) -ℤ pos p) ≡ negsuc n
-    go p few = rw (le-ltb (2 * (p - (n + 1))) p (omega (arith, few))) (minus (p - (n + 1)) p n (omega (arith, few)))
+        → cond (ltb (2 * (p - (n + 1))) p) (pos (p - (n + 1)))
+        (pos (p - (n + 1)) -ℤ pos p) ≡ negsuc n
+    go p few =
+        rw (le-ltb (2 * (p - (n + 1))) p (omega (arith, few)))
+        (minus (p - (n + 1)) p n (omega (arith, few)))
 
 -- whole bytes of signed bits
 signed_back : (k bits : ℕ) (v : ℤ) → 2 * 2 ^ (bits - 1) ≡ 256 ^ k → IsTrue (fits bits v)
@@ -54,7 +58,9 @@ offset_back (negsuc n) h =
 -- samples of the bits and bytes of every container are read as 32 bits
 pub integers_taken : (v : ℤ) (bits width : ℕ) (c : List ℕ) → int_container v bits width ≡ Ok c
     → int_refusal 4 Int width bits ≡ None
-integers_taken v bits width c is = of_pair (λ b w. int_refusal 4 Int w b ≡ None) Int bits width (refl, (refl, (refl, (refl, (refl, tt))))) (contained v bits width c is).0
+integers_taken v bits width c is =
+    of_pair (λ b w. int_refusal 4 Int w b ≡ None) Int bits width
+    (refl, (refl, (refl, (refl, (refl, tt))))) (contained v bits width c is).0
 
 -- the number of every container is the one that it was made of
 pub integers_same : (v : ℤ) (bits width : ℕ) (c : List ℕ) → int_container v bits width ≡ Ok c
@@ -62,13 +68,20 @@ pub integers_same : (v : ℤ) (bits width : ℕ) (c : List ℕ) → int_containe
 integers_same v bits width c is =
     let (pair, fit, same) = contained v bits width c is in
     ap (int_meaning width bits) same
-    ∙ of_pair (λ b w. IsTrue (fits b v) → int_meaning w b (int_bytes v b w) ≡ v) Int bits width
-    (offset_back v, (signed_back 2 16 v refl, (signed_back 3 24 v refl, (signed_back 3 24 v refl, (signed_back 4 32 v refl, tt))))) pair fit
+    ∙ of_pair (λ b w. IsTrue (fits b v) → int_meaning w b (int_bytes v b w) ≡ v) Int bits width (
+      offset_back v,
+      (
+        signed_back 2 16 v refl,
+        (signed_back 3 24 v refl, (signed_back 3 24 v refl, (signed_back 4 32 v refl, tt))),
+      ),
+    ) pair
+    fit
 
 -- the two low bytes of the four of a short number are its two bytes
 pub short_kept : (v : ℤ) → IsTrue (fits 16 v) → low_short v ≡ v
 short_kept (pos n) h = signed_back 2 16 (pos n) refl h
 short_kept (negsuc n) h =
     let few : n < 2 ^ 15 = ltb-true n (2 ^ 15) h in
-    let e : number (take 2 (bytes_of 4 (4294967296 - (n + 1)))) ≡ 65536 - (n + 1) = omega (arith, few) in
+    let e : number (take 2 (bytes_of 4 (4294967296 - (n + 1)))) ≡ 65536 - (n + 1) =
+    omega (arith, few) in
     ap (signed_of 2) e ∙ signed_of-negsuc 2 n (omega (arith, few))

@@ -5,12 +5,23 @@ use Rattle.hound_number.specs.Input.{Known}
 use Rattle.hound_number.proofs.KnownSteps.{known_from}
 use Rattle.hound_sample.specs.Reads.{TakesContainer, TakesPart}
 
-pub takes_container : {A : Type 0} (bytes : List ℕ) (old new : Option (List ℕ)) (width : ℕ) (meaning : List ℕ → A) (value : A) → Consumes old new bytes → length bytes ≡ width → value ≡ meaning bytes → Known old new (TakesContainer meaning width value)
-takes_container bytes old new width meaning value taken whole is = known_from bytes old new (TakesContainer meaning width value) taken (λ ys. (
-  omega (arith, length-append bytes ys),
-  is ∙ ap meaning (sym (take_at bytes ys width whole)),
-  sym (drop_at bytes ys width whole),
-))
+pub takes_container : {A : Type 0} (bytes : List ℕ) (old new : Option (List ℕ)) (width : ℕ)
+    (meaning : List ℕ → A) (value : A) → Consumes old new bytes → length bytes ≡ width
+    → value ≡ meaning bytes → Known old new (TakesContainer meaning width value)
+takes_container bytes old new width meaning value taken whole is =
+    known_from bytes old new (TakesContainer meaning width value) taken (λ ys. (
+      omega (arith, length-append bytes ys),
+      is ∙ ap meaning (sym (take_at bytes ys width whole)),
+      sym (drop_at bytes ys width whole),
+    ))
 
-pub takes_part : (bytes : List ℕ) (old new : Option (List ℕ)) (width : ℕ) → Consumes old new bytes → length bytes < width → Known old new (TakesPart width)
-takes_part bytes old new width taken few = known_from bytes old new (TakesPart width) taken (λ ys. (length bytes, few, omega (arith, length-append bytes ys), sym (drop_at bytes ys (length bytes) refl)))
+pub takes_part : (bytes : List ℕ) (old new : Option (List ℕ)) (width : ℕ) → Consumes old new bytes
+    → length bytes < width → Known old new (TakesPart width)
+takes_part bytes old new width taken few =
+    known_from bytes old new (TakesPart width) taken
+    (λ ys. (
+      length bytes,
+      few,
+      omega (arith, length-append bytes ys),
+      sym (drop_at bytes ys (length bytes) refl),
+    ))

@@ -40,7 +40,13 @@ int_container-in_width v bits width c is =
     one (negsuc n) = (refl, lit≤ tt, lit≤ tt)
 
     rows : AllByRecursion (λ (b, w). InWidth (int_bytes v b w) w) (pairs Int)
-    rows = (one v, ((refl, lit≤ tt, lit≤ tt), ((refl, lit≤ tt, lit≤ tt), ((refl, lit≤ tt, lit≤ tt), ((refl, lit≤ tt, lit≤ tt), tt)))))
+    rows = (
+      one v,
+      (
+        (refl, lit≤ tt, lit≤ tt),
+        ((refl, lit≤ tt, lit≤ tt), ((refl, lit≤ tt, lit≤ tt), ((refl, lit≤ tt, lit≤ tt), tt))),
+      ),
+    )
 
 -- so has the container of a pattern
 pub pattern_container-in_width : (pattern bits width : ℕ) (c : List ℕ)

@@ -54,7 +54,8 @@ fn take_steps<M: Medium>(
 )
     requires { length steps.now ≡ length marks.old }
     ensures size { length marks.new ≡ length marks.old }
-    ensures runs { (answers : List (Result Unit Error)) × (cuts : List ℕ) × (marks.new ≡ map mark_of answers)
+    ensures runs { (answers : List (Result Unit Error)) × (cuts : List ℕ)
+        × (marks.new ≡ map mark_of answers)
         × Runs M.tells M.keeps M.state steps.now answers cuts writer.old writer.new }
 {
     for i in 0..steps.len() {
@@ -91,14 +92,18 @@ pub fn run_session<M: Source + Medium>(
     requires place { WhereTells M.tells ((M.state medium).place ≡ 0) }
     requires size { length steps.now ≡ length marks.old }
     ensures size { length marks.new ≡ length marks.old }
-    ensures session { IsSession M.tells M.keeps M.state begin steps.now marks.new end medium result.1 result.0 }
+    ensures session { IsSession M.tells M.keeps M.state begin steps.now marks.new end medium
+        result.1 result.0 }
 
     // A new file that was finalized is the canonical one of what was accepted.
-    ensures canonical { WhereTells M.tells ((spec_ex : WavSpecEx) → begin ≡ New spec_ex → end ≡ Finalize →
+    ensures canonical { WhereTells M.tells ((spec_ex : WavSpecEx) → begin ≡ New spec_ex
+        → end ≡ Finalize →
         OnOk result.1 (StartsWith (M.state result.0).contents (canonical spec_ex (accepted_by_all spec_ex steps.now marks.new)))) }
 
     // Where the medium was empty and no call of it failed, it is exactly that, also at a drop.
-    ensures exact { WhereTells M.tells ((spec_ex : WavSpecEx) → begin ≡ New spec_ex → IsWritable spec_ex → (M.state medium).contents ≡ [] → NoFault (M.state medium) (M.state result.0) →
+    ensures exact { WhereTells M.tells ((spec_ex : WavSpecEx) → begin ≡ New spec_ex
+        → IsWritable spec_ex → (M.state medium).contents ≡ [] → NoFault (M.state medium) (M.state
+        result.0) →
         (M.state result.0).contents ≡ canonical spec_ex (accepted_by_all spec_ex steps.now marks.new)) }
 {
     marks.fill(false);

@@ -22,7 +22,8 @@ fn take_until_error<M: Medium>(
     writer: &mut WavWriter<M>,
     steps: &[Step],
 ) -> Result<()>
-    ensures { MatchResult result (λ _. RunsOk M.tells M.keeps M.state steps.now writer.old writer.new)
+    ensures { MatchResult result (λ _.
+        RunsOk M.tells M.keeps M.state steps.now writer.old writer.new)
         (λ e. StopsIn M.tells M.keeps M.state steps.now e writer.old writer.new) }
 {
     for i in 0..steps.len() {
@@ -99,16 +100,19 @@ pub fn run_sessions<'a, M: Source + Medium>(
     sessions: &'a [&'a [Step<'a>]],
 ) -> (M, Result<()>)
     requires { WhereTells M.tells ((M.state medium).place ≡ 0) }
-    ensures sessions { AreSessions M.tells M.keeps M.state spec_ex sessions.now medium result.1 result.0 }
+    ensures sessions { AreSessions M.tells M.keeps M.state spec_ex sessions.now medium result.1
+        result.0 }
 
     // The bytes of one session over all containers.
     ensures canonical { WhereTells M.tells (0 < length sessions.now →
         OnOk result.1 (StartsWith (M.state result.0).contents (canonical spec_ex (containers_of spec_ex (all_steps sessions.now))))) }
-    ensures exact { WhereTells M.tells (0 < length sessions.now → (M.state medium).contents ≡ [] → NoFault (M.state medium) (M.state result.0) →
+    ensures exact { WhereTells M.tells (0 < length sessions.now → (M.state medium).contents ≡ []
+        → NoFault (M.state medium) (M.state result.0) →
         OnOk result.1 ((M.state result.0).contents ≡ canonical spec_ex (containers_of spec_ex (all_steps sessions.now)))) }
 
     // Where no call of the medium failed, an error is that of a step or an end, and those before it are there.
-    ensures stops { WhereTells M.tells (IsWritable spec_ex → NoFault (M.state medium) (M.state result.0) →
+    ensures stops { WhereTells M.tells (IsWritable spec_ex
+        → NoFault (M.state medium) (M.state result.0) →
         IfErr result.1 (λ e. StopsShort spec_ex (all_steps sessions.now) e (M.state result.0).contents)) }
 {
     let Some((first, others)) = sessions.split_first() else {

@@ -19,7 +19,8 @@ fn is_sixteen(spec: WavSpec) -> bool
 
 // Writes a batch, of samples of sixteen bits only.
 fn write_batch<M: Medium>(alloc: Global, writer: &mut WavWriter<M>, values: &[i16]) -> Result<()>
-    ensures accepts { Accepts M.tells M.keeps M.state (wants_memory values.now writer.old) (batch_containers writer.old.spec_ex values.now) result writer.old writer.new }
+    ensures accepts { Accepts M.tells M.keeps M.state (wants_memory values.now writer.old)
+        (batch_containers writer.old.spec_ex values.now) result writer.old writer.new }
     ensures memory { OnOk result (2 * length values.now ≤ length writer.new.buffer) }
 {
     if !is_sixteen(writer.spec()) {

@@ -7,7 +7,8 @@ use Rattle.hound_spec.specs.FmtChunk.{FmtFields, FieldsFit, fmt_bytes, fmt_field
 -- the number of the bytes of a number
 pub number-bytes_of : (k n : ℕ) → n < 256 ^ k → number (bytes_of k n) ≡ n
 number-bytes_of zero n h = omega (arith, h)
-number-bytes_of (suc k) n h = let less : n / 256 < 256 ^ k = omega (arith, h) in omega (arith, number-bytes_of k (n / 256) less)
+number-bytes_of (suc k) n h = let less : n / 256 < 256 ^ k = omega (arith, h) in
+    omega (arith, number-bytes_of k (n / 256) less)
 
 -- what is written is read back, whatever stands behind it
 pub fields_written : (f : FmtFields) (rest : List ℕ) → FieldsFit f
@@ -49,10 +50,15 @@ part k at bytes rest small inside next =
 pub fields_read : (bytes : List ℕ) → length bytes ≡ 16 → AreBytes bytes
     → fmt_bytes (fmt_fields bytes) ≡ bytes
 fields_read bytes sixteen small =
-    part 2 0 bytes _ small (omega arith) (part 2 2 bytes _ small (omega arith) (part 4 4 bytes _ small (omega arith)
-    (part 4 8 bytes _ small (omega arith) (part 2 12 bytes _ small (omega arith) (part 2 14 bytes [] small (omega arith) (sym (drop_all 16 bytes (omega arith))))))))
+    part 2 0 bytes _ small (omega arith)
+    (part 2 2 bytes _ small (omega arith) (part 4 4 bytes _ small (omega arith)
+    (part 4 8 bytes _ small (omega arith)
+    (part 2 12 bytes _ small (omega arith)
+    (part 2 14 bytes [] small (omega arith) (sym (drop_all 16 bytes (omega arith))))))))
 
 pub extension_read : (bytes : List ℕ) → length bytes ≡ 22 → AreBytes bytes
     → extension_bytes (extension bytes) ≡ bytes
 extension_read bytes all small =
-    part 2 0 bytes _ small (omega arith) (part 4 2 bytes _ small (omega arith) (take_all 16 (drop 6 bytes) (omega (arith, length-drop 6 bytes))))
+    part 2 0 bytes _ small (omega arith)
+    (part 4 2 bytes _ small (omega arith)
+    (take_all 16 (drop 6 bytes) (omega (arith, length-drop 6 bytes))))

@@ -36,7 +36,9 @@ length-sized_fmt-long s long = ap length (sized_fmt-long s long)
     ∙ length-append (bytes_of 4 40) (long_fmt s) ∙ ap (λ n. 4 + n) (length-long_fmt s)
 
 length-around : (fmt : List ℕ) (size data_length : ℕ)
-    → length (riff_tag ++ bytes_of 4 size ++ wave_tag ++ fmt_tag ++ fmt ++ data_tag ++ bytes_of 4 data_length) ≡ 24 + length fmt
+    → length
+    (riff_tag ++ bytes_of 4 size ++ wave_tag ++ fmt_tag ++ fmt ++ data_tag
+    ++ bytes_of 4 data_length) ≡ 24 + length fmt
 length-around fmt size data_length = simp length-append (omega arith)
 
 pub length-header : (s : WavSpecEx) (size data_length : ℕ)
@@ -54,10 +56,20 @@ pub and_then : (more all old new : List ℕ) → old ≡ all → new ≡ old ++ 
 and_then more all old new so_far adds = adds ∙ ap (λ l. l ++ more) so_far
 
 pub data_start_least : (s : WavSpecEx) → 44 ≤ data_start s
-data_start_least s = elim (cases_Bool (is_short s)) [ inl short ↦ rw short (omega arith) | inr long ↦ rw long (omega arith) ]
+data_start_least s =
+    elim (cases_Bool (is_short s)) [
+      | inl short ↦ rw short (omega arith)
+      | inr long ↦ rw long
+          (omega arith)
+    ]
 
 pub data_start_most : (s : WavSpecEx) → data_start s ≤ 68
-data_start_most s = elim (cases_Bool (is_short s)) [ inl short ↦ rw short (omega arith) | inr long ↦ rw long (omega arith) ]
+data_start_most s =
+    elim (cases_Bool (is_short s)) [
+      | inl short ↦ rw short (omega arith)
+      | inr long ↦ rw long
+          (omega arith)
+    ]
 
 -- what stands in a header between the RIFF size and the data length
 abbrev pub described : WavSpecEx → List ℕ
@@ -65,23 +77,40 @@ described s = wave_tag ++ (fmt_tag ++ (sized_fmt s ++ data_tag))
 
 -- a header, part by part
 pub header-parts : (s : WavSpecEx) (size data_length : ℕ)
-    → header s size data_length ≡ riff_tag ++ (bytes_of 4 size ++ (described s ++ bytes_of 4 data_length))
+    → header s size data_length ≡ riff_tag ++
+    (bytes_of 4 size ++ (described s ++ bytes_of 4 data_length))
 unfolding header
 header-parts s size data_length =
-    append_assoc (riff_tag ++ bytes_of 4 size ++ wave_tag ++ fmt_tag ++ sized_fmt s) data_tag (bytes_of 4 data_length)
-    ∙ append_assoc (riff_tag ++ bytes_of 4 size ++ wave_tag ++ fmt_tag) (sized_fmt s) (data_tag ++ bytes_of 4 data_length)
-    ∙ ap (λ l. riff_tag ++ (bytes_of 4 size ++ (wave_tag ++ (fmt_tag ++ l)))) (sym (append_assoc (sized_fmt s) data_tag (bytes_of 4 data_length)))
+    append_assoc (riff_tag ++ bytes_of 4 size ++ wave_tag ++ fmt_tag ++ sized_fmt s) data_tag
+    (bytes_of 4 data_length)
+    ∙ append_assoc (riff_tag ++ bytes_of 4 size ++ wave_tag ++ fmt_tag) (sized_fmt s)
+    (data_tag ++ bytes_of 4 data_length)
+    ∙ ap (λ l. riff_tag ++ (bytes_of 4 size ++ (wave_tag ++ (fmt_tag ++ l))))
+    (sym (append_assoc (sized_fmt s) data_tag (bytes_of 4 data_length)))
 
 pub length-described : (s : WavSpecEx) → length (described s) + 12 ≡ data_start s
 length-described s =
-    omega (arith, length-header s 0 0, ap length (header-parts s 0 0), length-append riff_tag (bytes_of 4 0 ++ (described s ++ bytes_of 4 0)), length-append (bytes_of 4 0) (described s ++ bytes_of 4 0), length-append (described s) (bytes_of 4 0))
+    omega (
+      arith,
+      length-header s 0 0,
+      ap length (header-parts s 0 0),
+      length-append riff_tag (bytes_of 4 0 ++ (described s ++ bytes_of 4 0)),
+      length-append (bytes_of 4 0) (described s ++ bytes_of 4 0),
+      length-append (described s) (bytes_of 4 0),
+    )
 
 -- the pad byte is there for an odd length
 pub length-padding : (n : ℕ) → length (padding n) ≡ n % 2
 length-padding n = length-replicate (n % 2) 0
 
-pub length-canonical : (s : WavSpecEx) (list : List (List ℕ)) → length (canonical s list) ≡ data_start s + length (concat list) + length (concat list) % 2
+pub length-canonical : (s : WavSpecEx) (list : List (List ℕ))
+    → length (canonical s list) ≡ data_start s + length (concat list) + length (concat list) % 2
 length-canonical s list =
     let n = length (concat list) in
     length-append (header s (riff_size (data_start s) n) n) (concat list ++ padding n)
-    ∙ omega (arith, length-header s (riff_size (data_start s) n) n, length-append (concat list) (padding n), length-padding n)
+    ∙ omega (
+      arith,
+      length-header s (riff_size (data_start s) n) n,
+      length-append (concat list) (padding n),
+      length-padding n,
+    )

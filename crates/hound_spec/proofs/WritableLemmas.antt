@@ -11,11 +11,13 @@ of_row : (P : ℕ → ℕ → Type 0) (rows : List (ℕ × ℕ)) (bits width : �
     → AllByRecursion (λ (b, w). P b w) rows
     → list_any (λ (b, w). bits == b && width == w) rows ≡ true → P bits width
 of_row P [] bits width each is = cc
-of_row P ((b, w) ∷ rows) bits width (here, each) is = elim (or_cases (bits == b && width == w) _ is) [
-  | inl same ↦ let (is_bits, is_width) = and_parts (bits == b) (width == w) same in
-      subst (λ (x : ℕ × ℕ). P x.0 x.1) (λ i. (sym (eqb-true bits b is_bits) i, sym (eqb-true width w is_width) i)) here
-  | inr more ↦ of_row P rows bits width each more
-]
+of_row P ((b, w) ∷ rows) bits width (here, each) is =
+    elim (or_cases (bits == b && width == w) _ is) [
+      | inl same ↦ let (is_bits, is_width) = and_parts (bits == b) (width == w) same in
+          subst (λ (x : ℕ × ℕ). P x.0 x.1)
+          (λ i. (sym (eqb-true bits b is_bits) i, sym (eqb-true width w is_width) i)) here
+      | inr more ↦ of_row P rows bits width each more
+    ]
 
 -- what holds of each pair of the one list
 pub of_pair : (P : ℕ → ℕ → Type 0) (f : SampleFormat) (bits width : ℕ)

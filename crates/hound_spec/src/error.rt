@@ -1,7 +1,8 @@
 // Why a call on a reader or a writer failed.
 ghost use Rattle.std.specs.Prelude.{◌≡◌};
-ghost use Rattle.hound_spec.specs.declared.error.Error.TheVariants.{IoError};
+ghost use Rattle.hound_spec.specs.declared.error.Error.TheVariants.{IoError, OutOfMemory};
 
+use std::alloc::{AllocError, AllocFailed};
 use std::{io, result};
 use thiserror::Error as DeriveError;
 
@@ -40,6 +41,24 @@ impl From<io::Error> for Error {
 
     fn from(error: io::Error) -> Error {
         Error::IoError(error)
+    }
+}
+
+/// So that `?` on a request for memory is `OutOfMemory` in a function that answers an [`Error`].
+impl From<AllocError> for Error {
+    ghost from_gives = { λ _ r. r ≡ OutOfMemory };
+
+    fn from(_refused: AllocError) -> Error {
+        Error::OutOfMemory
+    }
+}
+
+/// The same where the request had a value to store, which is dropped.
+impl<T: Drop> From<AllocFailed<T>> for Error {
+    ghost from_gives = { λ _ r. r ≡ OutOfMemory };
+
+    fn from(_refused: AllocFailed<T>) -> Error {
+        Error::OutOfMemory
     }
 }
 

@@ -2,6 +2,7 @@
 mod headers;
 
 use super::*;
+use std::alloc::{AllocError, AllocFailed, Global};
 use std::io::ErrorKind;
 use std::test::Fail;
 use std::{io, result};
@@ -54,6 +55,26 @@ fn a_fault_of_the_input_keeps_its_kind_and_text(rt: HostRuntime) -> result::Resu
         assert!(rt; matches!(&error, Error::IoError(e) if e.kind() == kind));
         assert_eq!(rt; format!(in rt.alloc(); "{error}")?.as_str(), text.as_str());
     }
+    Ok(())
+}
+
+// A list of these numbers, where each request for memory goes by `?`.
+fn list_of(alloc: Global, numbers: &[i16]) -> Result<Vec<i16>> {
+    let mut list = Vec::new(alloc);
+    for number in numbers {
+        list.push(*number)?;
+    }
+    list.extend_from_slice(numbers)?;
+    Ok(list)
+}
+
+#[test]
+fn refused_memory_is_an_error(rt: HostRuntime) -> result::Result<(), Fail> {
+    let list = list_of(rt.alloc(), &[2, -3])?;
+    assert_eq!(rt; list.as_slice(), [2, -3, 2, -3].as_slice());
+    assert!(rt; matches!(Error::from(AllocError), Error::OutOfMemory));
+    let failed = AllocFailed { value: 5 };
+    assert!(rt; matches!(Error::from(failed), Error::OutOfMemory));
     Ok(())
 }
 

@@ -24,11 +24,14 @@ use Rattle.hound_writer.proofs.Answers.{on_refused, unless_failed}
 use Rattle.hound_writer.proofs.Containers.{containers_append, containers_front, count_append, count_bytes, joined_bytes, whole_more}
 use Rattle.hound_writer.proofs.Samples.{counts_at, samples_out, samples_same, whole_out}
 use Rattle.hound_writer.proofs.Standing.{inside, stands_front, stands_more}
+use Rattle.hound_spec.specs.FmtChunk.{greatest_u32}
 
 -- bytes at a place reach no further than the old end or their own
-pub length_overlay_max : (bs : List ℕ) (p : ℕ) (c : List ℕ) → length (overlay c (placed p bs)) ≤ max (length c) (p + length bs)
+pub length_overlay_max : (bs : List ℕ) (p : ℕ) (c : List ℕ)
+    → length (overlay c (placed p bs)) ≤ max (length c) (p + length bs)
 length_overlay_max [] p c = omega arith
-length_overlay_max (b ∷ bs) p c = omega (arith, length_overlay_max bs (suc p) (put_at p b c), length-put_at p b c)
+length_overlay_max (b ∷ bs) p c =
+    omega (arith, length_overlay_max bs (suc p) (put_at p b c), length-put_at p b c)
 
 -- what stands after them stays
 drop_none : (n : ℕ) → drop {A = ℕ} n [] ≡ []
@@ -42,19 +45,28 @@ drop_put (suc n) zero b (x ∷ c) after = refl
 drop_put (suc n) (suc p) b [] after = drop_put n p b [] (omega (arith, after)) ∙ drop_none n
 drop_put (suc n) (suc p) b (x ∷ c) after = drop_put n p b c (omega (arith, after))
 
-pub drop_overlay_after : (bs : List ℕ) (n p : ℕ) (c : List ℕ) → p + length bs ≤ n → drop n (overlay c (placed p bs)) ≡ drop n c
+pub drop_overlay_after : (bs : List ℕ) (n p : ℕ) (c : List ℕ) → p + length bs ≤ n
+    → drop n (overlay c (placed p bs)) ≡ drop n c
 drop_overlay_after [] n p c after = refl
 drop_overlay_after (b ∷ bs) n p c after =
-    drop_overlay_after bs n (suc p) (put_at p b c) (omega (arith, after)) ∙ drop_put n p b c (omega (arith, after))
+    drop_overlay_after bs n (suc p) (put_at p b c) (omega (arith, after))
+    ∙ drop_put n p b c (omega (arith, after))
 
 -- a refusal, which leaves all as it was
-pub accepts_refused : {W : Type 0} (tells keeps : Bool) (state : W → MediumState) (w : WriterState W) (memory : Bool) (asked : Result (List (List ℕ)) Refusal) (e : Error)
-    → WhereTells tells (IsWhole state w → IsCounted state w) → WhereKeeps tells keeps ((state w.medium).contents ≡ overlay (state w.medium).start (state w.medium).past)
-    → mark_of {T = Unit {0}} (Err e) ≡ false → ((faults : ℕ) → faults ≡ faults_told {T = Unit {0}} (Err e) faults) → AcceptAnswer {T = Unit {0}} memory asked w (Err e) → Accepts tells keeps state memory asked (Err e) w w
+pub accepts_refused : {W : Type 0} (tells keeps : Bool) (state : W → MediumState)
+    (w : WriterState W) (memory : Bool) (asked : Result (List (List ℕ)) Refusal) (e : Error)
+    → WhereTells tells (IsWhole state w → IsCounted state w)
+    → WhereKeeps tells keeps
+    ((state w.medium).contents ≡ overlay (state w.medium).start (state w.medium).past)
+    → mark_of {T = Unit {0}} (Err e) ≡ false
+    → ((faults : ℕ) → faults ≡ faults_told {T = Unit {0}} (Err e) faults)
+    → AcceptAnswer {T = Unit {0}} memory asked w (Err e)
+    → Accepts tells keeps state memory asked (Err e) w w
 accepts_refused tells keeps state w memory asked e counts replays mark faults answers =
     let old = state w.medium in
     let end = w.data_start + w.out in
-    let nothing : if_marked (mark_of {T = Unit {0}} (Err e)) asked ≡ [] = ap (λ m. if_marked m asked) mark in
+    let nothing : if_marked (mark_of {T = Unit {0}} (Err e)) asked ≡ [] =
+    ap (λ m. if_marked m asked) mark in
     record {
       adds = record {
         answers = answers;
@@ -70,25 +82,40 @@ accepts_refused tells keeps state w memory asked e counts replays mark faults an
         rest = unless_failed {T = Unit {0}} (Err e) refl;
         reach = unless_failed {T = Unit {0}} (Err e) (omega arith);
         whole = λ whole. whole;
-        accepted = λ _. sym (append-nil (accepted_samples state w)) ∙ ap (λ l. accepted_samples state w ++ l) (sym nothing);
+        accepted =
+            λ _. sym (append-nil (accepted_samples state w))
+            ∙ ap (λ l. accepted_samples state w ++ l) (sym nothing);
         counts = counts told;
       };
       moments = λ told kept. record {
-        counts = λ whole. span_still (λ _. Counts w.spec_ex w.data_start (accepted_samples state w)) 0 old old (replays told kept) refl refl (counts told whole);
-        front = λ whole. span_still (λ _ c. take end c ≡ take end old.contents) 0 old old (replays told kept) refl refl refl;
+        counts =
+            λ whole. span_still
+            (λ _. Counts w.spec_ex w.data_start (accepted_samples state w)) 0 old old
+            (replays told kept) refl refl (counts told whole);
+        front = λ whole. span_still (λ _ c. take end c ≡ take end old.contents) 0 old old
+            (replays told kept) refl refl refl;
       };
     }
 
 -- whole containers for which there is room fit
-pub room_fits : {W : Type 0} (w : WriterState W) (bytes : List ℕ) → HasRoom w (length bytes) → length bytes % w.spec_ex.bytes_per_sample ≡ 0
-    → nat_le (riff_size w.data_start (data_length w + length (concat (containers w.spec_ex.bytes_per_sample (length bytes / w.spec_ex.bytes_per_sample) bytes)))) 4294967295 ≡ true
+pub room_fits : {W : Type 0} (w : WriterState W) (bytes : List ℕ) → HasRoom w (length bytes)
+    → length bytes % w.spec_ex.bytes_per_sample ≡ 0
+    → nat_le
+    (riff_size w.data_start
+    (data_length w + length
+    (concat (containers w.spec_ex.bytes_per_sample
+    (length bytes / w.spec_ex.bytes_per_sample) bytes)))) greatest_u32 ≡ true
 room_fits w bytes room whole =
     let width = w.spec_ex.bytes_per_sample in
-    le-leb (riff_size w.data_start (data_length w + length (concat (containers width (length bytes / width) bytes)))) 4294967295 (omega (arith, room, ap length (joined_bytes width bytes whole)))
+    le-leb (riff_size w.data_start
+    (data_length w + length (concat (containers width (length bytes / width) bytes))))
+    greatest_u32 (omega (arith, room, ap length (joined_bytes width bytes whole)))
 
 -- a writer in which nothing waits, and a medium with bytes put after its data
-module _ {W : Type 0} (tells keeps : Bool) (state : W → MediumState) (w : WriterState W) (none : w.waiting ≡ []) (sound : IsSound w)
-    (stands : WhereTells tells (IsStanding w.spec_ex w.data_start w.out (state w.medium).contents)) where
+module _ {W : Type 0} (tells keeps : Bool) (state : W → MediumState) (w : WriterState W)
+    (none : w.waiting ≡ []) (sound : IsSound w)
+    (stands : WhereTells tells
+    (IsStanding w.spec_ex w.data_start w.out (state w.medium).contents)) where
   abbrev old : MediumState
   old = state w.medium
 
@@ -99,24 +126,37 @@ module _ {W : Type 0} (tells keeps : Bool) (state : W → MediumState) (w : Writ
   end = w.data_start + w.out
 
   -- nothing up to the end of the data changed: the samples count
-  counts_front : IsTrue tells → IsWhole state w → (c : List ℕ) → take (w.data_start + w.out) c ≡ take (w.data_start + w.out) (state w.medium).contents
+  counts_front : IsTrue tells → IsWhole state w → (c : List ℕ)
+      → take (w.data_start + w.out) c ≡ take (w.data_start + w.out) (state w.medium).contents
       → Counts w.spec_ex w.data_start (accepted_samples state w) c
   counts_front told whole c same =
-      let first : take w.data_start c ≡ take w.data_start old.contents = sym (take-take w.data_start end c (omega arith)) ∙ ap (take w.data_start) same ∙ take-take w.data_start end old.contents (omega arith) in
-      let long : w.data_start ≤ length c = omega (arith, ap length same, length-take end c, length-take-le end old.contents whole) in
-      counts_at state w sound (whole_out state w none sound) c whole (stands_front w.spec_ex w.data_start w.out old.contents c (stands told) first long)
+      let first : take w.data_start c ≡ take w.data_start old.contents =
+      sym (take-take w.data_start end c (omega arith)) ∙ ap (take w.data_start) same
+      ∙ take-take w.data_start end old.contents (omega arith) in
+      let long : w.data_start ≤ length c =
+      omega (arith, ap length same, length-take end c, length-take-le end old.contents whole) in
+      counts_at state w sound (whole_out state w none sound) c whole
+      (stands_front w.spec_ex w.data_start w.out old.contents c (stands told) first long)
       (front_part end w.data_start w.out c old.contents (omega arith) same)
 
   -- bytes that are put, all or a beginning
-  module _ {T E : Type 0} (m : W) (bytes : List ℕ) (result : Result T E) (told : IsTrue tells) (puts : PutsAt keeps (w.data_start + w.out) bytes result (state w.medium) (state m)) where
+  module _ {T E : Type 0} (m : W) (bytes : List ℕ) (result : Result T E) (told : IsTrue tells)
+      (puts : PutsAt keeps (w.data_start + w.out) bytes result (state w.medium) (state m)) where
     abbrev new : MediumState
     new = state m
 
-    pub front_stays : (n : ℕ) → n ≤ end → n ≤ length old.contents → take n new.contents ≡ take n old.contents
-    front_stays n before there = ap (take n) puts.contents ∙ take_overlay_before (take puts.count bytes) n end old.contents before there
+    pub front_stays : (n : ℕ) → n ≤ end → n ≤ length old.contents
+        → take n new.contents ≡ take n old.contents
+    front_stays n before there =
+        ap (take n) puts.contents
+        ∙ take_overlay_before (take puts.count bytes) n end old.contents before there
 
     pub grows : length old.contents ≤ length new.contents
-    grows = omega (arith, ap length puts.contents, length_overlay_le (take puts.count bytes) end old.contents)
+    grows = omega (
+      arith,
+      ap length puts.contents,
+      length_overlay_le (take puts.count bytes) end old.contents,
+    )
 
     there : w.data_start ≤ length old.contents
     there = inside w.spec_ex w.data_start w.out old.contents old.contents (stands told)
@@ -124,34 +164,56 @@ module _ {W : Type 0} (tells keeps : Bool) (state : W → MediumState) (w : Writ
     pub front : take w.data_start new.contents ≡ take w.data_start old.contents
     front = front_stays w.data_start (omega arith) there
 
-    pub data_stays : IsWhole state w → take w.out (drop w.data_start new.contents) ≡ take w.out (drop w.data_start old.contents)
-    data_stays whole = front_part end w.data_start w.out new.contents old.contents (omega arith) (front_stays end (omega arith) whole)
+    pub data_stays : IsWhole state w
+        → take w.out (drop w.data_start new.contents) ≡ take w.out (drop w.data_start old.contents)
+    data_stays whole =
+        front_part end w.data_start w.out new.contents old.contents (omega arith)
+        (front_stays end (omega arith) whole)
 
     pub still : IsStanding w.spec_ex w.data_start w.out new.contents
-    still = stands_front w.spec_ex w.data_start w.out old.contents new.contents (stands told) front (omega (arith, there, grows))
+    still = stands_front w.spec_ex w.data_start w.out old.contents new.contents (stands told) front
+        (omega (arith, there, grows))
 
     pub rest : drop (end + length bytes) new.contents ≡ drop (end + length bytes) old.contents
     rest = ap (drop (end + length bytes)) puts.contents
-        ∙ drop_overlay_after (take puts.count bytes) (end + length bytes) end old.contents (omega (arith, length-take puts.count bytes))
+        ∙ drop_overlay_after (take puts.count bytes) (end + length bytes) end old.contents
+        (omega (arith, length-take puts.count bytes))
 
     pub reach : length new.contents ≤ max (length old.contents) (end + length bytes)
-    reach = omega (arith, ap length puts.contents, length_overlay_max (take puts.count bytes) end old.contents, length-take puts.count bytes)
+    reach = omega (
+      arith,
+      ap length puts.contents,
+      length_overlay_max (take puts.count bytes) end old.contents,
+      length-take puts.count bytes,
+    )
 
-    pub front_at_each : IsTrue keeps → old.contents ≡ overlay old.start old.past → Span (λ _ c. take w.data_start c ≡ take w.data_start (state w.medium).contents) 0 (state w.medium) (state m)
+    pub front_at_each : IsTrue keeps → old.contents ≡ overlay old.start old.past
+        → Span (λ _ c. take w.data_start c ≡ take w.data_start (state w.medium).contents) 0
+        (state w.medium) (state m)
     front_at_each kept replays =
         let bs = take puts.count bytes in
-        span_puts (λ _ c. take w.data_start c ≡ take w.data_start old.contents) 0 old new end bs replays puts.start (puts.past kept)
-        (λ k within. take_overlay_before (take k bs) w.data_start end old.contents (omega arith) there)
+        span_puts
+        (λ _ c. take w.data_start c ≡ take w.data_start old.contents) 0 old new end bs replays
+        puts.start (puts.past kept)
+        (λ k within. take_overlay_before (take k bs) w.data_start end old.contents
+        (omega arith) there)
 
     pub at_each : IsTrue keeps → old.contents ≡ overlay old.start old.past → AddsAtEach state w new
     at_each kept replays =
         let bs = take puts.count bytes in
-        let same : end ≤ length old.contents → (k : ℕ) → take end (overlay old.contents (placed end (take k bs))) ≡ take end old.contents =
+        let same : end ≤ length old.contents → (k : ℕ)
+        → take end (overlay old.contents (placed end (take k bs))) ≡ take end old.contents =
         λ whole k. take_overlay_before (take k bs) end end old.contents (omega arith) whole in
         record {
-          counts = λ whole. span_puts (λ _. Counts w.spec_ex w.data_start (accepted_samples state w)) 0 old new end bs replays puts.start (puts.past kept)
-              (λ k within. counts_front told whole (overlay old.contents (placed end (take k bs))) (same whole k));
-          front = λ whole. span_puts (λ _ c. take end c ≡ take end old.contents) 0 old new end bs replays puts.start (puts.past kept) (λ k within. same whole k);
+          counts =
+              λ whole. span_puts
+              (λ _. Counts w.spec_ex w.data_start
+              (accepted_samples state w)) 0 old new end bs replays puts.start (puts.past kept)
+              (λ k within. counts_front told whole (overlay old.contents (placed end (take k bs)))
+              (same whole k));
+          front = λ whole. span_puts
+              (λ _ c. take end c ≡ take end old.contents) 0 old new end bs replays puts.start
+              (puts.past kept) (λ k within. same whole k);
         }
 
     -- all of them went out
@@ -159,37 +221,68 @@ module _ {W : Type 0} (tells keeps : Bool) (state : W → MediumState) (w : Writ
       put : take puts.count bytes ≡ bytes
       put = take_all puts.count bytes (omega (arith, all))
 
-      parts : IsWhole state w → new.contents ≡ take end old.contents ++ (bytes ++ drop (end + length bytes) old.contents)
-      parts whole = puts.contents ∙ ap (λ l. overlay old.contents (placed end l)) put ∙ overlay_is old.contents end bytes whole
+      parts : IsWhole state w
+          → new.contents ≡ take end old.contents ++
+          (bytes ++ drop (end + length bytes) old.contents)
+      parts whole =
+          puts.contents ∙ ap (λ l. overlay old.contents (placed end l)) put
+          ∙ overlay_is old.contents end bytes whole
 
       bytes_stand : IsWhole state w → take (length bytes) (drop end new.contents) ≡ bytes
       bytes_stand whole =
           ap (λ l. take (length bytes) (drop end l)) (parts whole)
-          ∙ ap (take (length bytes)) (drop_at (take end old.contents) (bytes ++ drop (end + length bytes) old.contents) end (length-take-le end old.contents whole))
+          ∙ ap (take (length bytes))
+          (drop_at (take end old.contents) (bytes ++ drop (end + length bytes) old.contents) end
+          (length-take-le end old.contents whole))
           ∙ take_at bytes (drop (end + length bytes) old.contents) (length bytes) refl
 
-      pub bytes_inside : IsWhole state w → w.data_start + (w.out + length bytes) ≤ length new.contents
+      pub bytes_inside : IsWhole state w
+          → w.data_start + (w.out + length bytes) ≤ length new.contents
       bytes_inside whole =
-          omega (arith, ap length (parts whole), length-append (take end old.contents) (bytes ++ drop (end + length bytes) old.contents), length-append bytes (drop (end + length bytes) old.contents), length-take-le end old.contents whole)
+          omega (
+            arith,
+            ap length (parts whole),
+            length-append (take end old.contents)
+                (bytes ++ drop (end + length bytes) old.contents),
+            length-append bytes (drop (end + length bytes) old.contents),
+            length-take-le end old.contents whole,
+          )
 
   -- the same file with other bytes in it and another batch
   abbrev pub after_put : W → ℕ → WriterState W
   after_put m out = record w { medium = m; out = out }
 
   sound_put : (m : W) → IsSound (after_put m w.out)
-  sound_put m = record { pair = sound.pair; channels = sound.channels; width = sound.width; whole = sound.whole; after_head = sound.after_head; fits = sound.fits }
+  sound_put m =
+      record {
+        pair = sound.pair;
+        channels = sound.channels;
+        width = sound.width;
+        whole = sound.whole;
+        after_head = sound.after_head;
+        fits = sound.fits;
+      }
 
-  module _ (m : W) (bytes : List ℕ) (room : HasRoom w (length bytes)) (whole_bytes : length bytes % w.spec_ex.bytes_per_sample ≡ 0) where
+  module _ (m : W) (bytes : List ℕ) (room : HasRoom w (length bytes))
+      (whole_bytes : length bytes % w.spec_ex.bytes_per_sample ≡ 0) where
     abbrev list : List (List ℕ)
     list = containers width (length bytes / width) bytes
 
     -- where the medium failed nothing is accepted
-    pub accepts_none : (e : IoFault) → WhereTells tells (PutsAt keeps (w.data_start + w.out) bytes (all_out false) (state w.medium) (state m))
-        → WhereKeeps tells keeps ((state w.medium).contents ≡ overlay (state w.medium).start (state w.medium).past)
-        → Accepts tells keeps state false (Ok (containers w.spec_ex.bytes_per_sample (length bytes / w.spec_ex.bytes_per_sample) bytes)) (Err (IoError e)) w (after_put m w.out)
+    pub accepts_none : (e : IoFault)
+        → WhereTells tells
+        (PutsAt keeps (w.data_start + w.out) bytes (all_out false) (state w.medium) (state m))
+        → WhereKeeps tells keeps
+        ((state w.medium).contents ≡ overlay (state w.medium).start (state w.medium).past)
+        → Accepts tells keeps state false
+        (Ok (containers w.spec_ex.bytes_per_sample
+        (length bytes / w.spec_ex.bytes_per_sample) bytes)) (Err (IoError e)) w
+        (after_put m w.out)
     accepts_none e puts replays = record {
       adds = record {
-        answers = subst (λ b. FitAnswer {T = Unit {0}} b false (Err (IoError e))) (sym (room_fits w bytes room whole_bytes)) tt;
+        answers =
+            subst (λ b. FitAnswer {T = Unit {0}} b false (Err (IoError e)))
+            (sym (room_fits w bytes room whole_bytes)) tt;
         refused = tt;
         spec_ex = refl;
         data_start = refl;
@@ -198,8 +291,11 @@ module _ {W : Type 0} (tells keeps : Bool) (state : W → MediumState) (w : Writ
       };
       file = λ told.
           let p = puts told in
-          let same : IsWhole state w → accepted_samples state (after_put m w.out) ≡ accepted_samples state w =
-          λ whole. samples_out state (after_put m w.out) none (sound_put m) ∙ samples_same state w none sound (state m).contents (data_stays m bytes (all_out false) told p whole) in
+          let same : IsWhole state w
+          → accepted_samples state (after_put m w.out) ≡ accepted_samples state w =
+          λ whole. samples_out state (after_put m w.out) none (sound_put m)
+          ∙ samples_same state w none sound (state m).contents
+          (data_stays m bytes (all_out false) told p whole) in
           record {
             faults = p.faults;
             front = front m bytes (all_out false) told p;
@@ -207,10 +303,15 @@ module _ {W : Type 0} (tells keeps : Bool) (state : W → MediumState) (w : Writ
             reach = tt;
             whole = λ whole. omega (arith, whole, grows m bytes (all_out false) told p);
             accepted = λ whole. same whole ∙ sym (append-nil (accepted_samples state w));
-            counts = λ whole. subst (λ l. Counts w.spec_ex w.data_start l (state m).contents) (sym (same whole))
-                (counts_at state w sound (whole_out state w none sound) (state m).contents whole (still m bytes (all_out false) told p) (data_stays m bytes (all_out false) told p whole));
+            counts =
+                λ whole. subst (λ l. Counts w.spec_ex w.data_start l (state m).contents)
+                (sym (same whole))
+                (counts_at state w sound (whole_out state w none sound) (state m).contents whole
+                (still m bytes (all_out false) told p)
+                (data_stays m bytes (all_out false) told p whole));
           };
-      moments = λ told kept. at_each m bytes (all_out false) told (puts told) kept (replays told kept);
+      moments =
+          λ told kept. at_each m bytes (all_out false) told (puts told) kept (replays told kept);
     }
 
     -- else all of it
@@ -219,17 +320,27 @@ module _ {W : Type 0} (tells keeps : Bool) (state : W → MediumState) (w : Writ
       pair = sound.pair;
       channels = sound.channels;
       width = sound.width;
-      whole = ap (λ n. n % width) (let e : w.out + length bytes + length w.waiting ≡ w.out + length bytes = omega (arith, ap length none) in e) ∙ whole_more w.out (length bytes) width (whole_out state w none sound) whole_bytes;
+      whole = ap (λ n. n % width)
+          (let e : w.out + length bytes + length w.waiting ≡ w.out + length bytes = omega
+          (arith, ap length none) in e)
+          ∙ whole_more w.out (length bytes) width (whole_out state w none sound) whole_bytes;
       after_head = sound.after_head;
       fits = omega (arith, room, ap length none);
     }
 
-    pub accepts_all : WhereTells tells (PutsAt keeps (w.data_start + w.out) bytes (all_out true) (state w.medium) (state m))
-        → WhereKeeps tells keeps ((state w.medium).contents ≡ overlay (state w.medium).start (state w.medium).past)
-        → Accepts tells keeps state false (Ok (containers w.spec_ex.bytes_per_sample (length bytes / w.spec_ex.bytes_per_sample) bytes)) (Ok tt) w (after_put m (w.out + length bytes))
+    pub accepts_all : WhereTells tells
+        (PutsAt keeps (w.data_start + w.out) bytes (all_out true) (state w.medium) (state m))
+        → WhereKeeps tells keeps
+        ((state w.medium).contents ≡ overlay (state w.medium).start (state w.medium).past)
+        → Accepts tells keeps state false
+        (Ok (containers w.spec_ex.bytes_per_sample
+        (length bytes / w.spec_ex.bytes_per_sample) bytes)) (Ok tt) w
+        (after_put m (w.out + length bytes))
     accepts_all puts replays = record {
       adds = record {
-        answers = subst (λ b. FitAnswer {T = Unit {0}} b false (Ok tt)) (sym (room_fits w bytes room whole_bytes)) tt;
+        answers =
+            subst (λ b. FitAnswer {T = Unit {0}} b false (Ok tt))
+            (sym (room_fits w bytes room whole_bytes)) tt;
         refused = tt;
         spec_ex = refl;
         data_start = refl;
@@ -240,31 +351,44 @@ module _ {W : Type 0} (tells keeps : Bool) (state : W → MediumState) (w : Writ
           let p = puts told in
           let last = after_put m (w.out + length bytes) in
           let samples = drop w.data_start (state m).contents in
-          let more : IsWhole state w → accepted_samples state last ≡ accepted_samples state w ++ list =
+          let more : IsWhole state w
+          → accepted_samples state last ≡ accepted_samples state w ++ list =
           λ whole.
           samples_out state last none sound_more
-          ∙ ap (λ k. containers width k samples) (count_append w.out (length bytes) width sound.width (whole_out state w none sound))
+          ∙ ap (λ k. containers width k samples)
+          (count_append w.out (length bytes) width sound.width (whole_out state w none sound))
           ∙ containers_append width (w.out / width) (length bytes / width) samples
-          ∙ (λ i. samples_same state w none sound (state m).contents (data_stays m bytes (all_out true) told p whole) i
-          ++ containers width (length bytes / width) (drop (count_bytes w.out width (whole_out state w none sound) i) samples))
+          ∙ (λ i. samples_same state w none sound (state m).contents
+          (data_stays m bytes (all_out true) told p whole) i
+          ++ containers width (length bytes / width)
+          (drop (count_bytes w.out width (whole_out state w none sound) i) samples))
           ∙ ap (λ l. accepted_samples state w ++ l)
           (containers_front width (length bytes / width) (drop w.out samples) bytes
           (ap (λ k. take k (drop w.out samples)) (count_bytes (length bytes) width whole_bytes)
           ∙ ap (take (length bytes)) (drop-drop w.out w.data_start (state m).contents)
           ∙ bytes_stand m bytes (all_out true) told p p.whole whole
-          ∙ sym (take_all (length bytes / width * width) bytes (omega (arith, count_bytes (length bytes) width whole_bytes))))) in
-          let stands_now = stands_more w.spec_ex w.data_start w.out (w.out + length bytes) (state m).contents (omega arith) (still m bytes (all_out true) told p) in
+          ∙ sym (take_all (length bytes / width * width) bytes
+          (omega (arith, count_bytes (length bytes) width whole_bytes))))) in
+          let stands_now =
+          stands_more w.spec_ex w.data_start w.out (w.out + length bytes) (state m).contents
+          (omega arith) (still m bytes (all_out true) told p) in
           record {
             faults = p.faults;
             front = front m bytes (all_out true) told p;
-            rest = let at : end + length bytes ≡ w.data_start + (w.out + length bytes + length w.waiting) = omega (arith, ap length none) in
-                subst (λ n. drop n (state m).contents ≡ drop n old.contents) at (rest m bytes (all_out true) told p);
+            rest = let at : end + length bytes ≡ w.data_start +
+                (w.out + length bytes + length w.waiting) = omega (arith, ap length none) in
+                subst (λ n. drop n (state m).contents ≡ drop n old.contents) at
+                (rest m bytes (all_out true) told p);
             reach = omega (arith, reach m bytes (all_out true) told p);
             whole = λ whole. bytes_inside m bytes (all_out true) told p p.whole whole;
             accepted = more;
-            counts = λ whole. counts_at state last sound_more (whole_out state last none sound_more) (state m).contents (bytes_inside m bytes (all_out true) told p p.whole whole) stands_now refl;
+            counts =
+                λ whole. counts_at state last sound_more (whole_out state last none sound_more)
+                (state m).contents
+                (bytes_inside m bytes (all_out true) told p p.whole whole) stands_now refl;
           };
-      moments = λ told kept. at_each m bytes (all_out true) told (puts told) kept (replays told kept);
+      moments =
+          λ told kept. at_each m bytes (all_out true) told (puts told) kept (replays told kept);
     }
 
 -- the container that was encoded
@@ -273,35 +397,56 @@ pub record EncodedAs (sample : Result (List ℕ) Refusal) (array : List ℕ) : T
   pub is : sample ≡ Ok container
   pub padded : array ≡ container ++ replicate (4 - length container) 0
 
-pub encoded : (sample : Result (List ℕ) Refusal) (array : List ℕ) → IsEncoded sample (Ok array) → EncodedAs sample array
+pub encoded : (sample : Result (List ℕ) Refusal) (array : List ℕ) → IsEncoded sample (Ok array)
+    → EncodedAs sample array
 encoded (Ok container) array e = record { container = container; is = refl; padded = cc }
 encoded (Err refusal) array e = cc
 
-pub cut : (width : ℕ) (container array : List ℕ) → array ≡ container ++ replicate (4 - length container) 0 → length container ≡ width → take width array ≡ container
-cut width container array padded size = ap (take width) padded ∙ take_at container (replicate (4 - length container) 0) width size
+pub cut : (width : ℕ) (container array : List ℕ)
+    → array ≡ container ++ replicate (4 - length container) 0 → length container ≡ width
+    → take width array ≡ container
+cut width container array padded size =
+    ap (take width) padded ∙ take_at container (replicate (4 - length container) 0) width size
 
 -- what is asked by bytes, of a writer as contracts see it
-pub accepts_seen : {W : Type 0} (tells keeps : Bool) (state : W → MediumState) (bytes : List ℕ) (answer : Result (Unit {0}) Error) (a b new seen : WriterState W) → a ≡ b → seen ≡ new
-    → Accepts tells keeps state false (Ok (containers a.spec_ex.bytes_per_sample (length bytes / a.spec_ex.bytes_per_sample) bytes)) answer a new
-    → Accepts tells keeps state false (Ok (containers b.spec_ex.bytes_per_sample (length bytes / b.spec_ex.bytes_per_sample) bytes)) answer b seen
+pub accepts_seen : {W : Type 0} (tells keeps : Bool) (state : W → MediumState) (bytes : List ℕ)
+    (answer : Result (Unit {0}) Error) (a b new seen : WriterState W) → a ≡ b → seen ≡ new
+    → Accepts tells keeps state false
+    (Ok (containers a.spec_ex.bytes_per_sample
+    (length bytes / a.spec_ex.bytes_per_sample) bytes)) answer a new
+    → Accepts tells keeps state false
+    (Ok (containers b.spec_ex.bytes_per_sample
+    (length bytes / b.spec_ex.bytes_per_sample) bytes)) answer b seen
 accepts_seen tells keeps state bytes answer a b new seen same is accepts =
-    subst (λ w. Accepts tells keeps state false (Ok (containers w.spec_ex.bytes_per_sample (length bytes / w.spec_ex.bytes_per_sample) bytes)) answer w seen) same
-    (subst (λ w. Accepts tells keeps state false (Ok (containers a.spec_ex.bytes_per_sample (length bytes / a.spec_ex.bytes_per_sample) bytes)) answer a w) (sym is) accepts)
+    subst (λ w. Accepts tells keeps state false
+    (Ok (containers w.spec_ex.bytes_per_sample
+    (length bytes / w.spec_ex.bytes_per_sample) bytes)) answer w seen) same
+    (subst (λ w. Accepts tells keeps state false
+    (Ok (containers a.spec_ex.bytes_per_sample
+    (length bytes / a.spec_ex.bytes_per_sample) bytes)) answer a w) (sym is) accepts)
 
-pub not_refused : {T : Type 0} (P : Type 0) (answer : Result T Error) → IfErr answer IsIoError → OnRefused answer P
+pub not_refused : {T : Type 0} (P : Type 0) (answer : Result T Error) → IfErr answer IsIoError
+    → OnRefused answer P
 not_refused P (Ok x) failed = tt
 not_refused P (Err (IoError e)) failed = tt
 not_refused P (Err e) failed = absurd failed
 
 -- the same of writers that differ in nothing else than the memory that they keep
-pub accepts_swapped : {W : Type 0} (tells keeps : Bool) (state : W → MediumState) (memory : Bool) (asked : WriterState W → Result (List (List ℕ)) Refusal) (answer : Result (Unit {0}) Error) (a b c d : WriterState W) (before after : List ℕ) → IfErr answer IsIoError → length b.buffer ≤ length after
+pub accepts_swapped : {W : Type 0} (tells keeps : Bool) (state : W → MediumState) (memory : Bool)
+    (asked : WriterState W → Result (List (List ℕ)) Refusal) (answer : Result (Unit {0}) Error)
+    (a b c d : WriterState W) (before after : List ℕ) → IfErr answer IsIoError
+    → length b.buffer ≤ length after
     → asked (record b { buffer = before }) ≡ asked b → a ≡ record b { buffer = before } → c ≡ d
-    → Accepts tells keeps state false (asked a) answer a d → Accepts tells keeps state memory (asked b) answer b (record c { buffer = after })
-accepts_swapped tells keeps state memory asked answer a b c d before after failed grown same_asked same_old same_new accepts =
+    → Accepts tells keeps state false (asked a) answer a d
+    → Accepts tells keeps state memory (asked b) answer b (record c { buffer = after })
+accepts_swapped tells keeps state memory asked answer a b c d before after failed grown same_asked
+    same_old same_new accepts =
     let old = record b { buffer = before } in
     let inner : Accepts tells keeps state false (asked b) answer old c =
     subst (λ r. Accepts tells keeps state false r answer old c) same_asked
-    (subst (λ w. Accepts tells keeps state false (asked w) answer w c) same_old (subst (λ w. Accepts tells keeps state false (asked a) answer a w) (sym same_new) accepts)) in
+    (subst (λ w. Accepts tells keeps state false (asked w) answer w c) same_old
+    (subst (λ w. Accepts tells keeps state false (asked a) answer a w) (sym same_new) accepts))
+    in
     record {
       adds = record {
         answers = swap_answer (asked b) answer inner.adds.answers;
@@ -312,23 +457,39 @@ accepts_swapped tells keeps state memory asked answer a b c d before after faile
         kept = grown;
       };
       file = λ told. let f = inner.file told in
-          record { faults = f.faults; front = f.front; rest = f.rest; reach = f.reach; whole = f.whole; accepted = f.accepted; counts = f.counts };
-      moments = λ told kept. let at_each = inner.moments told kept in record { counts = at_each.counts; front = at_each.front };
+          record {
+            faults = f.faults;
+            front = f.front;
+            rest = f.rest;
+            reach = f.reach;
+            whole = f.whole;
+            accepted = f.accepted;
+            counts = f.counts;
+          };
+      moments = λ told kept. let at_each = inner.moments told kept in
+          record { counts = at_each.counts; front = at_each.front };
     }
   where
-    fits : (room : Bool) (answer : Result (Unit {0}) Error) → FitAnswer room false answer → FitAnswer room memory answer
+    fits : (room : Bool) (answer : Result (Unit {0}) Error) → FitAnswer room false answer
+        → FitAnswer room memory answer
     fits false answer here = here
     fits true (Ok x) here = tt
     fits true (Err (IoError e)) here = tt
     fits true (Err OutOfMemory) here = absurd (false≢true here)
     fits true (Err e) here = absurd here
 
-    swap_answer : (r : Result (List (List ℕ)) Refusal) (answer : Result (Unit {0}) Error) → AcceptAnswer false r (record b { buffer = before }) answer → AcceptAnswer memory r b answer
-    swap_answer (Ok asked_for) answer here = fits (nat_le (riff_size b.data_start (data_length b + length (concat asked_for))) 4294967295) answer here
+    swap_answer : (r : Result (List (List ℕ)) Refusal) (answer : Result (Unit {0}) Error)
+        → AcceptAnswer false r (record b { buffer = before }) answer
+        → AcceptAnswer memory r b answer
+    swap_answer (Ok asked_for) answer here =
+        fits (nat_le
+        (riff_size b.data_start (data_length b + length (concat asked_for))) greatest_u32) answer
+        here
     swap_answer (Err refusal) answer here = here
 
 -- an answer to containers for which there is room and no memory is wanted
-pub fit_failed : (answer : Result (Unit {0}) Error) → FitAnswer true false answer → IfErr answer IsIoError
+pub fit_failed : (answer : Result (Unit {0}) Error) → FitAnswer true false answer
+    → IfErr answer IsIoError
 fit_failed (Ok x) here = tt
 fit_failed (Err (IoError e)) here = tt
 fit_failed (Err OutOfMemory) here = absurd (false≢true here)

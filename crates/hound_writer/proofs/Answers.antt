@@ -17,12 +17,14 @@ unless_failed (Ok x) here = here
 unless_failed (Err (IoError e)) here = tt
 unless_failed (Err e) here = here
 
-pub unless_then : {T P Q : Type 0} (answer : Result T Error) → (P → Q) → UnlessFailed answer P → UnlessFailed answer Q
+pub unless_then : {T P Q : Type 0} (answer : Result T Error) → (P → Q) → UnlessFailed answer P
+    → UnlessFailed answer Q
 unless_then (Ok x) then here = then here
 unless_then (Err (IoError e)) then here = tt
 unless_then (Err e) then here = then here
 
-pub on_published_then : {T P Q : Type 0} (answer : Result T Error) → (P → Q) → OnPublished answer P → OnPublished answer Q
+pub on_published_then : {T P Q : Type 0} (answer : Result T Error) → (P → Q) → OnPublished answer P
+    → OnPublished answer Q
 on_published_then (Ok x) then here = then here
 on_published_then (Err UnfinishedSample) then here = then here
 on_published_then (Err e) then here = tt
@@ -32,19 +34,26 @@ on_ok_then (Ok x) then here = then here
 on_ok_then (Err e) then here = tt
 
 -- what holds after an Ok patch holds where its caller says that all was published
-pub published : (P : Type 0) (patched : Result (Unit {0}) IoFault) (are_frames : Bool) (told : Result (Unit {0}) Error) → IsTold patched are_frames told → OnOk patched P → OnPublished told P
+pub published : (P : Type 0) (patched : Result (Unit {0}) IoFault) (are_frames : Bool)
+    (told : Result (Unit {0}) Error) → IsTold patched are_frames told → OnOk patched P
+    → OnPublished told P
 published P (Err e) are_frames told is here = subst (λ t. OnPublished t P) (sym is) tt
 published P (Ok x) true told is here = subst (λ t. OnPublished t P) (sym is) here
 published P (Ok x) false told is here = subst (λ t. OnPublished t P) (sym is) here
 
 -- an Ok is told for whole frames alone
-pub told_ok : (P : Type 0) (patched : Result (Unit {0}) IoFault) (are_frames : Bool) (told : Result (Unit {0}) Error) → IsTold patched are_frames told → (are_frames ≡ true → OnOk patched P) → OnOk told P
+pub told_ok : (P : Type 0) (patched : Result (Unit {0}) IoFault) (are_frames : Bool)
+    (told : Result (Unit {0}) Error) → IsTold patched are_frames told
+    → (are_frames ≡ true → OnOk patched P) → OnOk told P
 told_ok P (Err e) are_frames told is here = subst (λ t. OnOk t P) (sym is) tt
 told_ok P (Ok x) true told is here = subst (λ t. OnOk t P) (sym is) (here refl)
 told_ok P (Ok x) false told is here = subst (λ t. OnOk t P) (sym is) tt
 
 -- the faults that an answer tells are those of the patch
-pub told_faults : (patched : Result (Unit {0}) IoFault) (are_frames : Bool) (told : Result (Unit {0}) Error) (old new : ℕ) → IsTold patched are_frames told → new ≡ faults_after patched old → new ≡ faults_told told old
-told_faults (Err e) are_frames told old new is here = subst (λ t. new ≡ faults_told t old) (sym is) here
+pub told_faults : (patched : Result (Unit {0}) IoFault) (are_frames : Bool)
+    (told : Result (Unit {0}) Error) (old new : ℕ) → IsTold patched are_frames told
+    → new ≡ faults_after patched old → new ≡ faults_told told old
+told_faults (Err e) are_frames told old new is here =
+    subst (λ t. new ≡ faults_told t old) (sym is) here
 told_faults (Ok x) true told old new is here = subst (λ t. new ≡ faults_told t old) (sym is) here
 told_faults (Ok x) false told old new is here = subst (λ t. new ≡ faults_told t old) (sym is) here

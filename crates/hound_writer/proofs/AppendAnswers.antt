@@ -17,7 +17,9 @@ with_fault (unreadable cause) None = faulty (by_bytes cause)
 abbrev append_of : Answer → AppendAnswer
 append_of a = with_fault a (fault_of a)
 
-of_head : (bytes : List ℕ) (s : WavSpecEx) (len h : ℕ) → Head bytes s len h → (o : Option AppendFault) → head_fault s len h ≡ o → AnswersAppend bytes (with_fault (readable s len h) o)
+of_head : (bytes : List ℕ) (s : WavSpecEx) (len h : ℕ) → Head bytes s len h
+    → (o : Option AppendFault) → head_fault s len h ≡ o
+    → AnswersAppend bytes (with_fault (readable s len h) o)
 of_head bytes s len h head None is = (head, is)
 of_head bytes s len h head (Some fault) is = inr (s, len, h, head, is)
 
@@ -26,13 +28,18 @@ of_answer bytes (readable s len h) head = of_head bytes s len h head (head_fault
 of_answer bytes (unreadable cause) refused = inl (cause, refl, refused)
 
 -- each answer for appending is that of an answer for reading
-to_answer : (bytes : List ℕ) (b : AppendAnswer) → AnswersAppend bytes b → (a : Answer) × Answers bytes a × (b ≡ append_of a)
-to_answer bytes (appendable s len h) (head, is) = (readable s len h, head, sym (ap (with_fault (readable s len h)) is))
-to_answer bytes (faulty fault) (inl (cause, is, refused)) = (unreadable cause, refused, ap faulty is)
-to_answer bytes (faulty fault) (inr (s, len, h, head, is)) = (readable s len h, head, sym (ap (with_fault (readable s len h)) is))
+to_answer : (bytes : List ℕ) (b : AppendAnswer) → AnswersAppend bytes b → (a : Answer)
+    × Answers bytes a × (b ≡ append_of a)
+to_answer bytes (appendable s len h) (head, is) =
+    (readable s len h, head, sym (ap (with_fault (readable s len h)) is))
+to_answer bytes (faulty fault) (inl (cause, is, refused)) =
+    (unreadable cause, refused, ap faulty is)
+to_answer bytes (faulty fault) (inr (s, len, h, head, is)) =
+    (readable s len h, head, sym (ap (with_fault (readable s len h)) is))
 
 pub one_append_answer : (bytes : List ℕ) → HasOneAnswer bytes → HasOneAppendAnswer bytes
-one_append_answer bytes (a, is, one) = (append_of a, of_answer bytes a is, λ b at. same b (to_answer bytes b at))
+one_append_answer bytes (a, is, one) =
+    (append_of a, of_answer bytes a is, λ b at. same b (to_answer bytes b at))
   where
     same : (b : AppendAnswer) → (c : Answer) × Answers bytes c × (b ≡ append_of c) → b ≡ append_of a
     same b (c, at, from) = from ∙ ap append_of (one c at)

@@ -21,9 +21,11 @@ use Rattle.hound_writer.specs.Writer.{WriterState, IsSound, data_length}
 use Rattle.hound_writer.specs.Appending.{Appends, FollowsData, IsAppendFault, by_bytes, head_fault, IsNotAppended, PutsNothing}
 use Rattle.hound_writer.proofs.Heads.{head_field}
 use Rattle.hound_writer.proofs.Samples.{counts_at, whole_out}
+use Rattle.hound_spec.specs.FmtChunk.{greatest_u32}
 
 -- where a row of a table isn't met, the rows behind it decide
-none_behind : {A : Type 0} (b : Bool) (x : A) (rest : Option A) → cond b (Some x) rest ≡ None → (b ≡ false) × (rest ≡ None)
+none_behind : {A : Type 0} (b : Bool) (x : A) (rest : Option A) → cond b (Some x) rest ≡ None
+    → (b ≡ false) × (rest ≡ None)
 none_behind true x rest e = cc
 none_behind false x rest e = (refl, e)
 
@@ -32,19 +34,21 @@ holds true e = refl
 holds false e = cc
 
 -- a head with no fault
-pub sound_head : {W : Type 0} (medium : W) (s : WavSpecEx) (len h : ℕ) → IsSoundHead s → 20 ≤ h → head_fault s len h ≡ None → IsSound (of_fields medium s h len [] [])
+pub sound_head : {W : Type 0} (medium : W) (s : WavSpecEx) (len h : ℕ) → IsSoundHead s → 20 ≤ h
+    → head_fault s len h ≡ None → IsSound (of_fields medium s h len [] [])
 unfolding head_fault
 sound_head medium s len h sound after none =
     let samples = none_behind _ _ _ none in
     let pair = none_behind _ _ _ samples.1 in
     let frames = none_behind _ _ _ pair.1 in
     let fits = none_behind _ _ _ frames.1 in
-    let le : riff_size h len ≤ 4294967295 = lt_false _ _ fits.0 in
+    let le : riff_size h len ≤ greatest_u32 = lt_false _ _ fits.0 in
     record {
       pair = holds _ pair.0;
       channels = omega (arith, sound.0);
       width = omega (arith, sound.1);
-      whole = ap (λ n. n % s.bytes_per_sample) (let e : len + 0 ≡ len = omega arith in e) ∙ eqb-true _ _ (holds _ samples.0);
+      whole = ap (λ n. n % s.bytes_per_sample) (let e : len + 0 ≡ len = omega arith in e)
+          ∙ eqb-true _ _ (holds _ samples.0);
       after_head = after;
       fits = omega (arith, le);
     }
@@ -53,16 +57,21 @@ sound_head medium s len h sound after none =
     lt_false a b e = grind (arith, nat_tests)
 
 -- the file of a writer that appends
-pub stands_on : (s : WavSpecEx) (len h : ℕ) (contents new : List ℕ) → Head contents s len h → new ≡ contents → IsStanding s h len new
+pub stands_on : (s : WavSpecEx) (len h : ℕ) (contents new : List ℕ) → Head contents s len h
+    → new ≡ contents → IsStanding s h len new
 stands_on s len h contents new head same =
-    let says : field (h - 4) new ≡ len = ap (field (h - 4)) same ∙ head_field contents s len h head in
+    let says : field (h - 4) new ≡ len =
+    ap (field (h - 4)) same ∙ head_field contents s len h head in
     record {
       head = subst (λ (x : List ℕ × ℕ). Head x.0 s x.1 h) (λ i. (sym same i, sym says i)) head;
       counted = omega (arith, says);
     }
 
 -- a writer that appends, after a `go` to the end of the data
-pub follows : {W : Type 0} (state : W → MediumState) (medium : W) (s : WavSpecEx) (len h : ℕ) (old : MediumState) → IsSoundHead s → 20 ≤ h → Head old.contents s len h → head_fault s len h ≡ None → Goes {T = Unit {0}} {E = IoFault} (h + len) (Ok tt) old (state medium)
+pub follows : {W : Type 0} (state : W → MediumState) (medium : W) (s : WavSpecEx) (len h : ℕ)
+    (old : MediumState) → IsSoundHead s → 20 ≤ h → Head old.contents s len h
+    → head_fault s len h ≡ None
+    → Goes {T = Unit {0}} {E = IoFault} (h + len) (Ok tt) old (state medium)
     → FollowsData old state (of_fields medium s h len [] [])
 follows state medium s len h old sound after head check goes =
     let w = of_fields medium s h len [] [] in
@@ -74,11 +83,14 @@ follows state medium s len h old sound after head check goes =
       place = goes.place ∙ ap (λ n. h + n) all;
       faults = goes.faults;
       counts = λ whole. let sounds = sound_head medium s len h sound after check in
-          counts_at state w sounds (whole_out state w refl sounds) (state medium).contents whole (stands_on s len h old.contents (state medium).contents head goes.stays.contents) refl;
+          counts_at state w sounds (whole_out state w refl sounds) (state medium).contents whole
+          (stands_on s len h old.contents
+          (state medium).contents head goes.stays.contents) refl;
     }
 
 -- a walk changes nothing but the place and the faults
-pub walk_puts_nothing : (result : Result FileHead HeadError) (old new : MediumState) → FindsData result old new → PutsNothing old new
+pub walk_puts_nothing : (result : Result FileHead HeadError) (old new : MediumState)
+    → FindsData result old new → PutsNothing old new
 walk_puts_nothing result old new finds = record {
   stays = record { contents = finds.contents; start = finds.start; past = finds.past };
   flushed = finds.flushed;
@@ -95,7 +107,9 @@ puts_nothing_then a b c first then = record {
 }
 
 -- a walk to the data that found a head, and then the answer of a call that appends there
-appends_after : {W : Type 0} (tells : Bool) (state : W → MediumState) (head : FileHead) (old mid : MediumState) (w : WriterState W) → WhereTells tells (FindsData (Ok head) old mid) → Appends tells state mid w → Appends tells state old w
+appends_after : {W : Type 0} (tells : Bool) (state : W → MediumState) (head : FileHead)
+    (old mid : MediumState) (w : WriterState W) → WhereTells tells (FindsData (Ok head) old mid)
+    → Appends tells state mid w → Appends tells state old w
 appends_after tells state head old mid w finds on = record {
   sound = on.sound;
   none_waits = on.none_waits;
@@ -106,35 +120,56 @@ appends_after tells state head old mid w finds on = record {
       record {
         head = subst (λ l. Head l w.spec_ex (data_length w) w.data_start) walk.contents file.head;
         check = file.check;
-        puts = puts_nothing_then old mid (state w.medium) (walk_puts_nothing (Ok head) old mid walk) file.puts;
+        puts = puts_nothing_then old mid (state w.medium)
+            (walk_puts_nothing (Ok head) old mid walk) file.puts;
         place = file.place;
         faults = file.faults ∙ walk.faults;
         counts = file.counts;
       };
 }
 
-refused_after : (head : FileHead) (old mid new : MediumState) (e : Error) → FindsData (Ok head) old mid → IsNotAppended mid new e → IsNotAppended old new e
+refused_after : (head : FileHead) (old mid new : MediumState) (e : Error)
+    → FindsData (Ok head) old mid → IsNotAppended mid new e → IsNotAppended old new e
 refused_after head old mid new e finds refused = record {
   puts = puts_nothing_then old mid new (walk_puts_nothing (Ok head) old mid finds) refused.puts;
   why = elim refused.why [
-    | inl (fault, is, names, faults) ↦ inl (fault, subst (λ l. IsAppendFault l fault) finds.contents is, names, faults ∙ finds.faults)
+    | inl (fault, is, names, faults) ↦
+        inl (
+          fault,
+          subst (λ l. IsAppendFault l fault) finds.contents is,
+          names,
+          faults
+              ∙ finds.faults,
+        )
     | inr (is, faults) ↦ inr (is, faults ∙ ap one_more finds.faults)
   ];
 }
 
-pub answer_after : {W : Type 0} (tells : Bool) (state : W → MediumState) (head : FileHead) (old mid : MediumState) (answer : Result (WriterState W) (W × Error)) → WhereTells tells (FindsData (Ok head) old mid)
-    → MatchResult answer (Appends tells state mid) (λ refused. WhereTells tells (IsNotAppended mid (state refused.0) refused.1))
-    → MatchResult answer (Appends tells state old) (λ refused. WhereTells tells (IsNotAppended old (state refused.0) refused.1))
-answer_after tells state head old mid (Ok w) finds on = appends_after tells state head old mid w finds on
-answer_after tells state head old mid (Err refused) finds on = λ told. refused_after head old mid (state refused.0) refused.1 (finds told) (on told)
+pub answer_after : {W : Type 0} (tells : Bool) (state : W → MediumState) (head : FileHead)
+    (old mid : MediumState) (answer : Result (WriterState W) (W × Error))
+    → WhereTells tells (FindsData (Ok head) old mid)
+    → MatchResult answer (Appends tells state mid)
+    (λ refused. WhereTells tells (IsNotAppended mid (state refused.0) refused.1))
+    → MatchResult answer (Appends tells state old)
+    (λ refused. WhereTells tells (IsNotAppended old (state refused.0) refused.1))
+answer_after tells state head old mid (Ok w) finds on =
+    appends_after tells state head old mid w finds on
+answer_after tells state head old mid (Err refused) finds on =
+    λ told. refused_after head old mid (state refused.0) refused.1 (finds told) (on told)
 
 -- a walk that found none
-pub walk_fails : (error : HeadError) (e : Error) (old new : MediumState) → old.place ≡ 0 → ReportsError error e → FindsData (Err error) old new → IsNotAppended old new e
+pub walk_fails : (error : HeadError) (e : Error) (old new : MediumState) → old.place ≡ 0
+    → ReportsError error e → FindsData (Err error) old new → IsNotAppended old new e
 walk_fails (Failed x) e old new begins told finds = record {
   puts = walk_puts_nothing (Err (Failed x)) old new finds;
   why = inr (subst IsIoError (sym told) tt, finds.faults);
 }
 walk_fails (Refused cause) e old new begins told finds = record {
   puts = walk_puts_nothing (Err (Refused cause)) old new finds;
-  why = inl (by_bytes cause, inl (cause, refl, subst (λ n. RefusedFor (drop n old.contents) cause) begins finds.answer), told, finds.faults);
+  why = inl (
+    by_bytes cause,
+    inl (cause, refl, subst (λ n. RefusedFor (drop n old.contents) cause) begins finds.answer),
+    told,
+    finds.faults,
+  );
 }

@@ -21,8 +21,10 @@ use Rattle.hound_writer.proofs.Samples.{counts_at, samples_more, samples_parts}
 use Rattle.hound_writer.proofs.Standing.{stands_more}
 
 -- a writer over a medium that stays
-module _ {W : Type 0} (tells keeps : Bool) (state : W → MediumState) (w : WriterState W) (moved : Bool) (limit : ℕ) (known : IsConsistent tells state w moved limit)
-    (bytes : List ℕ) (room : HasRoom w (length bytes)) (whole_bytes : length bytes % w.spec_ex.bytes_per_sample ≡ 0) where
+module _ {W : Type 0} (tells keeps : Bool) (state : W → MediumState) (w : WriterState W)
+    (moved : Bool) (limit : ℕ) (known : IsConsistent tells state w moved limit)
+    (bytes : List ℕ) (room : HasRoom w (length bytes))
+    (whole_bytes : length bytes % w.spec_ex.bytes_per_sample ≡ 0) where
   abbrev sound : IsSound w
   sound = known.sound
 
@@ -40,17 +42,21 @@ module _ {W : Type 0} (tells keeps : Bool) (state : W → MediumState) (w : Writ
     pair = sound.pair;
     channels = sound.channels;
     width = sound.width;
-    whole = ap (λ n. n % width) more ∙ whole_more (data_length w) (length bytes) width sound.whole whole_bytes;
+    whole = ap (λ n. n % width) more
+        ∙ whole_more (data_length w) (length bytes) width sound.whole whole_bytes;
     after_head = sound.after_head;
     fits = omega (arith, room, more);
   }
 
-  pub consistent_longer : length w.waiting + length bytes ≤ 4096 → IsConsistent tells state (record w { waiting = w.waiting ++ bytes }) moved limit
+  pub consistent_longer : length w.waiting + length bytes ≤ 4096
+      → IsConsistent tells state (record w { waiting = w.waiting ++ bytes }) moved limit
   consistent_longer few =
       record {
         sound = sound_longer;
         whole_out = known.whole_out;
-        whole_waiting = ap (λ n. n % width) (length-append w.waiting bytes) ∙ whole_more (length w.waiting) (length bytes) width known.whole_waiting whole_bytes;
+        whole_waiting =
+            ap (λ n. n % width) (length-append w.waiting bytes)
+            ∙ whole_more (length w.waiting) (length bytes) width known.whole_waiting whole_bytes;
         block = omega (arith, few, length-append w.waiting bytes);
         room = known.room;
         stands = known.stands;
@@ -58,14 +64,20 @@ module _ {W : Type 0} (tells keeps : Bool) (state : W → MediumState) (w : Writ
       }
 
   -- samples join those that wait
-  pub accepts_waiting : WhereKeeps tells keeps ((state w.medium).contents ≡ overlay (state w.medium).start (state w.medium).past)
-      → Accepts tells keeps state false (Ok (containers w.spec_ex.bytes_per_sample (length bytes / w.spec_ex.bytes_per_sample) bytes)) (Ok tt) w (record w { waiting = w.waiting ++ bytes })
+  pub accepts_waiting : WhereKeeps tells keeps
+      ((state w.medium).contents ≡ overlay (state w.medium).start (state w.medium).past)
+      → Accepts tells keeps state false
+      (Ok (containers w.spec_ex.bytes_per_sample
+      (length bytes / w.spec_ex.bytes_per_sample) bytes)) (Ok tt) w
+      (record w { waiting = w.waiting ++ bytes })
   accepts_waiting replays =
       let old = state w.medium in
       let reach = w.data_start + w.out in
       record {
         adds = record {
-          answers = subst (λ b. FitAnswer {T = Unit {0}} b false (Ok tt)) (sym (room_fits w bytes room whole_bytes)) tt;
+          answers =
+              subst (λ b. FitAnswer {T = Unit {0}} b false (Ok tt))
+              (sym (room_fits w bytes room whole_bytes)) tt;
           refused = tt;
           spec_ex = refl;
           data_start = refl;
@@ -79,19 +91,29 @@ module _ {W : Type 0} (tells keeps : Bool) (state : W → MediumState) (w : Writ
           reach = omega arith;
           whole = λ whole. whole;
           accepted = λ whole. samples_more state w sound known.whole_out bytes whole sound.whole;
-          counts = λ whole. counts_at state longer sound_longer known.whole_out old.contents whole (known.stands told) refl;
+          counts =
+              λ whole. counts_at state longer sound_longer known.whole_out old.contents whole
+              (known.stands told) refl;
         };
         moments = λ told kept. record {
-          counts = λ whole. span_still (λ _. Counts w.spec_ex w.data_start (accepted_samples state w)) 0 old old (replays told kept) refl refl
+          counts =
+              λ whole. span_still
+              (λ _. Counts w.spec_ex w.data_start (accepted_samples state w)) 0 old old
+              (replays told kept) refl refl
               (counts_at state w sound known.whole_out old.contents whole (known.stands told) refl);
-          front = λ whole. span_still (λ _ c. take reach c ≡ take reach old.contents) 0 old old (replays told kept) refl refl refl;
+          front = λ whole. span_still (λ _ c. take reach c ≡ take reach old.contents) 0 old old
+              (replays told kept) refl refl refl;
         };
       }
 
 -- what waits is put after the bytes that are out
-module _ {W : Type 0} (tells keeps : Bool) (state : W → MediumState) (w : WriterState W) (moved : Bool) (limit : ℕ) (known : IsConsistent tells state w moved limit)
-    (replays : WhereKeeps tells keeps ((state w.medium).contents ≡ overlay (state w.medium).start (state w.medium).past)) (m : W) where
-  abbrev stands : WhereTells tells (IsStanding w.spec_ex w.data_start w.out (state w.medium).contents)
+module _ {W : Type 0} (tells keeps : Bool) (state : W → MediumState) (w : WriterState W)
+    (moved : Bool) (limit : ℕ) (known : IsConsistent tells state w moved limit)
+    (replays : WhereKeeps tells keeps
+    ((state w.medium).contents ≡ overlay (state w.medium).start (state w.medium).past))
+    (m : W) where
+  abbrev stands : WhereTells tells
+      (IsStanding w.spec_ex w.data_start w.out (state w.medium).contents)
   stands = known.stands
 
   -- the writer without what waits
@@ -118,12 +140,16 @@ module _ {W : Type 0} (tells keeps : Bool) (state : W → MediumState) (w : Writ
   }
 
   -- its samples are the first ones of the writer's
-  samples_first : IsWhole state w → accepted_samples state w ≡ accepted_samples state shorter ++ containers wide (length w.waiting / wide) w.waiting
+  samples_first : IsWhole state w
+      → accepted_samples state w ≡ accepted_samples state shorter ++ containers wide
+      (length w.waiting / wide) w.waiting
   samples_first whole =
       let none : containers wide (0 / wide) [] ≡ [] = λ i. containers wide (zero_div wide i) [] in
       samples_parts state w known.sound known.whole_out whole
       ∙ ap (λ l. l ++ containers wide (length w.waiting / wide) w.waiting)
-      (sym (samples_parts state shorter sound_shorter known.whole_out whole ∙ ap (λ l. containers wide (w.out / wide) (drop w.data_start old.contents) ++ l) none ∙ append-nil (containers wide (w.out / wide) (drop w.data_start old.contents))))
+      (sym (samples_parts state shorter sound_shorter known.whole_out whole
+      ∙ ap (λ l. containers wide (w.out / wide) (drop w.data_start old.contents) ++ l) none
+      ∙ append-nil (containers wide (w.out / wide) (drop w.data_start old.contents))))
     where
       zero_div : (n : ℕ) → 0 / n ≡ 0
       zero_div zero = refl
@@ -131,43 +157,74 @@ module _ {W : Type 0} (tells keeps : Bool) (state : W → MediumState) (w : Writ
 
   moments : AddsAtEach state shorter (state m) → AddsAtEach state w (state m)
   moments at_each = record {
-    counts = λ whole. span_weaker (λ _. Counts w.spec_ex w.data_start (accepted_samples state shorter)) (λ _. Counts w.spec_ex w.data_start (accepted_samples state w)) 0 old (state m)
-        (λ j c counts. subst (λ l. Counts w.spec_ex w.data_start l c) (sym (samples_first whole)) (counts_more w.spec_ex w.data_start (accepted_samples state shorter) (containers wide (length w.waiting / wide) w.waiting) c known.sound.width counts))
+    counts =
+        λ whole. span_weaker (λ _. Counts w.spec_ex w.data_start (accepted_samples state shorter))
+        (λ _. Counts w.spec_ex w.data_start (accepted_samples state w)) 0 old (state m)
+        (λ j c counts. subst (λ l. Counts w.spec_ex w.data_start l c) (sym (samples_first whole))
+        (counts_more w.spec_ex w.data_start (accepted_samples state shorter)
+        (containers wide (length w.waiting / wide) w.waiting) c known.sound.width counts))
         (at_each.counts whole);
     front = at_each.front;
   }
 
   -- all of it, or a beginning
-  module _ (all : Bool) (puts : WhereTells tells (PutsAt keeps (w.data_start + w.out) w.waiting (all_out all) (state w.medium) (state m))) where
-    moments_out : WhereKeeps tells keeps (GoesAtEach state w (state m))
-    moments_out told kept = record {
-      adds = moments (at_each tells keeps state shorter refl sound_shorter stands m w.waiting (all_out all) told (puts told) kept (replays told kept));
-      front = front_at_each tells keeps state shorter refl sound_shorter stands m w.waiting (all_out all) told (puts told) kept (replays told kept);
-      behind = puts_from w.data_start end (take (puts told).count w.waiting) old (state m) (omega arith) ((puts told).past kept);
-    }
+  module _ (all : Bool)
+      (puts : WhereTells tells
+      (PutsAt keeps (w.data_start + w.out) w.waiting (all_out all) (state w.medium) (state m)))
+    where
+      moments_out : WhereKeeps tells keeps (GoesAtEach state w (state m))
+      moments_out told kept = record {
+        adds = moments
+            (at_each tells keeps state shorter refl sound_shorter stands m w.waiting
+            (all_out all) told (puts told) kept (replays told kept));
+        front = front_at_each tells keeps state shorter refl sound_shorter stands m w.waiting
+            (all_out all) told (puts told) kept (replays told kept);
+        behind =
+            puts_from w.data_start end (take (puts told).count w.waiting) old (state m) (omega arith)
+            ((puts told).past kept);
+      }
 
-    same_out : (told : IsTrue tells) → IsWhole state w → take w.out (drop w.data_start (state m).contents) ≡ take w.out (drop w.data_start old.contents)
-    same_out told = data_stays tells keeps state shorter refl sound_shorter stands m w.waiting (all_out all) told (puts told)
+      same_out : (told : IsTrue tells) → IsWhole state w
+          → take w.out (drop w.data_start (state m).contents) ≡ take w.out
+          (drop w.data_start old.contents)
+      same_out told =
+          data_stays tells keeps state shorter refl sound_shorter stands m w.waiting
+          (all_out all) told (puts told)
 
-    around : IsTrue tells → StaysAround state (data_end w) w (state m)
-    around told =
-        let p = puts told in
-        let at : end + length w.waiting ≡ data_end w = omega arith in
-        record {
-          stands = still tells keeps state shorter refl sound_shorter stands m w.waiting (all_out all) told p;
-          front = front tells keeps state shorter refl sound_shorter stands m w.waiting (all_out all) told p;
-          out = λ whole. front_stays tells keeps state shorter refl sound_shorter stands m w.waiting (all_out all) told p end (omega arith) whole;
-          rest = subst (λ n. drop n (state m).contents ≡ drop n old.contents) at (rest tells keeps state shorter refl sound_shorter stands m w.waiting (all_out all) told p);
-          grows = grows tells keeps state shorter refl sound_shorter stands m w.waiting (all_out all) told p;
-          reach = omega (arith, reach tells keeps state shorter refl sound_shorter stands m w.waiting (all_out all) told p);
-        }
+      around : IsTrue tells → StaysAround state (data_end w) w (state m)
+      around told =
+          let p = puts told in
+          let at : end + length w.waiting ≡ data_end w = omega arith in
+          record {
+            stands =
+                still tells keeps state shorter refl sound_shorter stands m w.waiting
+                (all_out all) told p;
+            front = front tells keeps state shorter refl sound_shorter stands m w.waiting
+                (all_out all) told p;
+            out = λ whole. front_stays tells keeps state shorter refl sound_shorter stands m w.waiting
+                (all_out all) told p end (omega arith) whole;
+            rest = subst (λ n. drop n (state m).contents ≡ drop n old.contents) at
+                (rest tells keeps state shorter refl sound_shorter stands m w.waiting
+                (all_out all) told p);
+            grows = grows tells keeps state shorter refl sound_shorter stands m w.waiting
+                (all_out all) told p;
+            reach = omega (
+              arith,
+              reach tells keeps state shorter refl sound_shorter stands m w.waiting
+                  (all_out all) told p,
+            );
+          }
 
-  pub goes_out : (all : Bool) → WhereTells tells (PutsAt keeps (w.data_start + w.out) w.waiting (all_out all) (state w.medium) (state m)) → GoesOut tells keeps state (data_end w) all w (after_out all m w)
+  pub goes_out : (all : Bool)
+      → WhereTells tells
+      (PutsAt keeps (w.data_start + w.out) w.waiting (all_out all) (state w.medium) (state m))
+      → GoesOut tells keeps state (data_end w) all w (after_out all m w)
   goes_out true puts = record {
     value = refl;
     sound = known.sound;
     file = λ told.
-        let f = (accepts_all tells keeps state shorter refl sound_shorter stands m w.waiting (omega (arith, known.sound.fits)) known.whole_waiting puts replays).file told in
+        let f = (accepts_all tells keeps state shorter refl sound_shorter stands m w.waiting
+        (omega (arith, known.sound.fits)) known.whole_waiting puts replays).file told in
         record {
           faults = (puts told).faults;
           around = around true puts told;
@@ -182,15 +239,20 @@ module _ {W : Type 0} (tells keeps : Bool) (state : W → MediumState) (w : Writ
     sound = known.sound;
     file = λ told.
         let a = around false puts told in
-        let accepted : IsWhole state w → accepted_samples state (record w { medium = m }) ≡ accepted_samples state w =
-        λ whole. ap (λ bytes. containers wide (data_length w / wide) (bytes ++ w.waiting)) (same_out false puts told whole) in
+        let accepted : IsWhole state w
+        → accepted_samples state (record w { medium = m }) ≡ accepted_samples state w =
+        λ whole. ap (λ bytes. containers wide (data_length w / wide) (bytes ++ w.waiting))
+        (same_out false puts told whole) in
         record {
           faults = (puts told).faults;
           around = a;
           whole = λ whole. omega (arith, whole, a.grows);
           accepted = accepted;
-          counts = λ whole. subst (λ l. Counts w.spec_ex w.data_start l (state m).contents) (sym (accepted whole))
-              (counts_at state w known.sound known.whole_out (state m).contents whole a.stands (same_out false puts told whole));
+          counts =
+              λ whole. subst (λ l. Counts w.spec_ex w.data_start l (state m).contents)
+              (sym (accepted whole))
+              (counts_at state w known.sound known.whole_out (state m).contents whole a.stands
+              (same_out false puts told whole));
         };
     moments = moments_out false puts;
   }
@@ -201,12 +263,15 @@ module _ {W : Type 0} (tells keeps : Bool) (state : W → MediumState) (w : Writ
     pair = known.sound.pair;
     channels = known.sound.channels;
     width = known.sound.width;
-    whole = ap (λ n. n % wide) (let e : data_length w + 0 ≡ data_length w = omega arith in e) ∙ known.sound.whole;
+    whole = ap (λ n. n % wide) (let e : data_length w + 0 ≡ data_length w = omega arith in e)
+        ∙ known.sound.whole;
     after_head = known.sound.after_head;
     fits = omega (arith, known.sound.fits);
   }
 
-  pub consistent_out : (next : ℕ) → IsLimit w.data_start (data_length w) next → WhereTells tells (PutsAt keeps (w.data_start + w.out) w.waiting (all_out true) (state w.medium) (state m))
+  pub consistent_out : (next : ℕ) → IsLimit w.data_start (data_length w) next
+      → WhereTells tells
+      (PutsAt keeps (w.data_start + w.out) w.waiting (all_out true) (state w.medium) (state m))
       → IsConsistent tells state (after_out true m w) false next
   consistent_out next room puts =
       record {
@@ -215,67 +280,117 @@ module _ {W : Type 0} (tells keeps : Bool) (state : W → MediumState) (w : Writ
         whole_waiting = none_whole wide;
         block = omega arith;
         room = room;
-        stands = λ told. stands_more w.spec_ex w.data_start w.out (data_length w) (state m).contents (omega arith) (around true puts told).stands;
+        stands =
+            λ told. stands_more w.spec_ex w.data_start w.out (data_length w) (state m).contents
+            (omega arith) (around true puts told).stands;
         place = λ told _. omega (arith, (puts told).place);
       }
 
-  pub consistent_cut : WhereTells tells (PutsAt keeps (w.data_start + w.out) w.waiting (all_out false) (state w.medium) (state m)) → IsConsistent tells state (record w { medium = m }) true limit
-  consistent_cut puts = consistent_moved tells state w m moved limit known (λ told. (around false puts told).stands)
+  pub consistent_cut : WhereTells tells
+      (PutsAt keeps (w.data_start + w.out) w.waiting (all_out false) (state w.medium) (state m))
+      → IsConsistent tells state (record w { medium = m }) true limit
+  consistent_cut puts =
+      consistent_moved tells state w m moved limit known (λ told. (around false puts told).stands)
 
 -- where nothing waits nothing goes out
-pub goes_out_nothing : {W : Type 0} (tells keeps : Bool) (state : W → MediumState) (far : ℕ) (w : WriterState W) (moved : Bool) (limit : ℕ) → IsConsistent tells state w moved limit
-    → WhereKeeps tells keeps ((state w.medium).contents ≡ overlay (state w.medium).start (state w.medium).past) → length w.waiting ≡ 0 → GoesOut tells keeps state far true w w
+pub goes_out_nothing : {W : Type 0} (tells keeps : Bool) (state : W → MediumState) (far : ℕ)
+    (w : WriterState W) (moved : Bool) (limit : ℕ) → IsConsistent tells state w moved limit
+    → WhereKeeps tells keeps
+    ((state w.medium).contents ≡ overlay (state w.medium).start (state w.medium).past)
+    → length w.waiting ≡ 0 → GoesOut tells keeps state far true w w
 goes_out_nothing tells keeps state far w moved limit known replays none =
     let old = state w.medium in
     let end = w.data_start + w.out in
-    let counts : IsTrue tells → IsWhole state w → Counts w.spec_ex w.data_start (accepted_samples state w) old.contents =
-    λ told whole. counts_at state w known.sound known.whole_out old.contents whole (known.stands told) refl in
+    let counts : IsTrue tells → IsWhole state w
+    → Counts w.spec_ex w.data_start (accepted_samples state w) old.contents =
+    λ told whole. counts_at state w known.sound known.whole_out old.contents whole
+    (known.stands told) refl in
     record {
-      value = λ i. record w { out = (let e : w.out ≡ data_length w = omega (arith, none) in e i); waiting = nil_from_length w.waiting none i };
+      value = λ i.
+          record w {
+            out = (let e : w.out ≡ data_length w = omega (arith, none) in e i);
+            waiting = nil_from_length w.waiting none i;
+          };
       sound = known.sound;
       file = λ told. record {
         faults = refl;
-        around = record { stands = known.stands told; front = refl; out = λ _. refl; rest = refl; grows = omega arith; reach = omega arith };
+        around =
+            record {
+              stands = known.stands told;
+              front = refl;
+              out = λ _. refl;
+              rest = refl;
+              grows = omega arith;
+              reach = omega arith;
+            };
         whole = λ whole. whole;
         accepted = λ _. refl;
         counts = counts told;
       };
       moments = λ told kept. record {
         adds = record {
-          counts = λ whole. span_still (λ _. Counts w.spec_ex w.data_start (accepted_samples state w)) 0 old old (replays told kept) refl refl (counts told whole);
-          front = λ whole. span_still (λ _ c. take end c ≡ take end old.contents) 0 old old (replays told kept) refl refl refl;
+          counts =
+              λ whole. span_still
+              (λ _. Counts w.spec_ex w.data_start (accepted_samples state w)) 0 old old
+              (replays told kept) refl refl (counts told whole);
+          front = λ whole. span_still (λ _ c. take end c ≡ take end old.contents) 0 old old
+              (replays told kept) refl refl refl;
         };
-        front = span_still (λ _ c. take w.data_start c ≡ take w.data_start old.contents) 0 old old (replays told kept) refl refl refl;
+        front = span_still (λ _ c. take w.data_start c ≡ take w.data_start old.contents) 0 old old
+            (replays told kept) refl refl refl;
         behind = λ i from to. absurd (omega (arith, from, to));
       };
     }
 
 -- the same bytes were put
-pub puts_same : {T E : Type 0} (tells keeps : Bool) (at : ℕ) (bytes same : List ℕ) (result : Result T E) (old new : MediumState) → bytes ≡ same
-    → WhereTells tells (PutsAt keeps at bytes result old new) → WhereTells tells (PutsAt keeps at same result old new)
-puts_same tells keeps at bytes same result old new is puts told = subst (λ l. PutsAt keeps at l result old new) is (puts told)
+pub puts_same : {T E : Type 0} (tells keeps : Bool) (at : ℕ) (bytes same : List ℕ)
+    (result : Result T E) (old new : MediumState) → bytes ≡ same
+    → WhereTells tells (PutsAt keeps at bytes result old new)
+    → WhereTells tells (PutsAt keeps at same result old new)
+puts_same tells keeps at bytes same result old new is puts told =
+    subst (λ l. PutsAt keeps at l result old new) is (puts told)
 
 -- the same of writers as contracts see them
-pub goes_out_seen : {W : Type 0} (tells keeps : Bool) (state : W → MediumState) (all : Bool) (a w new : WriterState W) (m : W) → a ≡ w → new ≡ after_out all m a → GoesOut tells keeps state (data_end a) all a (after_out all m a) → GoesOut tells keeps state (data_end w) all w new
+pub goes_out_seen : {W : Type 0} (tells keeps : Bool) (state : W → MediumState) (all : Bool)
+    (a w new : WriterState W) (m : W) → a ≡ w → new ≡ after_out all m a
+    → GoesOut tells keeps state (data_end a) all a (after_out all m a)
+    → GoesOut tells keeps state (data_end w) all w new
 goes_out_seen tells keeps state all a w new m same is out =
-    subst (GoesOut tells keeps state (data_end w) all w) (sym is) (subst (λ v. GoesOut tells keeps state (data_end v) all v (after_out all m a)) same out)
+    subst (GoesOut tells keeps state (data_end w) all w) (sym is)
+    (subst (λ v. GoesOut tells keeps state (data_end v) all v (after_out all m a)) same out)
 
 -- containers are put at once, where nothing waits
-module _ {W : Type 0} (tells keeps : Bool) (state : W → MediumState) (w : WriterState W) (moved : Bool) (limit : ℕ) (known : IsConsistent tells state w moved limit) (none : w.waiting ≡ [])
+module _ {W : Type 0} (tells keeps : Bool) (state : W → MediumState) (w : WriterState W)
+    (moved : Bool) (limit : ℕ) (known : IsConsistent tells state w moved limit)
+    (none : w.waiting ≡ [])
     (m : W) (bytes : List ℕ) where
-  pub cut_at_once : (all : Bool) → WhereTells tells (PutsAt keeps (w.data_start + w.out) bytes (all_out all) (state w.medium) (state m)) → IsConsistent tells state (record w { medium = m }) true limit
-  cut_at_once all puts = consistent_moved tells state w m moved limit known (λ told. still tells keeps state w none known.sound known.stands m bytes (all_out all) told (puts told))
+  pub cut_at_once : (all : Bool)
+      → WhereTells tells
+      (PutsAt keeps (w.data_start + w.out) bytes (all_out all) (state w.medium) (state m))
+      → IsConsistent tells state (record w { medium = m }) true limit
+  cut_at_once all puts =
+      consistent_moved tells state w m moved limit known
+      (λ told. still tells keeps state w none known.sound known.stands m bytes (all_out all) told
+      (puts told))
 
-  pub kept_at_once : (next : ℕ) → IsLimit w.data_start (w.out + length bytes) next → HasRoom w (length bytes) → length bytes % w.spec_ex.bytes_per_sample ≡ 0
-      → WhereTells tells (PutsAt keeps (w.data_start + w.out) bytes (all_out true) (state w.medium) (state m)) → IsConsistent tells state (record w { medium = m; out = w.out + length bytes }) false next
+  pub kept_at_once : (next : ℕ) → IsLimit w.data_start (w.out + length bytes) next
+      → HasRoom w (length bytes) → length bytes % w.spec_ex.bytes_per_sample ≡ 0
+      → WhereTells tells
+      (PutsAt keeps (w.data_start + w.out) bytes (all_out true) (state w.medium) (state m))
+      → IsConsistent tells state
+      (record w { medium = m; out = w.out + length bytes }) false next
   kept_at_once next limit_next room whole puts =
       record {
         sound = sound_more tells keeps state w none known.sound known.stands m bytes room whole;
-        whole_out = whole_more w.out (length bytes) w.spec_ex.bytes_per_sample known.whole_out whole;
+        whole_out =
+            whole_more w.out (length bytes) w.spec_ex.bytes_per_sample known.whole_out whole;
         whole_waiting = known.whole_waiting;
         block = known.block;
         room = limit_next;
-        stands = λ told. stands_more w.spec_ex w.data_start w.out (w.out + length bytes) (state m).contents (omega arith)
-            (still tells keeps state w none known.sound known.stands m bytes (all_out true) told (puts told));
+        stands =
+            λ told. stands_more w.spec_ex w.data_start w.out (w.out + length bytes)
+            (state m).contents (omega arith)
+            (still tells keeps state w none known.sound known.stands m bytes (all_out true) told
+            (puts told));
         place = λ told _. omega (arith, (puts told).place);
       }

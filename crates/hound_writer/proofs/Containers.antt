@@ -8,20 +8,27 @@ use Rattle.std.specs.List.{concat}
 use Rattle.hound_sample.specs.Container.{containers}
 
 -- the same front has the same containers
-pub containers_front : (width count : ℕ) (a b : List ℕ) → take (count * width) a ≡ take (count * width) b → containers width count a ≡ containers width count b
+pub containers_front : (width count : ℕ) (a b : List ℕ)
+    → take (count * width) a ≡ take (count * width) b
+    → containers width count a ≡ containers width count b
 containers_front width zero a b same = refl
 containers_front width (suc count) a b same =
     let e : suc count * width ≡ width + count * width = omega arith in
-    let all : take (width + count * width) a ≡ take (width + count * width) b = ap (λ n. take n a) (sym e) ∙ same ∙ ap (λ n. take n b) e in
+    let all : take (width + count * width) a ≡ take (width + count * width) b =
+    ap (λ n. take n a) (sym e) ∙ same ∙ ap (λ n. take n b) e in
     let first : take width a ≡ take width b =
-    sym (take-take width (width + count * width) a (omega arith)) ∙ ap (take width) all ∙ take-take width (width + count * width) b (omega arith) in
+    sym (take-take width (width + count * width) a (omega arith)) ∙ ap (take width) all
+    ∙ take-take width (width + count * width) b (omega arith) in
     let rest : take (count * width) (drop width a) ≡ take (count * width) (drop width b) =
-    sym (drop-take width (count * width) a) ∙ ap (drop width) all ∙ drop-take width (count * width) b in
+    sym (drop-take width (count * width) a) ∙ ap (drop width) all
+    ∙ drop-take width (count * width) b in
     λ i. first i ∷ containers_front width count (drop width a) (drop width b) rest i
 
 -- the containers joined are the bytes
-pub concat-containers : (width count : ℕ) (bytes : List ℕ) → concat (containers width count bytes) ≡ take (count * width) bytes
-concat-containers width zero bytes = ap (λ n. take n bytes) (let e : 0 ≡ 0 * width = omega arith in e)
+pub concat-containers : (width count : ℕ) (bytes : List ℕ)
+    → concat (containers width count bytes) ≡ take (count * width) bytes
+concat-containers width zero bytes =
+    ap (λ n. take n bytes) (let e : 0 ≡ 0 * width = omega arith in e)
 concat-containers width (suc count) bytes =
     ap (λ l. take width bytes ++ l) (concat-containers width count (drop width bytes))
     ∙ sym (take-add width (count * width) bytes)
@@ -37,7 +44,8 @@ pub count_bytes : (n width : ℕ) → n % width ≡ 0 → n / width * width ≡ 
 count_bytes n width whole = omega (arith, div-add-mod' n width, whole)
 
 pub whole_more : (n more width : ℕ) → n % width ≡ 0 → more % width ≡ 0 → (n + more) % width ≡ 0
-whole_more n more width whole then = add-mod n more width ∙ (λ i. (whole i + then i) % width) ∙ zero_mod width
+whole_more n more width whole then =
+    add-mod n more width ∙ (λ i. (whole i + then i) % width) ∙ zero_mod width
   where
     zero_mod : (w : ℕ) → (0 + 0) % w ≡ 0
     zero_mod zero = refl
@@ -51,44 +59,66 @@ pub one_whole : (width n : ℕ) → n ≡ width → n % width ≡ 0
 one_whole zero n is = ap (λ k. k % 0) is
 one_whole (suc width) n is =
     let m = suc width in
-    let one : m / m ≡ 1 = ap (λ k. k / m) (let e : m ≡ 0 + m = omega arith in e) ∙ count_more 0 m (omega arith) ∙ ap suc (let e : 0 / m ≡ 0 = omega arith in e) in
+    let one : m / m ≡ 1 =
+    ap (λ k. k / m) (let e : m ≡ 0 + m = omega arith in e) ∙ count_more 0 m (omega arith)
+    ∙ ap suc (let e : 0 / m ≡ 0 = omega arith in e) in
     let left : m / m * m ≡ 1 * m = ap (λ k. k * m) one in
     ap (λ k. k % m) is ∙ (let e : m % m ≡ 0 = omega (arith, div-add-mod' m m, left) in e)
 
 -- more whole containers than one
-pub containers_append : (w few more : ℕ) (bytes : List ℕ) → containers w (few + more) bytes ≡ containers w few bytes ++ containers w more (drop (few * w) bytes)
-containers_append w zero more bytes = λ i. containers w (let e : 0 + more ≡ more = omega arith in e i) (drop (let e : 0 ≡ 0 * w = omega arith in e i) bytes)
+pub containers_append : (w few more : ℕ) (bytes : List ℕ)
+    → containers w (few + more) bytes ≡ containers w few bytes ++ containers w more
+    (drop (few * w) bytes)
+containers_append w zero more bytes =
+    λ i. containers w (let e : 0 + more ≡ more = omega arith in e i)
+    (drop (let e : 0 ≡ 0 * w = omega arith in e i) bytes)
 containers_append w (suc few) more bytes =
     ap (λ n. containers w n bytes) (let e : suc few + more ≡ suc (few + more) = omega arith in e)
     ∙ ap (λ (l : List (List ℕ)). take w bytes ∷ l)
     (containers_append w few more (drop w bytes)
-    ∙ ap (λ l. containers w few (drop w bytes) ++ containers w more l) (drop-drop (few * w) w bytes ∙ ap (λ n. drop n bytes) (let e : w + few * w ≡ suc few * w = omega arith in e)))
+    ∙ ap (λ l. containers w few (drop w bytes) ++ containers w more l)
+    (drop-drop (few * w) w bytes
+    ∙ ap (λ n. drop n bytes) (let e : w + few * w ≡ suc few * w = omega arith in e)))
 
 -- the count of whole containers of two parts
-pub count_append : (n more width : ℕ) → 1 ≤ width → n % width ≡ 0 → (n + more) / width ≡ n / width + more / width
+pub count_append : (n more width : ℕ) → 1 ≤ width → n % width ≡ 0
+    → (n + more) / width ≡ n / width + more / width
 count_append n more width some whole =
-    ap (λ k. k / width) (let e : n + more ≡ n / width * width + more = omega (arith, count_bytes n width whole) in e) ∙ mul-add-div_right some (n / width) more
+    ap (λ k. k / width)
+    (let e : n + more ≡ n / width * width + more = omega
+    (arith, count_bytes n width whole) in e) ∙ mul-add-div_right some (n / width) more
 
-pub length-containers : (width count : ℕ) (bytes : List ℕ) → length (containers width count bytes) ≡ count
+pub length-containers : (width count : ℕ) (bytes : List ℕ)
+    → length (containers width count bytes) ≡ count
 length-containers width zero bytes = refl
-length-containers width (suc count) bytes = ap suc (length-containers width count (drop width bytes))
+length-containers width (suc count) bytes =
+    ap suc (length-containers width count (drop width bytes))
 
 -- fewer containers are the first ones
-pub containers_first : (width few count : ℕ) (bytes : List ℕ) → few ≤ count → containers width few bytes ≡ take few (containers width count bytes)
+pub containers_first : (width few count : ℕ) (bytes : List ℕ) → few ≤ count
+    → containers width few bytes ≡ take few (containers width count bytes)
 containers_first width zero count bytes le = refl
 containers_first width (suc few) zero bytes le = absurd (omega (arith, le))
-containers_first width (suc few) (suc count) bytes le = ap (λ (l : List (List ℕ)). take width bytes ∷ l) (containers_first width few count (drop width bytes) (omega (arith, le)))
+containers_first width (suc few) (suc count) bytes le =
+    ap (λ (l : List (List ℕ)). take width bytes ∷ l)
+    (containers_first width few count (drop width bytes) (omega (arith, le)))
 
 -- data that end where the containers do have the same ones
-pub containers_cut : (n width : ℕ) (bytes : List ℕ) → n % width ≡ 0 → containers width (n / width) (take n bytes) ≡ containers width (n / width) bytes
+pub containers_cut : (n width : ℕ) (bytes : List ℕ) → n % width ≡ 0
+    → containers width (n / width) (take n bytes) ≡ containers width (n / width) bytes
 containers_cut n width bytes whole =
-    containers_front width (n / width) (take n bytes) bytes (take-take (n / width * width) n bytes (omega (arith, count_bytes n width whole)))
+    containers_front width (n / width) (take n bytes) bytes
+    (take-take (n / width * width) n bytes (omega (arith, count_bytes n width whole)))
 
 -- bytes of one container are that container
-pub container_alone : (width : ℕ) (bytes : List ℕ) → 1 ≤ width → length bytes ≡ width → containers width (length bytes / width) bytes ≡ bytes ∷ []
+pub container_alone : (width : ℕ) (bytes : List ℕ) → 1 ≤ width → length bytes ≡ width
+    → containers width (length bytes / width) bytes ≡ bytes ∷ []
 container_alone width bytes some is =
-    let one : length bytes / width ≡ 1 = ap (λ n. n / width) (let e : length bytes ≡ 0 + width = omega (arith, is) in e) ∙ count_more 0 width some ∙ ap suc (none width) in
-    (λ i. containers width (one i) bytes) ∙ ap (λ (c : List ℕ). c ∷ []) (take_all width bytes (omega (arith, is)))
+    let one : length bytes / width ≡ 1 =
+    ap (λ n. n / width) (let e : length bytes ≡ 0 + width = omega (arith, is) in e)
+    ∙ count_more 0 width some ∙ ap suc (none width) in
+    (λ i. containers width (one i) bytes)
+    ∙ ap (λ (c : List ℕ). c ∷ []) (take_all width bytes (omega (arith, is)))
   where
     none : (n : ℕ) → 0 / n ≡ 0
     none zero = refl
@@ -96,16 +126,22 @@ container_alone width bytes some is =
 
 -- whole containers of two lists of bytes, one after the other
 pub containers_join : (width : ℕ) (a b : List ℕ) → 1 ≤ width → length a % width ≡ 0
-    → containers width ((length a + length b) / width) (a ++ b) ≡ containers width (length a / width) a ++ containers width (length b / width) b
+    → containers width ((length a + length b) / width) (a ++ b) ≡ containers width
+    (length a / width) a ++ containers width (length b / width) b
 containers_join width a b some whole =
     let few = length a / width in
     let size : few * width ≡ length a = count_bytes (length a) width whole in
-    let front : take (few * width) (a ++ b) ≡ take (few * width) a = take-append-le (few * width) a b (omega (arith, size)) in
+    let front : take (few * width) (a ++ b) ≡ take (few * width) a =
+    take-append-le (few * width) a b (omega (arith, size)) in
     ap (λ n. containers width n (a ++ b)) (count_append (length a) (length b) width some whole)
     ∙ containers_append width few (length b / width) (a ++ b)
-    ∙ (λ i. containers_front width few (a ++ b) a front i ++ containers width (length b / width) (drop_at a b (few * width) (sym size) i))
+    ∙ (λ i. containers_front width few (a ++ b) a front i ++ containers width (length b / width)
+    (drop_at a b (few * width) (sym size) i))
 
 -- the joined containers of whole samples are their bytes
-pub joined_bytes : (width : ℕ) (bytes : List ℕ) → length bytes % width ≡ 0 → concat (containers width (length bytes / width) bytes) ≡ bytes
+pub joined_bytes : (width : ℕ) (bytes : List ℕ) → length bytes % width ≡ 0
+    → concat (containers width (length bytes / width) bytes) ≡ bytes
 joined_bytes width bytes whole =
-    concat-containers width (length bytes / width) bytes ∙ take_all (length bytes / width * width) bytes (omega (arith, count_bytes (length bytes) width whole))
+    concat-containers width (length bytes / width) bytes
+    ∙ take_all (length bytes / width * width) bytes
+    (omega (arith, count_bytes (length bytes) width whole))

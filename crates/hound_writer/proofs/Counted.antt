@@ -14,45 +14,69 @@ use Rattle.hound_writer.proofs.Containers.{concat-containers, count_bytes, conta
 
 -- no more whole samples than there are in more bytes
 pub samples_le : (m n width : ℕ) → 0 < width → m ≤ n → m / width ≤ n / width
-samples_le m n width some le = le-div (m / width) n width some (omega (arith, le, div-mul-le_self m width))
+samples_le m n width some le =
+    le-div (m / width) n width some (omega (arith, le, div-mul-le_self m width))
 
-reads_first : (s : WavSpecEx) (start n count : ℕ) (contents : List ℕ) → n / s.bytes_per_sample ≤ count → Head contents s n start → (fault : Option Cause) → data_fault s n ≡ fault
-    → ReadsFirst fault s start n (containers s.bytes_per_sample count (drop start contents)) contents
-reads_first s start n count contents le head None is =
-    (record { len = n; head = head; frames = is; count = refl }, containers_first s.bytes_per_sample (n / s.bytes_per_sample) count (drop start contents) le)
+reads_first : (s : WavSpecEx) (start n count : ℕ) (contents : List ℕ)
+    → n / s.bytes_per_sample ≤ count → Head contents s n start → (fault : Option Cause)
+    → data_fault s n ≡ fault
+    → ReadsFirst fault s start n
+    (containers s.bytes_per_sample count (drop start contents)) contents
+reads_first s start n count contents le head None is = (
+  record { len = n; head = head; frames = is; count = refl },
+  containers_first s.bytes_per_sample (n / s.bytes_per_sample) count (drop start contents) le,
+)
 reads_first s start n count contents le head (Some cause) is = inr (s, n, start, head, is)
 
 -- where the head stands and the field says at most n, the first n bytes of the data are counted
-pub counts_standing : (s : WavSpecEx) (start n : ℕ) (contents : List ℕ) → 1 ≤ s.bytes_per_sample → n % s.bytes_per_sample ≡ 0 → Head contents s (field (start - 4) contents) start → field (start - 4) contents ≤ n
-    → Counts s start (containers s.bytes_per_sample (n / s.bytes_per_sample) (drop start contents)) contents
+pub counts_standing : (s : WavSpecEx) (start n : ℕ) (contents : List ℕ) → 1 ≤ s.bytes_per_sample
+    → n % s.bytes_per_sample ≡ 0 → Head contents s (field (start - 4) contents) start
+    → field (start - 4) contents ≤ n
+    → Counts s start
+    (containers s.bytes_per_sample (n / s.bytes_per_sample) (drop start contents)) contents
 counts_standing s start n contents some whole head counted =
     let width = s.bytes_per_sample in
     let bytes = drop start contents in
     let count = n / width in
-    let all : take count (containers width count bytes) ≡ containers width count bytes = take_all count (containers width count bytes) (omega (arith, length-containers width count bytes)) in
+    let all : take count (containers width count bytes) ≡ containers width count bytes =
+    take_all count (containers width count bytes)
+    (omega (arith, length-containers width count bytes)) in
     record {
       samples = count;
       among = omega (arith, length-containers width count bytes);
       covers = omega (arith, counted, count_bytes n width whole);
       stand = sym (concat-containers width count bytes) ∙ ap concat (sym all);
-      reads = reads_first s start (field (start - 4) contents) count contents (samples_le (field (start - 4) contents) n width some counted) head (data_fault s (field (start - 4) contents)) refl;
+      reads = reads_first s start (field (start - 4) contents) count contents
+          (samples_le (field (start - 4) contents) n width some counted) head
+          (data_fault s (field (start - 4) contents)) refl;
     }
 
 -- what is counted stays so when more is accepted
-reads_more : (s : WavSpecEx) (start n : ℕ) (accepted more : List (List ℕ)) (contents : List ℕ) → n / s.bytes_per_sample ≤ length accepted → (fault : Option Cause)
-    → ReadsFirst fault s start n accepted contents → ReadsFirst fault s start n (accepted ++ more) contents
-reads_more s start n accepted more contents among None reads = (reads.0, reads.1 ∙ sym (take-append-le (n / s.bytes_per_sample) accepted more among))
+reads_more : (s : WavSpecEx) (start n : ℕ) (accepted more : List (List ℕ)) (contents : List ℕ)
+    → n / s.bytes_per_sample ≤ length accepted → (fault : Option Cause)
+    → ReadsFirst fault s start n accepted contents
+    → ReadsFirst fault s start n (accepted ++ more) contents
+reads_more s start n accepted more contents among None reads =
+    (reads.0, reads.1 ∙ sym (take-append-le (n / s.bytes_per_sample) accepted more among))
 reads_more s start n accepted more contents among (Some cause) reads = reads
 
-pub counts_more : (s : WavSpecEx) (start : ℕ) (accepted more : List (List ℕ)) (contents : List ℕ) → 1 ≤ s.bytes_per_sample → Counts s start accepted contents → Counts s start (accepted ++ more) contents
+pub counts_more : (s : WavSpecEx) (start : ℕ) (accepted more : List (List ℕ)) (contents : List ℕ)
+    → 1 ≤ s.bytes_per_sample → Counts s start accepted contents
+    → Counts s start (accepted ++ more) contents
 counts_more s start accepted more contents some counts =
     let n = field (start - 4) contents in
     let width = s.bytes_per_sample in
-    let few : n / width ≤ length accepted = omega (arith, counts.among, div_below n width (suc counts.samples) some (omega (arith, counts.covers, some))) in
+    let few : n / width ≤ length accepted =
+    omega (
+      arith,
+      counts.among,
+      div_below n width (suc counts.samples) some (omega (arith, counts.covers, some)),
+    ) in
     record {
       samples = counts.samples;
       among = omega (arith, counts.among, length-append accepted more);
       covers = counts.covers;
-      stand = counts.stand ∙ ap concat (sym (take-append-le counts.samples accepted more counts.among));
+      stand = counts.stand
+          ∙ ap concat (sym (take-append-le counts.samples accepted more counts.among));
       reads = reads_more s start n accepted more contents few (data_fault s n) counts.reads;
     }

@@ -9,18 +9,24 @@ use Rattle.hound_reader.specs.Chunks.{Head, joined}
 use Rattle.hound_writer.specs.Sizes.{field}
 
 -- contents as their four bytes at 4 and at p, and what stands before, between and behind these
-pub in_parts : (p : ℕ) (c : List ℕ) → 8 ≤ p → c ≡ take 4 c ++ (take 4 (drop 4 c) ++ (drop 8 (take p c) ++ (take 4 (drop p c) ++ drop (p + 4) c)))
+pub in_parts : (p : ℕ) (c : List ℕ) → 8 ≤ p
+    → c ≡ take 4 c ++
+    (take 4 (drop 4 c) ++ (drop 8 (take p c) ++ (take 4 (drop p c) ++ drop (p + 4) c)))
 in_parts p c behind =
     let at_8 : drop 4 (drop 4 c) ≡ drop 8 c = drop-drop 4 4 c in
-    let at_p : drop (p - 8) (drop 8 c) ≡ drop p c = drop-drop (p - 8) 8 c ∙ ap (λ n. drop n c) (let e : 8 + (p - 8) ≡ p = omega arith in e) in
+    let at_p : drop (p - 8) (drop 8 c) ≡ drop p c =
+    drop-drop (p - 8) 8 c ∙ ap (λ n. drop n c) (let e : 8 + (p - 8) ≡ p = omega arith in e) in
     let at_data : drop 4 (drop p c) ≡ drop (p + 4) c = drop-drop 4 p c in
     sym (take-append-drop 4 c)
-    ∙ ap (λ l. take 4 c ++ l) (sym (take-append-drop 4 (drop 4 c)) ∙ ap (λ l. take 4 (drop 4 c) ++ l)
-    (at_8 ∙ sym (take-append-drop (p - 8) (drop 8 c)) ∙ (λ i. between_is c 8 p i ++ at_p i) ∙ ap (λ l. drop 8 (take p c) ++ l)
+    ∙ ap (λ l. take 4 c ++ l) (sym (take-append-drop 4 (drop 4 c))
+    ∙ ap (λ l. take 4 (drop 4 c) ++ l)
+    (at_8 ∙ sym (take-append-drop (p - 8) (drop 8 c)) ∙ (λ i. between_is c 8 p i ++ at_p i)
+    ∙ ap (λ l. drop 8 (take p c) ++ l)
     (sym (take-append-drop 4 (drop p c)) ∙ ap (λ l. take 4 (drop p c) ++ l) at_data)))
 
 module _ (old : List ℕ) (s : WavSpecEx) (len h : ℕ) (head : Head old s len h) where
-  split : old ≡ (riff_tag ++ (head.walk.size ++ (wave_tag ++ (joined head.chunks ++ data_tag)))) ++ (head.size ++ head.rest)
+  split : old ≡ (riff_tag ++ (head.walk.size ++ (wave_tag ++ (joined head.chunks ++ data_tag)))) ++
+      (head.size ++ head.rest)
   split =
       let z = head.size ++ head.rest in
       let j = joined head.chunks in
@@ -30,21 +36,39 @@ module _ (old : List ℕ) (s : WavSpecEx) (len h : ℕ) (head : Head old s len h
       ∙ ap (λ l. riff_tag ++ l) (sym (append_assoc head.walk.size (wave_tag ++ (j ++ data_tag)) z))
       ∙ sym (append_assoc riff_tag (head.walk.size ++ (wave_tag ++ (j ++ data_tag))) z)
 
-  long : length (riff_tag ++ (head.walk.size ++ (wave_tag ++ (joined head.chunks ++ data_tag)))) + 4 ≡ h
-  long = omega (arith, head.place, head.walk.four, length-append head.walk.size (wave_tag ++ (joined head.chunks ++ data_tag)), length-append (joined head.chunks) data_tag)
+  long : length (riff_tag ++ (head.walk.size ++ (wave_tag ++ (joined head.chunks ++ data_tag)))) + 4
+      ≡ h
+  long = omega (
+    arith,
+    head.place,
+    head.walk.four,
+    length-append head.walk.size (wave_tag ++ (joined head.chunks ++ data_tag)),
+    length-append (joined head.chunks) data_tag,
+  )
 
   -- the data begin behind the first twelve bytes and a chunk's header
   pub head_behind : 20 ≤ h
   head_behind = omega (arith, head.place)
 
   pub head_inside : h ≤ length old
-  head_inside = omega (arith, long, ap length split, head.four, length-append (riff_tag ++ (head.walk.size ++ (wave_tag ++ (joined head.chunks ++ data_tag)))) (head.size ++ head.rest), length-append head.size head.rest)
+  head_inside =
+      omega (
+        arith,
+        long,
+        ap length split,
+        head.four,
+        length-append (riff_tag ++ (head.walk.size ++ (wave_tag ++ (joined head.chunks ++ data_tag))))
+            (head.size ++ head.rest),
+        length-append head.size head.rest,
+      )
 
   -- the data length is what the field says
   pub head_field : field (h - 4) old ≡ len
   head_field =
       ap (λ l. number (take 4 (drop (h - 4) l))) split
-      ∙ ap (λ l. number (take 4 l)) (drop_at (riff_tag ++ (head.walk.size ++ (wave_tag ++ (joined head.chunks ++ data_tag)))) (head.size ++ head.rest) (h - 4) (omega (arith, long)))
+      ∙ ap (λ l. number (take 4 l))
+      (drop_at (riff_tag ++ (head.walk.size ++ (wave_tag ++ (joined head.chunks ++ data_tag))))
+      (head.size ++ head.rest) (h - 4) (omega (arith, long)))
       ∙ ap number (take_at head.size head.rest 4 head.four)
       ∙ head.data_len
 
@@ -56,11 +80,15 @@ module _ (old : List ℕ) (s : WavSpecEx) (len h : ℕ) (head : Head old s len h
       let f = head.walk.size ++ (wave_tag ++ (joined head.chunks ++ data_tag)) in
       ap (λ l. drop 8 (take (h - 4) l)) split
       ∙ ap (drop 8) (take_at (riff_tag ++ f) (head.size ++ head.rest) (h - 4) (omega (arith, long)))
-      ∙ ap (drop 8) (sym (append_assoc riff_tag head.walk.size (wave_tag ++ (joined head.chunks ++ data_tag))))
-      ∙ drop_at (riff_tag ++ head.walk.size) (wave_tag ++ (joined head.chunks ++ data_tag)) 8 (omega (arith, head.walk.four, length-append riff_tag head.walk.size))
+      ∙ ap (drop 8)
+      (sym (append_assoc riff_tag head.walk.size
+      (wave_tag ++ (joined head.chunks ++ data_tag))))
+      ∙ drop_at (riff_tag ++ head.walk.size) (wave_tag ++ (joined head.chunks ++ data_tag)) 8
+      (omega (arith, head.walk.four, length-append riff_tag head.walk.size))
 
   -- contents with the same bytes but for the two sizes have the same head, with the length that their field says
-  pub head_with : (new : List ℕ) → h ≤ length new → take 4 new ≡ take 4 old → drop 8 (take (h - 4) new) ≡ drop 8 (take (h - 4) old) → Head new s (field (h - 4) new) h
+  pub head_with : (new : List ℕ) → h ≤ length new → take 4 new ≡ take 4 old
+      → drop 8 (take (h - 4) new) ≡ drop 8 (take (h - 4) old) → Head new s (field (h - 4) new) h
   head_with new inside same_front same_middle =
       let p = h - 4 in
       let z = take 4 (drop p new) ++ drop (p + 4) new in
@@ -68,14 +96,17 @@ module _ (old : List ℕ) (s : WavSpecEx) (len h : ℕ) (head : Head old s len h
       let whole : new ≡ riff_tag ++ (take 4 (drop 4 new) ++ (wave_tag ++ (j ++ (data_tag ++ z)))) =
       in_parts p new (omega (arith, head.place))
       ∙ (λ i. (same_front ∙ begins) i ++ (take 4 (drop 4 new) ++ ((same_middle ∙ between) i ++ z)))
-      ∙ ap (λ l. riff_tag ++ (take 4 (drop 4 new) ++ l)) (append_assoc wave_tag (j ++ data_tag) z ∙ ap (λ l. wave_tag ++ l) (append_assoc j data_tag z)) in
+      ∙ ap (λ l. riff_tag ++ (take 4 (drop 4 new) ++ l))
+      (append_assoc wave_tag (j ++ data_tag) z
+      ∙ ap (λ l. wave_tag ++ l) (append_assoc j data_tag z)) in
       record {
         chunks = head.chunks;
         size = take 4 (drop p new);
         rest = drop (p + 4) new;
         walk = record {
           size = take 4 (drop 4 new);
-          four = length-take-le 4 (drop 4 new) (omega (arith, inside, head.place, length-drop 4 new));
+          four = length-take-le 4 (drop 4 new)
+              (omega (arith, inside, head.place, length-drop 4 new));
           whole = whole;
           each = head.walk.each;
         };
@@ -87,7 +118,8 @@ module _ (old : List ℕ) (s : WavSpecEx) (len h : ℕ) (head : Head old s len h
       }
 
   -- so have contents with the same front
-  pub head_front : (new : List ℕ) → take h new ≡ take h old → h ≤ length new → Head new s (field (h - 4) new) h
+  pub head_front : (new : List ℕ) → take h new ≡ take h old → h ≤ length new
+      → Head new s (field (h - 4) new) h
   head_front new same inside =
       head_with new inside
       (first 4 (omega (arith, head.place)))

@@ -7,17 +7,29 @@ use Rattle.hound_writer.specs.Parts.{IsStanding}
 use Rattle.hound_writer.specs.Writer.{WriterState}
 
 -- it is kept of a writer that is the same
-pub consistent_seen : {W : Type 0} (tells : Bool) (state : W → MediumState) (moved moved_now : Bool) (limit : ℕ) (a b : WriterState W) → a ≡ b → moved ≡ moved_now → IsConsistent tells state a moved limit → IsConsistent tells state b moved_now limit
+pub consistent_seen : {W : Type 0} (tells : Bool) (state : W → MediumState) (moved moved_now : Bool)
+    (limit : ℕ) (a b : WriterState W) → a ≡ b → moved ≡ moved_now
+    → IsConsistent tells state a moved limit → IsConsistent tells state b moved_now limit
 consistent_seen tells state moved moved_now limit a b same is known =
-    subst (λ m. IsConsistent tells state b m limit) is (subst (λ v. IsConsistent tells state v moved limit) same known)
+    subst (λ m. IsConsistent tells state b m limit) is
+    (subst (λ v. IsConsistent tells state v moved limit) same known)
 
 -- over a medium that may have moved, where the head still stands
-pub consistent_moved : {W : Type 0} (tells : Bool) (state : W → MediumState) (w : WriterState W) (m : W) (moved : Bool) (limit : ℕ) → IsConsistent tells state w moved limit
-    → WhereTells tells (IsStanding w.spec_ex w.data_start w.out (state m).contents) → IsConsistent tells state (record w { medium = m }) true limit
+pub consistent_moved : {W : Type 0} (tells : Bool) (state : W → MediumState) (w : WriterState W)
+    (m : W) (moved : Bool) (limit : ℕ) → IsConsistent tells state w moved limit
+    → WhereTells tells (IsStanding w.spec_ex w.data_start w.out (state m).contents)
+    → IsConsistent tells state (record w { medium = m }) true limit
 consistent_moved tells state w m moved limit known stands =
     let s = known.sound in
     record {
-      sound = record { pair = s.pair; channels = s.channels; width = s.width; whole = s.whole; after_head = s.after_head; fits = s.fits };
+      sound = record {
+        pair = s.pair;
+        channels = s.channels;
+        width = s.width;
+        whole = s.whole;
+        after_head = s.after_head;
+        fits = s.fits;
+      };
       whole_out = known.whole_out;
       whole_waiting = known.whole_waiting;
       block = known.block;

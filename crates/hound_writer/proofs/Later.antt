@@ -16,22 +16,28 @@ use Rattle.hound_writer.specs.Counts.{Counts}
 use Rattle.hound_writer.proofs.Accepting.{not_refused, room_fits}
 use Rattle.hound_writer.proofs.Answers.{unless_then}
 use Rattle.hound_writer.specs.Writer.{WriterState, HasRoom, IsWhole, accepted_samples, data_length, data_end}
+use Rattle.hound_spec.specs.FmtChunk.{greatest_u32}
 
 -- bytes behind others that stay, stay
 pub drop_later : (n m : ℕ) (a b : List ℕ) → n ≤ m → drop n a ≡ drop n b → drop m a ≡ drop m b
 drop_later n m a b le same =
     let at : n + (m - n) ≡ m = omega (arith, le) in
-    (λ i. drop (sym at i) a) ∙ sym (drop-drop (m - n) n a) ∙ ap (drop (m - n)) same ∙ drop-drop (m - n) n b ∙ (λ i. drop (at i) b)
+    (λ i. drop (sym at i) a) ∙ sym (drop-drop (m - n) n a) ∙ ap (drop (m - n)) same
+    ∙ drop-drop (m - n) n b ∙ (λ i. drop (at i) b)
 
 -- the answer to what is asked, of a writer with as many accepted bytes
-answers_same : {W : Type 0} (memory : Bool) (asked : Result (List (List ℕ)) Refusal) (answer : Result (Unit {0}) Error) (a b : WriterState W) → a.data_start ≡ b.data_start → data_length a ≡ data_length b
+answers_same : {W : Type 0} (memory : Bool) (asked : Result (List (List ℕ)) Refusal)
+    (answer : Result (Unit {0}) Error) (a b : WriterState W) → a.data_start ≡ b.data_start
+    → data_length a ≡ data_length b
     → AcceptAnswer memory asked a answer → AcceptAnswer memory asked b answer
 answers_same memory (Ok list) answer a b start size here =
-    subst (λ n. FitAnswer (nat_le n 4294967295) memory answer) (λ i. riff_size (start i) (size i + length (concat list))) here
+    subst (λ n. FitAnswer (nat_le n greatest_u32) memory answer)
+    (λ i. riff_size (start i) (size i + length (concat list))) here
 answers_same memory (Err refusal) answer a b start size here = here
 
 -- all of it
-module _ {W : Type 0} (tells keeps : Bool) (state : W → MediumState) (far : ℕ) (a : WriterState W) (m : W) (out : GoesOut tells keeps state far true a (after_out true m a)) where
+module _ {W : Type 0} (tells keeps : Bool) (state : W → MediumState) (far : ℕ) (a : WriterState W)
+    (m : W) (out : GoesOut tells keeps state far true a (after_out true m a)) where
   abbrev b : WriterState W
   b = after_out true m a
 
@@ -48,41 +54,61 @@ module _ {W : Type 0} (tells keeps : Bool) (state : W → MediumState) (far : �
   reach_out = a.data_start + a.out
 
   -- what counts at a later moment
-  pub counts_later : (told : IsTrue tells) → IsWhole state a → (c : List ℕ) → Counts a.spec_ex a.data_start (accepted_samples state b) c → Counts a.spec_ex a.data_start (accepted_samples state a) c
-  counts_later told whole c = subst (λ l. Counts a.spec_ex a.data_start l c) ((out.file told).accepted whole)
+  pub counts_later : (told : IsTrue tells) → IsWhole state a → (c : List ℕ)
+      → Counts a.spec_ex a.data_start (accepted_samples state b) c
+      → Counts a.spec_ex a.data_start (accepted_samples state a) c
+  counts_later told whole c =
+      subst (λ l. Counts a.spec_ex a.data_start l c) ((out.file told).accepted whole)
 
   -- what stood up to the end of the bytes that were out at first
-  front_later : (told : IsTrue tells) → IsWhole state a → (c : List ℕ) → take (a.data_start + data_length a) c ≡ take (a.data_start + data_length a) then → take reach_out c ≡ take reach_out first
+  front_later : (told : IsTrue tells) → IsWhole state a → (c : List ℕ)
+      → take (a.data_start + data_length a) c ≡ take (a.data_start + data_length a) then
+      → take reach_out c ≡ take reach_out first
   front_later told whole c same =
       let all = a.data_start + data_length a in
-      sym (take-take reach_out all c (omega arith)) ∙ ap (take reach_out) same ∙ take-take reach_out all then (omega arith) ∙ (out.file told).around.out whole
+      sym (take-take reach_out all c (omega arith)) ∙ ap (take reach_out) same
+      ∙ take-take reach_out all then (omega arith) ∙ (out.file told).around.out whole
 
-  at_each_later : (told : IsTrue tells) → IsTrue keeps → (new : MediumState) → AddsAtEach state b new → AddsAtEach state a new
+  at_each_later : (told : IsTrue tells) → IsTrue keeps → (new : MediumState)
+      → AddsAtEach state b new → AddsAtEach state a new
   at_each_later told kept new at_each =
       let before = (out.moments told kept).adds in
       let f = out.file told in
-      let of_a : ℕ → List ℕ → Type 0 = λ _ c. Counts a.spec_ex a.data_start (accepted_samples state a) c in
-      let of_b : ℕ → List ℕ → Type 0 = λ _ c. Counts a.spec_ex a.data_start (accepted_samples state b) c in
+      let of_a : ℕ → List ℕ → Type 0 =
+      λ _ c. Counts a.spec_ex a.data_start (accepted_samples state a) c in
+      let of_b : ℕ → List ℕ → Type 0 =
+      λ _ c. Counts a.spec_ex a.data_start (accepted_samples state b) c in
       record {
         counts = λ whole. join of_a 0 (state a.medium) (state m) new (before.counts whole)
-            (span_weaker of_b of_a 0 (state m) new (λ j c counts. counts_later told whole c counts) (at_each.counts (f.whole whole)));
-        front = λ whole. join (λ _ c. take reach_out c ≡ take reach_out first) 0 (state a.medium) (state m) new (before.front whole)
-            (span_weaker (λ _ c. take (a.data_start + data_length a) c ≡ take (a.data_start + data_length a) then) (λ _ c. take reach_out c ≡ take reach_out first) 0 (state m) new
+            (span_weaker of_b of_a 0 (state m) new (λ j c counts. counts_later told whole c counts)
+            (at_each.counts (f.whole whole)));
+        front = λ whole. join (λ _ c. take reach_out c ≡ take reach_out first) 0 (state a.medium)
+            (state m) new (before.front whole)
+            (span_weaker
+            (λ _ c. take (a.data_start + data_length a) c ≡ take
+            (a.data_start + data_length a) then)
+            (λ _ c. take reach_out c ≡ take reach_out first) 0 (state m) new
             (λ j c same. front_later told whole c same) (at_each.front (f.whole whole)));
       }
 
-  accepts_after : far ≤ data_end a → (memory : Bool) (asked : Result (List (List ℕ)) Refusal) (answer : Result (Unit {0}) Error) (c : WriterState W) → IfErr answer IsIoError
-      → Accepts tells keeps state memory asked answer b c → Accepts tells keeps state memory asked answer a c
+  accepts_after : far ≤ data_end a
+      → (memory : Bool) (asked : Result (List (List ℕ)) Refusal) (answer : Result (Unit {0}) Error)
+      (c : WriterState W) → IfErr answer IsIoError
+      → Accepts tells keeps state memory asked answer b c
+      → Accepts tells keeps state memory asked answer a c
   accepts_after near memory asked answer c failed accepts =
       let adds = accepts.adds in
-      let end : data_end a ≤ data_end c = omega (arith, adds.data_start, adds.data_length, length_same) in
+      let end : data_end a ≤ data_end c =
+      omega (arith, adds.data_start, adds.data_length, length_same) in
       record {
         adds = record {
           answers = answers_same memory asked answer b a refl length_same adds.answers;
           refused = not_refused (c ≡ a) answer failed;
           spec_ex = adds.spec_ex;
           data_start = adds.data_start;
-          data_length = adds.data_length ∙ ap (λ n. n + length (concat (if_marked (mark_of answer) asked))) length_same;
+          data_length =
+              adds.data_length
+              ∙ ap (λ n. n + length (concat (if_marked (mark_of answer) asked))) length_same;
           kept = adds.kept;
         };
         file = λ told.
@@ -91,33 +117,58 @@ module _ {W : Type 0} (tells keeps : Bool) (state : W → MediumState) (far : �
             record {
               faults = g.faults ∙ ap (faults_told answer) f.faults;
               front = g.front ∙ f.around.front;
-              rest = unless_then answer (λ same. same ∙ drop_later far (data_end c) then first (omega (arith, near, end)) f.around.rest) g.rest;
-              reach = unless_then answer (λ le. omega (arith, le, f.around.reach, near, end)) g.reach;
+              rest = unless_then answer
+                  (λ same. same
+                  ∙ drop_later far (data_end c) then first
+                  (omega (arith, near, end)) f.around.rest) g.rest;
+              reach = unless_then answer
+                  (λ le. omega (arith, le, f.around.reach, near, end)) g.reach;
               whole = λ whole. g.whole (f.whole whole);
-              accepted = λ whole. g.accepted (f.whole whole) ∙ ap (λ l. l ++ if_marked (mark_of answer) asked) (f.accepted whole);
+              accepted =
+                  λ whole. g.accepted (f.whole whole)
+                  ∙ ap (λ l. l ++ if_marked (mark_of answer) asked) (f.accepted whole);
               counts = λ whole. g.counts (f.whole whole);
             };
         moments = λ told kept. at_each_later told kept (state c.medium) (accepts.moments told kept);
       }
 
 -- containers that are accepted once what waited is out
-pub accepts_later : {W : Type 0} (tells keeps : Bool) (state : W → MediumState) (a b c : WriterState W) (bytes : List ℕ) (answer : Result (Unit {0}) Error) → GoesOut tells keeps state (data_end a) true a b → IfErr answer IsIoError
-    → Accepts tells keeps state false (Ok (containers b.spec_ex.bytes_per_sample (length bytes / b.spec_ex.bytes_per_sample) bytes)) answer b c
-    → Accepts tells keeps state false (Ok (containers a.spec_ex.bytes_per_sample (length bytes / a.spec_ex.bytes_per_sample) bytes)) answer a c
+pub accepts_later : {W : Type 0} (tells keeps : Bool) (state : W → MediumState)
+    (a b c : WriterState W) (bytes : List ℕ) (answer : Result (Unit {0}) Error)
+    → GoesOut tells keeps state (data_end a) true a b → IfErr answer IsIoError
+    → Accepts tells keeps state false
+    (Ok (containers b.spec_ex.bytes_per_sample
+    (length bytes / b.spec_ex.bytes_per_sample) bytes)) answer b c
+    → Accepts tells keeps state false
+    (Ok (containers a.spec_ex.bytes_per_sample
+    (length bytes / a.spec_ex.bytes_per_sample) bytes)) answer a c
 accepts_later tells keeps state a b c bytes answer out failed accepts =
-    accepts_after tells keeps state (data_end a) a b.medium (subst (GoesOut tells keeps state (data_end a) true a) out.value out) (omega arith) false (Ok (containers a.spec_ex.bytes_per_sample (length bytes / a.spec_ex.bytes_per_sample) bytes)) answer c failed
-    (subst (λ v. Accepts tells keeps state false (Ok (containers v.spec_ex.bytes_per_sample (length bytes / v.spec_ex.bytes_per_sample) bytes)) answer v c) out.value accepts)
+    accepts_after tells keeps state (data_end a) a b.medium
+    (subst (GoesOut tells keeps state (data_end a) true a) out.value out) (omega arith) false
+    (Ok (containers a.spec_ex.bytes_per_sample
+    (length bytes / a.spec_ex.bytes_per_sample) bytes)) answer c failed
+    (subst (λ v. Accepts tells keeps state false
+    (Ok (containers v.spec_ex.bytes_per_sample
+    (length bytes / v.spec_ex.bytes_per_sample) bytes)) answer v c) out.value accepts)
 
 -- containers that aren't, since it didn't go out
-pub accepts_cut : {W : Type 0} (tells keeps : Bool) (state : W → MediumState) (far : ℕ) (a b : WriterState W) (bytes : List ℕ) (e : IoFault) → GoesOut tells keeps state far false a b → HasRoom a (length bytes) → length bytes % a.spec_ex.bytes_per_sample ≡ 0
-    → Accepts tells keeps state false (Ok (containers a.spec_ex.bytes_per_sample (length bytes / a.spec_ex.bytes_per_sample) bytes)) (Err (IoError e)) a b
+pub accepts_cut : {W : Type 0} (tells keeps : Bool) (state : W → MediumState) (far : ℕ)
+    (a b : WriterState W) (bytes : List ℕ) (e : IoFault) → GoesOut tells keeps state far false a b
+    → HasRoom a (length bytes) → length bytes % a.spec_ex.bytes_per_sample ≡ 0
+    → Accepts tells keeps state false
+    (Ok (containers a.spec_ex.bytes_per_sample
+    (length bytes / a.spec_ex.bytes_per_sample) bytes)) (Err (IoError e)) a b
 accepts_cut tells keeps state far a b bytes e out room whole = record {
   adds = record {
-    answers = subst (λ fits. FitAnswer {T = Unit {0}} fits false (Err (IoError e))) (sym (room_fits a bytes room whole)) tt;
+    answers =
+        subst (λ fits. FitAnswer {T = Unit {0}} fits false (Err (IoError e)))
+        (sym (room_fits a bytes room whole)) tt;
     refused = tt;
     spec_ex = ap (λ w. w.spec_ex) out.value;
     data_start = ap (λ w. w.data_start) out.value;
-    data_length = ap (λ w. data_length w) out.value ∙ (let same : data_length a ≡ data_length a + 0 = omega arith in same);
+    data_length =
+        ap (λ w. data_length w) out.value
+        ∙ (let same : data_length a ≡ data_length a + 0 = omega arith in same);
     kept = omega (arith, ap (λ w. length w.buffer) out.value);
   };
   file = λ told. let f = out.file told in record {
@@ -138,7 +189,9 @@ kept_fails true fault = tt
 kept_fails false fault = tt
 
 -- what bytes leave as it was that reach no further than a place, they leave so behind a later one
-pub goes_further : {W : Type 0} (tells keeps : Bool) (state : W → MediumState) (near far : ℕ) (all : Bool) (a b : WriterState W) → near ≤ far → GoesOut tells keeps state near all a b → GoesOut tells keeps state far all a b
+pub goes_further : {W : Type 0} (tells keeps : Bool) (state : W → MediumState) (near far : ℕ)
+    (all : Bool) (a b : WriterState W) → near ≤ far → GoesOut tells keeps state near all a b
+    → GoesOut tells keeps state far all a b
 goes_further tells keeps state near far all a b le out = record {
   value = out.value;
   sound = out.sound;
@@ -151,7 +204,8 @@ goes_further tells keeps state near far all a b le out = record {
           stands = around.stands;
           front = around.front;
           out = around.out;
-          rest = drop_later near far (state b.medium).contents (state a.medium).contents le around.rest;
+          rest = drop_later near far (state b.medium).contents
+              (state a.medium).contents le around.rest;
           grows = around.grows;
           reach = omega (arith, around.reach, le);
         };

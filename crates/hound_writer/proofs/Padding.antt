@@ -23,82 +23,122 @@ put_stands (suc p) b [] = put_stands p b []
 put_stands (suc p) b (x ∷ c) = put_stands p b c
 
 -- data of an even length have no pad byte
-pub padded_even : {W : Type 0} (w : WriterState W) (c : List ℕ) → data_length w % 2 ≡ 0 → IsPadded w c
-padded_even w c even = subst (λ (k : ℕ). StartsWith (drop (w.data_start + data_length w) c) (replicate k 0)) (sym even) refl
+pub padded_even : {W : Type 0} (w : WriterState W) (c : List ℕ) → data_length w % 2 ≡ 0
+    → IsPadded w c
+padded_even w c even =
+    subst (λ (k : ℕ). StartsWith (drop (w.data_start + data_length w) c) (replicate k 0))
+    (sym even) refl
 
 one_left : (n : ℕ) → (n % 2 ≡ 0 → ⊥) → n % 2 ≡ 1
-one_left n odd = elim (cases_lt 0 (n % 2)) [ inl some ↦ omega (arith, some) | inr none ↦ absurd (odd (omega (arith, none))) ]
+one_left n odd =
+    elim (cases_lt 0 (n % 2)) [
+      | inl some ↦ omega (arith, some)
+      | inr none ↦ absurd
+          (odd (omega (arith, none)))
+    ]
 
 -- a writer in which nothing waits, whose data have an odd length, and a byte that was put behind them
-module _ {W : Type 0} (tells keeps : Bool) (state : W → MediumState) (w : WriterState W) (moved : Bool) (limit : ℕ) (known : IsConsistent tells state w moved limit) (none : w.waiting ≡ [])
-    (replays : WhereKeeps tells keeps ((state w.medium).contents ≡ overlay (state w.medium).start (state w.medium).past)) (odd : w.out % 2 ≡ 0 → ⊥)
-    (m : W) (all : Bool) (puts : WhereTells tells (PutsAt keeps (w.data_start + w.out) (0 ∷ []) (all_out all) (state w.medium) (state m))) where
-  abbrev old : MediumState
-  old = state w.medium
+module _ {W : Type 0} (tells keeps : Bool) (state : W → MediumState) (w : WriterState W)
+    (moved : Bool) (limit : ℕ) (known : IsConsistent tells state w moved limit)
+    (none : w.waiting ≡ [])
+    (replays : WhereKeeps tells keeps
+    ((state w.medium).contents ≡ overlay (state w.medium).start (state w.medium).past))
+    (odd : w.out % 2 ≡ 0 → ⊥)
+    (m : W) (all : Bool)
+    (puts : WhereTells tells
+    (PutsAt keeps (w.data_start + w.out) (0 ∷ []) (all_out all) (state w.medium) (state m)))
+  where
+    abbrev old : MediumState
+    old = state w.medium
 
-  abbrev end : ℕ
-  end = w.data_start + w.out
+    abbrev end : ℕ
+    end = w.data_start + w.out
 
-  abbrev pad : List ℕ
-  pad = 0 ∷ []
+    abbrev pad : List ℕ
+    pad = 0 ∷ []
 
-  abbrev new : WriterState W
-  new = record w { medium = m }
+    abbrev new : WriterState W
+    new = record w { medium = m }
 
-  size : data_length w ≡ w.out
-  size = omega (arith, ap length none)
+    size : data_length w ≡ w.out
+    size = omega (arith, ap length none)
 
-  odd_size : data_length w % 2 ≡ 1
-  odd_size = ap (λ n. n % 2) size ∙ one_left w.out odd
+    odd_size : data_length w % 2 ≡ 1
+    odd_size = ap (λ n. n % 2) size ∙ one_left w.out odd
 
-  -- nothing that waited is no less than all of it
-  value : (all : Bool) → record w { medium = m } ≡ after_out all m w
-  value true = λ i. record w { medium = m; out = sym size i; waiting = none i }
-  value false = refl
+    -- nothing that waited is no less than all of it
+    value : (all : Bool) → record w { medium = m } ≡ after_out all m w
+    value true = λ i. record w { medium = m; out = sym size i; waiting = none i }
+    value false = refl
 
-  goes_out : GoesOut tells keeps state (padded_end w) all w (record w { medium = m })
-  goes_out = record {
-    value = value all;
-    sound = known.sound;
-    file = λ told.
-        let p = puts told in
-        let same = data_stays tells keeps state w none known.sound known.stands m pad (all_out all) told p in
-        let stands = still tells keeps state w none known.sound known.stands m pad (all_out all) told p in
-        let longer = grows tells keeps state w none known.sound known.stands m pad (all_out all) told p in
-        let at : end + 1 ≡ padded_end w = omega (arith, size, odd_size) in
-        let accepted : IsWhole state w → accepted_samples state new ≡ accepted_samples state w =
-        λ whole. ap (λ bytes. containers w.spec_ex.bytes_per_sample (data_length w / w.spec_ex.bytes_per_sample) (bytes ++ w.waiting)) (same whole) in
-        record {
-          faults = p.faults;
-          around = record {
-            stands = stands;
-            front = front tells keeps state w none known.sound known.stands m pad (all_out all) told p;
-            out = λ whole. front_stays tells keeps state w none known.sound known.stands m pad (all_out all) told p end (omega arith) whole;
-            rest = subst (λ n. drop n (state m).contents ≡ drop n old.contents) at (rest tells keeps state w none known.sound known.stands m pad (all_out all) told p);
-            grows = longer;
-            reach = omega (arith, at, reach tells keeps state w none known.sound known.stands m pad (all_out all) told p);
+    goes_out : GoesOut tells keeps state (padded_end w) all w (record w { medium = m })
+    goes_out = record {
+      value = value all;
+      sound = known.sound;
+      file = λ told.
+          let p = puts told in
+          let same =
+          data_stays tells keeps state w none known.sound known.stands m pad
+          (all_out all) told p in
+          let stands =
+          still tells keeps state w none known.sound known.stands m pad (all_out all) told p in
+          let longer =
+          grows tells keeps state w none known.sound known.stands m pad (all_out all) told p in
+          let at : end + 1 ≡ padded_end w = omega (arith, size, odd_size) in
+          let accepted : IsWhole state w → accepted_samples state new ≡ accepted_samples state w =
+          λ whole.
+          ap (λ bytes. containers w.spec_ex.bytes_per_sample
+          (data_length w / w.spec_ex.bytes_per_sample) (bytes ++ w.waiting)) (same whole) in
+          record {
+            faults = p.faults;
+            around = record {
+              stands = stands;
+              front = front tells keeps state w none known.sound known.stands m pad
+                  (all_out all) told p;
+              out = λ whole. front_stays tells keeps state w none known.sound known.stands m pad
+                  (all_out all) told p end (omega arith) whole;
+              rest = subst (λ n. drop n (state m).contents ≡ drop n old.contents) at
+                  (rest tells keeps state w none known.sound known.stands m pad (all_out all) told p);
+              grows = longer;
+              reach = omega (
+                arith,
+                at,
+                reach tells keeps state w none known.sound known.stands m pad (all_out all) told p,
+              );
+            };
+            whole = λ whole. omega (arith, whole, longer);
+            accepted = accepted;
+            counts =
+                λ whole. subst (λ l. Counts w.spec_ex w.data_start l (state m).contents)
+                (sym (accepted whole))
+                (counts_at state w known.sound known.whole_out (state m).contents whole stands
+                (same whole));
           };
-          whole = λ whole. omega (arith, whole, longer);
-          accepted = accepted;
-          counts = λ whole. subst (λ l. Counts w.spec_ex w.data_start l (state m).contents) (sym (accepted whole))
-              (counts_at state w known.sound known.whole_out (state m).contents whole stands (same whole));
-        };
-    moments = λ told kept. record {
-      adds = at_each tells keeps state w none known.sound known.stands m pad (all_out all) told (puts told) kept (replays told kept);
-      front = front_at_each tells keeps state w none known.sound known.stands m pad (all_out all) told (puts told) kept (replays told kept);
-      behind = puts_from w.data_start end (take (puts told).count pad) old (state m) (omega arith) ((puts told).past kept);
-    };
-  }
+      moments = λ told kept. record {
+        adds = at_each tells keeps state w none known.sound known.stands m pad (all_out all) told
+            (puts told) kept (replays told kept);
+        front = front_at_each tells keeps state w none known.sound known.stands m pad
+            (all_out all) told (puts told) kept (replays told kept);
+        behind =
+            puts_from w.data_start end (take (puts told).count pad) old (state m) (omega arith)
+            ((puts told).past kept);
+      };
+    }
 
-  -- the same of a writer as contracts see it
-  pub goes_padded : (seen : WriterState W) → w ≡ seen → GoesOut tells keeps state (padded_end seen) all seen (record w { medium = m })
-  goes_padded seen same = subst (λ v. GoesOut tells keeps state (padded_end v) all v new) same goes_out
+    -- the same of a writer as contracts see it
+    pub goes_padded : (seen : WriterState W) → w ≡ seen
+        → GoesOut tells keeps state (padded_end seen) all seen (record w { medium = m })
+    goes_padded seen same =
+        subst (λ v. GoesOut tells keeps state (padded_end v) all v new) same goes_out
 
-  -- once it is out it stands
-  pub padded_odd : WhereTells tells (IsTrue all → IsPadded w (state m).contents)
-  padded_odd told done =
-      let p = subst (λ b. PutsAt keeps end pad (all_out b) old (state m)) done (puts told) in
-      let one : take p.count pad ≡ pad = take_all p.count pad (omega (arith, p.whole)) in
-      let stands : take 1 (drop end (state m).contents) ≡ pad =
-      ap (λ l. take 1 (drop end l)) p.contents ∙ ap (λ bytes. take 1 (drop end (overlay old.contents (placed end bytes)))) one ∙ put_stands end 0 old.contents in
-      subst (λ (x : ℕ × ℕ). StartsWith (drop (w.data_start + x.0) (state m).contents) (replicate x.1 0)) (λ i. (sym size i, sym odd_size i)) stands
+    -- once it is out it stands
+    pub padded_odd : WhereTells tells (IsTrue all → IsPadded w (state m).contents)
+    padded_odd told done =
+        let p = subst (λ b. PutsAt keeps end pad (all_out b) old (state m)) done (puts told) in
+        let one : take p.count pad ≡ pad = take_all p.count pad (omega (arith, p.whole)) in
+        let stands : take 1 (drop end (state m).contents) ≡ pad =
+        ap (λ l. take 1 (drop end l)) p.contents
+        ∙ ap (λ bytes. take 1 (drop end (overlay old.contents (placed end bytes)))) one
+        ∙ put_stands end 0 old.contents in
+        subst (λ (x : ℕ × ℕ). StartsWith (drop (w.data_start + x.0) (state m).contents)
+        (replicate x.1 0)) (λ i. (sym size i, sym odd_size i)) stands

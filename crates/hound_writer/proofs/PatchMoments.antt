@@ -38,59 +38,84 @@ patched_first p new base has = record {
 }
 
 -- from one moment of a patch to a later one
-module _ (p new : ℕ) (base c : List ℕ) (has : HasSize p base) (small : AreBytes c) (so_far : IsPatched p base new 0 c) where
+module _ (p new : ℕ) (base c : List ℕ) (has : HasSize p base) (small : AreBytes c)
+    (so_far : IsPatched p base new 0 c) where
   inside_now : p + 4 ≤ length c
   inside_now = omega (arith, has.inside, so_far.same.long)
 
   as_before : field p c ≡ field p base
-  as_before = so_far.field ∙ mix_none (field p base) new (number_at_small p base has.inside has.small)
+  as_before =
+      so_far.field ∙ mix_none (field p base) new (number_at_small p base has.inside has.small)
 
-  patched_riff : (bytes : List ℕ) → length bytes ≤ 4 → IsPatched p base new 0 (overlay c (placed 4 bytes))
+  patched_riff : (bytes : List ℕ) → length bytes ≤ 4
+      → IsPatched p base new 0 (overlay c (placed 4 bytes))
   patched_riff bytes few = record {
-    same = same_transitive p base c (overlay c (placed 4 bytes)) so_far.same (same_riff p c has.behind inside_now bytes few);
+    same = same_transitive p base c (overlay c (placed 4 bytes)) so_far.same
+        (same_riff p c has.behind inside_now bytes few);
     field = field_riff p c has.behind inside_now bytes few ∙ so_far.field;
   }
 
-  patched_field : (j : ℕ) → j ≤ 4 → IsPatched p base new j (overlay c (placed p (take j (bytes_of 4 new))))
+  patched_field : (j : ℕ) → j ≤ 4
+      → IsPatched p base new j (overlay c (placed p (take j (bytes_of 4 new))))
   patched_field j within =
       let bytes = take j (bytes_of 4 new) in
       record {
-        same = same_transitive p base c (overlay c (placed p bytes)) so_far.same (same_length p c has.behind inside_now bytes (omega (arith, length-take j (bytes_of 4 new))));
+        same = same_transitive p base c (overlay c (placed p bytes)) so_far.same
+            (same_length p c has.behind inside_now bytes
+            (omega (arith, length-take j (bytes_of 4 new))));
         field = number_at_mix p c inside_now small new j within ∙ ap (λ n. mix j n new) as_before;
       }
 
 -- the parts of a patch, all of their bytes or a beginning
-module _ {T E : Type 0} (keeps : Bool) (p new : ℕ) (base : List ℕ) (result : Result T E) (a b : MediumState) (kept : IsTrue keeps) (replays : a.contents ≡ overlay a.start a.past) (small : AreBytes a.contents) (has : HasSize p base)
+module _ {T E : Type 0} (keeps : Bool) (p new : ℕ) (base : List ℕ) (result : Result T E)
+    (a b : MediumState) (kept : IsTrue keeps) (replays : a.contents ≡ overlay a.start a.past)
+    (small : AreBytes a.contents) (has : HasSize p base)
     (so_far : IsPatched p base new 0 a.contents) where
   -- the RIFF size is put, which comes before the field
-  pub riff_span : (size : ℕ) → PutsAt keeps 4 (bytes_of 4 size) result a b → Span (IsPatched p base new) (length b.past) a b
+  pub riff_span : (size : ℕ) → PutsAt keeps 4 (bytes_of 4 size) result a b
+      → Span (IsPatched p base new) (length b.past) a b
   riff_span size puts =
       let bytes = take puts.count (bytes_of 4 size) in
-      let long : length b.past ≡ length a.past + length bytes = ap length (puts.past kept) ∙ length-append a.past (placed 4 bytes) ∙ ap (λ k. length a.past + k) (length-placed 4 bytes) in
-      span_puts (IsPatched p base new) (length b.past) a b 4 bytes replays puts.start (puts.past kept)
+      let long : length b.past ≡ length a.past + length bytes =
+      ap length (puts.past kept) ∙ length-append a.past (placed 4 bytes)
+      ∙ ap (λ k. length a.past + k) (length-placed 4 bytes) in
+      span_puts (IsPatched p base new) (length b.past) a b 4 bytes replays puts.start
+      (puts.past kept)
       (λ k within. let none : 0 ≡ length a.past + k - length b.past = omega (arith, within, long) in
       subst (λ j. IsPatched p base new j (overlay a.contents (placed 4 (take k bytes)))) none
-      (patched_riff p new base a.contents has small so_far (take k bytes) (omega (arith, length-take k bytes, length-take puts.count (bytes_of 4 size)))))
+      (patched_riff p new base a.contents has small so_far (take k bytes)
+      (omega (arith, length-take k bytes, length-take puts.count (bytes_of 4 size)))))
 
   -- the field is put
-  pub field_span : PutsAt keeps p (bytes_of 4 new) result a b → Span (IsPatched p base new) (length a.past) a b
+  pub field_span : PutsAt keeps p (bytes_of 4 new) result a b
+      → Span (IsPatched p base new) (length a.past) a b
   field_span puts =
       let bytes = take puts.count (bytes_of 4 new) in
-      let long : length bytes ≡ puts.count = length-take-le puts.count (bytes_of 4 new) puts.within in
-      span_puts (IsPatched p base new) (length a.past) a b p bytes replays puts.start (puts.past kept)
+      let long : length bytes ≡ puts.count =
+      length-take-le puts.count (bytes_of 4 new) puts.within in
+      span_puts (IsPatched p base new) (length a.past) a b p bytes replays puts.start
+      (puts.past kept)
       (λ k within. let level : k ≡ length a.past + k - length a.past = omega arith in
-      let first : take k (bytes_of 4 new) ≡ take k bytes = sym (take-take k puts.count (bytes_of 4 new) (omega (arith, within, long))) in
+      let first : take k (bytes_of 4 new) ≡ take k bytes =
+      sym (take-take k puts.count (bytes_of 4 new) (omega (arith, within, long))) in
       subst (λ j. IsPatched p base new j (overlay a.contents (placed p (take k bytes)))) level
       (subst (λ l. IsPatched p base new k (overlay a.contents (placed p l))) first
-      (patched_field p new base a.contents has small so_far k (omega (arith, within, long, puts.within)))))
+      (patched_field p new base a.contents has small so_far k
+      (omega (arith, within, long, puts.within)))))
 
 -- the byte that begins what was added
-first_added : (old new : List (ℕ × ℕ)) (p : ℕ) (bytes : List ℕ) → new ≡ old ++ placed p bytes → length old < length new → place_of new (length old) ≡ p
-first_added old new p [] is longer = absurd (omega (arith, longer, ap length is, length-append old (placed p [])))
-first_added old new p (b ∷ bytes) is longer = ap (λ l. place_of l (length old)) is ∙ ap (λ (x : ℕ × ℕ). x.0) (get_or_at old (p, b) (placed (suc p) bytes) (0, 0) (length old) refl)
+first_added : (old new : List (ℕ × ℕ)) (p : ℕ) (bytes : List ℕ) → new ≡ old ++ placed p bytes
+    → length old < length new → place_of new (length old) ≡ p
+first_added old new p [] is longer =
+    absurd (omega (arith, longer, ap length is, length-append old (placed p [])))
+first_added old new p (b ∷ bytes) is longer =
+    ap (λ l. place_of l (length old)) is
+    ∙ ap (λ (x : ℕ × ℕ). x.0) (get_or_at old (p, b) (placed (suc p) bytes) (0, 0) (length old) refl)
 
 -- a patch that ended before its field
-pub patches_none : {V F : Type 0} (p new : ℕ) (answer : Result V F) (a b : MediumState) → Span (IsPatched p a.contents new) (length b.past) a b → OnOk answer (length b.past ≡ length b.past + 4) → PatchesAtEach p new answer a b
+pub patches_none : {V F : Type 0} (p new : ℕ) (answer : Result V F) (a b : MediumState)
+    → Span (IsPatched p a.contents new) (length b.past) a b
+    → OnOk answer (length b.past ≡ length b.past + 4) → PatchesAtEach p new answer a b
 patches_none p new answer a b span all = record {
   split = length b.past;
   span = span;
@@ -103,12 +128,18 @@ patches_none p new answer a b span all = record {
 }
 
 -- both parts, one after the other
-pub patches_both : {T E V F : Type 0} (keeps : Bool) (p new : ℕ) (result : Result T E) (answer : Result V F) (a b c : MediumState) → IsTrue keeps → Span (IsPatched p a.contents new) (length b.past) a b → Span (IsPatched p a.contents new) (length b.past) b c
-    → PutsAt keeps p (bytes_of 4 new) result b c → OnOk answer (IsOk result) → PatchesAtEach p new answer a c
+pub patches_both : {T E V F : Type 0} (keeps : Bool) (p new : ℕ) (result : Result T E)
+    (answer : Result V F) (a b c : MediumState) → IsTrue keeps
+    → Span (IsPatched p a.contents new) (length b.past) a b
+    → Span (IsPatched p a.contents new) (length b.past) b c
+    → PutsAt keeps p (bytes_of 4 new) result b c → OnOk answer (IsOk result)
+    → PatchesAtEach p new answer a c
 patches_both keeps p new result answer a b c kept first second puts all =
     let bytes = take puts.count (bytes_of 4 new) in
     let long : length c.past ≡ length b.past + puts.count =
-    ap length (puts.past kept) ∙ length-append b.past (placed p bytes) ∙ ap (λ k. length b.past + k) (length-placed p bytes ∙ length-take-le puts.count (bytes_of 4 new) puts.within) in
+    ap length (puts.past kept) ∙ length-append b.past (placed p bytes)
+    ∙ ap (λ k. length b.past + k)
+    (length-placed p bytes ∙ length-take-le puts.count (bytes_of 4 new) puts.within) in
     record {
       split = length b.past;
       span = join (IsPatched p a.contents new) (length b.past) a b c first second;
@@ -117,11 +148,15 @@ patches_both keeps p new result answer a b c kept first second puts all =
         within = omega (arith, long, puts.within);
         first = first_added b.past c.past p bytes (puts.past kept);
       };
-      whole = on_ok_weaker answer (λ ok. let four : puts.count ≡ 4 = from_ok result ok puts.whole in omega (arith, long, four)) all;
+      whole = on_ok_weaker answer
+          (λ ok. let four : puts.count ≡ 4 = from_ok result ok puts.whole in omega
+          (arith, long, four)) all;
     }
 
 -- a patch, and then a call that puts nothing
-pub patches_still : {T E V F : Type 0} (p new : ℕ) (result : Result T E) (answer : Result V F) (a b c : MediumState) → b.contents ≡ overlay b.start b.past → Stays b c → OnOk answer (IsOk result) → PatchesAtEach p new result a b → PatchesAtEach p new answer a c
+pub patches_still : {T E V F : Type 0} (p new : ℕ) (result : Result T E) (answer : Result V F)
+    (a b c : MediumState) → b.contents ≡ overlay b.start b.past → Stays b c
+    → OnOk answer (IsOk result) → PatchesAtEach p new result a b → PatchesAtEach p new answer a c
 patches_still p new result answer a b c replays stays all patches =
     let same : length c.past ≡ length b.past = ap length stays.past in
     record {
@@ -130,30 +165,43 @@ patches_still p new result answer a b c replays stays all patches =
       puts = record {
         later = patches.puts.later;
         within = omega (arith, same, patches.puts.within);
-        first = λ longer. ap (λ l. place_of l patches.split) stays.past ∙ patches.puts.first (omega (arith, longer, same));
+        first = λ longer. ap (λ l. place_of l patches.split) stays.past
+            ∙ patches.puts.first (omega (arith, longer, same));
       };
-      whole = on_ok_weaker answer (λ ok. let all_put : length b.past ≡ patches.split + 4 = from_ok result ok patches.whole in omega (arith, same, all_put)) all;
+      whole = on_ok_weaker answer
+          (λ ok. let all_put : length b.past ≡ patches.split
+          + 4 = from_ok result ok patches.whole in omega (arith, same, all_put)) all;
     }
 
 -- where the four bytes of the field went out one after the other, it has the old or the new number at each moment but those between them
-old_or_new : (p new split : ℕ) (a b : MediumState) → HasSize p a.contents → new < 2 ^ 32 → Span (IsPatched p a.contents new) split a b → PutsLast p split a b → IsOldOrNew p (field p a.contents) new a b
+old_or_new : (p new split : ℕ) (a b : MediumState) → HasSize p a.contents → new < 2 ^ 32
+    → Span (IsPatched p a.contents new) split a b → PutsLast p split a b
+    → IsOldOrNew p (field p a.contents) new a b
 old_or_new p new split a b has small span puts whole k from to outside =
     let at = span.each k from to in
     let old = field p a.contents in
     elim (cases_lt split k) [
       | inl behind ↦
           let at_split = puts.first (omega (arith, behind, to)) in
-          let four : split + 4 ≤ k = outside split puts.later (omega (arith, behind, to)) at_split behind in
+          let four : split + 4 ≤ k =
+          outside split puts.later (omega (arith, behind, to)) at_split behind in
           let level : k - split ≡ 4 = omega (arith, four, to, puts.within) in
           inr (at.field ∙ ap (λ j. mix j old new) level ∙ mix_all old new small)
       | inr before ↦
           let level : k - split ≡ 0 = omega (arith, before) in
-          inl (at.field ∙ ap (λ j. mix j old new) level ∙ mix_none old new (number_at_small p a.contents has.inside has.small))
+          inl (at.field ∙ ap (λ j. mix j old new) level
+          ∙ mix_none old new (number_at_small p a.contents has.inside has.small))
     ]
 
 -- what a patch of a writer's file is at each moment, by the answer of the call that does it
-pub publishes_at_each : {W : Type 0} (state : W → MediumState) (w : WriterState W) (none : w.waiting ≡ []) → IsSound w → IsStanding w.spec_ex w.data_start w.out (state w.medium).contents → IsPadded w (state w.medium).contents → AreBytes (state w.medium).contents
-    → (end : W) (patched : Result (Unit {0}) IoFault) (are_frames : Bool) (told : Result (Unit {0}) Error) → IsTold patched are_frames told → PatchesAtEach (w.data_start - 4) w.out patched (state w.medium) (state end) → PublishesAtEach state w told end
+pub publishes_at_each : {W : Type 0} (state : W → MediumState) (w : WriterState W)
+    (none : w.waiting ≡ []) → IsSound w
+    → IsStanding w.spec_ex w.data_start w.out (state w.medium).contents
+    → IsPadded w (state w.medium).contents → AreBytes (state w.medium).contents
+    → (end : W) (patched : Result (Unit {0}) IoFault) (are_frames : Bool)
+    (told : Result (Unit {0}) Error) → IsTold patched are_frames told
+    → PatchesAtEach (w.data_start - 4) w.out patched (state w.medium) (state end)
+    → PublishesAtEach state w told end
 publishes_at_each state w none sound stands padded small end patched are_frames told is patches =
     let p = w.data_start - 4 in
     let old = (state w.medium).contents in
@@ -161,55 +209,110 @@ publishes_at_each state w none sound stands padded small end patched are_frames 
     let span = patches.span in
     let start : p + 4 ≡ w.data_start = omega (arith, sound.after_head) in
     let all : w.out ≡ data_length w = sym (length_out state w none) in
-    let has : HasSize p old = record { behind = omega (arith, sound.after_head); inside = omega (arith, start, inside w.spec_ex w.data_start w.out old old stands); small = small } in
-    let samples : (c : List ℕ) → drop (p + 4) c ≡ drop (p + 4) old → take w.out (drop w.data_start c) ≡ take w.out (drop w.data_start old) =
+    let has : HasSize p old =
+    record {
+      behind = omega (arith, sound.after_head);
+      inside = omega (arith, start, inside w.spec_ex w.data_start w.out old old stands);
+      small =
+          small;
+    } in
+    let samples : (c : List ℕ) → drop (p + 4) c ≡ drop (p + 4) old
+    → take w.out (drop w.data_start c) ≡ take w.out (drop w.data_start old) =
     λ c same. ap (take w.out) ((λ i. drop (sym start i) c) ∙ same ∙ (λ i. drop (start i) old)) in
-    let counts : IsWhole state w → (j : ℕ) (c : List ℕ) → IsPatched p old w.out j c → Counts w.spec_ex w.data_start (accepted_samples state w) c =
-    λ whole j c at. counts_at state w sound (whole_out state w none sound) c whole (stands_patched w.spec_ex w.data_start w.out old c stands j at.same at.field) (samples c at.same.behind) in
-    let behind : (c : List ℕ) → drop (p + 4) c ≡ drop (p + 4) old → drop (data_end w) c ≡ drop (data_end w) old =
+    let counts : IsWhole state w → (j : ℕ) (c : List ℕ) → IsPatched p old w.out j c
+    → Counts w.spec_ex w.data_start (accepted_samples state w) c =
+    λ whole j c at. counts_at state w sound (whole_out state w none sound) c whole
+    (stands_patched w.spec_ex w.data_start w.out old c stands j at.same at.field)
+    (samples c at.same.behind) in
+    let behind : (c : List ℕ) → drop (p + 4) c ≡ drop (p + 4) old
+    → drop (data_end w) c ≡ drop (data_end w) old =
     λ c same. drop_later (p + 4) (data_end w) c old (omega (arith, start)) same in
     let half : (j : ℕ) (c : List ℕ) → IsPatched p old w.out j c → IsHalfPublished w old j c =
-    λ j c at. record { front = record { front = at.same.front; middle = at.same.middle }; out = λ _. samples c at.same.behind; length_is = at.field ∙ ap (mix j (field p old)) all } in
+    λ j c at.
     record {
-      counts = λ whole. record { start = span.start; added = span.added; past = span.past; each = λ k from to. counts whole (k - split) (moment (state end).start (state end).past k) (span.each k from to) };
+      front = record { front = at.same.front; middle = at.same.middle };
+      out = λ _. samples c at.same.behind;
+      length_is =
+          at.field ∙ ap (mix j (field p old)) all;
+    } in
+    record {
+      counts =
+          λ whole.
+          record {
+            start = span.start;
+            added = span.added;
+            past = span.past;
+            each = λ k from to. counts whole (k - split) (moment (state end).start (state end).past k)
+                (span.each k from to);
+          };
       split = split;
-      half = record { start = span.start; added = span.added; past = span.past; each = λ k from to. half (k - split) (moment (state end).start (state end).past k) (span.each k from to) };
+      half = record {
+        start = span.start;
+        added = span.added;
+        past = span.past;
+        each = λ k from to. half (k - split) (moment (state end).start (state end).past k)
+            (span.each k from to);
+      };
       puts = patches.puts;
-      whole = published (length (state end).past ≡ split + 4) patched are_frames told is patches.whole;
+      whole = published
+          (length (state end).past ≡ split + 4) patched are_frames told is patches.whole;
       old_or_new = subst (λ n. IsOldOrNew p (field p old) n (state w.medium) (state end)) all
-          (old_or_new p w.out split (state w.medium) (state end) has (omega (arith, sound.fits, sound.after_head, all)) span patches.puts);
-      padded = λ i k from more before later to. let c = moment (state end).start (state end).past k in
-          subst (λ l. StartsWith l (padding (data_length w))) (sym (behind c (span.each k (omega (arith, from, later)) to).same.behind)) padded;
+          (old_or_new p w.out split (state w.medium) (state end) has
+          (omega (arith, sound.fits, sound.after_head, all)) span patches.puts);
+      padded = λ i k from more before later to. let c =
+          moment (state end).start (state end).past k in
+          subst (λ l. StartsWith l (padding (data_length w)))
+          (sym (behind c (span.each k (omega (arith, from, later)) to).same.behind)) padded;
     }
 
-pub patches_at_each_seen : {W : Type 0} (state : W → MediumState) (a b : WriterState W) (result : Result (Unit {0}) IoFault) (end : MediumState) → a ≡ b
-    → PatchesAtEach (a.data_start - 4) a.out result (state a.medium) end → PatchesAtEach (b.data_start - 4) b.out result (state b.medium) end
-patches_at_each_seen state a b result end same patches = subst (λ w. PatchesAtEach (w.data_start - 4) w.out result (state w.medium) end) same patches
+pub patches_at_each_seen : {W : Type 0} (state : W → MediumState) (a b : WriterState W)
+    (result : Result (Unit {0}) IoFault) (end : MediumState) → a ≡ b
+    → PatchesAtEach (a.data_start - 4) a.out result (state a.medium) end
+    → PatchesAtEach (b.data_start - 4) b.out result (state b.medium) end
+patches_at_each_seen state a b result end same patches =
+    subst (λ w. PatchesAtEach (w.data_start - 4) w.out result (state w.medium) end) same patches
 
 -- a call of a writer that patches, and the answer by its frames
-module _ {W : Type 0} (tells keeps : Bool) (state : W → MediumState) (w : WriterState W) (end : W) (none : w.waiting ≡ []) (sound : IsSound w)
-    (stands : WhereTells tells (IsStanding w.spec_ex w.data_start w.out (state w.medium).contents)) (padded : WhereTells tells (IsPadded w (state w.medium).contents))
-    (patched : Result (Unit {0}) IoFault) (are_frames : Bool) (told : Result (Unit {0}) Error) (is : IsTold patched are_frames told)
-    (new : WriterState W) (same : new ≡ record w { medium = end }) (of_new : (IsTrue are_frames → AreFrames new) × (AreFrames new → IsTrue are_frames))
-    (before : WhereTells tells (AreBytes (state w.medium).contents)) (after : WhereTells tells (AreBytes (state end).contents))
-    (patches : WhereTells tells (Patches (w.data_start - 4) (riff_size w.data_start w.out) w.out patched (state w.medium) (state end)))
-    (moments : WhereKeeps tells keeps (PatchesAtEach (w.data_start - 4) w.out patched (state w.medium) (state end))) where
+module _ {W : Type 0} (tells keeps : Bool) (state : W → MediumState) (w : WriterState W) (end : W)
+    (none : w.waiting ≡ []) (sound : IsSound w)
+    (stands : WhereTells tells (IsStanding w.spec_ex w.data_start w.out (state w.medium).contents))
+    (padded : WhereTells tells (IsPadded w (state w.medium).contents))
+    (patched : Result (Unit {0}) IoFault) (are_frames : Bool) (told : Result (Unit {0}) Error)
+    (is : IsTold patched are_frames told)
+    (new : WriterState W) (same : new ≡ record w { medium = end })
+    (of_new : (IsTrue are_frames → AreFrames new) × (AreFrames new → IsTrue are_frames))
+    (before : WhereTells tells (AreBytes (state w.medium).contents))
+    (after : WhereTells tells (AreBytes (state end).contents))
+    (patches : WhereTells tells
+    (Patches (w.data_start - 4) (riff_size w.data_start w.out) w.out patched (state w.medium)
+    (state end)))
+    (moments : WhereKeeps tells keeps
+    (PatchesAtEach (w.data_start - 4) w.out patched (state w.medium) (state end))) where
   frames : (IsTrue are_frames → AreFrames w) × (AreFrames w → IsTrue are_frames)
-  frames = subst (λ v. (IsTrue are_frames → AreFrames v) × (AreFrames v → IsTrue are_frames)) same of_new
+  frames =
+      subst (λ v. (IsTrue are_frames → AreFrames v) × (AreFrames v → IsTrue are_frames)) same of_new
 
   answers : IsPublishing told w
   answers = go patched are_frames told is frames
     where
-      go : (patched : Result (Unit {0}) IoFault) (are_frames : Bool) (told : Result (Unit {0}) Error) → IsTold patched are_frames told → (IsTrue are_frames → AreFrames w) × (AreFrames w → IsTrue are_frames) → IsPublishing told w
+      go : (patched : Result (Unit {0}) IoFault) (are_frames : Bool)
+          (told : Result (Unit {0}) Error) → IsTold patched are_frames told
+          → (IsTrue are_frames → AreFrames w) × (AreFrames w → IsTrue are_frames)
+          → IsPublishing told w
       go (Err e) are_frames told is frames = subst (λ t. IsPublishing t w) (sym is) tt
       go (Ok x) true told is frames = subst (λ t. IsPublishing t w) (sym is) (frames.0 refl)
-      go (Ok x) false told is frames = subst (λ t. IsPublishing t w) (sym is) (λ are. absurd (false≢true (frames.1 are)))
+      go (Ok x) false told is frames =
+          subst (λ t. IsPublishing t w) (sym is) (λ are. absurd (false≢true (frames.1 are)))
 
   published_all : WhereTells tells (Publishes state w told end)
-  published_all known = publishes state w none sound (stands known) (padded known) end patched are_frames told is frames.0 (after known) (patches known)
+  published_all known =
+      publishes state w none sound (stands known)
+      (padded known) end patched are_frames told is frames.0 (after known) (patches known)
 
   at_each : WhereKeeps tells keeps (PublishesAtEach state w told end)
-  at_each known kept = publishes_at_each state w none sound (stands known) (padded known) (before known) end patched are_frames told is (moments known kept)
+  at_each known kept =
+      publishes_at_each state w none sound (stands known) (padded known)
+      (before known) end patched are_frames told is (moments known kept)
 
   -- `flush`
   pub checkpoints : Checkpoints tells keeps state told w new
@@ -218,15 +321,20 @@ module _ {W : Type 0} (tells keeps : Bool) (state : W → MediumState) (w : Writ
     samples = record { spec_ex = refl; data_start = refl; data_length = refl; buffer = refl };
     publishes = published_all;
     whole = λ known whole. omega (arith, whole, (published_all known).grows);
-    accepted = λ known whole. ap (λ bytes. containers w.spec_ex.bytes_per_sample (sample_count w) (bytes ++ w.waiting)) ((published_all known).out whole);
+    accepted =
+        λ known whole.
+        ap (λ bytes. containers w.spec_ex.bytes_per_sample (sample_count w) (bytes ++ w.waiting))
+        ((published_all known).out whole);
     moments = at_each;
   }
 
   -- the end of a writer
-  pub finishes : WhereTells tells (OnOk patched ((state end).place ≡ w.data_start)) → Finishes tells keeps state w told end
+  pub finishes : WhereTells tells (OnOk patched ((state end).place ≡ w.data_start))
+      → Finishes tells keeps state w told end
   finishes place = record {
     answers = answers;
     publishes = published_all;
-    place = λ known. published ((state end).place ≡ w.data_start) patched are_frames told is (place known);
+    place = λ known. published ((state end).place ≡ w.data_start) patched are_frames told is
+        (place known);
     moments = at_each;
   }

@@ -38,8 +38,10 @@ module _ {W : Type 0} (state : W → MediumState) (a : WriterState W) (sound : I
   abbrev first : List ℕ
   first = (state a.medium).contents
 
-  front_of : (n : ℕ) (c : List ℕ) → n ≤ start → take start c ≡ take start first → take n c ≡ take n first
-  front_of n c le same = sym (take-take n start c le) ∙ ap (take n) same ∙ take-take n start first le
+  front_of : (n : ℕ) (c : List ℕ) → n ≤ start → take start c ≡ take start first
+      → take n c ≡ take n first
+  front_of n c le same =
+      sym (take-take n start c le) ∙ ap (take n) same ∙ take-take n start first le
 
   field_of : (c : List ℕ) → take start c ≡ take start first → field p c ≡ field p first
   field_of c same = ap number (front_part start p 4 c first (omega (arith, sound.after_head)) same)
@@ -50,28 +52,51 @@ module _ {W : Type 0} (state : W → MediumState) (a : WriterState W) (sound : I
     middle = ap (drop 8) (front_of p c (omega arith) same);
   }
 
-  sizes_then : (c d : List ℕ) → take start c ≡ take start first → ChangesSizesOnly start c d → ChangesSizesOnly start first d
-  sizes_then c d same changes = let s = sizes_of c same in record { front = changes.front ∙ s.front; middle = changes.middle ∙ s.middle }
+  sizes_then : (c d : List ℕ) → take start c ≡ take start first → ChangesSizesOnly start c d
+      → ChangesSizesOnly start first d
+  sizes_then c d same changes = let s = sizes_of c same in
+      record { front = changes.front ∙ s.front; middle = changes.middle ∙ s.middle }
 
-  header_of : (c : List ℕ) → take start c ≡ take start first → IsBegun state a → HasHeader a.spec_ex c
-  header_of c same ((size, len, begins), at) =
-      (size, len, front_of (length (header a.spec_ex size len)) c (omega (arith, length-header a.spec_ex size len, at)) same ∙ begins)
+  header_of : (c : List ℕ) → take start c ≡ take start first → IsBegun state a
+      → HasHeader a.spec_ex c
+  header_of c same ((size, len, begins), at) = (
+    size,
+    len,
+    front_of (length (header a.spec_ex size len)) c
+        (omega (arith, length-header a.spec_ex size len, at)) same ∙ begins,
+  )
 
-  data_of : (c : List ℕ) → take (start + a.out) c ≡ take (start + a.out) first → take a.out (drop start c) ≡ take a.out (drop start first)
+  data_of : (c : List ℕ) → take (start + a.out) c ≡ take (start + a.out) first
+      → take a.out (drop start c) ≡ take a.out (drop start first)
   data_of c same = front_part (start + a.out) start a.out c first (omega arith) same
 
   -- while what waits goes out the data length is the old one
-  module _ {far : ℕ} (small : AreBytes (state a.medium).contents) (m : MediumState) (around : StaysAround state far a m) (goes : GoesAtEach state a m) where
+  module _ {far : ℕ} (small : AreBytes (state a.medium).contents) (m : MediumState)
+      (around : StaysAround state far a m) (goes : GoesAtEach state a m) where
     there : start ≤ length first
-    there = omega (arith, ap length around.front, length-take start m.contents, length-take start first, inside a.spec_ex start a.out m.contents m.contents around.stands)
+    there = omega (
+      arith,
+      ap length around.front,
+      length-take start m.contents,
+      length-take start first,
+      inside a.spec_ex start a.out m.contents m.contents around.stands,
+    )
 
     none_yet : mix 0 (field p first) (data_length a) ≡ field p first
-    none_yet = mix_none (field p first) (data_length a) (number_at_small p first (omega (arith, there, sound.after_head)) small)
+    none_yet =
+        mix_none (field p first) (data_length a)
+        (number_at_small p first (omega (arith, there, sound.after_head)) small)
 
     longer : length (state a.medium).past ≤ length m.past
-    longer = omega (arith, ap length goes.front.past, length-append (state a.medium).past goes.front.added)
+    longer =
+        omega (
+          arith,
+          ap length goes.front.past,
+          length-append (state a.medium).past goes.front.added,
+        )
 
-    half_out : (split : ℕ) → length m.past ≤ split → Span (IsHalfPublished a first) split (state a.medium) m
+    half_out : (split : ℕ) → length m.past ≤ split
+        → Span (IsHalfPublished a first) split (state a.medium) m
     half_out split later = record {
       start = goes.front.start;
       added = goes.front.added;
@@ -89,7 +114,9 @@ module _ {W : Type 0} (state : W → MediumState) (a : WriterState W) (sound : I
     }
 
 -- nothing is published where it doesn't go out
-module _ {W : Type 0} (tells keeps : Bool) (state : W → MediumState) (a : WriterState W) (m : W) (out : GoesOut tells keeps state (padded_end a) false a (after_out false m a)) (e : IoFault) where
+module _ {W : Type 0} (tells keeps : Bool) (state : W → MediumState) (a : WriterState W) (m : W)
+    (out : GoesOut tells keeps state (padded_end a) false a (after_out false m a))
+    (e : IoFault) where
   publishes_cut : IsTrue tells → Publishes state a (Err (IoError e)) m
   publishes_cut told =
       let f = out.file told in
@@ -101,7 +128,9 @@ module _ {W : Type 0} (tells keeps : Bool) (state : W → MediumState) (a : Writ
         rest = around.rest;
         grows = around.grows;
         reach = around.reach;
-        counts = λ whole. subst (λ l. Counts a.spec_ex a.data_start l (state m).contents) (f.accepted whole) (f.counts whole);
+        counts =
+            λ whole. subst (λ l. Counts a.spec_ex a.data_start l (state m).contents)
+            (f.accepted whole) (f.counts whole);
         begun = header_of state a out.sound (state m).contents around.front;
         flushed = tt;
         riff_says = tt;
@@ -112,7 +141,8 @@ module _ {W : Type 0} (tells keeps : Bool) (state : W → MediumState) (a : Writ
         canonical = λ _ _. tt;
       }
 
-  publishes_at_each_cut : IsTrue tells → IsTrue keeps → AreBytes (state a.medium).contents → PublishesAtEach state a (Err (IoError e)) m
+  publishes_at_each_cut : IsTrue tells → IsTrue keeps → AreBytes (state a.medium).contents
+      → PublishesAtEach state a (Err (IoError e)) m
   publishes_at_each_cut told kept small =
       let goes = out.moments told kept in
       let around = (out.file told).around in
@@ -121,13 +151,22 @@ module _ {W : Type 0} (tells keeps : Bool) (state : W → MediumState) (a : Writ
         counts = goes.adds.counts;
         split = split;
         half = half_out state a out.sound small (state m) around goes split (omega arith);
-        puts = record { later = longer state a out.sound small (state m) around goes; within = omega arith; first = λ more. absurd (omega (arith, more)) };
+        puts = record {
+          later = longer state a out.sound small (state m) around goes;
+          within = omega arith;
+          first = λ more. absurd (omega (arith, more));
+        };
         whole = tt;
-        old_or_new = λ each k from to outside. inl (field_of state a out.sound (moment (state m).start (state m).past k) (goes.front.each k from to));
-        padded = λ i k from to before later last. absurd (omega (arith, before, goes.behind i from to));
+        old_or_new =
+            λ each k from to outside.
+            inl (field_of state a out.sound (moment (state m).start (state m).past k)
+            (goes.front.each k from to));
+        padded =
+            λ i k from to before later last. absurd (omega (arith, before, goes.behind i from to));
       }
 
-  checkpoints_of : WhereTells tells (AreBytes (state a.medium).contents) → Checkpoints tells keeps state (Err (IoError e)) a (after_out false m a)
+  checkpoints_of : WhereTells tells (AreBytes (state a.medium).contents)
+      → Checkpoints tells keeps state (Err (IoError e)) a (after_out false m a)
   checkpoints_of small = record {
     answers = tt;
     samples = record { spec_ex = refl; data_start = refl; data_length = refl; buffer = refl };
@@ -137,24 +176,41 @@ module _ {W : Type 0} (tells keeps : Bool) (state : W → MediumState) (a : Writ
     moments = λ told kept. publishes_at_each_cut told kept (small told);
   }
 
-  finishes_of : WhereTells tells (AreBytes (state a.medium).contents) → Finishes tells keeps state a (Err (IoError e)) m
-  finishes_of small = record { answers = tt; publishes = publishes_cut; place = λ _. tt; moments = λ told kept. publishes_at_each_cut told kept (small told) }
+  finishes_of : WhereTells tells (AreBytes (state a.medium).contents)
+      → Finishes tells keeps state a (Err (IoError e)) m
+  finishes_of small =
+      record {
+        answers = tt;
+        publishes = publishes_cut;
+        place = λ _. tt;
+        moments = λ told kept. publishes_at_each_cut told kept (small told);
+      }
 
 -- the same of a writer as contracts see it
-pub checkpoints_cut : {W : Type 0} (tells keeps : Bool) (state : W → MediumState) (far : ℕ) (a b : WriterState W) (e : IoFault) → far ≤ padded_end a → GoesOut tells keeps state far false a b → WhereTells tells (AreBytes (state a.medium).contents)
+pub checkpoints_cut : {W : Type 0} (tells keeps : Bool) (state : W → MediumState) (far : ℕ)
+    (a b : WriterState W) (e : IoFault) → far ≤ padded_end a
+    → GoesOut tells keeps state far false a b
+    → WhereTells tells (AreBytes (state a.medium).contents)
     → Checkpoints tells keeps state (Err (IoError e)) a b
 checkpoints_cut tells keeps state far a b e within out small =
     let further = goes_further tells keeps state far (padded_end a) false a b within out in
-    subst (Checkpoints tells keeps state (Err (IoError e)) a) (sym out.value) (checkpoints_of tells keeps state a b.medium (subst (GoesOut tells keeps state (padded_end a) false a) out.value further) e small)
+    subst (Checkpoints tells keeps state (Err (IoError e)) a) (sym out.value)
+    (checkpoints_of tells keeps state a b.medium
+    (subst (GoesOut tells keeps state (padded_end a) false a) out.value further) e small)
 
-pub finishes_cut : {W : Type 0} (tells keeps : Bool) (state : W → MediumState) (far : ℕ) (a b : WriterState W) (e : IoFault) → far ≤ padded_end a → GoesOut tells keeps state far false a b → WhereTells tells (AreBytes (state a.medium).contents)
+pub finishes_cut : {W : Type 0} (tells keeps : Bool) (state : W → MediumState) (far : ℕ)
+    (a b : WriterState W) (e : IoFault) → far ≤ padded_end a
+    → GoesOut tells keeps state far false a b
+    → WhereTells tells (AreBytes (state a.medium).contents)
     → Finishes tells keeps state a (Err (IoError e)) b.medium
 finishes_cut tells keeps state far a b e within out small =
     let further = goes_further tells keeps state far (padded_end a) false a b within out in
-    finishes_of tells keeps state a b.medium (subst (GoesOut tells keeps state (padded_end a) false a) out.value further) e small
+    finishes_of tells keeps state a b.medium
+    (subst (GoesOut tells keeps state (padded_end a) false a) out.value further) e small
 
 -- what is published once all went out
-module _ {W : Type 0} (tells keeps : Bool) (state : W → MediumState) (a : WriterState W) (m : W) (out : GoesOut tells keeps state (padded_end a) true a (after_out true m a)) where
+module _ {W : Type 0} (tells keeps : Bool) (state : W → MediumState) (a : WriterState W) (m : W)
+    (out : GoesOut tells keeps state (padded_end a) true a (after_out true m a)) where
   abbrev b : WriterState W
   b = after_out true m a
 
@@ -172,7 +228,8 @@ module _ {W : Type 0} (tells keeps : Bool) (state : W → MediumState) (a : Writ
 
   -- the pad byte of as many bytes
   padded_as_first : (c : List ℕ) → IsPadded b c → IsPadded a c
-  padded_as_first c here = subst (λ n. StartsWith (drop (a.data_start + n) c) (padding n)) same_length here
+  padded_as_first c here =
+      subst (λ n. StartsWith (drop (a.data_start + n) c) (padding n)) same_length here
 
   module _ (answer : Result (Unit {0}) Error) (end : W) where
     abbrev new : List ℕ
@@ -182,27 +239,42 @@ module _ {W : Type 0} (tells keeps : Bool) (state : W → MediumState) (a : Writ
     publishes_later told g =
         let f = out.file told in
         let around = f.around in
-        let begun : IsBegun state a → IsBegun state b = λ is. (header_of state a sound mid around.front is, is.1) in
+        let begun : IsBegun state a → IsBegun state b =
+        λ is. (header_of state a sound mid around.front is, is.1) in
         record {
           faults = g.faults ∙ ap (faults_told answer) f.faults;
           front = sizes_then state a sound mid new around.front g.front;
-          out = λ whole. sym (take-take a.out (data_length a) (drop a.data_start new) (omega arith)) ∙ ap (take a.out) (g.out (f.whole whole))
-              ∙ take-take a.out (data_length a) (drop a.data_start mid) (omega arith) ∙ data_of state a sound mid (around.out whole);
-          rest = subst (λ n. drop (a.data_start + padded n) new ≡ drop (a.data_start + padded n) mid) same_length g.rest ∙ around.rest;
+          out = λ whole. sym (take-take a.out (data_length a) (drop a.data_start new) (omega arith))
+              ∙ ap (take a.out) (g.out (f.whole whole))
+              ∙ take-take a.out (data_length a) (drop a.data_start mid) (omega arith)
+              ∙ data_of state a sound mid (around.out whole);
+          rest = subst
+              (λ n. drop (a.data_start + padded n) new ≡ drop
+              (a.data_start + padded n) mid) same_length g.rest ∙ around.rest;
           grows = omega (arith, around.grows, g.grows);
           reach = omega (arith, around.reach, g.reach, ap (λ n. n % 2) same_length);
-          counts = λ whole. counts_later tells keeps state (padded_end a) a m out told whole new (g.counts (f.whole whole));
+          counts =
+              λ whole. counts_later tells keeps state (padded_end a) a m out told whole new
+              (g.counts (f.whole whole));
           begun = λ is. g.begun (begun is);
           flushed = g.flushed;
-          riff_says = on_published_then answer (λ e. e ∙ ap (riff_size a.data_start) same_length) g.riff_says;
+          riff_says =
+              on_published_then answer
+              (λ e. e ∙ ap (riff_size a.data_start) same_length) g.riff_says;
           length_says = on_published_then answer (λ e. e ∙ same_length) g.length_says;
-          stand = λ whole. on_published_then answer (λ e. (λ i. take (sym same_length i) (drop a.data_start new)) ∙ e ∙ ap concat (f.accepted whole)) (g.stand (f.whole whole));
+          stand = λ whole. on_published_then answer
+              (λ e. (λ i. take (sym same_length i) (drop a.data_start new)) ∙ e
+              ∙ ap concat (f.accepted whole)) (g.stand (f.whole whole));
           padded = on_published_then answer (padded_as_first new) g.padded;
-          read = λ whole. subst (λ l. OnOk answer (ReadsAs a.spec_ex a.data_start l new)) (f.accepted whole) (g.read (f.whole whole));
-          canonical = λ whole is. subst (λ l. OnPublished answer (StartsWith new (canonical a.spec_ex l))) (f.accepted whole) (g.canonical (f.whole whole) (begun is));
+          read = λ whole. subst (λ l. OnOk answer (ReadsAs a.spec_ex a.data_start l new))
+              (f.accepted whole) (g.read (f.whole whole));
+          canonical =
+              λ whole is. subst (λ l. OnPublished answer (StartsWith new (canonical a.spec_ex l)))
+              (f.accepted whole) (g.canonical (f.whole whole) (begun is));
         }
 
-    module _ (told : IsTrue tells) (kept : IsTrue keeps) (small : AreBytes (state a.medium).contents) (g : PublishesAtEach state b answer end) where
+    module _ (told : IsTrue tells) (kept : IsTrue keeps)
+        (small : AreBytes (state a.medium).contents) (g : PublishesAtEach state b answer end) where
       goes : GoesAtEach state a (state m)
       goes = out.moments told kept
 
@@ -215,24 +287,35 @@ module _ {W : Type 0} (tells keeps : Bool) (state : W → MediumState) (a : Writ
       half_later : (j : ℕ) (c : List ℕ) → IsHalfPublished b mid j c → IsHalfPublished a old j c
       half_later j c half = record {
         front = sizes_then state a sound mid c (out.file told).around.front half.front;
-        out = λ whole. sym (take-take a.out (data_length a) (drop a.data_start c) (omega arith)) ∙ ap (take a.out) (half.out ((out.file told).whole whole))
-            ∙ take-take a.out (data_length a) (drop a.data_start mid) (omega arith) ∙ data_of state a sound mid ((out.file told).around.out whole);
+        out = λ whole. sym (take-take a.out (data_length a) (drop a.data_start c) (omega arith))
+            ∙ ap (take a.out) (half.out ((out.file told).whole whole))
+            ∙ take-take a.out (data_length a) (drop a.data_start mid) (omega arith)
+            ∙ data_of state a sound mid ((out.file told).around.out whole);
         length_is = half.length_is ∙ (λ i. mix j (field_same i) (same_length i));
       }
 
       -- while it goes out the field is the old one
-      at_first : (k : ℕ) → length (state a.medium).past ≤ k → k ≤ length (state m).past → field (a.data_start - 4) (moment (state end).start (state end).past k) ≡ field (a.data_start - 4) old
+      at_first : (k : ℕ) → length (state a.medium).past ≤ k → k ≤ length (state m).past
+          → field (a.data_start - 4) (moment (state end).start (state end).past k) ≡ field
+          (a.data_start - 4) old
       at_first k from to =
-          let same : moment (state m).start (state m).past k ≡ moment (state end).start (state end).past k =
-          sym (moment_before (state m).start (state m).past g.half.added k to) ∙ (λ i. moment (sym g.half.start i) (sym g.half.past i) k) in
-          ap (field (a.data_start - 4)) (sym same) ∙ field_of state a sound (moment (state m).start (state m).past k) (goes.front.each k from to)
+          let same : moment (state m).start (state m).past k ≡ moment (state end).start
+          (state end).past k =
+          sym (moment_before (state m).start (state m).past g.half.added k to)
+          ∙ (λ i. moment (sym g.half.start i) (sym g.half.past i) k) in
+          ap (field (a.data_start - 4)) (sym same)
+          ∙ field_of state a sound (moment (state m).start (state m).past k)
+          (goes.front.each k from to)
 
-      old_or_new_later : IsOldOrNew (a.data_start - 4) (field (a.data_start - 4) old) (data_length a) (state a.medium) (state end)
+      old_or_new_later : IsOldOrNew (a.data_start - 4) (field (a.data_start - 4) old)
+          (data_length a) (state a.medium) (state end)
       old_or_new_later each k from to outside =
           let sooner = longer state a sound small (state m) (out.file told).around goes in
           elim (cases_lt (length (state m).past) k) [
             | inl later ↦
-                elim (g.old_or_new (λ i low high. each i (omega (arith, low, sooner)) high) k (omega (arith, later)) to (λ i low high. outside i (omega (arith, low, sooner)) high)) [
+                elim (g.old_or_new (λ i low high. each i (omega (arith, low, sooner)) high) k
+                (omega (arith, later)) to
+                (λ i low high. outside i (omega (arith, low, sooner)) high)) [
                   | inl is ↦ inl (is ∙ field_same)
                   | inr is ↦ inr (is ∙ same_length)
                 ]
@@ -245,23 +328,43 @@ module _ {W : Type 0} (tells keeps : Bool) (state : W → MediumState) (a : Writ
           elim (cases_lt i (length (state m).past)) [
             | inl sooner ↦
                 let same : place_of (state end).past i ≡ place_of (state m).past i =
-                ap (λ l. place_of l i) g.half.past ∙ ap (λ (x : ℕ × ℕ). x.0) (get_or_append_left (state m).past g.half.added (0, 0) i sooner) in
+                ap (λ l. place_of l i) g.half.past
+                ∙ ap (λ (x : ℕ × ℕ). x.0)
+                (get_or_append_left (state m).past g.half.added (0, 0) i sooner) in
                 absurd (omega (arith, before, same, goes.behind i from sooner))
-            | inr then ↦ padded_as_first (moment (state end).start (state end).past k) (g.padded i k then to before later last)
+            | inr then ↦
+                padded_as_first (moment (state end).start (state end).past k)
+                (g.padded i k then to before later last)
           ]
 
       publishes_at_each_later : PublishesAtEach state a answer end
       publishes_at_each_later =
-          let of_a : ℕ → List ℕ → Type 0 = λ _ c. Counts a.spec_ex a.data_start (accepted_samples state a) c in
-          let of_b : ℕ → List ℕ → Type 0 = λ _ c. Counts a.spec_ex a.data_start (accepted_samples state b) c in
+          let of_a : ℕ → List ℕ → Type 0 =
+          λ _ c. Counts a.spec_ex a.data_start (accepted_samples state a) c in
+          let of_b : ℕ → List ℕ → Type 0 =
+          λ _ c. Counts a.spec_ex a.data_start (accepted_samples state b) c in
           record {
-            counts = λ whole. join of_a 0 (state a.medium) (state m) (state end) (goes.adds.counts whole)
-                (span_weaker of_b of_a 0 (state m) (state end) (λ j c counts. counts_later tells keeps state (padded_end a) a m out told whole c counts) (g.counts ((out.file told).whole whole)));
+            counts =
+                λ whole. join of_a 0 (state a.medium) (state m) (state end) (goes.adds.counts whole)
+                (span_weaker of_b of_a 0 (state m) (state end)
+                (λ j c counts.
+                counts_later tells keeps state (padded_end a) a m out told whole c counts)
+                (g.counts ((out.file told).whole whole)));
             split = g.split;
             half = join (IsHalfPublished a old) g.split (state a.medium) (state m) (state end)
-                (half_out state a sound small (state m) (out.file told).around goes g.split before_split)
-                (span_weaker (IsHalfPublished b mid) (IsHalfPublished a old) g.split (state m) (state end) half_later g.half);
-            puts = record { later = omega (arith, before_split, longer state a sound small (state m) (out.file told).around goes); within = g.puts.within; first = g.puts.first };
+                (half_out state a sound small (state m)
+                (out.file told).around goes g.split before_split)
+                (span_weaker (IsHalfPublished b mid) (IsHalfPublished a old) g.split (state m)
+                (state end) half_later g.half);
+            puts = record {
+              later = omega (
+                arith,
+                before_split,
+                longer state a sound small (state m) (out.file told).around goes,
+              );
+              within = g.puts.within;
+              first = g.puts.first;
+            };
             whole = g.whole;
             old_or_new = old_or_new_later;
             padded = padded_later;
@@ -272,16 +375,19 @@ module _ {W : Type 0} (tells keeps : Bool) (state : W → MediumState) (a : Writ
       where
         frames : (AreFrames b → AreFrames a) × (AreFrames a → AreFrames b)
         frames =
-            let same : (n : ℕ) → Type 0 = λ n. n / a.spec_ex.bytes_per_sample % a.spec_ex.spec.channels ≡ 0 in
+            let same : (n : ℕ) → Type 0 =
+            λ n. n / a.spec_ex.bytes_per_sample % a.spec_ex.spec.channels ≡ 0 in
             (subst same same_length, subst same (sym same_length))
 
-        publishing : (answer : Result (Unit {0}) Error) → IsPublishing answer b → IsPublishing answer a
+        publishing : (answer : Result (Unit {0}) Error) → IsPublishing answer b
+            → IsPublishing answer a
         publishing (Ok x) here = frames.0 here
         publishing (Err UnfinishedSample) here = λ are. here (frames.1 are)
         publishing (Err (IoError e)) here = tt
         publishing (Err e) here = absurd here
 
-    finishes_after : WhereTells tells (AreBytes (state a.medium).contents) → Finishes tells keeps state b answer end → Finishes tells keeps state a answer end
+    finishes_after : WhereTells tells (AreBytes (state a.medium).contents)
+        → Finishes tells keeps state b answer end → Finishes tells keeps state a answer end
     finishes_after small g = record {
       answers = answers_later g.answers;
       publishes = λ told. publishes_later told (g.publishes told);
@@ -289,25 +395,45 @@ module _ {W : Type 0} (tells keeps : Bool) (state : W → MediumState) (a : Writ
       moments = λ told kept. publishes_at_each_later told kept (small told) (g.moments told kept);
     }
 
-  checkpoints_after : (answer : Result (Unit {0}) Error) (c : WriterState W) → WhereTells tells (AreBytes (state a.medium).contents) → Checkpoints tells keeps state answer b c → Checkpoints tells keeps state answer a c
+  checkpoints_after : (answer : Result (Unit {0}) Error) (c : WriterState W)
+      → WhereTells tells (AreBytes (state a.medium).contents)
+      → Checkpoints tells keeps state answer b c → Checkpoints tells keeps state answer a c
   checkpoints_after answer c small g = record {
     answers = answers_later answer c.medium g.answers;
-    samples = record { spec_ex = g.samples.spec_ex; data_start = g.samples.data_start; data_length = g.samples.data_length ∙ same_length; buffer = g.samples.buffer };
+    samples =
+        record {
+          spec_ex = g.samples.spec_ex;
+          data_start = g.samples.data_start;
+          data_length = g.samples.data_length ∙ same_length;
+          buffer = g.samples.buffer;
+        };
     publishes = λ told. publishes_later answer c.medium told (g.publishes told);
     whole = λ told whole. g.whole told ((out.file told).whole whole);
-    accepted = λ told whole. g.accepted told ((out.file told).whole whole) ∙ (out.file told).accepted whole;
-    moments = λ told kept. publishes_at_each_later answer c.medium told kept (small told) (g.moments told kept);
+    accepted =
+        λ told whole. g.accepted told ((out.file told).whole whole)
+        ∙ (out.file told).accepted whole;
+    moments =
+        λ told kept. publishes_at_each_later answer c.medium told kept (small told)
+        (g.moments told kept);
   }
 
 -- the same of a writer as contracts see it
-pub finishes_later : {W : Type 0} (tells keeps : Bool) (state : W → MediumState) (far : ℕ) (a b : WriterState W) (answer : Result (Unit {0}) Error) (end : W) → far ≤ padded_end a → GoesOut tells keeps state far true a b → WhereTells tells (AreBytes (state a.medium).contents)
+pub finishes_later : {W : Type 0} (tells keeps : Bool) (state : W → MediumState) (far : ℕ)
+    (a b : WriterState W) (answer : Result (Unit {0}) Error) (end : W) → far ≤ padded_end a
+    → GoesOut tells keeps state far true a b → WhereTells tells (AreBytes (state a.medium).contents)
     → Finishes tells keeps state b answer end → Finishes tells keeps state a answer end
 finishes_later tells keeps state far a b answer end within out small g =
     let further = goes_further tells keeps state far (padded_end a) true a b within out in
-    finishes_after tells keeps state a b.medium (subst (GoesOut tells keeps state (padded_end a) true a) out.value further) answer end small (subst (λ v. Finishes tells keeps state v answer end) out.value g)
+    finishes_after tells keeps state a b.medium
+    (subst (GoesOut tells keeps state (padded_end a) true a) out.value further) answer end small
+    (subst (λ v. Finishes tells keeps state v answer end) out.value g)
 
-pub checkpoints_later : {W : Type 0} (tells keeps : Bool) (state : W → MediumState) (far : ℕ) (a b c : WriterState W) (answer : Result (Unit {0}) Error) → far ≤ padded_end a → GoesOut tells keeps state far true a b → WhereTells tells (AreBytes (state a.medium).contents)
+pub checkpoints_later : {W : Type 0} (tells keeps : Bool) (state : W → MediumState) (far : ℕ)
+    (a b c : WriterState W) (answer : Result (Unit {0}) Error) → far ≤ padded_end a
+    → GoesOut tells keeps state far true a b → WhereTells tells (AreBytes (state a.medium).contents)
     → Checkpoints tells keeps state answer b c → Checkpoints tells keeps state answer a c
 checkpoints_later tells keeps state far a b c answer within out small g =
     let further = goes_further tells keeps state far (padded_end a) true a b within out in
-    checkpoints_after tells keeps state a b.medium (subst (GoesOut tells keeps state (padded_end a) true a) out.value further) answer c small (subst (λ v. Checkpoints tells keeps state answer v c) out.value g)
+    checkpoints_after tells keeps state a b.medium
+    (subst (GoesOut tells keeps state (padded_end a) true a) out.value further) answer c small
+    (subst (λ v. Checkpoints tells keeps state answer v c) out.value g)

@@ -30,81 +30,128 @@ use Rattle.hound_writer.proofs.Heads.{in_parts}
 use Rattle.hound_writer.proofs.Standing.{inside, stands_patched}
 
 -- a file that begins with the header of a spec, once other sizes are in it
-module _ (s : WavSpecEx) (size length_before : ℕ) (start p : ℕ) (before : p + 4 ≡ start) (is_start : data_start s ≡ start) (c : List ℕ) (begins : take start c ≡ header s size length_before) where
+module _ (s : WavSpecEx) (size length_before : ℕ) (start p : ℕ) (before : p + 4 ≡ start)
+    (is_start : data_start s ≡ start) (c : List ℕ)
+    (begins : take start c ≡ header s size length_before) where
   described_size : length (described s) + 12 ≡ start
   described_size = length-described s ∙ is_start
 
   begins_with_riff : take 4 c ≡ riff_tag
-  begins_with_riff = sym (take-take 4 start c (omega (arith, described_size))) ∙ ap (take 4) (begins ∙ header-parts s size length_before)
+  begins_with_riff =
+      sym (take-take 4 start c (omega (arith, described_size)))
+      ∙ ap (take 4) (begins ∙ header-parts s size length_before)
 
   goes_on_with_fmt : drop 8 (take p c) ≡ described s
   goes_on_with_fmt =
       let front = (riff_tag ++ bytes_of 4 size) ++ described s in
-      let whole : take start c ≡ front ++ bytes_of 4 length_before = begins ∙ header-parts s size length_before in
-      let long : length front ≡ p = omega (arith, described_size, length-append (riff_tag ++ bytes_of 4 size) (described s)) in
-      ap (drop 8) (sym (take-take p start c (omega arith)) ∙ ap (take p) whole ∙ take_at front (bytes_of 4 length_before) p long)
+      let whole : take start c ≡ front ++ bytes_of 4 length_before =
+      begins ∙ header-parts s size length_before in
+      let long : length front ≡ p =
+      omega (
+        arith,
+        described_size,
+        length-append (riff_tag ++ bytes_of 4 size) (described s),
+      ) in
+      ap (drop 8) (sym (take-take p start c (omega arith)) ∙ ap (take p) whole
+      ∙ take_at front (bytes_of 4 length_before) p long)
 
-  pub header_with : (n data_length : ℕ) → with_sizes p n data_length c ≡ header s n data_length ++ drop start c
+  pub header_with : (n data_length : ℕ)
+      → with_sizes p n data_length c ≡ header s n data_length ++ drop start c
   unfolding with_sizes
   header_with n data_length =
-      (λ i. begins_with_riff i ++ (bytes_of 4 n ++ (goes_on_with_fmt i ++ (bytes_of 4 data_length ++ drop (before i) c))))
-      ∙ ap (λ l. riff_tag ++ (bytes_of 4 n ++ l)) (sym (append_assoc (described s) (bytes_of 4 data_length) (drop start c)))
+      (λ i. begins_with_riff i ++
+      (bytes_of 4 n ++ (goes_on_with_fmt i ++ (bytes_of 4 data_length ++ drop (before i) c))))
+      ∙ ap (λ l. riff_tag ++ (bytes_of 4 n ++ l))
+      (sym (append_assoc (described s) (bytes_of 4 data_length) (drop start c)))
       ∙ ap (λ l. l ++ drop start c) (sym (header-parts s n data_length))
 
 -- so much data behind a header with its sizes, and their pad byte, are the canonical file of its containers
-pub canonical_begins : (s : WavSpecEx) (containers : List (List ℕ)) (n start : ℕ) (samples contents : List ℕ) → data_start s ≡ start → n ≤ length samples → concat containers ≡ take n samples → StartsWith (drop n samples) (padding n) → contents ≡ header s (riff_size start n) n ++ samples
+pub canonical_begins : (s : WavSpecEx) (containers : List (List ℕ)) (n start : ℕ)
+    (samples contents : List ℕ) → data_start s ≡ start → n ≤ length samples
+    → concat containers ≡ take n samples → StartsWith (drop n samples) (padding n)
+    → contents ≡ header s (riff_size start n) n ++ samples
     → StartsWith contents (canonical s containers)
 canonical_begins s containers n start samples contents is_start enough joined padded is =
-    let size : length (concat containers) ≡ n = ap length joined ∙ length-take-le n samples enough in
+    let size : length (concat containers) ≡ n =
+    ap length joined ∙ length-take-le n samples enough in
     let pad = padding n in
     let rest = drop (length pad) (drop n samples) in
-    let behind : drop n samples ≡ pad ++ rest = sym (take-append-drop (length pad) (drop n samples)) ∙ ap (λ l. l ++ rest) padded in
+    let behind : drop n samples ≡ pad ++ rest =
+    sym (take-append-drop (length pad) (drop n samples)) ∙ ap (λ l. l ++ rest) padded in
     let data_now : samples ≡ (concat containers ++ pad) ++ rest =
-    sym (take-append-drop n samples) ∙ (λ i. sym joined i ++ behind i) ∙ sym (append_assoc (concat containers) pad rest) in
+    sym (take-append-drop n samples) ∙ (λ i. sym joined i ++ behind i)
+    ∙ sym (append_assoc (concat containers) pad rest) in
     let file : contents ≡ canonical s containers ++ rest =
     is
     ∙ (λ i. header s (riff_size (sym is_start i) (sym size i)) (sym size i) ++ data_now i)
-    ∙ ap (λ k. header s (riff_size (data_start s) (length (concat containers))) (length (concat containers)) ++ ((concat containers ++ padding k) ++ rest)) (sym size)
-    ∙ sym (append_assoc (header s (riff_size (data_start s) (length (concat containers))) (length (concat containers))) (concat containers ++ padding (length (concat containers))) rest) in
-    ap (take (length (canonical s containers))) file ∙ take_at (canonical s containers) rest (length (canonical s containers)) refl
+    ∙ ap (λ k. header s (riff_size (data_start s) (length (concat containers)))
+    (length (concat containers)) ++ ((concat containers ++ padding k) ++ rest)) (sym size)
+    ∙ sym (append_assoc
+    (header s (riff_size (data_start s) (length (concat containers)))
+    (length (concat containers)))
+    (concat containers ++ padding (length (concat containers))) rest) in
+    ap (take (length (canonical s containers))) file
+    ∙ take_at (canonical s containers) rest (length (canonical s containers)) refl
 
 -- the contents once only the two sizes changed, as these sizes
-sizes_of : (p : ℕ) (old new : List ℕ) → 8 ≤ p → p + 4 ≤ length new → AreBytes new → SameButSizes p old new → new ≡ with_sizes p (field 4 new) (field p new) old
+sizes_of : (p : ℕ) (old new : List ℕ) → 8 ≤ p → p + 4 ≤ length new → AreBytes new
+    → SameButSizes p old new → new ≡ with_sizes p (field 4 new) (field p new) old
 unfolding with_sizes
 sizes_of p old new behind inside small same =
     in_parts p new behind
-    ∙ (λ i. same.front i ++ (sym (bytes_at 4 new (omega (arith, behind, inside)) small) i ++ (same.middle i ++ (sym (bytes_at p new inside small) i ++ same.behind i))))
+    ∙ (λ i. same.front i ++
+    (sym (bytes_at 4 new (omega (arith, behind, inside)) small) i ++
+    (same.middle i ++ (sym (bytes_at p new inside small) i ++ same.behind i))))
 
 -- a file that was begun with the header of a spec still has it, whatever its sizes
-pub begun_still : (s : WavSpecEx) (start : ℕ) (old new : List ℕ) → data_start s ≡ start → 12 ≤ start → start ≤ length new → AreBytes new → SameButSizes (start - 4) old new → HasHeader s old → HasHeader s new
+pub begun_still : (s : WavSpecEx) (start : ℕ) (old new : List ℕ) → data_start s ≡ start → 12 ≤ start
+    → start ≤ length new → AreBytes new → SameButSizes (start - 4) old new → HasHeader s old
+    → HasHeader s new
 begun_still s start old new is_start behind inside small same (size, length_before, begins) =
     let p = start - 4 in
     let r = field 4 new in
     let n = field p new in
-    let front : take start old ≡ header s size length_before = ap (λ k. take k old) (sym (length-header s size length_before ∙ is_start)) ∙ begins in
+    let front : take start old ≡ header s size length_before =
+    ap (λ k. take k old) (sym (length-header s size length_before ∙ is_start)) ∙ begins in
     let whole : new ≡ header s r n ++ drop start old =
     sizes_of p old new (omega (arith, behind)) (omega (arith, behind, inside)) small same
-    ∙ header_with s size length_before start p (omega (arith, behind)) is_start old front r n in
-    (r, n, ap (take (length (header s r n))) whole ∙ take_at (header s r n) (drop start old) (length (header s r n)) refl)
+    ∙ header_with s size length_before start p (omega (arith, behind)) is_start old front r n in (
+      r,
+      n,
+      ap (take (length (header s r n))) whole
+          ∙ take_at (header s r n) (drop start old) (length (header s r n)) refl,
+    )
 
 -- data of whole frames have no fault
-frames_sound : (s : WavSpecEx) (n : ℕ) → n % s.bytes_per_sample ≡ 0 → n / s.bytes_per_sample % s.spec.channels ≡ 0 → data_fault s n ≡ None
-frames_sound s n whole frames = rw (eq-eqb (n % s.bytes_per_sample) 0 whole, eq-eqb (n / s.bytes_per_sample % s.spec.channels) 0 frames) refl
+frames_sound : (s : WavSpecEx) (n : ℕ) → n % s.bytes_per_sample ≡ 0
+    → n / s.bytes_per_sample % s.spec.channels ≡ 0 → data_fault s n ≡ None
+frames_sound s n whole frames =
+    rw (
+      eq-eqb (n % s.bytes_per_sample) 0 whole,
+      eq-eqb (n / s.bytes_per_sample % s.spec.channels) 0 frames,
+    ) refl
 
 -- where the data length counts all of some samples, which are whole frames, they are read back
-pub reads_all : (s : WavSpecEx) (start n : ℕ) (samples : List (List ℕ)) (contents : List ℕ) → n % s.bytes_per_sample ≡ 0 → n / s.bytes_per_sample % s.spec.channels ≡ 0 → length samples ≡ n / s.bytes_per_sample → field (start - 4) contents ≡ n
+pub reads_all : (s : WavSpecEx) (start n : ℕ) (samples : List (List ℕ)) (contents : List ℕ)
+    → n % s.bytes_per_sample ≡ 0 → n / s.bytes_per_sample % s.spec.channels ≡ 0
+    → length samples ≡ n / s.bytes_per_sample → field (start - 4) contents ≡ n
     → Counts s start samples contents → ReadsAs s start samples contents
 reads_all s start n samples contents whole frames size says counts =
     let count = n / s.bytes_per_sample in
     let reads : ReadsFirst None s start n samples contents =
-    subst (λ (x : Option Cause × ℕ). ReadsFirst x.0 s start x.1 samples contents) (λ i. ((ap (data_fault s) says ∙ frames_sound s n whole frames) i, says i)) counts.reads in
+    subst (λ (x : Option Cause × ℕ). ReadsFirst x.0 s start x.1 samples contents)
+    (λ i. ((ap (data_fault s) says ∙ frames_sound s n whole frames) i, says i)) counts.reads in
     record {
       readable = subst (λ k. Readable contents s k start) (sym size) reads.0;
-      containers = ap (λ k. containers s.bytes_per_sample k (drop start contents)) size ∙ reads.1 ∙ take_all count samples (omega (arith, size));
+      containers =
+          ap (λ k. containers s.bytes_per_sample k (drop start contents)) size ∙ reads.1
+          ∙ take_all count samples (omega (arith, size));
     }
 
 -- a writer's file with its sizes
-module _ {W : Type 0} (state : W → MediumState) (w : WriterState W) (none : w.waiting ≡ []) (sound : IsSound w) (stands : IsStanding w.spec_ex w.data_start w.out (state w.medium).contents) (padded : IsPadded w (state w.medium).contents) (end : W) where
+module _ {W : Type 0} (state : W → MediumState) (w : WriterState W) (none : w.waiting ≡ [])
+    (sound : IsSound w) (stands : IsStanding w.spec_ex w.data_start w.out (state w.medium).contents)
+    (padded : IsPadded w (state w.medium).contents) (end : W) where
   abbrev p : ℕ
   p = w.data_start - 4
 
@@ -123,69 +170,138 @@ module _ {W : Type 0} (state : W → MediumState) (w : WriterState W) (none : w.
   there : p + 4 ≤ length old
   there = omega (arith, before, inside w.spec_ex w.data_start w.out old old stands)
 
-  module _ (put : (state end).contents ≡ with_sizes (w.data_start - 4) (riff_size w.data_start w.out) w.out (state w.medium).contents) where
+  module _
+      (put : (state end).contents ≡ with_sizes (w.data_start - 4)
+      (riff_size w.data_start w.out) w.out (state w.medium).contents) where
     riff_says : field 4 (state end).contents ≡ riff_size w.data_start (data_length w)
-    riff_says = ap (field 4) put ∙ riff_size_of_sizes p size w.out old (omega (arith, sound.after_head)) there (omega (arith, sound.fits, all)) ∙ ap (riff_size w.data_start) all
+    riff_says =
+        ap (field 4) put
+        ∙ riff_size_of_sizes p size w.out old (omega (arith, sound.after_head)) there
+        (omega (arith, sound.fits, all)) ∙ ap (riff_size w.data_start) all
 
     length_says : field p (state end).contents ≡ w.out
-    length_says = ap (field p) put ∙ data_length_of_sizes p size w.out old (omega (arith, sound.after_head)) there (omega (arith, sound.fits, sound.after_head, all))
+    length_says =
+        ap (field p) put
+        ∙ data_length_of_sizes p size w.out old (omega (arith, sound.after_head)) there
+        (omega (arith, sound.fits, sound.after_head, all))
 
     -- the pad byte, seen from the first data byte on
     pad_stands : StartsWith (drop w.out (drop w.data_start old)) (padding w.out)
     pad_stands = subst (λ l. StartsWith l (padding w.out)) (sym (drop-drop w.out w.data_start old))
         (subst (λ n. StartsWith (drop (w.data_start + n) old) (padding n)) (sym all) padded)
 
-    is_canonical : IsWhole state w → IsBegun state w → StartsWith (state end).contents (canonical w.spec_ex (accepted_samples state w))
+    is_canonical : IsWhole state w → IsBegun state w
+        → StartsWith (state end).contents (canonical w.spec_ex (accepted_samples state w))
     is_canonical whole ((size_before, length_before, begins), at) =
-        let long : length (header w.spec_ex size_before length_before) ≡ w.data_start = length-header w.spec_ex size_before length_before ∙ sym at in
-        let front : take w.data_start old ≡ header w.spec_ex size_before length_before = ap (λ n. take n old) (sym long) ∙ begins in
-        canonical_begins w.spec_ex (accepted_samples state w) w.out w.data_start (drop w.data_start old) (state end).contents (sym at)
-        (omega (arith, whole, length-drop w.data_start old)) (concat-samples state w none sound) pad_stands
-        (put ∙ header_with w.spec_ex size_before length_before w.data_start p before (sym at) old front size w.out)
+        let long : length (header w.spec_ex size_before length_before) ≡ w.data_start =
+        length-header w.spec_ex size_before length_before ∙ sym at in
+        let front : take w.data_start old ≡ header w.spec_ex size_before length_before =
+        ap (λ n. take n old) (sym long) ∙ begins in
+        canonical_begins w.spec_ex (accepted_samples state w) w.out w.data_start
+        (drop w.data_start old) (state end).contents (sym at)
+        (omega (arith, whole, length-drop w.data_start old))
+        (concat-samples state w none sound) pad_stands
+        (put ∙ header_with w.spec_ex size_before length_before w.data_start p before
+        (sym at) old front size w.out)
 
   -- What a patch leaves, and the answer of a call that has done one.
-  pub publishes : (patched : Result (Unit {0}) IoFault) (are_frames : Bool) (told : Result (Unit {0}) Error) → IsTold patched are_frames told → (are_frames ≡ true → AreFrames w) → AreBytes (state end).contents
-      → Patches (w.data_start - 4) (riff_size w.data_start w.out) w.out patched (state w.medium) (state end) → Publishes state w told end
+  pub publishes : (patched : Result (Unit {0}) IoFault) (are_frames : Bool)
+      (told : Result (Unit {0}) Error) → IsTold patched are_frames told
+      → (are_frames ≡ true → AreFrames w) → AreBytes (state end).contents
+      → Patches (w.data_start - 4) (riff_size w.data_start w.out) w.out patched (state w.medium)
+      (state end) → Publishes state w told end
   publishes patched are_frames told is frames small patches =
       let same = patches.same in
-      let long : w.data_start ≤ length (state end).contents = omega (arith, before, there, same.long) in
-      let samples : drop w.data_start (state end).contents ≡ drop w.data_start old = (λ i. drop (sym before i) (state end).contents) ∙ same.behind ∙ (λ i. drop (before i) old) in
-      let still = stands_patched w.spec_ex w.data_start w.out old (state end).contents stands patches.torn.0 same patches.torn.2 in
-      let counts : IsWhole state w → Counts w.spec_ex w.data_start (accepted_samples state w) (state end).contents =
-      λ whole. counts_at state w sound (whole_out state w none sound) (state end).contents whole still (ap (take w.out) samples) in
-      let data_after : (c : List ℕ) → drop (data_end w) c ≡ drop (data_length w) (drop w.data_start c) = λ c. sym (drop-drop (data_length w) w.data_start c) in
-      let behind : drop (data_end w) (state end).contents ≡ drop (data_end w) old = data_after (state end).contents ∙ ap (drop (data_length w)) samples ∙ sym (data_after old) in
+      let long : w.data_start ≤ length (state end).contents =
+      omega (arith, before, there, same.long) in
+      let samples : drop w.data_start (state end).contents ≡ drop w.data_start old =
+      (λ i. drop (sym before i) (state end).contents) ∙ same.behind
+      ∙ (λ i. drop (before i) old) in
+      let still =
+      stands_patched w.spec_ex w.data_start w.out old
+      (state end).contents stands patches.torn.0 same patches.torn.2 in
+      let counts : IsWhole state w
+      → Counts w.spec_ex w.data_start (accepted_samples state w) (state end).contents =
+      λ whole. counts_at state w sound (whole_out state w none sound)
+      (state end).contents whole still (ap (take w.out) samples) in
+      let data_after : (c : List ℕ)
+      → drop (data_end w) c ≡ drop (data_length w) (drop w.data_start c) =
+      λ c. sym (drop-drop (data_length w) w.data_start c) in
+      let behind : drop (data_end w) (state end).contents ≡ drop (data_end w) old =
+      data_after (state end).contents ∙ ap (drop (data_length w)) samples
+      ∙ sym (data_after old) in
       record {
-        faults = told_faults patched are_frames told (state w.medium).faults (state end).faults is patches.faults;
+        faults =
+            told_faults patched are_frames told (state w.medium).faults
+            (state end).faults is patches.faults;
         front = record { front = same.front; middle = same.middle };
         out = λ _. ap (take w.out) samples;
         rest = drop_later (data_end w) (padded_end w) (state end).contents old (omega arith) behind;
         grows = omega (arith, same.long);
         reach = omega (arith, same.long);
         counts = counts;
-        begun = λ (header, at). begun_still w.spec_ex w.data_start old (state end).contents (sym at) (omega (arith, sound.after_head)) long small same header;
-        flushed = published ((state end).flushed ≡ length (state end).past) patched are_frames told is patches.flushed;
-        riff_says = published (field 4 (state end).contents ≡ riff_size w.data_start (data_length w)) patched are_frames told is (on_ok_then patched riff_says patches.contents);
-        length_says = published (field (w.data_start - 4) (state end).contents ≡ data_length w) patched are_frames told is (on_ok_then patched (λ put. length_says put ∙ all) patches.contents);
-        stand = λ whole. published (take (data_length w) (drop w.data_start (state end).contents) ≡ concat (accepted_samples state w)) patched are_frames told is
-            (on_ok_then patched (λ _. (λ i. take (sym all i) (samples i)) ∙ sym (concat-samples state w none sound)) patches.contents);
-        padded = published (IsPadded w (state end).contents) patched are_frames told is (on_ok patched (subst (λ l. StartsWith l (padding (data_length w))) (sym behind) padded));
-        read = λ whole. told_ok (ReadsAs w.spec_ex w.data_start (accepted_samples state w) (state end).contents) patched are_frames told is
-            (λ yes. on_ok_then patched (λ put. reads_all w.spec_ex w.data_start w.out (accepted_samples state w) (state end).contents (whole_out state w none sound)
-            (ap (λ n. n / w.spec_ex.bytes_per_sample % w.spec_ex.spec.channels) all ∙ frames yes) (length-samples state w none sound) (length_says put) (counts whole)) patches.contents);
-        canonical = λ whole begun. published (StartsWith (state end).contents (canonical w.spec_ex (accepted_samples state w))) patched are_frames told is (on_ok_then patched (λ put. is_canonical put whole begun) patches.contents);
+        begun = λ (header, at).
+            begun_still w.spec_ex w.data_start old (state end).contents (sym at)
+            (omega (arith, sound.after_head)) long small same header;
+        flushed =
+            published
+            ((state end).flushed ≡ length
+            (state end).past) patched are_frames told is patches.flushed;
+        riff_says =
+            published
+            (field 4 (state end).contents ≡ riff_size w.data_start
+            (data_length w)) patched are_frames told is
+            (on_ok_then patched riff_says patches.contents);
+        length_says =
+            published
+            (field (w.data_start - 4)
+            (state end).contents ≡ data_length w) patched are_frames told is
+            (on_ok_then patched (λ put. length_says put ∙ all) patches.contents);
+        stand = λ whole. published
+            (take (data_length w) (drop w.data_start (state end).contents) ≡ concat
+            (accepted_samples state w)) patched are_frames told is
+            (on_ok_then patched
+            (λ _. (λ i. take (sym all i) (samples i))
+            ∙ sym (concat-samples state w none sound)) patches.contents);
+        padded =
+            published (IsPadded w (state end).contents) patched are_frames told is
+            (on_ok patched
+            (subst (λ l. StartsWith l (padding (data_length w))) (sym behind) padded));
+        read = λ whole. told_ok
+            (ReadsAs w.spec_ex w.data_start (accepted_samples state w)
+            (state end).contents) patched are_frames told is
+            (λ yes. on_ok_then patched
+            (λ put. reads_all w.spec_ex w.data_start w.out (accepted_samples state w)
+            (state end).contents (whole_out state w none sound)
+            (ap (λ n. n / w.spec_ex.bytes_per_sample % w.spec_ex.spec.channels) all ∙ frames yes)
+            (length-samples state w none sound) (length_says put)
+            (counts whole)) patches.contents);
+        canonical =
+            λ whole begun. published
+            (StartsWith (state end).contents
+            (canonical w.spec_ex (accepted_samples state w))) patched are_frames told is
+            (on_ok_then patched (λ put. is_canonical put whole begun) patches.contents);
       }
 
 -- what a writer keeps after a patch, which a fault may have cut
-pub consistent_patched : {W : Type 0} (tells : Bool) (state : W → MediumState) (w : WriterState W) (end : W) (may_have_moved : Bool) (limit : ℕ) (riff : ℕ) (result : Result (Unit {0}) IoFault) → IsConsistent tells state w may_have_moved limit
-    → WhereTells tells (Patches (w.data_start - 4) riff w.out result (state w.medium) (state end)) → IsConsistent tells state (record w { medium = end }) true limit
+pub consistent_patched : {W : Type 0} (tells : Bool) (state : W → MediumState) (w : WriterState W)
+    (end : W) (may_have_moved : Bool) (limit : ℕ) (riff : ℕ) (result : Result (Unit {0}) IoFault)
+    → IsConsistent tells state w may_have_moved limit
+    → WhereTells tells (Patches (w.data_start - 4) riff w.out result (state w.medium) (state end))
+    → IsConsistent tells state (record w { medium = end }) true limit
 consistent_patched tells state w end may_have_moved limit riff result keeps patches =
     consistent_moved tells state w end may_have_moved limit keeps
-    (λ told. let p = patches told in stands_patched w.spec_ex w.data_start w.out (state w.medium).contents (state end).contents (keeps.stands told) p.torn.0 p.same p.torn.2)
+    (λ told. let p = patches told in stands_patched w.spec_ex w.data_start w.out
+    (state w.medium).contents (state end).contents (keeps.stands told) p.torn.0 p.same p.torn.2)
 
 -- a patch of a writer's fields, as contracts see it
-pub patches_seen : {W : Type 0} (state : W → MediumState) (a b : WriterState W) (riff : ℕ) (result : Result (Unit {0}) IoFault) (end : MediumState) → a ≡ b → riff ≡ riff_size a.data_start a.out
-    → Patches (a.data_start - 4) riff a.out result (state a.medium) end → Patches (b.data_start - 4) (riff_size b.data_start b.out) b.out result (state b.medium) end
+pub patches_seen : {W : Type 0} (state : W → MediumState) (a b : WriterState W) (riff : ℕ)
+    (result : Result (Unit {0}) IoFault) (end : MediumState) → a ≡ b
+    → riff ≡ riff_size a.data_start a.out
+    → Patches (a.data_start - 4) riff a.out result (state a.medium) end
+    → Patches (b.data_start - 4) (riff_size b.data_start b.out) b.out result
+    (state b.medium) end
 patches_seen state a b riff result end same is patches =
-    subst (λ w. Patches (w.data_start - 4) (riff_size w.data_start w.out) w.out result (state w.medium) end) same
+    subst (λ w. Patches (w.data_start - 4) (riff_size w.data_start w.out) w.out result
+    (state w.medium) end) same
     (subst (λ n. Patches (a.data_start - 4) n a.out result (state a.medium) end) is patches)

@@ -7,16 +7,29 @@ use Rattle.hound_medium.proofs.Overlays.{length-placed}
 use Rattle.hound_writer.specs.Publishing.{PutsFrom, place_of}
 
 -- each went to the next place
-place_placed : (at : ℕ) (bytes : List ℕ) (j : ℕ) → j < length bytes → place_of (placed at bytes) j ≡ at + j
+place_placed : (at : ℕ) (bytes : List ℕ) (j : ℕ) → j < length bytes
+    → place_of (placed at bytes) j ≡ at + j
 place_placed at [] j few = absurd (omega (arith, few))
 place_placed at (b ∷ bytes) zero few = omega arith
-place_placed at (b ∷ bytes) (suc j) few = place_placed (suc at) bytes j (omega (arith, few)) ∙ omega arith
+place_placed at (b ∷ bytes) (suc j) few =
+    place_placed (suc at) bytes j (omega (arith, few)) ∙ omega arith
 
 -- none went before the first
-pub puts_from : (p at : ℕ) (bytes : List ℕ) (old new : MediumState) → p ≤ at → new.past ≡ old.past ++ placed at bytes → PutsFrom p old new
+pub puts_from : (p at : ℕ) (bytes : List ℕ) (old new : MediumState) → p ≤ at
+    → new.past ≡ old.past ++ placed at bytes → PutsFrom p old new
 puts_from p at bytes old new le is i from to =
     let j = i - length old.past in
-    let few : j < length bytes = omega (arith, to, from, ap length is, length-append old.past (placed at bytes), length-placed at bytes) in
+    let few : j < length bytes =
+    omega (
+      arith,
+      to,
+      from,
+      ap length is,
+      length-append old.past (placed at bytes),
+      length-placed at bytes,
+    ) in
     let place : place_of new.past i ≡ at + j =
-    ap (λ l. place_of l i) is ∙ ap (λ (x : ℕ × ℕ). x.0) (get_or-append_right old.past (placed at bytes) i (0, 0) from) ∙ place_placed at bytes j few in
+    ap (λ l. place_of l i) is
+    ∙ ap (λ (x : ℕ × ℕ). x.0) (get_or-append_right old.past (placed at bytes) i (0, 0) from)
+    ∙ place_placed at bytes j few in
     omega (arith, place, le)

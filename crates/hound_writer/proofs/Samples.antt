@@ -11,13 +11,16 @@ use Rattle.hound_writer.proofs.Containers.{concat-containers, containers_cut, co
 use Rattle.hound_writer.proofs.Counted.{counts_standing, counts_more}
 
 -- so many of the bytes stand
-pub length-out : {W : Type 0} (state : W → MediumState) (w : WriterState W) → IsWhole state w → length (take w.out (drop w.data_start (state w.medium).contents)) ≡ w.out
+pub length-out : {W : Type 0} (state : W → MediumState) (w : WriterState W) → IsWhole state w
+    → length (take w.out (drop w.data_start (state w.medium).contents)) ≡ w.out
 length-out state w whole =
     let data_now = drop w.data_start (state w.medium).contents in
-    length-take-le w.out data_now (omega (arith, whole, length-drop w.data_start (state w.medium).contents))
+    length-take-le w.out data_now
+    (omega (arith, whole, length-drop w.data_start (state w.medium).contents))
 
 -- whole samples are out
-module _ {W : Type 0} (state : W → MediumState) (w : WriterState W) (sound : IsSound w) (whole_out : w.out % w.spec_ex.bytes_per_sample ≡ 0) where
+module _ {W : Type 0} (state : W → MediumState) (w : WriterState W) (sound : IsSound w)
+    (whole_out : w.out % w.spec_ex.bytes_per_sample ≡ 0) where
   abbrev wide : ℕ
   wide = w.spec_ex.bytes_per_sample
 
@@ -25,18 +28,30 @@ module _ {W : Type 0} (state : W → MediumState) (w : WriterState W) (sound : I
   first = take w.out (drop w.data_start (state w.medium).contents)
 
   -- more whole samples in the writer are more accepted ones
-  pub samples_more : (bytes : List ℕ) → IsWhole state w → data_length w % w.spec_ex.bytes_per_sample ≡ 0
-      → accepted_samples state (record w { waiting = w.waiting ++ bytes }) ≡ accepted_samples state w ++ containers w.spec_ex.bytes_per_sample (length bytes / w.spec_ex.bytes_per_sample) bytes
+  pub samples_more : (bytes : List ℕ) → IsWhole state w
+      → data_length w % w.spec_ex.bytes_per_sample ≡ 0
+      → accepted_samples state
+      (record w { waiting = w.waiting ++ bytes }) ≡ accepted_samples state w
+      ++ containers w.spec_ex.bytes_per_sample (length bytes / w.spec_ex.bytes_per_sample) bytes
   samples_more bytes whole samples =
-      let size : length (accepted_bytes state w) ≡ data_length w = length-append first w.waiting ∙ ap (λ n. n + length w.waiting) (length-out state w whole) in
-      let all : w.out + length (w.waiting ++ bytes) ≡ length (accepted_bytes state w) + length bytes = omega (arith, length-append w.waiting bytes, size) in
+      let size : length (accepted_bytes state w) ≡ data_length w =
+      length-append first w.waiting
+      ∙ ap (λ n. n + length w.waiting) (length-out state w whole) in
+      let all : w.out + length (w.waiting ++ bytes) ≡ length
+      (accepted_bytes state w) + length bytes =
+      omega (arith, length-append w.waiting bytes, size) in
       (λ i. containers wide (all i / wide) (sym (append_assoc first w.waiting bytes) i))
-      ∙ containers_join wide (accepted_bytes state w) bytes sound.width (ap (λ n. n % wide) size ∙ samples)
-      ∙ (λ i. containers wide (size i / wide) (accepted_bytes state w) ++ containers wide (length bytes / wide) bytes)
+      ∙ containers_join wide (accepted_bytes state w) bytes sound.width
+      (ap (λ n. n % wide) size ∙ samples)
+      ∙ (λ i. containers wide (size i / wide) (accepted_bytes state w) ++ containers wide
+      (length bytes / wide) bytes)
 
   -- those that are out, and those that wait
   pub samples_parts : IsWhole state w
-      → accepted_samples state w ≡ containers w.spec_ex.bytes_per_sample (w.out / w.spec_ex.bytes_per_sample) (drop w.data_start (state w.medium).contents) ++ containers w.spec_ex.bytes_per_sample (length w.waiting / w.spec_ex.bytes_per_sample) w.waiting
+      → accepted_samples state w ≡ containers w.spec_ex.bytes_per_sample
+      (w.out / w.spec_ex.bytes_per_sample)
+      (drop w.data_start (state w.medium).contents) ++ containers w.spec_ex.bytes_per_sample
+      (length w.waiting / w.spec_ex.bytes_per_sample) w.waiting
   samples_parts whole =
       let data_now = drop w.data_start (state w.medium).contents in
       let size = length-out state w whole in
@@ -46,17 +61,24 @@ module _ {W : Type 0} (state : W → MediumState) (w : WriterState W) (sound : I
       ((λ i. containers wide (size i / wide) first) ∙ containers_cut w.out wide data_now whole_out)
 
   -- where the head stands and the bytes that are out are the same they count
-  pub counts_at : (c : List ℕ) → IsWhole state w → IsStanding w.spec_ex w.data_start w.out c → take w.out (drop w.data_start c) ≡ take w.out (drop w.data_start (state w.medium).contents)
+  pub counts_at : (c : List ℕ) → IsWhole state w → IsStanding w.spec_ex w.data_start w.out c
+      → take w.out (drop w.data_start c) ≡ take w.out (drop w.data_start (state w.medium).contents)
       → Counts w.spec_ex w.data_start (accepted_samples state w) c
   counts_at c whole stands same =
       let data_now = drop w.data_start (state w.medium).contents in
-      let cut : (l : List ℕ) → take (w.out / wide * wide) l ≡ take w.out l = λ l. ap (λ k. take k l) (count_bytes w.out wide whole_out) in
-      let out_same : containers wide (w.out / wide) (drop w.data_start c) ≡ containers wide (w.out / wide) data_now =
-      containers_front wide (w.out / wide) (drop w.data_start c) data_now (cut (drop w.data_start c) ∙ same ∙ sym (cut data_now)) in
+      let cut : (l : List ℕ) → take (w.out / wide * wide) l ≡ take w.out l =
+      λ l. ap (λ k. take k l) (count_bytes w.out wide whole_out) in
+      let out_same : containers wide (w.out / wide) (drop w.data_start c) ≡ containers wide
+      (w.out / wide) data_now =
+      containers_front wide (w.out / wide) (drop w.data_start c) data_now
+      (cut (drop w.data_start c) ∙ same ∙ sym (cut data_now)) in
       let waiting = containers wide (length w.waiting / wide) w.waiting in
-      subst (λ l. Counts w.spec_ex w.data_start l c) (ap (λ l. l ++ waiting) out_same ∙ sym (samples_parts whole))
-      (counts_more w.spec_ex w.data_start (containers wide (w.out / wide) (drop w.data_start c)) waiting c sound.width
-      (counts_standing w.spec_ex w.data_start w.out c sound.width whole_out stands.head stands.counted))
+      subst (λ l. Counts w.spec_ex w.data_start l c)
+      (ap (λ l. l ++ waiting) out_same ∙ sym (samples_parts whole))
+      (counts_more w.spec_ex w.data_start
+      (containers wide (w.out / wide) (drop w.data_start c)) waiting c sound.width
+      (counts_standing w.spec_ex w.data_start w.out c sound.width whole_out stands.head
+      stands.counted))
 
 -- a writer in which nothing waits
 module _ {W : Type 0} (state : W → MediumState) (w : WriterState W) (none : w.waiting ≡ []) where
@@ -71,28 +93,39 @@ module _ {W : Type 0} (state : W → MediumState) (w : WriterState W) (none : w.
     whole_out = ap (λ n. n % width) (sym length_out) ∙ sound.whole
 
     -- they are the first containers of the data
-    pub samples_out : accepted_samples state w ≡ containers w.spec_ex.bytes_per_sample (w.out / w.spec_ex.bytes_per_sample) (drop w.data_start (state w.medium).contents)
+    pub samples_out : accepted_samples state w ≡ containers w.spec_ex.bytes_per_sample
+        (w.out / w.spec_ex.bytes_per_sample) (drop w.data_start (state w.medium).contents)
     samples_out =
         let bytes = take w.out (drop w.data_start (state w.medium).contents) in
-        (λ i. containers width (length_out i / width) ((ap (λ l. bytes ++ l) none ∙ append-nil bytes) i))
+        (λ i. containers width (length_out i / width)
+        ((ap (λ l. bytes ++ l) none ∙ append-nil bytes) i))
         ∙ containers_cut w.out width (drop w.data_start (state w.medium).contents) whole_out
 
     -- of any contents with the same data
-    pub samples_same : (c : List ℕ) → take w.out (drop w.data_start c) ≡ take w.out (drop w.data_start (state w.medium).contents)
-        → containers w.spec_ex.bytes_per_sample (w.out / w.spec_ex.bytes_per_sample) (drop w.data_start c) ≡ accepted_samples state w
+    pub samples_same : (c : List ℕ)
+        → take w.out (drop w.data_start c) ≡ take w.out
+        (drop w.data_start (state w.medium).contents)
+        → containers w.spec_ex.bytes_per_sample (w.out / w.spec_ex.bytes_per_sample)
+        (drop w.data_start c) ≡ accepted_samples state w
     samples_same c same =
-        containers_front width (w.out / width) (drop w.data_start c) (drop w.data_start (state w.medium).contents)
+        containers_front width (w.out / width) (drop w.data_start c)
+        (drop w.data_start (state w.medium).contents)
         (first c ∙ same ∙ sym (first (state w.medium).contents))
         ∙ sym samples_out
       where
-        first : (c : List ℕ) → take (w.out / width * width) (drop w.data_start c) ≡ take w.out (drop w.data_start c)
+        first : (c : List ℕ)
+            → take (w.out / width * width) (drop w.data_start c) ≡ take w.out (drop w.data_start c)
         first c = ap (λ k. take k (drop w.data_start c)) (count_bytes w.out width whole_out)
 
     pub length-samples : length (accepted_samples state w) ≡ w.out / w.spec_ex.bytes_per_sample
-    length-samples = ap length samples_out ∙ length-containers width (w.out / width) (drop w.data_start (state w.medium).contents)
+    length-samples =
+        ap length samples_out
+        ∙ length-containers width (w.out / width) (drop w.data_start (state w.medium).contents)
 
     -- joined they are the data
-    pub concat-samples : concat (accepted_samples state w) ≡ take w.out (drop w.data_start (state w.medium).contents)
+    pub concat-samples : concat (accepted_samples state w) ≡ take w.out
+        (drop w.data_start (state w.medium).contents)
     concat-samples =
         let bytes = drop w.data_start (state w.medium).contents in
-        ap concat samples_out ∙ concat-containers width (w.out / width) bytes ∙ ap (λ k. take k bytes) (count_bytes w.out width whole_out)
+        ap concat samples_out ∙ concat-containers width (w.out / width) bytes
+        ∙ ap (λ k. take k bytes) (count_bytes w.out width whole_out)

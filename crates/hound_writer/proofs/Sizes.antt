@@ -9,7 +9,8 @@ use Rattle.hound_writer.specs.Sizes.{field, SameButSizes}
 pub same_reflexive : (p : ℕ) (c : List ℕ) → SameButSizes p c c
 same_reflexive p c = record { front = refl; middle = refl; behind = refl; long = refl }
 
-pub same_transitive : (p : ℕ) (a b c : List ℕ) → SameButSizes p a b → SameButSizes p b c → SameButSizes p a c
+pub same_transitive : (p : ℕ) (a b c : List ℕ) → SameButSizes p a b → SameButSizes p b c
+    → SameButSizes p a c
 same_transitive p a b c ab bc = record {
   front = bc.front ∙ ab.front;
   middle = bc.middle ∙ ab.middle;
@@ -26,13 +27,17 @@ module _ (p : ℕ) (c : List ℕ) (behind : 8 ≤ p) (inside : p + 4 ≤ length 
     pub same_riff : SameButSizes p c (overlay c (placed 4 bs))
     same_riff = record {
       front = take_before c 4 bs fits_front 4 (omega arith);
-      middle = sym (between_is (overlay c (placed 4 bs)) 8 p) ∙ ap (take (p - 8)) (drop_behind c 4 bs fits_front 8 (omega (arith, few))) ∙ between_is c 8 p;
+      middle =
+          sym (between_is (overlay c (placed 4 bs)) 8 p)
+          ∙ ap (take (p - 8)) (drop_behind c 4 bs fits_front 8 (omega (arith, few)))
+          ∙ between_is c 8 p;
       behind = drop_behind c 4 bs fits_front (p + 4) (omega (arith, few, behind));
       long = same_size c 4 bs fits_front;
     }
 
     pub field_riff : field p (overlay c (placed 4 bs)) ≡ field p c
-    field_riff = ap (λ l. number (take 4 l)) (drop_behind c 4 bs fits_front p (omega (arith, few, behind)))
+    field_riff =
+        ap (λ l. number (take 4 l)) (drop_behind c 4 bs fits_front p (omega (arith, few, behind)))
 
   -- bytes at p leave the rest
   module _ (bs : List ℕ) (few : length bs ≤ 4) where

@@ -16,16 +16,27 @@ module _ (s : WavSpecEx) (start n : ℕ) (old new : List ℕ) (stands : IsStandi
   pub stands_front : take start new ≡ take start old → start ≤ length new → IsStanding s start n new
   stands_front same long = record {
     head = head_front old s (field (start - 4) old) start stands.head new same long;
-    counted = omega (arith, stands.counted, ap number (front_part start (start - 4) 4 new old (omega (arith, head_behind old s (field (start - 4) old) start stands.head)) same));
+    counted =
+        omega (
+          arith,
+          stands.counted,
+          ap number
+              (front_part start (start - 4) 4 new old
+              (omega (arith, head_behind old s (field (start - 4) old) start stands.head)) same),
+        );
   }
 
   -- so does a patch, also one that a fault has cut
-  pub stands_patched : (k : ℕ) → SameButSizes (start - 4) old new → field (start - 4) new ≡ mix k (field (start - 4) old) n → IsStanding s start n new
+  pub stands_patched : (k : ℕ) → SameButSizes (start - 4) old new
+      → field (start - 4) new ≡ mix k (field (start - 4) old) n → IsStanding s start n new
   stands_patched k same torn = record {
-    head = head_with old s (field (start - 4) old) start stands.head new (omega (arith, inside, same.long)) same.front same.middle;
+    head = head_with old s (field (start - 4) old) start stands.head new
+        (omega (arith, inside, same.long)) same.front same.middle;
     counted = omega (arith, torn, mix_le k (field (start - 4) old) n stands.counted);
   }
 
 -- more bytes count at least as much
-pub stands_more : (s : WavSpecEx) (start n m : ℕ) (contents : List ℕ) → n ≤ m → IsStanding s start n contents → IsStanding s start m contents
-stands_more s start n m contents le stands = record { head = stands.head; counted = omega (arith, le, stands.counted) }
+pub stands_more : (s : WavSpecEx) (start n m : ℕ) (contents : List ℕ) → n ≤ m
+    → IsStanding s start n contents → IsStanding s start m contents
+stands_more s start n m contents le stands =
+    record { head = stands.head; counted = omega (arith, le, stands.counted) }

@@ -17,67 +17,99 @@ use Rattle.hound_writer.proofs.Accepting.{accepts_refused}
 use Rattle.hound_writer.proofs.Keeping.{consistent_seen}
 use Rattle.hound_writer.proofs.Containers.{container_alone, joined_bytes}
 use Rattle.hound_writer.proofs.Samples.{counts_at}
+use Rattle.hound_spec.specs.FmtChunk.{greatest_u32}
 
 -- there is no room: the test of it says so
-pub no_room : {W : Type 0} (w : WriterState W) (n : ℕ) → (HasRoom w n → ⊥) → nat_le (riff_size w.data_start (data_length w + n)) 4294967295 ≡ false
+pub no_room : {W : Type 0} (w : WriterState W) (n : ℕ) → (HasRoom w n → ⊥)
+    → nat_le (riff_size w.data_start (data_length w + n)) greatest_u32 ≡ false
 no_room w n none = test (riff_size w.data_start (data_length w + n)) none
   where
-    test : (n : ℕ) → (n ≤ 4294967295 → ⊥) → nat_le n 4294967295 ≡ false
+    test : (n : ℕ) → (n ≤ greatest_u32 → ⊥) → nat_le n greatest_u32 ≡ false
     test n none = grind (arith, nat_tests)
 
 -- the file has no room for so many bytes
-pub bytes_too_long : {W : Type 0} (tells keeps : Bool) (state : W → MediumState) (w : WriterState W) (bytes : List ℕ) → WhereTells tells (IsWhole state w → IsCounted state w)
-    → WhereKeeps tells keeps ((state w.medium).contents ≡ overlay (state w.medium).start (state w.medium).past) → length bytes % w.spec_ex.bytes_per_sample ≡ 0 → (HasRoom w (length bytes) → ⊥)
-    → Accepts tells keeps state false (Ok (containers w.spec_ex.bytes_per_sample (length bytes / w.spec_ex.bytes_per_sample) bytes)) (Err TooLong) w w
+pub bytes_too_long : {W : Type 0} (tells keeps : Bool) (state : W → MediumState) (w : WriterState W)
+    (bytes : List ℕ) → WhereTells tells (IsWhole state w → IsCounted state w)
+    → WhereKeeps tells keeps
+    ((state w.medium).contents ≡ overlay (state w.medium).start (state w.medium).past)
+    → length bytes % w.spec_ex.bytes_per_sample ≡ 0 → (HasRoom w (length bytes) → ⊥)
+    → Accepts tells keeps state false
+    (Ok (containers w.spec_ex.bytes_per_sample
+    (length bytes / w.spec_ex.bytes_per_sample) bytes)) (Err TooLong) w w
 bytes_too_long tells keeps state w bytes counts replays whole none =
     let width = w.spec_ex.bytes_per_sample in
     let list = containers width (length bytes / width) bytes in
     accepts_refused tells keeps state w false (Ok list) TooLong counts replays refl (λ _. refl)
-    (subst (λ b. FitAnswer {T = Unit {0}} b false (Err TooLong)) (sym (no_room w (length (concat list)) (λ room. none (omega (arith, room, ap length (joined_bytes width bytes whole)))))) refl)
+    (subst (λ b. FitAnswer {T = Unit {0}} b false (Err TooLong))
+    (sym (no_room w (length (concat list))
+    (λ room. none (omega (arith, room, ap length (joined_bytes width bytes whole)))))) refl)
 
 -- a refusal that isn't `TooWide`
-pub else_unsupported : (asked : Result (List ℕ) Refusal) (e : Error) → IsEncoded asked (Err e) → (e ≡ TooWide → ⊥) → e ≡ Unsupported
+pub else_unsupported : (asked : Result (List ℕ) Refusal) (e : Error) → IsEncoded asked (Err e)
+    → (e ≡ TooWide → ⊥) → e ≡ Unsupported
 else_unsupported (Ok c) e is other = cc
 else_unsupported (Err too_wide) e is other = let same : e ≡ TooWide = cc in absurd (other same)
 else_unsupported (Err unsupported) e is other = cc
 
 -- a table of containers, and a writer by its fields and by its value
-module _ {W : Type 0} (tells keeps : Bool) (state : W → MediumState) (container : ℕ → ℕ → Result (List ℕ) Refusal) (may_have_moved : Bool) (limit : ℕ) (a w : WriterState W) (same : a ≡ w)
+module _ {W : Type 0} (tells keeps : Bool) (state : W → MediumState)
+    (container : ℕ → ℕ → Result (List ℕ) Refusal) (may_have_moved : Bool) (limit : ℕ)
+    (a w : WriterState W) (same : a ≡ w)
     (consistent : IsConsistent tells state a may_have_moved limit) where
   abbrev asked : Result (List ℕ) Refusal
   asked = container w.spec_ex.spec.bits_per_sample w.spec_ex.bytes_per_sample
 
-  same_asked : container a.spec_ex.spec.bits_per_sample a.spec_ex.bytes_per_sample ≡ container w.spec_ex.spec.bits_per_sample w.spec_ex.bytes_per_sample
-  same_asked = λ i. container (same i).spec_ex.spec.bits_per_sample (same i).spec_ex.bytes_per_sample
+  same_asked : container a.spec_ex.spec.bits_per_sample a.spec_ex.bytes_per_sample
+      ≡ container w.spec_ex.spec.bits_per_sample w.spec_ex.bytes_per_sample
+  same_asked =
+      λ i. container (same i).spec_ex.spec.bits_per_sample (same i).spec_ex.bytes_per_sample
 
   kept : IsConsistent tells state w may_have_moved limit
   kept = consistent_seen tells state may_have_moved may_have_moved limit a w same refl consistent
 
   counts : WhereTells tells (IsWhole state w → IsCounted state w)
-  counts told whole = counts_at state w kept.sound kept.whole_out (state w.medium).contents whole (kept.stands told) refl
+  counts told whole =
+      counts_at state w kept.sound kept.whole_out (state w.medium).contents whole
+      (kept.stands told) refl
 
-  module _ (replays : WhereKeeps tells keeps ((state w.medium).contents ≡ overlay (state w.medium).start (state w.medium).past)) where
+  module _
+      (replays : WhereKeeps tells keeps
+      ((state w.medium).contents ≡ overlay (state w.medium).start (state w.medium).past)) where
     -- the type refuses it
-    pub sample_refused : (e : Error) → IsEncoded (container a.spec_ex.spec.bits_per_sample a.spec_ex.bytes_per_sample) (Err e)
-        → Accepts tells keeps state false (one (container w.spec_ex.spec.bits_per_sample w.spec_ex.bytes_per_sample)) (Err e) w w
+    pub sample_refused : (e : Error)
+        → IsEncoded (container a.spec_ex.spec.bits_per_sample a.spec_ex.bytes_per_sample) (Err e)
+        → Accepts tells keeps state false
+        (one (container w.spec_ex.spec.bits_per_sample w.spec_ex.bytes_per_sample)) (Err e) w w
     sample_refused e encoded = go asked (subst (λ r. IsEncoded r (Err e)) same_asked encoded)
       where
-        go : (asked : Result (List ℕ) Refusal) → IsEncoded asked (Err e) → Accepts tells keeps state false (one asked) (Err e) w w
+        go : (asked : Result (List ℕ) Refusal) → IsEncoded asked (Err e)
+            → Accepts tells keeps state false (one asked) (Err e) w w
         go (Ok c) is = cc
         go (Err too_wide) is =
             let e_is : e ≡ TooWide = cc in
             subst (λ x. Accepts tells keeps state false (Err too_wide) (Err x) w w) (sym e_is)
-            (accepts_refused tells keeps state w false (Err too_wide) TooWide counts replays refl (λ _. refl) refl)
+            (accepts_refused tells keeps state w false (Err too_wide) TooWide counts replays refl
+            (λ _. refl) refl)
         go (Err unsupported) is =
             let e_is : e ≡ Unsupported = cc in
             subst (λ x. Accepts tells keeps state false (Err unsupported) (Err x) w w) (sym e_is)
-            (accepts_refused tells keeps state w false (Err unsupported) Unsupported counts replays refl (λ _. refl) refl)
+            (accepts_refused tells keeps state w false
+            (Err unsupported) Unsupported counts replays refl (λ _. refl) refl)
 
   -- its container was asked to be accepted
-  pub sample_accepts : (c bytes : List ℕ) (answer : Result (Unit {0}) Error) (new : WriterState W) → container w.spec_ex.spec.bits_per_sample w.spec_ex.bytes_per_sample ≡ Ok c → bytes ≡ c → length c ≡ w.spec_ex.bytes_per_sample
-      → Accepts tells keeps state false (Ok (containers w.spec_ex.bytes_per_sample (length bytes / w.spec_ex.bytes_per_sample) bytes)) answer w new
-      → Accepts tells keeps state false (one (container w.spec_ex.spec.bits_per_sample w.spec_ex.bytes_per_sample)) answer w new
+  pub sample_accepts : (c bytes : List ℕ) (answer : Result (Unit {0}) Error) (new : WriterState W)
+      → container w.spec_ex.spec.bits_per_sample w.spec_ex.bytes_per_sample ≡ Ok c → bytes ≡ c
+      → length c ≡ w.spec_ex.bytes_per_sample
+      → Accepts tells keeps state false
+      (Ok (containers w.spec_ex.bytes_per_sample
+      (length bytes / w.spec_ex.bytes_per_sample) bytes)) answer w new
+      → Accepts tells keeps state false
+      (one (container w.spec_ex.spec.bits_per_sample w.spec_ex.bytes_per_sample)) answer w new
   sample_accepts c bytes answer new is cut size accepts =
-      let all : containers w.spec_ex.bytes_per_sample (length bytes / w.spec_ex.bytes_per_sample) bytes ≡ c ∷ [] =
-      container_alone w.spec_ex.bytes_per_sample bytes kept.sound.width (ap length cut ∙ size) ∙ ap (λ (l : List ℕ). l ∷ []) cut in
-      subst (λ r. Accepts tells keeps state false (one r) answer w new) (sym is) (subst (λ (l : List (List ℕ)). Accepts tells keeps state false (Ok l) answer w new) all accepts)
+      let all : containers w.spec_ex.bytes_per_sample
+      (length bytes / w.spec_ex.bytes_per_sample) bytes ≡ c ∷ [] =
+      container_alone w.spec_ex.bytes_per_sample bytes kept.sound.width (ap length cut ∙ size)
+      ∙ ap (λ (l : List ℕ). l ∷ []) cut in
+      subst (λ r. Accepts tells keeps state false (one r) answer w new) (sym is)
+      (subst (λ (l : List (List ℕ)).
+      Accepts tells keeps state false (Ok l) answer w new) all accepts)

@@ -8,6 +8,7 @@ use Rattle.hound_sample.specs.Container.{Refusal}
 use Rattle.hound_sample.specs.Encoding.{error_of}
 use Rattle.hound_medium.specs.State.{one_more}
 use Rattle.hound_writer.specs.Writer.{WriterState, AreFrames, data_length}
+use Rattle.hound_spec.specs.FmtChunk.{greatest_u32}
 
 -- the medium failed
 abbrev pub IsIoError : Error → Type 0
@@ -70,7 +71,7 @@ abbrev pub AcceptAnswer : {T W : Type 0} → Bool → Result (List (List ℕ)) R
 AcceptAnswer memory (Err refusal) w answer = answer ≡ Err (error_of refusal)
 AcceptAnswer memory (Ok list) w answer =
     let size = riff_size w.data_start (data_length w + length (concat list)) in
-    FitAnswer (nat_le size 4294967295) memory answer
+    FitAnswer (nat_le size greatest_u32) memory answer
 
 -- the answer of a call that publishes: Ok exactly for whole frames, else `UnfinishedSample`; or an
 -- `IoError`

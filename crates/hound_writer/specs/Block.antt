@@ -12,6 +12,7 @@ use Rattle.hound_writer.specs.Publishing.{PutsFrom}
 use Rattle.hound_writer.specs.declared.outcome.Outcome.{Outcome}
 use Rattle.hound_writer.specs.declared.outcome.Outcome.TheVariants.{Accepted, OutOfRange, WrongPair, NoRoom, Failed}
 use Rattle.hound_writer.specs.Writer.{WriterState, IsSound, IsWhole, IsCounted, accepted_samples, data_length}
+use Rattle.hound_spec.specs.FmtChunk.{greatest_u32}
 
 -- Ok where all went out, else an Err
 abbrev pub all_out : Bool → Result (Unit {0}) (Unit {0})
@@ -80,4 +81,4 @@ pub record GoesOut {W : Type 0} (tells keeps : Bool) (state : W → MediumState)
 -- file for a whole block.
 pub record IsLimit (start out limit : ℕ) : Type 0 where
   pub block : limit ≤ 4093
-  pub file : 1 ≤ limit → riff_size start (out + 4096) ≤ 4294967295
+  pub file : 1 ≤ limit → riff_size start (out + 4096) ≤ greatest_u32

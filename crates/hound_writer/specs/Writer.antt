@@ -7,6 +7,7 @@ use Rattle.hound_spec.specs.Writable.{IsPair}
 use Rattle.hound_sample.specs.Container.{containers}
 use Rattle.hound_medium.specs.State.{MediumState}
 use Rattle.hound_writer.specs.Counts.{Counts}
+use Rattle.hound_spec.specs.FmtChunk.{greatest_u32}
 
 -- A writer: its medium, the spec, the place of the first data byte, how many bytes of the accepted
 -- samples are out, and the others, which wait in the writer. Then the memory that it keeps for
@@ -45,18 +46,19 @@ AreFrames w = sample_count w % w.spec_ex.spec.channels ≡ 0
 
 -- the RIFF size of the file with so many more bytes fits 32 bits
 abbrev pub HasRoom : {W : Type 0} → WriterState W → ℕ → Type 0
-HasRoom w more = riff_size w.data_start (data_length w + more) ≤ 4294967295
+HasRoom w more = riff_size w.data_start (data_length w + more) ≤ greatest_u32
 
 -- What holds of every writer, whatever its medium tells: its bits and width are a known pair, it
 -- can divide by the channels and the width, its samples are whole, and the RIFF size fits its
 -- field.
 pub record IsSound {W : Type 0} (w : WriterState W) : Type 0 where
-  pub pair : IsPair w.spec_ex.spec.sample_format w.spec_ex.spec.bits_per_sample w.spec_ex.bytes_per_sample
+  pub pair : IsPair w.spec_ex.spec.sample_format w.spec_ex.spec.bits_per_sample
+      w.spec_ex.bytes_per_sample
   pub channels : 1 ≤ w.spec_ex.spec.channels
   pub width : 1 ≤ w.spec_ex.bytes_per_sample
   pub whole : data_length w % w.spec_ex.bytes_per_sample ≡ 0
   pub after_head : 20 ≤ w.data_start
-  pub fits : riff_size w.data_start (data_length w) ≤ 4294967295
+  pub fits : riff_size w.data_start (data_length w) ≤ greatest_u32
 
 -- The accepted bytes: those that are out stand where the data begin, and those that wait follow
 -- them.

@@ -1,8 +1,8 @@
 // Appending to files that are there.
-ghost use Rattle.std.specs.Prelude.{◌≡◌, ◌≤◌, MatchResult};
+ghost use Rattle.std.specs.Prelude.{◌≡◌, MatchResult};
 ghost use Rattle.hound_medium.specs.State.{WhereTells};
 ghost use Rattle.hound_reader.specs.Fmt.{IsSoundSpec};
-ghost use Rattle.hound_reader.specs.Chunks.{Head};
+ghost use Rattle.hound_reader.specs.Chunks.{Head, IsDataPlace};
 ghost use Rattle.hound_writer.specs.Appending.{Appends, IsNotAppended, FailsCheck, head_fault};
 ghost use Rattle.hound_reader.specs.Refusals.{Names};
 
@@ -24,7 +24,7 @@ fn refused(cause: Cause) -> Error
 #[tactic(auto, unfolding(crate::specs::Appending::head_fault))]
 fn check_head(head: FileHead) -> Result<()>
     requires sound { IsSoundSpec head.spec_ex }
-    requires start { (20 ≤ head.data_start) × (head.data_start ≤ 4294967315) }
+    requires start { IsDataPlace head.data_start }
     ensures { FailsCheck result (head_fault head.spec_ex head.data_length head.data_start) }
 {
     let spec = head.spec_ex.spec;
@@ -50,8 +50,9 @@ pub(crate) fn append_at<W: Medium>(
     head: FileHead,
 ) -> result::Result<WavWriter<W>, (W, Error)>
     requires sound { IsSoundSpec head.spec_ex }
-    requires start { (20 ≤ head.data_start) × (head.data_start ≤ 4294967315) }
-    requires head { WhereTells W.tells (Head (W.state writer).contents head.spec_ex head.data_length head.data_start) }
+    requires start { IsDataPlace head.data_start }
+    requires head { WhereTells W.tells
+        (Head (W.state writer).contents head.spec_ex head.data_length head.data_start) }
     ensures { MatchResult result (Appends W.tells W.state (W.state writer))
         (λ refused. WhereTells W.tells (IsNotAppended (W.state writer) (W.state refused.0) refused.1)) }
 {

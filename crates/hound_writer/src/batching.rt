@@ -23,8 +23,10 @@ impl<W: Medium> Output<W> {
     // Has memory for so many bytes.
     fn keep(&mut self, alloc: Global, num_bytes: usize) -> Result<()>
         ensures stays { self.new ≡ record self.old { buffer = self.new.buffer } }
-        ensures kept { OnOk result (length self.new.buffer ≡ max (length self.old.buffer) num_bytes) }
-        ensures refused { IfErr result (λ e. (e ≡ OutOfMemory) × (self.new ≡ self.old) × (length self.old.buffer < num_bytes)) }
+        ensures kept { OnOk result (length self.new.buffer
+            ≡ max (length self.old.buffer) num_bytes) }
+        ensures refused { IfErr result (λ e. (e ≡ OutOfMemory) × (self.new ≡ self.old)
+            × (length self.old.buffer < num_bytes)) }
     {
         let mut buffer = match self.buffer.take() {
             Some(buffer) => buffer,
@@ -39,7 +41,8 @@ impl<W: Medium> Output<W> {
 // Fills up with zeros, where a buffer is shorter.
 fn grow(buffer: &mut Vec<u8>, num_bytes: usize) -> Result<()>
     ensures kept { OnOk result (length buffer.new.items ≡ max (length buffer.old.items) num_bytes) }
-    ensures refused { IfErr result (λ e. (e ≡ OutOfMemory) × (buffer.new.items ≡ buffer.old.items) × (length buffer.old.items < num_bytes)) }
+    ensures refused { IfErr result (λ e. (e ≡ OutOfMemory) × (buffer.new.items ≡ buffer.old.items)
+        × (length buffer.old.items < num_bytes)) }
 {
     if buffer.len() >= num_bytes {
         return Ok(());
@@ -66,7 +69,8 @@ impl<W: Medium> Output<W> {
     fn store_sample(&mut self, index: usize, value: i16)
         requires { index + 2 ≤ length self.old.buffer }
         ensures stays { self.new ≡ record self.old { buffer = self.new.buffer } }
-        ensures written { take (index + 2) self.new.buffer ≡ take index self.old.buffer ++ signed_bytes_of 2 value }
+        ensures written { take (index + 2) self.new.buffer ≡ take index self.old.buffer
+            ++ signed_bytes_of 2 value }
         ensures kept { length self.new.buffer ≡ length self.old.buffer }
     {
         if let Some(buffer) = &mut self.buffer {
@@ -79,7 +83,8 @@ impl<W: Medium> Output<W> {
         requires memory { num_bytes ≤ length self.old.buffer }
         requires few { num_bytes ≤ 2 ^ 33 }
         requires whole { num_bytes % self.old.spec_ex.bytes_per_sample ≡ 0 }
-        ensures accepts { let bytes = take num_bytes self.old.buffer in Accepts W.tells W.keeps W.state false
+        ensures accepts { let bytes = take num_bytes self.old.buffer in
+            Accepts W.tells W.keeps W.state false
             (Ok (containers self.old.spec_ex.bytes_per_sample (length bytes / self.old.spec_ex.bytes_per_sample) bytes))
             result self.old self.new }
         ensures buffer { self.new.buffer ≡ self.old.buffer }
@@ -112,15 +117,19 @@ impl<W: Medium> WavWriter<W> {
         num_samples: u32,
     ) -> Result<SampleWriter16<'s, W>>
         requires { IsSixteen self.old.spec_ex }
-        ensures* unchanged { sem 𝓛 (RestsIfErr (the_row W.row W.Placed) self.entry batch_lender result (λ last. last ≡ self.old)) }
+        ensures* unchanged { sem 𝓛 (RestsIfErr
+            (the_row W.row W.Placed) self.entry batch_lender result (λ last. last ≡ self.old)) }
         ensures lender { IfOk result (λ batch. batch_lender batch ≡ self.entry.ghost_name) }
         ensures too_long { (HasRoom self.old (2 * num_samples) → ⊥) → result ≡ Err TooLong }
         ensures room { OnOk result (HasRoom self.old (2 * num_samples)) }
         ensures width { OnOk result (self.old.spec_ex.bytes_per_sample ≡ 2) }
-        ensures no_memory { HasRoom self.old (2 * num_samples) → IfErr result (λ e. (e ≡ OutOfMemory) × (length self.old.buffer < 2 * num_samples)) }
-        ensures size { IfOk result (λ batch. (remaining batch ≡ num_samples) × (batch_bytes batch ≡ [])) }
+        ensures no_memory { HasRoom self.old (2 * num_samples) → IfErr result (λ e.
+            (e ≡ OutOfMemory) × (length self.old.buffer < 2 * num_samples)) }
+        ensures size { IfOk result (λ batch. (remaining batch ≡ num_samples)
+            × (batch_bytes batch ≡ [])) }
         ensures stays { IfOk result (λ batch. IsSameFile self.old (batch_writer batch)) }
-        ensures kept { IfOk result (λ batch. length (batch_writer batch).buffer ≡ max (length self.old.buffer) (2 * num_samples)) }
+        ensures kept { IfOk result (λ batch. length (batch_writer batch).buffer
+            ≡ max (length self.old.buffer) (2 * num_samples)) }
     {
         let num_bytes = num_samples as u64 * 2;
         if !self.output.has_room(num_bytes) {
@@ -144,10 +153,12 @@ impl<'parent, W: Medium> SampleWriter16<'parent, W> {
         requires room { 1 ≤ remaining self.old }
         requires short { S.can_cast sample }
         ensures lender { batch_lender self.new ≡ batch_lender self.old }
-        ensures written { batch_bytes self.new ≡ batch_bytes self.old ++ signed_bytes_of 2 (S.as_short sample) }
+        ensures written { batch_bytes self.new ≡ batch_bytes self.old
+            ++ signed_bytes_of 2 (S.as_short sample) }
         ensures left { remaining self.new + 1 ≡ remaining self.old }
         ensures stays { IsSameFile (batch_writer self.old) (batch_writer self.new) }
-        ensures kept { length (batch_writer self.new).buffer ≡ length (batch_writer self.old).buffer }
+        ensures kept { length (batch_writer self.new).buffer
+            ≡ length (batch_writer self.old).buffer }
     {
         let index = self.written;
         self.written = index + 2;
@@ -162,10 +173,12 @@ impl<'parent, W: Medium> SampleWriter16<'parent, W> {
         requires room { 1 ≤ remaining self.old }
         requires short { S.can_cast sample }
         ensures lender { batch_lender self.new ≡ batch_lender self.old }
-        ensures written { batch_bytes self.new ≡ batch_bytes self.old ++ signed_bytes_of 2 (S.as_short sample) }
+        ensures written { batch_bytes self.new ≡ batch_bytes self.old
+            ++ signed_bytes_of 2 (S.as_short sample) }
         ensures left { remaining self.new + 1 ≡ remaining self.old }
         ensures stays { IsSameFile (batch_writer self.old) (batch_writer self.new) }
-        ensures kept { length (batch_writer self.new).buffer ≡ length (batch_writer self.old).buffer }
+        ensures kept { length (batch_writer self.new).buffer
+            ≡ length (batch_writer self.old).buffer }
     {
         self.write_sample(sample);
     }

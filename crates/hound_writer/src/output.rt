@@ -112,7 +112,8 @@ impl<W: Medium> Output<W> {
         data_length: u32,
     ) -> Output<W>
         requires sound { IsSound (of_fields writer spec_ex data_start data_length [] []) }
-        requires stands { WhereTells W.tells (IsStanding spec_ex data_start data_length (W.state writer).contents) }
+        requires stands { WhereTells W.tells (IsStanding spec_ex data_start data_length
+            (W.state writer).contents) }
         requires place { WhereTells W.tells ((W.state writer).place ≡ data_start + data_length) }
         ensures { result ≡ of_fields writer spec_ex data_start data_length [] [] }
     {
@@ -134,7 +135,8 @@ impl<W: Medium> Output<W> {
         requires { more ≤ 2 ^ 33 }
         ensures room { IsTrue result ↔ HasRoom self.now more }
         ensures sound { IsSound self.now }
-        ensures counts { WhereTells W.tells (IsWhole W.state self.now → IsCounted W.state self.now) }
+        ensures counts { WhereTells W.tells (IsWhole W.state self.now
+            → IsCounted W.state self.now) }
     {
         riff_size(self.data_start, self.data_length() as u64 + more) <= u32::MAX as u64
     }
@@ -176,8 +178,10 @@ impl<W: Medium> Output<W> {
     // The medium then stands elsewhere than where the next sample goes.
     fn put_pad(&mut self, fault: &mut io::Error) -> bool
         requires { self.old.waiting ≡ [] }
-        ensures goes { GoesOut W.tells W.keeps W.state (padded_end self.old) result self.old self.new }
-        ensures padded { WhereTells W.tells (IsTrue result → IsPadded self.new (W.state self.new.medium).contents) }
+        ensures goes { GoesOut W.tells W.keeps W.state
+            (padded_end self.old) result self.old self.new }
+        ensures padded { WhereTells W.tells (IsTrue result
+            → IsPadded self.new (W.state self.new.medium).contents) }
     {
         if self.data_bytes_written % 2 == 0 {
             return true;
@@ -266,7 +270,8 @@ impl<W: Medium> Output<W> {
     #[cold]
     #[inline(never)]
     fn accept_slowly(&mut self, container: [u8; 4], fault: &mut io::Error) -> Outcome
-        ensures accepts { let bytes = take self.old.spec_ex.bytes_per_sample container in Accepts W.tells W.keeps W.state false
+        ensures accepts { let bytes = take self.old.spec_ex.bytes_per_sample container in
+            Accepts W.tells W.keeps W.state false
             (Ok (containers self.old.spec_ex.bytes_per_sample (length bytes / self.old.spec_ex.bytes_per_sample) bytes)) (answer_of result fault.new) self.old self.new }
         ensures buffer { self.new.buffer ≡ self.old.buffer }
     {
@@ -316,11 +321,17 @@ impl<W: Medium> Output<W> {
         requires { self.old.waiting ≡ [] }
         ensures stays { self.new ≡ record self.old { medium = self.new.medium } }
         ensures sound { IsSound self.old }
-        ensures stands { WhereTells W.tells (IsStanding self.old.spec_ex self.old.data_start self.old.out (W.state self.old.medium).contents) }
-        ensures patches { WhereTells W.tells (Patches (self.old.data_start - 4) (riff_size self.old.data_start self.old.out) self.old.out result
+        ensures stands { WhereTells W.tells
+            (IsStanding self.old.spec_ex self.old.data_start self.old.out
+            (W.state self.old.medium).contents) }
+        ensures patches { WhereTells W.tells (Patches (self.old.data_start - 4)
+            (riff_size self.old.data_start self.old.out) self.old.out result
             (W.state self.old.medium) (W.state self.new.medium)) }
-        ensures place { WhereTells W.tells (OnOk result ((W.state self.new.medium).place ≡ self.old.data_start)) }
-        ensures moments { WhereKeeps W.tells W.keeps (PatchesAtEach (self.old.data_start - 4) self.old.out result (W.state self.old.medium) (W.state self.new.medium)) }
+        ensures place { WhereTells W.tells (OnOk result ((W.state self.new.medium).place
+            ≡ self.old.data_start)) }
+        ensures moments { WhereKeeps W.tells W.keeps
+            (PatchesAtEach (self.old.data_start - 4) self.old.out result (W.state self.old.medium)
+            (W.state self.new.medium)) }
     {
         self.may_have_moved = true;
         let riff_size = riff_size(self.data_start, self.data_bytes_written as u64) as u32;
@@ -335,7 +346,8 @@ impl<W: Medium> Output<W> {
     // Goes to the end of the accepted samples that are out.
     fn go_to_end(&mut self) -> io::Result<()>
         ensures stays { self.new ≡ record self.old { medium = self.new.medium } }
-        ensures goes { WhereTells W.tells (Goes (self.old.data_start + self.old.out) result (W.state self.old.medium) (W.state self.new.medium)) }
+        ensures goes { WhereTells W.tells (Goes (self.old.data_start + self.old.out) result
+            (W.state self.old.medium) (W.state self.new.medium)) }
     {
         self.writer
             .go(self.data_start + self.data_bytes_written as u64)?;
@@ -348,10 +360,15 @@ impl<W: Medium> Output<W> {
         requires { self.old.waiting ≡ [] }
         ensures stays { self.new ≡ record self.old { medium = self.new.medium } }
         ensures sound { IsSound self.old }
-        ensures stands { WhereTells W.tells (IsStanding self.old.spec_ex self.old.data_start self.old.out (W.state self.old.medium).contents) }
-        ensures patches { WhereTells W.tells (Patches (self.old.data_start - 4) (riff_size self.old.data_start self.old.out) self.old.out result
+        ensures stands { WhereTells W.tells
+            (IsStanding self.old.spec_ex self.old.data_start self.old.out
+            (W.state self.old.medium).contents) }
+        ensures patches { WhereTells W.tells (Patches (self.old.data_start - 4)
+            (riff_size self.old.data_start self.old.out) self.old.out result
             (W.state self.old.medium) (W.state self.new.medium)) }
-        ensures moments { WhereKeeps W.tells W.keeps (PatchesAtEach (self.old.data_start - 4) self.old.out result (W.state self.old.medium) (W.state self.new.medium)) }
+        ensures moments { WhereKeeps W.tells W.keeps
+            (PatchesAtEach (self.old.data_start - 4) self.old.out result (W.state self.old.medium)
+            (W.state self.new.medium)) }
     {
         self.publish()?;
         self.go_to_end()
@@ -406,7 +423,8 @@ impl<W: Medium> Output<W> {
     pub(crate) fn spec(&self) -> WavSpec
         ensures spec { result ≡ self.now.spec_ex.spec }
         ensures sound { IsSound self.now }
-        ensures counts { WhereTells W.tells (IsWhole W.state self.now → IsCounted W.state self.now) }
+        ensures counts { WhereTells W.tells (IsWhole W.state self.now
+            → IsCounted W.state self.now) }
     {
         self.spec_ex.spec
     }
@@ -415,7 +433,8 @@ impl<W: Medium> Output<W> {
     pub(crate) fn len(&self) -> u32
         ensures samples { result ≡ sample_count self.now }
         ensures sound { IsSound self.now }
-        ensures counts { WhereTells W.tells (IsWhole W.state self.now → IsCounted W.state self.now) }
+        ensures counts { WhereTells W.tells (IsWhole W.state self.now
+            → IsCounted W.state self.now) }
     {
         self.data_length() / self.spec_ex.bytes_per_sample as u32
     }

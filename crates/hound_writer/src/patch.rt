@@ -20,7 +20,8 @@ pub(crate) fn put_at_end<M: Medium>(
     bytes: &[u8],
 ) -> bool
     requires { WhereTells M.tells (may_have_moved.old ≡ false → (M.state medium.old).place ≡ end) }
-    ensures puts { WhereTells M.tells (PutsAt M.keeps end bytes.now (all_out result) (M.state medium.old) (M.state medium.new)) }
+    ensures puts { WhereTells M.tells (PutsAt M.keeps end bytes.now (all_out result)
+        (M.state medium.old) (M.state medium.new)) }
     ensures moved { may_have_moved.new ≡ not result }
 {
     match go_and_put(medium, *may_have_moved, end, bytes) {
@@ -44,7 +45,8 @@ fn go_and_put<M: Medium>(
     bytes: &[u8],
 ) -> io::Result<()>
     requires { WhereTells M.tells (may_have_moved ≡ false → (M.state medium.old).place ≡ at) }
-    ensures { WhereTells M.tells (PutsAt M.keeps at bytes.now result (M.state medium.old) (M.state medium.new)) }
+    ensures { WhereTells M.tells (PutsAt M.keeps at bytes.now result (M.state medium.old)
+        (M.state medium.new)) }
 {
     if may_have_moved {
         medium.go(at)?;
@@ -54,7 +56,8 @@ fn go_and_put<M: Medium>(
 
 // Puts a size into its field.
 fn put_size<M: Medium>(medium: &mut M, at: u64, size: u32) -> io::Result<()>
-    ensures { WhereTells M.tells (PutsAt M.keeps at (bytes_of 4 size) result (M.state medium.old) (M.state medium.new)) }
+    ensures { WhereTells M.tells (PutsAt M.keeps at (bytes_of 4 size) result (M.state medium.old)
+        (M.state medium.new)) }
 {
     medium.go(at)?;
     let bytes = le_u32(size);
@@ -63,7 +66,8 @@ fn put_size<M: Medium>(medium: &mut M, at: u64, size: u32) -> io::Result<()>
 
 // Puts the RIFF size.
 fn put_riff_size<M: Medium>(medium: &mut M, riff_size: u32) -> io::Result<()>
-    ensures puts { WhereTells M.tells (PutsAt M.keeps 4 (bytes_of 4 riff_size) result (M.state medium.old) (M.state medium.new)) }
+    ensures puts { WhereTells M.tells (PutsAt M.keeps 4 (bytes_of 4 riff_size) result
+        (M.state medium.old) (M.state medium.new)) }
     ensures moments { WhereKeeps M.tells M.keeps ((p data_length : ℕ) (base : List ℕ) →
         HasSize p base → IsPatched p base data_length 0 (M.state medium.old).contents →
         Span (IsPatched p base data_length) (length (M.state medium.new).past) (M.state medium.old) (M.state medium.new)) }
@@ -73,7 +77,8 @@ fn put_riff_size<M: Medium>(medium: &mut M, riff_size: u32) -> io::Result<()>
 
 // Puts the data length.
 fn put_data_length<M: Medium>(medium: &mut M, at: u64, data_length: u32) -> io::Result<()>
-    ensures puts { WhereTells M.tells (PutsAt M.keeps at (bytes_of 4 data_length) result (M.state medium.old) (M.state medium.new)) }
+    ensures puts { WhereTells M.tells (PutsAt M.keeps at (bytes_of 4 data_length) result
+        (M.state medium.old) (M.state medium.new)) }
     ensures moments { WhereKeeps M.tells M.keeps ((base : List ℕ) →
         HasSize at base → IsPatched at base data_length 0 (M.state medium.old).contents →
         Span (IsPatched at base data_length) (length (M.state medium.old).past) (M.state medium.old) (M.state medium.new)) }
@@ -90,10 +95,15 @@ pub(crate) fn patch<M: Medium>(
     data_length: u32,
 ) -> io::Result<()>
     requires behind { 8 ≤ data_len_offset }
-    requires inside { WhereTells M.tells (data_len_offset + 4 ≤ length (M.state medium.old).contents) }
-    ensures patches { WhereTells M.tells (Patches data_len_offset riff_size data_length result (M.state medium.old) (M.state medium.new)) }
-    ensures place { WhereTells M.tells (OnOk result ((M.state medium.new).place ≡ data_len_offset + 4)) }
-    ensures moments { WhereKeeps M.tells M.keeps (PatchesAtEach data_len_offset data_length result (M.state medium.old) (M.state medium.new)) }
+    requires inside { WhereTells M.tells (data_len_offset + 4
+        ≤ length (M.state medium.old).contents) }
+    ensures patches { WhereTells M.tells (Patches data_len_offset riff_size data_length result
+        (M.state medium.old) (M.state medium.new)) }
+    ensures place { WhereTells M.tells (OnOk result ((M.state medium.new).place
+        ≡ data_len_offset + 4)) }
+    ensures moments { WhereKeeps M.tells M.keeps
+        (PatchesAtEach data_len_offset data_length result (M.state medium.old)
+        (M.state medium.new)) }
 {
     put_riff_size(medium, riff_size)?;
     put_data_length(medium, data_len_offset, data_length)?;

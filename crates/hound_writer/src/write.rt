@@ -54,7 +54,8 @@ impl<W: Medium> WavWriter<W> {
     /// The errors are those of [`WavWriter::try_new`], which hands the medium back.
     pub fn new(writer: W, spec: WavSpec) -> Result<WavWriter<W>>
         requires { WhereTells W.tells ((W.state writer).place ≡ 0) }
-        ensures { MatchResult result (Begins W.tells W.keeps W.state (with_default_width spec) (W.state writer))
+        ensures { MatchResult result (Begins W.tells W.keeps W.state (with_default_width spec)
+            (W.state writer))
             (λ e. (back : W) × IsNotBegun W.tells W.keeps W.state (with_default_width spec) writer back e) }
     {
         WavWriter::new_with_spec_ex(writer, with_default_width(spec))
@@ -106,7 +107,8 @@ impl<W: Medium> WavWriter<W> {
         data_length: u32,
     ) -> WavWriter<W>
         requires sound { IsSound (of_fields writer spec_ex data_start data_length [] []) }
-        requires stands { WhereTells W.tells (IsStanding spec_ex data_start data_length (W.state writer).contents) }
+        requires stands { WhereTells W.tells (IsStanding spec_ex data_start data_length
+            (W.state writer).contents) }
         requires place { WhereTells W.tells ((W.state writer).place ≡ data_start + data_length) }
         ensures { result ≡ of_fields writer spec_ex data_start data_length [] [] }
     {
@@ -191,7 +193,8 @@ impl<W: Medium> WavWriter<W> {
     /// Does what a drop does, and hands the medium back: it publishes the accepted samples as
     /// [`WavWriter::finalize_into`] does, and a fault goes unseen.
     pub fn drop_into(self) -> W
-        ensures { (answer : Result Unit Error) × Finishes W.tells W.keeps W.state self answer result }
+        ensures { (answer : Result Unit Error)
+            × Finishes W.tells W.keeps W.state self answer result }
     {
         let (writer, _) = self.finalize_into();
         writer
@@ -201,7 +204,8 @@ impl<W: Medium> WavWriter<W> {
     pub fn spec(&self) -> WavSpec
         ensures spec { result ≡ self.now.spec_ex.spec }
         ensures sound { IsSound self.now }
-        ensures counts { WhereTells W.tells (IsWhole W.state self.now → IsCounted W.state self.now) }
+        ensures counts { WhereTells W.tells (IsWhole W.state self.now
+            → IsCounted W.state self.now) }
     {
         self.output.spec()
     }
@@ -210,7 +214,8 @@ impl<W: Medium> WavWriter<W> {
     pub fn duration(&self) -> u32
         ensures frames { result ≡ sample_count self.now / self.now.spec_ex.spec.channels }
         ensures sound { IsSound self.now }
-        ensures counts { WhereTells W.tells (IsWhole W.state self.now → IsCounted W.state self.now) }
+        ensures counts { WhereTells W.tells (IsWhole W.state self.now
+            → IsCounted W.state self.now) }
     {
         self.len() / self.spec().channels as u32
     }
@@ -219,7 +224,8 @@ impl<W: Medium> WavWriter<W> {
     pub fn len(&self) -> u32
         ensures samples { result ≡ sample_count self.now }
         ensures sound { IsSound self.now }
-        ensures counts { WhereTells W.tells (IsWhole W.state self.now → IsCounted W.state self.now) }
+        ensures counts { WhereTells W.tells (IsWhole W.state self.now
+            → IsCounted W.state self.now) }
     {
         self.output.len()
     }
@@ -231,7 +237,8 @@ impl<W: Medium> Drop for WavWriter<W> {
     ghost use Rattle.hound_writer.specs.Publishing.{Finishes};
 
     fn drop(self)
-        ensures { (answer : Result Unit Error) × (end : W) × Finishes W.tells W.keeps W.state self answer end }
+        ensures { (answer : Result Unit Error) × (end : W)
+            × Finishes W.tells W.keeps W.state self answer end }
     {
         let _ = self.finalize_into();
     }

@@ -11,5 +11,9 @@ loop-at-preserved g c =
     let at = c.loop-at.at in
     record {
       within = omega (arith, rw take_rest at c.in_ok-n.ensures.bound, length-drop at bytes);
-      written = subst (Appends _ _) (sym (take-add at c.in_ok-n.n bytes)) (Appends-trans _ _ _ (take at bytes) (take c.in_ok-n.n (drop at bytes)) c.loop-at.invariant.written (rw take_rest at c.in_ok-n.ensures.bytes));
+      written =
+          subst (Appends _ _) (sym (take-add at c.in_ok-n.n bytes))
+          (Appends-trans _ _ _ (take at bytes)
+          (take c.in_ok-n.n (drop at bytes)) c.loop-at.invariant.written
+          (rw take_rest at c.in_ok-n.ensures.bytes));
     }

@@ -54,7 +54,8 @@ fn the_definition_gives_the_containers()
     ensures in_8_bits { map (λ x. int_container x 8 1) NUMBERS_OF_8 ≡ map Ok BYTES_OF_8 }
     ensures in_16_bits { map (λ x. int_container x 16 2) NUMBERS_OF_16 ≡ map Ok BYTES_OF_16 }
     ensures in_24_bits { map (λ x. int_container x 24 3) NUMBERS_OF_24 ≡ map Ok BYTES_OF_24 }
-    ensures in_24_bits_of_32 { map (λ x. int_container x 24 4) NUMBERS_OF_24_IN_4 ≡ map Ok BYTES_OF_24_IN_4 }
+    ensures in_24_bits_of_32 { map (λ x. int_container x 24 4) NUMBERS_OF_24_IN_4
+        ≡ map Ok BYTES_OF_24_IN_4 }
     ensures in_32_bits { map (λ x. int_container x 32 4) NUMBERS_OF_32 ≡ map Ok BYTES_OF_32 }
 {}
 

@@ -9,8 +9,10 @@ returns-clause-ok c =
     let at = c.args.at in
     let new = c.args.new.now in
     let m : ℕ = at + length new - length old in
-    let grown : c.deref_mut.result.now ≡ old ++ replicate m 0 = c.deref_mut.ensures.value ∙ c.in_ok-grow.ensures.ok in
-    let size : length c.copy_over.new.bytes ≡ c.grow.new.bytes.len = omega (arith, c.copy_over.auto.bytes, c.deref_mut.ensures.len) in
+    let grown : c.deref_mut.result.now ≡ old ++ replicate m 0 =
+    c.deref_mut.ensures.value ∙ c.in_ok-grow.ensures.ok in
+    let size : length c.copy_over.new.bytes ≡ c.grow.new.bytes.len =
+    omega (arith, c.copy_over.auto.bytes, c.deref_mut.ensures.len) in
     take_at c.copy_over.new.bytes _ c.grow.new.bytes.len size
     ∙ c.copy_over.ensures
     ∙ ap (λ (d : List ℕ). take at d ++ (new ++ drop (at + length new) d)) grown

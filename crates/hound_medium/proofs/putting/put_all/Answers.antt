@@ -5,8 +5,14 @@ use Rattle.hound_medium.proofs.putting.put_all.Goals as goal
 
 pub loop-at-preserved : goal.loop-at-preserved
 loop-at-preserved g c = record {
-  within = omega (arith, rw take_rest at c.in-Ok.ensures.bound.1, length-drop c.loop-at.at c.args.bytes.now);
+  within =
+      omega (
+        arith,
+        rw take_rest at c.in-Ok.ensures.bound.1,
+        length-drop c.loop-at.at c.args.bytes.now,
+      );
   takes = λ t. let put = c.in-Ok.ensures.puts t in
-      takes_more _ _ _ _ _ _ _ c.loop-at.invariant.within (c.loop-at.invariant.takes t) (rw take_rest at put.takes);
+      takes_more _ _ _ _ _ _ _ c.loop-at.invariant.within (c.loop-at.invariant.takes t)
+      (rw take_rest at put.takes);
   faults = λ t. let put = c.in-Ok.ensures.puts t in put.faults ∙ c.loop-at.invariant.faults t;
 }

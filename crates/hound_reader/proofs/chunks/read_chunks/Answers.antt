@@ -7,7 +7,8 @@ use Rattle.hound_number.proofs.KnownSteps.{known_both}
 use Rattle.hound_reader.proofs.WalkLemmas.{walked_more}
 use Rattle.hound_reader.proofs.chunks.read_chunks.Goals as goal
 
-sound_next : (next : Option WavSpecEx) (now : ℕ) → IsSoundChunk (Other next now) → IsSoundOption next
+sound_next : (next : Option WavSpecEx) (now : ℕ) → IsSoundChunk (Other next now)
+    → IsSoundOption next
 sound_next None now h = tt
 sound_next (Some s) now h = h
 
@@ -18,6 +19,10 @@ chunks-preserved g c =
       goes.1,
       NoneFailed-trans _ _ _ c.chunks.invariant.1 c.in_ok-spec_ex.ensures.failures,
       sound_next c.in-Other.next c.in-Other.now (rw c.in-Other.is at c.in_ok-spec_ex.ensures.sound),
-      known_both _ _ _ (λ xs ys. Walked xs ys c.chunks.found c.chunks.taken) (ReadsChunk c.chunks.taken c.chunks.found (Other c.in-Other.next c.in-Other.now)) _ c.chunks.invariant.3 told
-          (λ xs ys zs w t. walked_more xs ys zs c.chunks.taken c.in-Other.now c.chunks.found c.in-Other.next w t),
+      known_both _ _ _ (λ xs ys. Walked xs ys c.chunks.found c.chunks.taken)
+          (ReadsChunk c.chunks.taken c.chunks.found
+          (Other c.in-Other.next c.in-Other.now)) _ c.chunks.invariant.3 told
+          (λ xs ys zs w t.
+          walked_more xs ys zs c.chunks.taken c.in-Other.now c.chunks.found c.in-Other.next w
+          t),
     )

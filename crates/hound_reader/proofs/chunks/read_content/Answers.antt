@@ -14,7 +14,10 @@ returns-then-eq-2-clause-ok g c =
     let len = c.args.chunk_len in
     let is_fmt = tag_test _ true tag _ fmt_tag c.eq-2.ensures c.as_slice-2.ensures c.if-eq-2.true in
     let other = tag_test _ false tag _ data_tag c.eq.ensures c.as_slice.ensures c.if-eq.false in
-    known_weaker _ _ _ (ReadsContent c.args.taken c.args.found tag len (Other (Some c.in_ok-spec_ex.spec_ex) (c.args.taken + 8 + c.with_pad_byte-content.result))) c.in_ok-spec_ex.ensures.ok (λ xs ys (content, n, read, e). (
+    known_weaker _ _ _
+    (ReadsContent c.args.taken c.args.found tag len
+    (Other (Some c.in_ok-spec_ex.spec_ex) (c.args.taken + 8 + c.with_pad_byte-content.result)))
+    c.in_ok-spec_ex.ensures.ok (λ xs ys (content, n, read, e). (
       content,
       n,
       other,
@@ -30,11 +33,15 @@ unfolding spec_after
 returns-clause-ok g c =
     let tag = c.args.tag.now in
     let len = c.args.chunk_len in
-    let not_fmt = tag_test _ false tag _ fmt_tag c.eq-2.ensures c.as_slice-2.ensures c.if-eq-2.false in
+    let not_fmt =
+    tag_test _ false tag _ fmt_tag c.eq-2.ensures c.as_slice-2.ensures c.if-eq-2.false in
     let other = tag_test _ false tag _ data_tag c.eq.ensures c.as_slice.ensures c.if-eq.false in
     let bytes = c.in_ok-skip_bytes.ensures.ok.0 in
     let n = c.in_ok-skip_bytes.ensures.ok.2 in
-    known_from bytes _ _ (ReadsContent c.args.taken c.args.found tag len (Other c.args.found (c.args.taken + 8 + c.with_pad_byte-content.result))) c.in_ok-skip_bytes.ensures.ok.1 (λ ys. (
+    known_from bytes _ _
+    (ReadsContent c.args.taken c.args.found tag len
+    (Other c.args.found (c.args.taken + 8 + c.with_pad_byte-content.result)))
+    c.in_ok-skip_bytes.ensures.ok.1 (λ ys. (
       bytes,
       n ∙ c.with_pad_byte-content.ensures,
       other,

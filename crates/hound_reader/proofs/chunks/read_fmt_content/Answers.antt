@@ -11,7 +11,9 @@ returns-clause-ok g c =
     let len = c.args.chunk_len in
     let n = fmt_len len in
     let (rest, taken, l) = c.in_ok-skip_bytes.ensures.ok in
-    known_both _ _ _ _ (λ ys zs. ys ≡ rest ++ zs) (ReadsFmt len c.in_ok-spec_ex.spec_ex) c.in_ok-spec_ex.ensures.gives (known_from rest _ _ (λ ys zs. ys ≡ rest ++ zs) taken (λ ys. refl)) (λ xs ys zs p e. (
+    known_both _ _ _ _ (λ ys zs. ys ≡ rest ++ zs)
+    (ReadsFmt len c.in_ok-spec_ex.spec_ex) c.in_ok-spec_ex.ensures.gives
+    (known_from rest _ _ (λ ys zs. ys ≡ rest ++ zs) taken (λ ys. refl)) (λ xs ys zs p e. (
       take n xs ++ rest,
       omega (arith, length-append (take n xs) rest, length-take-le n xs p.1, l),
       fmt_and_rest len xs rest p.1 ∙ p.0,

@@ -1,4 +1,5 @@
 use Rattle.hound_reader.proofs.counting.read_counted.Given as goal
 
 abbrev pub ghosts-ask_since : goal.ghosts-ask_since
-ghosts-ask_since g a = record { left = g.R.Read.remaining a.reader.now.reader; lender = a.reader.ghost_name }
+ghosts-ask_since g a =
+    record { left = g.R.Read.remaining a.reader.now.reader; lender = a.reader.ghost_name }

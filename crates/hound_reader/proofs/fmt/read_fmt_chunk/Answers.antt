@@ -8,12 +8,16 @@ use Rattle.hound_reader.proofs.fmt.read_fmt_chunk.Goals as goal
 
 pub returns-in_err-found-clause-gives : goal.returns-in_err-found-clause-gives
 returns-in_err-found-clause-gives g c =
-    let p = err_from_is_err_and c.from_residual-in_err-found.result c.from_residual-in_err-found.ensures.1 in
+    let p = err_from_is_err_and c.from_residual-in_err-found.result
+    c.from_residual-in_err-found.ensures.1 in
     let h = c.fill.new.buf in
     let len = c.args.chunk_len in
     let n = fmt_len len in
     let bad = sym c.check_wave_format.ensures.fields ∙ c.in_err-found.was in
-    rw (p.1, p.2) (known_err h _ _ _ _ c.in_ok-fill.ensures.ok (λ ys. fmt_head len h ys (omega arith) (omega arith) ∙ ap (λ r. r >>= λ found. by_tag (fmt_fields h).tag len found (take (n - 16) ys)) bad))
+    rw (p.1, p.2)
+    (known_err h _ _ _ _ c.in_ok-fill.ensures.ok
+    (λ ys. fmt_head len h ys (omega arith) (omega arith)
+    ∙ ap (λ r. r >>= λ found. by_tag (fmt_fields h).tag len found (take (n - 16) ys)) bad))
 
 pub returns-clause-gives : goal.returns-clause-gives
 returns-clause-gives g c =

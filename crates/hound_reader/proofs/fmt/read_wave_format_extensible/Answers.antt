@@ -9,11 +9,17 @@ use Rattle.hound_reader.proofs.fmt.read_wave_format_extensible.Goals as goal
 
 pub returns-in_err-found-clause-gives : goal.returns-in_err-found-clause-gives
 returns-in_err-found-clause-gives g c =
-    let p = err_from_is_err_and c.from_residual-in_err-found.result c.from_residual-in_err-found.ensures.1 in
+    let p = err_from_is_err_and c.from_residual-in_err-found.result
+    c.from_residual-in_err-found.ensures.1 in
     let a = c.fill.new.buf in
     let b = c.fill-2.new.buf in
-    let at = extensible_at c.args.chunk_len c.args.found a b (omega arith) (omega arith) (omega arith) (ap number (sym (take_all 2 a (omega arith))) ∙ sym c.u16_at.ensures ∙ c.if-u16_at-ne22.false) in
-    rw (p.1, p.2) (err_from_taken _ (a ++ b) _ _ (wave_format_extensible c.args.chunk_len c.args.found) c.in_err-found.field-0.0
+    let at =
+    extensible_at c.args.chunk_len c.args.found a b (omega arith) (omega arith) (omega arith)
+    (ap number (sym (take_all 2 a (omega arith))) ∙ sym c.u16_at.ensures
+    ∙ c.if-u16_at-ne22.false) in
+    rw (p.1, p.2)
+    (err_from_taken _ (a ++ b) _ _
+    (wave_format_extensible c.args.chunk_len c.args.found) c.in_err-found.field-0.0
     (Consumes-trans _ _ _ _ _ c.in_ok-fill.ensures.ok c.in_ok-fill-2.ensures.ok)
     (omega (arith, length-append a b))
     (at ∙ sym c.choose_subformat.ensures.subformat ∙ c.in_err-found.was))
@@ -22,8 +28,12 @@ pub returns-clause-gives : goal.returns-clause-gives
 returns-clause-gives g c =
     let a = c.fill.new.buf in
     let b = c.fill-2.new.buf in
-    let at = extensible_at c.args.chunk_len c.args.found a b (omega arith) (omega arith) (omega arith) (ap number (sym (take_all 2 a (omega arith))) ∙ sym c.u16_at.ensures ∙ c.if-u16_at-ne22.false) in
-    ok_from_taken _ (a ++ b) _ _ (wave_format_extensible c.args.chunk_len c.args.found) c.in_ok-found.found
+    let at =
+    extensible_at c.args.chunk_len c.args.found a b (omega arith) (omega arith) (omega arith)
+    (ap number (sym (take_all 2 a (omega arith))) ∙ sym c.u16_at.ensures
+    ∙ c.if-u16_at-ne22.false) in
+    ok_from_taken _ (a ++ b) _ _
+    (wave_format_extensible c.args.chunk_len c.args.found) c.in_ok-found.found
     (Consumes-trans _ _ _ _ _ c.in_ok-fill.ensures.ok c.in_ok-fill-2.ensures.ok)
     (omega (arith, length-append a b))
     (at ∙ sym c.choose_subformat.ensures.subformat ∙ c.in_ok-found.was)

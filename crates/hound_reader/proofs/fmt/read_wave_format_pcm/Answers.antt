@@ -20,4 +20,5 @@ returns-in_ok-fill-2-clause-gives g c =
     ok_from_taken _ (a ++ b) _ _ (wave_format_pcm c.args.chunk_len c.args.found) c.args.found
     (Consumes-trans _ _ _ _ _ c.in_ok-fill.ensures.ok c.in_ok-fill-2.ensures.ok)
     (omega (arith, length-append a b))
-    (pcm_forty c.args.chunk_len c.args.found (a ++ b) c.if-chunk_len-eq40.true (omega (arith, length-append a b)) good)
+    (pcm_forty c.args.chunk_len c.args.found (a ++ b) c.if-chunk_len-eq40.true
+    (omega (arith, length-append a b)) good)

@@ -5,10 +5,15 @@ pub returns-clause-item : goal.returns-clause-item
 returns-clause-item g c = item_counted g.R.Read.remaining g.S.Sample.refusal g.S.Sample.meaning
 
 pub returns-clause-ahead : goal.returns-clause-ahead
-returns-clause-ahead g c bytes time old new tells = ahead_counted g.R.Read.remaining g.R.Placed.state bytes time old new (g.met.R.Source.left old.reader tells) (g.met.R.Source.left new.reader tells)
+returns-clause-ahead g c bytes time old new tells =
+    ahead_counted g.R.Read.remaining g.R.Placed.state bytes time old new
+    (g.met.R.Source.left old.reader tells) (g.met.R.Source.left new.reader tells)
 
 pub returns-clause-passes : goal.returns-clause-passes
-returns-clause-passes g c = item_passes g.R.Read.remaining g.R.Placed.state g.S.Sample.refusal g.S.Sample.meaning
+returns-clause-passes g c =
+    item_passes g.R.Read.remaining g.R.Placed.state g.S.Sample.refusal g.S.Sample.meaning
 
 pub returns-clause-place : goal.returns-clause-place
-returns-clause-place g c start calls old new tells stood run = (stands_after g.R.Read.remaining g.R.Placed.state (λ r. g.met.R.Source.left r tells) start calls old new stood run).0
+returns-clause-place g c start calls old new tells stood run =
+    (stands_after g.R.Read.remaining g.R.Placed.state
+    (λ r. g.met.R.Source.left r tells) start calls old new stood run).0

@@ -9,7 +9,11 @@ use Rattle.hound_sample.proofs.integer.read_16_bits.Goals as goal
 pub returns-in-Ok : goal.returns-in-Ok
 returns-in-Ok g c =
     let same : to_z w16 (of_z w16 c.i16_from_le.result) ≡ c.i16_from_le.result = search rules in
-    takes_container c.read_into.new.buf _ _ 2 (int_meaning 2 16) _ c.in-Ok.ensures.filled (omega arith) (same ∙ c.i16_from_le.ensures ∙ ap signed_number (sym (take_all 2 c.read_into.new.buf (omega arith))))
+    takes_container c.read_into.new.buf _ _ 2 (int_meaning 2 16) _ c.in-Ok.ensures.filled
+    (omega arith) (same ∙ c.i16_from_le.ensures
+    ∙ ap signed_number (sym (take_all 2 c.read_into.new.buf (omega arith))))
 
 pub returns-in-Err : goal.returns-in-Err
-returns-in-Err g c = takes_part c.in-Err.ensures.part.0 _ _ 2 c.in-Err.ensures.part.2 (omega (arith, c.in-Err.ensures.part.1))
+returns-in-Err g c =
+    takes_part c.in-Err.ensures.part.0 _ _ 2 c.in-Err.ensures.part.2
+    (omega (arith, c.in-Err.ensures.part.1))

@@ -23,7 +23,11 @@ returns-in-Ok g c =
     let taken = c.read_into.new.buf in
     let full : length taken ≡ width = omega (arith, whole c.args.bits width c.requires) in
     let same : to_z w32 (of_z w32 c.integer_of.result) ≡ c.integer_of.result = search rules in
-    takes_container taken _ _ width (int_meaning width c.args.bits) _ c.in-Ok.ensures.filled full (same ∙ c.integer_of.ensures ∙ ap (int_meaning width c.args.bits) (take_at taken (drop width zeros) width full))
+    takes_container taken _ _ width (int_meaning width c.args.bits) _ c.in-Ok.ensures.filled full
+    (same ∙ c.integer_of.ensures
+    ∙ ap (int_meaning width c.args.bits) (take_at taken (drop width zeros) width full))
 
 pub returns-in-Err : goal.returns-in-Err
-returns-in-Err g c = takes_part c.in-Err.ensures.part.0 _ _ c.args.bytes c.in-Err.ensures.part.2 (omega (arith, c.in-Err.ensures.part.1, whole c.args.bits c.args.bytes c.requires))
+returns-in-Err g c =
+    takes_part c.in-Err.ensures.part.0 _ _ c.args.bytes c.in-Err.ensures.part.2
+    (omega (arith, c.in-Err.ensures.part.1, whole c.args.bits c.args.bytes c.requires))

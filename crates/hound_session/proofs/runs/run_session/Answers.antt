@@ -9,23 +9,36 @@ pub returns-clause-session : goal.returns-clause-session
 returns-clause-session g c =
     let W = g.M.Placed in
     let runs = c.take_steps.ensures.runs in
-    inr (ran W.tells W.keeps W.state c.args.begin c.args.steps.now c.take_steps.new.marks c.args.end c.args.medium c.end_writer.result.1 c.end_writer.result.0 c.in-Ok.writer c.take_steps.new.writer runs.0 runs.1
+    inr (ran W.tells W.keeps W.state c.args.begin c.args.steps.now c.take_steps.new.marks c.args.end
+    c.args.medium c.end_writer.result.1 c.end_writer.result.0 c.in-Ok.writer
+    c.take_steps.new.writer runs.0 runs.1
     c.in-Ok.ensures runs.3 runs.2 c.end_writer.ensures (g.met.M.Medium.replays))
 
 pub returns-clause-canonical : goal.returns-clause-canonical
 returns-clause-canonical g c tells s is_new is_finalize =
     let W = g.M.Placed in
     let runs = c.take_steps.ensures.runs in
-    let r = ran W.tells W.keeps W.state c.args.begin c.args.steps.now c.take_steps.new.marks c.args.end c.args.medium c.end_writer.result.1 c.end_writer.result.0 c.in-Ok.writer c.take_steps.new.writer runs.0 runs.1
+    let r = ran W.tells W.keeps W.state c.args.begin c.args.steps.now c.take_steps.new.marks
+    c.args.end c.args.medium c.end_writer.result.1 c.end_writer.result.0 c.in-Ok.writer
+    c.take_steps.new.writer runs.0 runs.1
     c.in-Ok.ensures runs.3 runs.2 c.end_writer.ensures (g.met.M.Medium.replays) in
-    new_canonical W.tells W.keeps W.state s c.args.steps.now c.take_steps.new.marks c.args.medium c.end_writer.result.1 c.end_writer.result.0 tells
-    (subst (λ (x : Begin × End). Ran W.tells W.keeps W.state x.0 c.args.steps.now c.take_steps.new.marks x.1 c.args.medium c.end_writer.result.1 c.end_writer.result.0) (λ i. (is_new i, is_finalize i)) r)
+    new_canonical W.tells W.keeps W.state s c.args.steps.now c.take_steps.new.marks c.args.medium
+    c.end_writer.result.1 c.end_writer.result.0 tells
+    (subst (λ (x : Begin × End).
+    Ran W.tells W.keeps W.state x.0 c.args.steps.now c.take_steps.new.marks x.1 c.args.medium
+    c.end_writer.result.1 c.end_writer.result.0) (λ i. (is_new i, is_finalize i)) r)
 
 pub returns-clause-exact : goal.returns-clause-exact
 returns-clause-exact g c tells s is_new writable empty none =
     let W = g.M.Placed in
     let runs = c.take_steps.ensures.runs in
-    let r = ran W.tells W.keeps W.state c.args.begin c.args.steps.now c.take_steps.new.marks c.args.end c.args.medium c.end_writer.result.1 c.end_writer.result.0 c.in-Ok.writer c.take_steps.new.writer runs.0 runs.1
+    let r = ran W.tells W.keeps W.state c.args.begin c.args.steps.now c.take_steps.new.marks
+    c.args.end c.args.medium c.end_writer.result.1 c.end_writer.result.0 c.in-Ok.writer
+    c.take_steps.new.writer runs.0 runs.1
     c.in-Ok.ensures runs.3 runs.2 c.end_writer.ensures (g.met.M.Medium.replays) in
-    new_exact W.tells W.keeps W.state s c.args.steps.now c.take_steps.new.marks c.args.medium c.end_writer.result.1 c.end_writer.result.0 tells c.args.end
-    (subst (λ b. Ran W.tells W.keeps W.state b c.args.steps.now c.take_steps.new.marks c.args.end c.args.medium c.end_writer.result.1 c.end_writer.result.0) is_new r) empty (c.requires.place tells) none
+    new_exact W.tells W.keeps W.state s c.args.steps.now c.take_steps.new.marks c.args.medium
+    c.end_writer.result.1 c.end_writer.result.0 tells c.args.end
+    (subst (λ b.
+    Ran W.tells W.keeps W.state b c.args.steps.now c.take_steps.new.marks c.args.end
+    c.args.medium c.end_writer.result.1 c.end_writer.result.0) is_new r) empty
+    (c.requires.place tells) none

@@ -9,6 +9,7 @@ invariant-loop-value g l = record {
   lender : batch_lender l.batch ≡ batch_lender l.initial.batch;
   left : remaining l.batch + l.value-index ≡ length l.values;
   written : batch_bytes l.batch ≡ flat_map (signed_bytes_of 2) (take l.value-index l.values);
-  kept : length (batch_writer l.batch).buffer ≡ max (length l.fn.writer.buffer) (2 * length l.values);
+  kept : length (batch_writer l.batch).buffer ≡ max (length l.fn.writer.buffer)
+      (2 * length l.values);
   same : IsSameFile l.fn.writer (batch_writer l.batch);
 }

@@ -8,15 +8,24 @@ pub returns-then-is_short-clause-chunk : goal.returns-then-is_short-clause-chunk
 returns-then-is_short-clause-chunk c =
     let s = c.args.spec_ex in
     let short : is_short s ≡ true = sym c.is_short.ensures ∙ c.if-is_short.true in
-    c.write_pcmwaveformat.ensures ∙ append_assoc c.args.header.now (bytes_of 4 16) (short_fmt s) ∙ ap (λ l. c.args.header.now ++ l) (sym (sized_fmt-short s short))
+    c.write_pcmwaveformat.ensures ∙ append_assoc c.args.header.now (bytes_of 4 16) (short_fmt s)
+    ∙ ap (λ l. c.args.header.now ++ l) (sym (sized_fmt-short s short))
 
 pub returns-else-is_short-clause-chunk : goal.returns-else-is_short-clause-chunk
 returns-else-is_short-clause-chunk c =
     let s = c.args.spec_ex in
     let long : is_short s ≡ false = sym c.is_short.ensures ∙ c.if-is_short.false in
-    c.write_waveformatextensible.ensures ∙ append_assoc c.args.header.now (bytes_of 4 40) (long_fmt s) ∙ ap (λ l. c.args.header.now ++ l) (sym (sized_fmt-long s long))
+    c.write_waveformatextensible.ensures
+    ∙ append_assoc c.args.header.now (bytes_of 4 40) (long_fmt s)
+    ∙ ap (λ l. c.args.header.now ++ l) (sym (sized_fmt-long s long))
 
 pub returns-else-is_short-clause-size : goal.returns-else-is_short-clause-size
 returns-else-is_short-clause-size c =
     let s = c.args.spec_ex in
-    omega (arith, ap length c.write_waveformatextensible.ensures, length-append (c.args.header.now ++ bytes_of 4 40) (long_fmt s), length-append c.args.header.now (bytes_of 4 40), length-long_fmt s)
+    omega (
+      arith,
+      ap length c.write_waveformatextensible.ensures,
+      length-append (c.args.header.now ++ bytes_of 4 40) (long_fmt s),
+      length-append c.args.header.now (bytes_of 4 40),
+      length-long_fmt s,
+    )

@@ -6,20 +6,27 @@ use Rattle.hound_writer.proofs.append.append_at.Goals as goal
 pub at_end-requires-clause-sound : goal.at_end-requires-clause-sound
 at_end-requires-clause-sound g c =
     let head = c.args.head in
-    sound_head _ head.spec_ex head.data_length head.data_start c.requires.sound c.requires.start.0 c.in_default.ensures
+    sound_head _ head.spec_ex head.data_length head.data_start c.requires.sound c.requires.start.0
+    c.in_default.ensures
 
 pub at_end-requires-clause-stands : goal.at_end-requires-clause-stands
 at_end-requires-clause-stands g c tells =
     let head = c.args.head in
-    stands_on head.spec_ex head.data_length head.data_start (g.W.Placed.state c.args.writer).contents _ (c.requires.head tells) (c.in_default-go.ensures tells).stays.contents
+    stands_on head.spec_ex head.data_length head.data_start
+    (g.W.Placed.state c.args.writer).contents _ (c.requires.head tells)
+    (c.in_default-go.ensures tells).stays.contents
 
 pub returns : goal.returns
 returns g c =
     let head = c.args.head in
-    subst (Appends g.W.Placed.tells g.W.Placed.state (g.W.Placed.state c.args.writer)) (sym c.at_end.ensures)
+    subst (Appends g.W.Placed.tells g.W.Placed.state (g.W.Placed.state c.args.writer))
+    (sym c.at_end.ensures)
     record {
-      sound = sound_head _ head.spec_ex head.data_length head.data_start c.requires.sound c.requires.start.0 c.in_default.ensures;
+      sound = sound_head _ head.spec_ex head.data_length head.data_start c.requires.sound
+          c.requires.start.0 c.in_default.ensures;
       none_waits = search rules;
       buffer = search rules;
-      file = λ tells. follows g.W.Placed.state _ head.spec_ex head.data_length head.data_start (g.W.Placed.state c.args.writer) c.requires.sound c.requires.start.0 (c.requires.head tells) c.in_default.ensures (c.in_default-go.ensures tells);
+      file = λ tells. follows g.W.Placed.state _ head.spec_ex head.data_length head.data_start
+          (g.W.Placed.state c.args.writer) c.requires.sound c.requires.start.0
+          (c.requires.head tells) c.in_default.ensures (c.in_default-go.ensures tells);
     }

@@ -8,7 +8,9 @@ pub invariant_of-self-clause-are_bytes : goal.invariant_of-self-clause-are_bytes
 invariant_of-self-clause-are_bytes c =
     let j = c.call.new.self in
     let new = take c.min-n.result c.args.bytes.now in
-    subst AreBytes (sym c.in-Ok.ensures.ok) (small_overlay j.bytes.items j.place new j.are_bytes (small_take c.min-n.result c.args.bytes.now (λ i. search rules)))
+    subst AreBytes (sym c.in-Ok.ensures.ok)
+    (small_overlay j.bytes.items j.place new j.are_bytes
+    (small_take c.min-n.result c.args.bytes.now (λ i. search rules)))
 
 pub invariant_of-self-clause-replays : goal.invariant_of-self-clause-replays
 invariant_of-self-clause-replays c =

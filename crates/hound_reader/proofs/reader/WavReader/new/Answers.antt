@@ -3,19 +3,25 @@ use Rattle.hound_reader.proofs.ReaderLemmas.{opens_ok, refusal_told, opens_told,
 use Rattle.hound_reader.proofs.reader.WavReader.new.Goals as goal
 
 pub returns-in-Ok-clause-readable : goal.returns-in-Ok-clause-readable
-returns-in-Ok-clause-readable g c = opens_ok _ _ c.in-Ok.spec_ex c.in-Ok.num_samples c.in-Ok.ensures.found
+returns-in-Ok-clause-readable g c =
+    opens_ok _ _ c.in-Ok.spec_ex c.in-Ok.num_samples c.in-Ok.ensures.found
 
 pub returns-in-Err-clause-refused : goal.returns-in-Err-clause-refused
-returns-in-Err-clause-refused g c = refusal_told _ _ c.in-Err.e c.error_of.result Unreadable c.error_of.ensures c.in-Err.ensures.refused
+returns-in-Err-clause-refused g c =
+    refusal_told _ _ c.in-Err.e c.error_of.result Unreadable c.error_of.ensures
+    c.in-Err.ensures.refused
 
 pub returns-in-Err-clause-readable : goal.returns-in-Err-clause-readable
-returns-in-Err-clause-readable g c = opens_told _ _ c.in-Err.e c.error_of.result _ c.error_of.ensures c.in-Err.ensures.refused
+returns-in-Err-clause-readable g c =
+    opens_told _ _ c.in-Err.e c.error_of.result _ c.error_of.ensures c.in-Err.ensures.refused
 
 pub returns-in-Ok-clause-unreadable : goal.returns-in-Ok-clause-unreadable
-returns-in-Ok-clause-unreadable g c = no_fault_ok _ _ c.in-Ok.spec_ex c.in-Ok.num_samples c.in-Ok.ensures.found
+returns-in-Ok-clause-unreadable g c =
+    no_fault_ok _ _ c.in-Ok.spec_ex c.in-Ok.num_samples c.in-Ok.ensures.found
 
 pub returns-in-Err-clause-unreadable : goal.returns-in-Err-clause-unreadable
-returns-in-Err-clause-unreadable g c = fails_told _ _ c.in-Err.e c.error_of.result c.error_of.ensures c.in-Err.ensures.refused
+returns-in-Err-clause-unreadable g c =
+    fails_told _ _ c.in-Err.e c.error_of.result c.error_of.ensures c.in-Err.ensures.refused
 
 pub returns-in-Err-clause-told : goal.returns-in-Err-clause-told
 returns-in-Err-clause-told g c = is_told c.in-Err.e c.error_of.result c.error_of.ensures

@@ -3,4 +3,7 @@ use Rattle.hound_writer.proofs.Stores.{four_stored}
 use Rattle.hound_writer.proofs.block.Block.push.Goals as goal
 
 pub returns : goal.returns
-returns c = four_stored c.self.inside.bytes c.self.inside.waiting c.args.width c.args.container (search rules) (search rules) c.requires.width ∙ ap (λ l. l ++ take c.args.width c.args.container) c.self.view_is
+returns c =
+    four_stored c.self.inside.bytes c.self.inside.waiting c.args.width c.args.container
+    (search rules) (search rules) c.requires.width
+    ∙ ap (λ l. l ++ take c.args.width c.args.container) c.self.view_is

@@ -8,10 +8,13 @@ pub invariant_of-result : goal.invariant_of-result
 invariant_of-result g c =
     let a = c.args in
     let width = a.spec_ex.bytes_per_sample in
-    consistent_seen g.W.Placed.tells g.W.Placed.state _ _ _ _ _ (λ j. of_fields a.writer a.spec_ex a.data_start a.data_length (sym c.new.ensures j) []) refl
+    consistent_seen g.W.Placed.tells g.W.Placed.state _ _ _ _ _
+    (λ j. of_fields a.writer a.spec_ex a.data_start a.data_length (sym c.new.ensures j) []) refl
     record {
       sound = c.requires.sound;
-      whole_out = ap (λ n. n % width) (let e : a.data_length ≡ a.data_length + 0 = omega arith in e) ∙ c.requires.sound.whole;
+      whole_out =
+          ap (λ n. n % width) (let e : a.data_length ≡ a.data_length + 0 = omega arith in e)
+          ∙ c.requires.sound.whole;
       whole_waiting = none_whole width;
       block = omega arith;
       room = c.limit_of.ensures.room;

@@ -8,15 +8,20 @@ pub returns-then-not-put_block : goal.returns-then-not-put_block
 returns-then-not-put_block g c =
     let W = g.W.Placed in
     let first = c.args.self.now in
-    checkpoints_cut W.tells W.keeps W.state (data_end first) first c.put_block.new.self c.put_block.new.fault (omega arith) c.if-not-put_block.ensures (g.met.W.Placed.bytes first.medium)
+    checkpoints_cut W.tells W.keeps W.state
+    (data_end first) first c.put_block.new.self c.put_block.new.fault
+    (omega arith) c.if-not-put_block.ensures (g.met.W.Placed.bytes first.medium)
 
 pub returns-then-not-put_pad : goal.returns-then-not-put_pad
 returns-then-not-put_pad g c =
     let W = g.W.Placed in
     let first = c.args.self.now in
     let mid = c.put_block.new.self in
-    checkpoints_later W.tells W.keeps W.state (data_end first) first mid c.put_pad.new.self _ (omega arith) c.if-not-put_block.ensures (g.met.W.Placed.bytes first.medium)
-    (checkpoints_cut W.tells W.keeps W.state (padded_end mid) mid c.put_pad.new.self c.put_pad.new.fault (omega arith) c.if-not-put_pad.ensures.goes (g.met.W.Placed.bytes mid.medium))
+    checkpoints_later W.tells W.keeps W.state (data_end first) first mid c.put_pad.new.self _
+    (omega arith) c.if-not-put_block.ensures (g.met.W.Placed.bytes first.medium)
+    (checkpoints_cut W.tells W.keeps W.state
+    (padded_end mid) mid c.put_pad.new.self c.put_pad.new.fault
+    (omega arith) c.if-not-put_pad.ensures.goes (g.met.W.Placed.bytes mid.medium))
 
 pub returns : goal.returns
 returns g c =
@@ -29,7 +34,14 @@ returns g c =
     let none = ap (λ w. w.waiting) pad.goes.value in
     let publish = c.publish_and_return-published in
     let e = publish.ensures in
-    checkpoints_later W.tells W.keeps W.state (data_end first) first mid publish.new.self c.told.result (omega arith) out (g.met.W.Placed.bytes first.medium)
-    (checkpoints_later W.tells W.keeps W.state (padded_end mid) mid padded publish.new.self c.told.result (omega arith) pad.goes (g.met.W.Placed.bytes mid.medium)
-    (checkpoints W.tells W.keeps W.state padded publish.new.self.medium none e.sound e.stands (λ told. pad.padded told refl) publish.result c.are_frames.result c.told.result c.told.ensures
-    publish.new.self e.stays c.are_frames.ensures (g.met.W.Placed.bytes padded.medium) (g.met.W.Placed.bytes publish.new.self.medium) e.patches e.moments))
+    checkpoints_later W.tells W.keeps W.state
+    (data_end first) first mid publish.new.self c.told.result (omega arith) out
+    (g.met.W.Placed.bytes first.medium)
+    (checkpoints_later W.tells W.keeps W.state
+    (padded_end mid) mid padded publish.new.self c.told.result (omega arith) pad.goes
+    (g.met.W.Placed.bytes mid.medium)
+    (checkpoints W.tells W.keeps W.state padded publish.new.self.medium none e.sound e.stands
+    (λ told.
+    pad.padded told refl) publish.result c.are_frames.result c.told.result c.told.ensures
+    publish.new.self e.stays c.are_frames.ensures (g.met.W.Placed.bytes padded.medium)
+    (g.met.W.Placed.bytes publish.new.self.medium) e.patches e.moments))

@@ -6,5 +6,7 @@ use Rattle.hound_writer.proofs.write.WavWriter.new.Goals as goal
 pub returns : goal.returns
 returns g c =
     let W = g.W.Placed in
-    subst (λ (s : WavSpecEx). MatchResult c.new_with_spec_ex.result (Begins W.tells W.keeps W.state s (W.state c.args.writer)) (λ e. (back : _) × IsNotBegun W.tells W.keeps W.state s c.args.writer back e))
+    subst (λ (s : WavSpecEx). MatchResult c.new_with_spec_ex.result
+    (Begins W.tells W.keeps W.state s (W.state c.args.writer))
+    (λ e. (back : _) × IsNotBegun W.tells W.keeps W.state s c.args.writer back e))
     c.with_default_width.ensures c.new_with_spec_ex.ensures

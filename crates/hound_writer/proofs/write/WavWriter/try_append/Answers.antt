@@ -7,10 +7,13 @@ pub returns-in-Ok : goal.returns-in-Ok
 returns-in-Ok g c =
     let old = g.W.Placed.state c.args.writer in
     let mid = g.W.Placed.state c.find_data-writer.result.0 in
-    answer_after g.W.Placed.tells g.W.Placed.state c.in-Ok.head old mid _ (λ tells. subst (λ r. FindsData r old mid) c.in-Ok.is (c.find_data-writer.ensures.finds tells)) c.append_at.ensures
+    answer_after g.W.Placed.tells g.W.Placed.state c.in-Ok.head old mid _
+    (λ tells. subst (λ r. FindsData r old mid) c.in-Ok.is
+    (c.find_data-writer.ensures.finds tells)) c.append_at.ensures
 
 pub returns-in-Err : goal.returns-in-Err
 returns-in-Err g c tells =
     let old = g.W.Placed.state c.args.writer in
     let mid = g.W.Placed.state c.find_data-writer.result.0 in
-    walk_fails c.in-Err.error c.error_of.result old mid (c.requires tells) c.error_of.ensures (subst (λ r. FindsData r old mid) c.in-Err.is (c.find_data-writer.ensures.finds tells))
+    walk_fails c.in-Err.error c.error_of.result old mid (c.requires tells) c.error_of.ensures
+    (subst (λ r. FindsData r old mid) c.in-Err.is (c.find_data-writer.ensures.finds tells))

@@ -10,12 +10,16 @@ pub at_end-requires : goal.at_end-requires
 at_end-requires g c =
     let s = c.args.spec_ex in
     let is = c.as_slice-bytes.ensures ∙ c.header_of-header.ensures in
-    let at : length c.as_slice-bytes.result.now ≡ data_start s = ap length is ∙ length-header s 0 0 in
+    let at : length c.as_slice-bytes.result.now ≡ data_start s =
+    ap length is ∙ length-header s 0 0 in
     let writable : IsWritable s = search rules in
     record {
       sound = sound_begin c.put_all.new.medium s _ writable at;
-      stands = λ tells. let puts = c.in-Ok.ensures tells in stands_begin g.W.Placed.keeps s _ _ _ _ is (c.requires tells) puts puts.whole writable _ at;
-      place = λ tells. let puts = c.in-Ok.ensures tells in place_begins g.W.Placed.keeps s _ _ _ _ is (c.requires tells) puts puts.whole;
+      stands = λ tells. let puts = c.in-Ok.ensures tells in
+          stands_begin g.W.Placed.keeps s _ _ _ _ is
+          (c.requires tells) puts puts.whole writable _ at;
+      place = λ tells. let puts = c.in-Ok.ensures tells in
+          place_begins g.W.Placed.keeps s _ _ _ _ is (c.requires tells) puts puts.whole;
     }
 
 pub returns-in-Ok : goal.returns-in-Ok
@@ -23,13 +27,31 @@ returns-in-Ok g c =
     let s = c.args.spec_ex in
     let is = c.as_slice-bytes.ensures ∙ c.header_of-header.ensures in
     let writable : IsWritable s = search rules in
-    subst (Begins g.W.Placed.tells g.W.Placed.keeps g.W.Placed.state s (g.W.Placed.state c.args.writer)) (sym c.at_end.ensures)
+    subst (Begins g.W.Placed.tells g.W.Placed.keeps g.W.Placed.state s
+    (g.W.Placed.state c.args.writer)) (sym c.at_end.ensures)
     record {
-      begun = record { writable = writable; sound = sound_begin c.put_all.new.medium s _ writable (ap length is ∙ length-header s 0 0); spec = refl; start = ap length is ∙ length-header s 0 0; none_out = refl; none_waits = refl; buffer = refl };
-      file = λ tells. header_file g.W.Placed.keeps g.W.Placed.state s _ _ _ is (c.requires tells) writable (c.in-Ok.ensures tells);
+      begun = record {
+        writable = writable;
+        sound = sound_begin c.put_all.new.medium s _ writable
+            (ap length is ∙ length-header s 0 0);
+        spec = refl;
+        start =
+            ap length is ∙ length-header s 0 0;
+        none_out = refl;
+        none_waits = refl;
+        buffer = refl;
+      };
+      file = λ tells. header_file g.W.Placed.keeps g.W.Placed.state s _ _ _ is
+          (c.requires tells) writable (c.in-Ok.ensures tells);
     }
 
 pub returns-in-Err : goal.returns-in-Err
 returns-in-Err g c =
     let writable : IsWritable c.args.spec_ex = search rules in
-    inr (writable, tt, λ tells. header_cut g.W.Placed.keeps _ _ _ _ _ _ (c.as_slice-bytes.ensures ∙ c.header_of-header.ensures) (c.in-Err.ensures tells))
+    inr (
+      writable,
+      tt,
+      λ tells.
+          header_cut g.W.Placed.keeps _ _ _ _ _ _
+          (c.as_slice-bytes.ensures ∙ c.header_of-header.ensures) (c.in-Err.ensures tells),
+    )
