@@ -1,5 +1,5 @@
-//! Tests of hostile input: readers that lie, bytes that no writer made, and memory that isn't there;
-//! and of files that other programs wrote.
+//! Tests of hostile input: readers that lie, bytes that no writer made, and memory that isn't
+//! there; and of files that other programs wrote.
 #![tactic(auto)]
 
 #[cfg(test)]

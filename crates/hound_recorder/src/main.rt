@@ -1,5 +1,5 @@
-//! The program `hound_recorder`: a recorder over a file on disk, which the script `faults` kills and
-//! lets fail, and whose files the script `peers` has other programs read.
+//! The program `hound_recorder`: a recorder over a file on disk, which the script `faults` kills
+//! and lets fail, and whose files the script `peers` has other programs read.
 #![tactic(auto)]
 
 mod record;

@@ -12,7 +12,7 @@ pub struct Recorded {
     pub is_whole: bool,
 }
 
-// The sample behind so many: they count up, and begin anew at the greatest number of their bits.
+// The sample behind so many: they count from 0, to 127 where they have eight bits, else to 32767.
 fn sample_behind(accepted: u32, bits: u16) -> i16 {
     if bits == 8 {
         (accepted & 0x7f) as i16
@@ -21,12 +21,13 @@ fn sample_behind(accepted: u32, bits: u16) -> i16 {
     }
 }
 
-/// Writes a mono file of so many bits, in so many lots of so many samples, and publishes after each.
+/// Writes a mono file of so many bits, in so many lots of so many samples, each of them published.
 ///
-/// The samples count up from 0, and begin anew at 32768, or at 128 where they have eight bits. After
-/// each lot that was published the output has a line with the number of samples that the file then
-/// counts, and is flushed. A sample that the file refuses is tried again as the next one, and a lot
-/// that it doesn't publish has no line. The errors are those of `create`, and of the output.
+/// The samples count up from 0, and begin anew at 32768, or at 128 where they have eight bits.
+/// After each lot that was published the output has a line with the number of samples that the
+/// file then counts, and is flushed. A sample that the file refuses is tried again as the next one,
+/// and a lot that it doesn't publish has no line. The errors are those of `create`, and of the
+/// output.
 pub fn record<O: io::Write>(
     rt: &HostRuntime,
     path: Path<'_>,
