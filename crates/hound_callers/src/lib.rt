@@ -1,5 +1,5 @@
-//! What a user builds over the public items of `hound` alone: functions that prove something of their
-//! own from its contracts, a sample type, and what the crates of tests share.
+//! What a user builds over the public items of `hound` alone: functions that prove something of
+//! their own from its contracts, a sample type, and what the crates of tests share.
 #![tactic(auto)]
 
 mod callers;
