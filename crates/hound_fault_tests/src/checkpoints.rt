@@ -2,7 +2,9 @@
 ghost use Rattle.std.specs.Prelude.{◌≡◌};
 
 use hound::{Error, Placed, Tape, WavReader, WavWriter};
-use hound_tests::helpers::{Faulty, empty_tape, file_of, integers, samples_of, sixteen, write_all};
+use hound_callers::helpers::{
+    Faulty, empty_tape, file_of, integers, samples_of, sixteen, write_all,
+};
 use std::alloc::Global;
 use std::test::Fail;
 

@@ -3,7 +3,7 @@ ghost use Rattle.std.specs.Prelude.{◌≡◌, ◌≤◌, IfOk};
 
 use crate::helpers::{bytes_after, has_first, has_samples, numbers};
 use hound::{Begin, End, Error, Journal, Placed, Step, WavReader, WavSpec, WavWriter, run_session};
-use hound_tests::helpers::{integers, sixteen, write_all};
+use hound_callers::helpers::{integers, sixteen, write_all};
 use std::alloc::Global;
 use std::test::Fail;
 

@@ -3,7 +3,7 @@ ghost use Rattle.std.specs.Prelude.{◌≡◌};
 
 use crate::helpers::failing;
 use hound::{Begin, End, Error, FloatBits, Step, Tape, WavSpecEx, run_session, run_sessions};
-use hound_tests::helpers::{empty_tape, integers, samples_of, tape_of};
+use hound_callers::helpers::{empty_tape, integers, samples_of, tape_of};
 use std::alloc::Global;
 use std::test::Fail;
 

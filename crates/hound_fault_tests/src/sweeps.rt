@@ -3,7 +3,7 @@ ghost use Rattle.std.specs.Prelude.{◌≡◌};
 
 use crate::helpers::{Recorded, bytes_after, data_length, failing, has_first};
 use hound::{Begin, End, Error, Journal, Placed, Step, run_session};
-use hound_tests::helpers::{integers, samples_of};
+use hound_callers::helpers::{integers, samples_of};
 use std::alloc::Global;
 use std::test::Fail;
 

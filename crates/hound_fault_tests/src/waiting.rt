@@ -5,7 +5,7 @@ ghost use Rattle.hound.specs.State.{MediumState};
 
 use crate::helpers::{Call, Recorded, failing};
 use hound::{Error, Journal, Medium, Placed, Sample, SampleFormat, WavSpecEx, WavWriter};
-use hound_tests::helpers::{
+use hound_callers::helpers::{
     FOUR_SAMPLES, Faulty, NO_SAMPLES, empty_tape, integers, sixteen, write_all, write_up,
 };
 use std::alloc::Global;

@@ -2,7 +2,7 @@
 // lets it take.
 use crate::helpers::{ENDED, Fed, INTERRUPTED, ITEMS, Item, Then, changed, read};
 use hound::read_wave_header;
-use hound_tests::helpers::{FOUR_SAMPLES, NO_SAMPLES};
+use hound_callers::helpers::{FOUR_SAMPLES, NO_SAMPLES};
 use std::alloc::{AllocError, Global};
 use std::io::ErrorKind;
 use std::test::Fail;

@@ -6,7 +6,7 @@ ghost use Rattle.hound.specs.Room.{IsSixteen};
 use hound::{
     Begin, End, Error, Journal, Medium, Placed, Step, Tape, WavReader, WavWriter, run_session,
 };
-use hound_tests::helpers::{FOUR_SAMPLES, empty_tape, integers, sixteen, tape_of, write_all};
+use hound_callers::helpers::{FOUR_SAMPLES, empty_tape, integers, sixteen, tape_of, write_all};
 use std::alloc::Global;
 use std::io::ErrorKind;
 use std::path::{Path, PathBuf};

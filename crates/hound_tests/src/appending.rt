@@ -1,8 +1,10 @@
 // Going on with files that are there.
 ghost use Rattle.std.specs.Prelude.{◌≡◌};
 
-use crate::helpers::{FOUR_SAMPLES, file_of, file_with, floats, integers, samples_of, write_all};
 use hound::{Error, FloatBits, Placed, Sample, Tape, WavWriter};
+use hound_callers::helpers::{
+    FOUR_SAMPLES, file_of, file_with, floats, integers, samples_of, write_all,
+};
 use std::alloc::Global;
 use std::io::ErrorKind;
 use std::test::Fail;

@@ -1,8 +1,10 @@
 // Batches of samples of sixteen bits.
 ghost use Rattle.std.specs.Prelude.{◌≡◌};
 
-use crate::helpers::{Faulty, empty_tape, file_of, integers, samples_of, sixteen, write_up};
 use hound::{Error, WavWriter};
+use hound_callers::helpers::{
+    Faulty, empty_tape, file_of, integers, samples_of, sixteen, write_up,
+};
 use std::test::Fail;
 
 #[test]

@@ -1,7 +1,7 @@
 // The functions of `callers`, each run once.
-use crate::helpers::{empty_tape, file_of, integers, sixteen};
-use crate::{convert, open_written, record_checkpoint};
 use hound::{WavReader, WavWriter};
+use hound_callers::helpers::{empty_tape, file_of, integers, sixteen};
+use hound_callers::{convert, open_written, record_checkpoint};
 use std::test::Fail;
 
 #[test]

@@ -1,6 +1,6 @@
 // Files of many channels.
-use crate::helpers::{file_of, integers, samples_of};
 use hound::Error;
+use hound_callers::helpers::{file_of, integers, samples_of};
 use std::test::Fail;
 
 #[test]

@@ -1,8 +1,8 @@
 // Files on disk.
-use crate::helpers::{
+use hound::{Error, WavReader, WavWriter};
+use hound_callers::helpers::{
     FOUR_SAMPLES, NO_SAMPLES, file_of, integers, read_all, seeks_everywhere, sixteen, write_all,
 };
-use hound::{Error, WavReader, WavWriter};
 use std::path::{Path, PathBuf};
 use std::test::Fail;
 use std::{env, fs, io, process};

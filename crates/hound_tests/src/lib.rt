@@ -1,13 +1,5 @@
-//! Tests over the public items of `hound` alone, as a user of the library has them, and functions over
-//! them.
+//! Tests over the public items of `hound` alone, as a user of the library has them.
 #![tactic(auto)]
-
-mod callers;
-pub mod helpers;
-mod twelve;
-
-pub use callers::{convert, open_written, record_checkpoint};
-pub use twelve::Twelve;
 
 #[cfg(test)]
 mod appending;

@@ -1,6 +1,6 @@
 // Files of every fmt chunk that is read, at the types that hold their samples.
-use crate::helpers::{file_with, read_all, samples_of};
 use hound::{Error, FloatBits, WavReader};
+use hound_callers::helpers::{file_with, read_all, samples_of};
 use std::alloc::Global;
 use std::io;
 use std::test::Fail;

@@ -3,10 +3,10 @@ ghost use Rattle.std.specs.Prelude.{◌≡◌, false};
 ghost use Rattle.std.proofs.lemmas.Bool.{false≢true};
 ghost use Rattle.hound.specs.State.{MediumState, unknown};
 
-use crate::helpers::{
+use hound::{Error, FloatBits, Placed, Sample, Source, Tape, WavReader};
+use hound_callers::helpers::{
     FOUR_BYTES, FOUR_SAMPLES, NO_SAMPLES, file_with, gives, seeks_everywhere, tape_of,
 };
-use hound::{Error, FloatBits, Placed, Sample, Source, Tape, WavReader};
 use std::alloc::Global;
 use std::io;
 use std::io::ErrorKind;

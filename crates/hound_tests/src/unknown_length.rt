@@ -1,6 +1,6 @@
 // Headers of streams whose length isn't known.
-use crate::helpers::integers;
 use hound::{Error, WavReader};
+use hound_callers::helpers::integers;
 use std::test::Fail;
 
 // 16000 Hz, 16 bits, one channel.

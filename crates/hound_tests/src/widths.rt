@@ -1,7 +1,7 @@
 // Every width and every sample type, written and read back.
-use crate::Twelve;
-use crate::helpers::{FOUR_BYTES, empty_tape, file_of, floats, integers, samples_of};
 use hound::{Error, FloatBits, WavWriter};
+use hound_callers::Twelve;
+use hound_callers::helpers::{FOUR_BYTES, empty_tape, file_of, floats, integers, samples_of};
 use std::test::Fail;
 
 #[test]

@@ -2,8 +2,8 @@
 ghost use Rattle.std.specs.Prelude.{◌≡◌};
 ghost use Rattle.hound.specs.State.{MediumState};
 
-use crate::helpers::{FOUR_SAMPLES, Faulty, NO_SAMPLES, empty_tape, sixteen, write_all};
 use hound::{Error, Placed, SampleFormat, Tape, WavSpec, WavSpecEx, WavWriter};
+use hound_callers::helpers::{FOUR_SAMPLES, Faulty, NO_SAMPLES, empty_tape, sixteen, write_all};
 use std::alloc::Global;
 use std::test::Fail;
 

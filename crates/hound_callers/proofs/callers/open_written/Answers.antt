@@ -7,7 +7,7 @@ use Rattle.hound.specs.Refusals.{OpensAs}
 use Rattle.hound.specs.declared.Error.{Error}
 use Rattle.hound.specs.declared.Error.TheVariants.{IoError}
 use Rattle.hound.specs.declared.WavSpecEx.{WavSpecEx}
-use Rattle.hound_tests.proofs.callers.open_written.Goals as goal
+use Rattle.hound_callers.proofs.callers.open_written.Goals as goal
 
 -- The samples of bytes begin at one place, so those of an opened reader are left there.
 left : {R : Type 0} (now : R → List ℕ) (s : WavSpecEx) (list : List (List ℕ)) (start : ℕ) (bytes : List ℕ)

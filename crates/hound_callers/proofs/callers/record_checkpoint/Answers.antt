@@ -6,7 +6,7 @@ use Rattle.hound.specs.Publishing.{Checkpoints, ReadsAs}
 use Rattle.hound.specs.State.{MediumState}
 use Rattle.hound.specs.Writer.{WriterState, IsWhole, accepted_samples}
 use Rattle.hound.specs.declared.Error.{Error}
-use Rattle.hound_tests.proofs.callers.record_checkpoint.Goals as goal
+use Rattle.hound_callers.proofs.callers.record_checkpoint.Goals as goal
 
 -- what was accepted is published
 published : {M : Type 0} (tells keeps : Bool) (state : M → MediumState) (asked : Result (List ℕ) Refusal)

@@ -6,7 +6,7 @@ use Rattle.hound.specs.Answers.{one}
 use Rattle.hound.specs.Container.{Refusal}
 use Rattle.hound.specs.ContainerLaws.{int_container-in_width}
 use Rattle.hound.specs.Writer.{WriterState, data_length, sample_count}
-use Rattle.hound_tests.proofs.callers.convert.Goals as goal
+use Rattle.hound_callers.proofs.callers.convert.Goals as goal
 
 -- a container of the file's width is a sample more
 counted : {M : Type 0} (asked : Result (List ℕ) Refusal) (old new : WriterState M)

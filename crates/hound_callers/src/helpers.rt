@@ -1,5 +1,4 @@
-//! What tests share, these and those of `hound_fault_tests`: specs, files in memory, and a medium that
-//! fails.
+//! What the crates of tests share: specs, files in memory, and a medium that fails.
 ghost use Rattle.std.specs.Prelude.{◌≡◌, false, IfOk};
 ghost use Rattle.std.proofs.lemmas.Bool.{false≢true};
 ghost use Rattle.hound.specs.Room.{IsSixteen};

@@ -1,0 +1,10 @@
+//! What a user builds over the public items of `hound` alone: functions that prove something of
+//! their own from its contracts, a sample type, and what the crates of tests share.
+#![tactic(auto)]
+
+mod callers;
+pub mod helpers;
+mod twelve;
+
+pub use callers::{convert, open_written, record_checkpoint};
+pub use twelve::Twelve;
