@@ -3,8 +3,10 @@
 #![tactic(auto)]
 
 mod callers;
+mod example;
 pub mod helpers;
 mod twelve;
 
 pub use callers::{convert, open_written, record_checkpoint};
+pub use example::record_and_read;
 pub use twelve::Twelve;

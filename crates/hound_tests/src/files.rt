@@ -3,6 +3,7 @@ use hound::{Error, WavReader, WavWriter};
 use hound_callers::helpers::{
     FOUR_SAMPLES, NO_SAMPLES, file_of, integers, read_all, seeks_everywhere, sixteen, write_all,
 };
+use hound_callers::record_and_read;
 use std::path::{Path, PathBuf};
 use std::test::Fail;
 use std::{env, fs, io, process};
@@ -54,6 +55,16 @@ fn a_file_is_made_gone_on_with_and_read(rt: HostRuntime) -> Result<(), Fail> {
     assert_eq!(rt; read?.as_slice(), numbers.as_slice());
     let whole = file_of(rt.alloc(), integers(1, 44100, 16, 2), &numbers)?;
     assert_eq!(rt; bytes?.as_slice(), whole.as_slice());
+    Ok(())
+}
+
+// The README's example: the numbers from 0 to 4799, and -1.
+#[test]
+fn the_first_example_adds_up(rt: HostRuntime) -> Result<(), Fail> {
+    let path = path_of(&rt, "example")?;
+    let sum = record_and_read(&rt, path.as_path(), sixteen(1));
+    fs::remove_file(&rt, path.as_path())?;
+    assert_eq!(rt; sum?, 4799 * 4800 / 2 - 1);
     Ok(())
 }
 

@@ -82,7 +82,7 @@ struct ReaderWords;
 impl ReaderWords {
     ghost use Rattle.hound.specs.Answer.{Answer, Answers, HasOneAnswer, HasOneFileAnswer, ReportsAnswer};
     ghost use Rattle.hound.specs.Cause.{Cause};
-    ghost use Rattle.hound.specs.Chunks.{Head, Readable, Refused, Unreadable, chunk_fault, content_fault, cut_fault, fault_of, first_fault, front_fault};
+    ghost use Rattle.hound.specs.Chunks.{Head, IsDataPlace, Readable, Refused, Unreadable, chunk_fault, content_fault, cut_fault, fault_of, first_fault, front_fault};
     ghost use Rattle.hound.specs.Containers.{AreContainers};
     ghost use Rattle.hound.specs.Counting.{HasGiven, HasGiven-prop};
     ghost use Rattle.hound.specs.Fmt.{IsSoundSpec, by_subformat, by_tag, fmt_len, fmt_of, wave_format, wave_format_extensible, wave_format_ieee_float, wave_format_pcm};

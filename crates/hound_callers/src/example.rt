@@ -1,0 +1,19 @@
+// What the README shows first.
+use hound::{WavReader, WavSpec, WavWriter};
+use std::path::Path;
+
+/// Records with a checkpoint, and adds up what is then read.
+pub fn record_and_read(rt: &HostRuntime, path: Path<'_>, spec: WavSpec) -> hound::Result<i64> {
+    let mut writer = WavWriter::create(rt, rt.alloc(), path, spec)?;
+    for sample in 0..4800i16 {
+        writer.write_sample(sample)?;
+    }
+    writer.flush()?; // A reader finds these 4800 now, whatever becomes of the writer.
+    writer.write_sample(-1i16)?;
+    writer.finalize()?;
+    let mut sum = 0i64;
+    for sample in WavReader::open(rt, rt.alloc(), path)?.into_samples::<i16>() {
+        sum = sum.wrapping_add(sample? as i64);
+    }
+    Ok(sum)
+}
