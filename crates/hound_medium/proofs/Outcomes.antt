@@ -1,4 +1,5 @@
--- What holds of a call's outcome where it is Ok. That a weaker fact holds too is `on_ok_weaker` of std.
+-- What holds of a call's outcome where it is Ok. That a weaker fact holds too is `on_ok_weaker` of
+-- std.
 use Rattle.std.proofs.Common.{Result, Ok, Err, OnOk, IsOk, refl}
 use Rattle.std.proofs.lemmas.Bool.{false≢true}
 

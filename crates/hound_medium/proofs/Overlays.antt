@@ -49,7 +49,8 @@ drop-put_at zero b (suc m) (x ∷ c) h = refl
 drop-put_at (suc p) b (suc m) [] h = drop-put_at p b m [] (omega arith) ∙ drop-nil m
 drop-put_at (suc p) b (suc m) (x ∷ c) h = drop-put_at p b m c (omega arith)
 
--- bytes put at a place inside the contents or at their end: what stood before the place, the bytes, what stood behind them
+-- bytes put at a place inside the contents or at their end: what stood before the place, the bytes,
+-- what stood behind them
 pub overlay_is : (c : List ℕ) (p : ℕ) (bs : List ℕ) → p ≤ length c
     → overlay c (placed p bs) ≡ take p c ++ (bs ++ drop (p + length bs) c)
 overlay_is c p [] h =
@@ -103,7 +104,8 @@ overlay_padded (b ∷ bs) p c m fits some =
     ∙ overlay_padded bs (suc p) (put_at p b c) n (omega (arith, fits, length-put_at p b c))
     (λ e. omega (arith, length-put_at p b c))
 
--- bytes put at any place, as code does it: zeros make the contents long enough, and the bytes are copied over them
+-- bytes put at any place, as code does it: zeros make the contents long enough, and the bytes are
+-- copied over them
 pub overlay_resized : (c : List ℕ) (p : ℕ) (bs : List ℕ) (m : ℕ) → 0 < length bs
     → length c + m ≡ max (length c) (p + length bs)
     → overlay c (placed p bs) ≡ take p (c ++ replicate m 0) ++

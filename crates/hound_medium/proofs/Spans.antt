@@ -26,7 +26,8 @@ moment_last s replays =
     ap (overlay s.start) (take_all (length s.past) s.past (omega arith)) ∙ sym replays
 
 module _ (At : ℕ → List ℕ → Type 0) (split : ℕ) where
-  -- bytes are put at a place, all at once or by several calls: at its level is what the first k of them leave
+  -- bytes are put at a place, all at once or by several calls: at its level is what the first k of
+  -- them leave
   pub span_puts : (old new : MediumState) (at : ℕ) (bytes : List ℕ)
       → old.contents ≡ overlay old.start old.past → new.start ≡ old.start
       → new.past ≡ old.past ++ placed at bytes

@@ -38,8 +38,8 @@ AnswersRead refusal meaning s old new answer = (fault : IoFault)
     → Reads (refusal_at refusal s) (meaning_at meaning s) s.bytes_per_sample old new
     (answer_of answer fault)
 
--- how many bytes an item without a sample took, of those that were given for it: what was given of a
--- container of this width where a fault or the end cut it, and none at a refusal
+-- how many bytes an item without a sample took, of those that were given for it: what was given of
+-- a container of this width where a fault or the end cut it, and none at a refusal
 abbrev pub taken_without : NoSample → ℕ → ℕ → ℕ
 taken_without Failed given width = min given width
 taken_without _ given width = 0

@@ -86,7 +86,8 @@ module _ {M : Type 0} (tells keeps : Bool) (state : M → MediumState) (told : I
       (run_later steps answers cuts mid new runs
       ((did tells keeps state told step answer old mid takes).whole whole))
 
-  -- what counts from the last step's return on counts at each of these moments, and so do the samples before each step
+  -- what counts from the last step's return on counts at each of these moments, and so do the
+  -- samples before each step
   pub counted : (steps : List Step) (answers : List (Result (Unit {0}) Error)) (cuts : List ℕ)
       (old new : WriterState M) (end : MediumState)
       → Runs tells keeps state steps answers cuts old new → Later (state new.medium) end
@@ -150,7 +151,8 @@ module _ {M : Type 0} (tells keeps : Bool) (state : M → MediumState) (told : I
       Counts x.0 x.1.0 x.1.1 (moment end.start end.past k))
       (λ j. (t.spec_ex j, (t.data_start j, same j))) rest
 
-  -- a step that writes samples leaves the data length, at each of its moments and when it has returned
+  -- a step that writes samples leaves the data length, at each of its moments and when it has
+  -- returned
   keeps_field : (old new : WriterState M) (at_each : AddsAtEach state old (state new.medium))
       → take old.data_start (state new.medium).contents ≡ take old.data_start
       (state old.medium).contents → 4 ≤ old.data_start → IsWhole state old

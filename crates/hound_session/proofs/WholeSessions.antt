@@ -117,7 +117,8 @@ sound_frames s n none =
     go true false e = cc
     go false b e = cc
 
--- A medium with the canonical file of these containers in whole frames at its front, which can be appended to; it has no bytes but those of the file and what was there at the start.
+-- A medium with the canonical file of these containers in whole frames at its front, which can be
+-- appended to; it has no bytes but those of the file and what was there at the start.
 pub record HoldsFile (s : WavSpecEx) (list : List (List ℕ)) (start now : MediumState) : Type 0 where
   writable : IsWritable s
   head : Head now.contents s (length (concat list)) (data_start s)
@@ -151,7 +152,8 @@ holds_still s list start old new same faults file = record {
       (arith, ap length same, file.reach (omega (arith, none, faults), small));
 }
 
--- What steps lead to after a file of these containers: that file with theirs after them; or an error, and the file of the first of them, unless the medium failed.
+-- What steps lead to after a file of these containers: that file with theirs after them; or an
+-- error, and the file of the first of them, unless the medium failed.
 pub record Led (s : WavSpecEx) (list : List (List ℕ)) (steps : List Step) (start now : MediumState)
     (answer : Result (Unit {0}) Error) : Type 0 where
   faults : FaultsGrow start now

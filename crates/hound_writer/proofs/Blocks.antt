@@ -1,4 +1,5 @@
--- What the block of accepted samples changes: samples that join it, and what waits in it when it goes out.
+-- What the block of accepted samples changes: samples that join it, and what waits in it when it
+-- goes out.
 use Rattle.std.proofs.Common.{◌≡◌, ℕ, zero, suc, ◌+◌, ◌/◌, ◌%◌, ◌≤◌, Bool, true, false, IsTrue, List, [], ◌++◌, length, take, drop, Result, Ok, refl, sym, subst, ◌∙◌, ap, arith, length-append}
 use Rattle.std.proofs.lemmas.List.{append-nil, nil_from_length}
 use Rattle.hound_medium.specs.Bytes.{overlay}

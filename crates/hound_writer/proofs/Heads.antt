@@ -86,7 +86,8 @@ module _ (old : List ℕ) (s : WavSpecEx) (len h : ℕ) (head : Head old s len h
       ∙ drop_at (riff_tag ++ head.walk.size) (wave_tag ++ (joined head.chunks ++ data_tag)) 8
       (omega (arith, head.walk.four, length-append riff_tag head.walk.size))
 
-  -- contents with the same bytes but for the two sizes have the same head, with the length that their field says
+  -- contents with the same bytes but for the two sizes have the same head, with the length that
+  -- their field says
   pub head_with : (new : List ℕ) → h ≤ length new → take 4 new ≡ take 4 old
       → drop 8 (take (h - 4) new) ≡ drop 8 (take (h - 4) old) → Head new s (field (h - 4) new) h
   head_with new inside same_front same_middle =

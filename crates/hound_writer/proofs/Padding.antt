@@ -37,7 +37,8 @@ one_left n odd =
           (odd (omega (arith, none)))
     ]
 
--- a writer in which nothing waits, whose data have an odd length, and a byte that was put behind them
+-- a writer in which nothing waits, whose data have an odd length, and a byte that was put behind
+-- them
 module _ {W : Type 0} (tells keeps : Bool) (state : W → MediumState) (w : WriterState W)
     (moved : Bool) (limit : ℕ) (known : IsConsistent tells state w moved limit)
     (none : w.waiting ≡ [])

@@ -173,7 +173,8 @@ patches_still p new result answer a b c replays stays all patches =
           + 4 = from_ok result ok patches.whole in omega (arith, same, all_put)) all;
     }
 
--- where the four bytes of the field went out one after the other, it has the old or the new number at each moment but those between them
+-- where the four bytes of the field went out one after the other, it has the old or the new number
+-- at each moment but those between them
 old_or_new : (p new split : ℕ) (a b : MediumState) → HasSize p a.contents → new < 2 ^ 32
     → Span (IsPatched p a.contents new) split a b → PutsLast p split a b
     → IsOldOrNew p (field p a.contents) new a b

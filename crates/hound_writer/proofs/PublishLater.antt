@@ -1,4 +1,5 @@
--- A call that publishes: what waits goes out before, and the pad byte, and where they don't nothing is patched.
+-- A call that publishes: what waits goes out before, and the pad byte, and where they don't nothing
+-- is patched.
 use Rattle.std.proofs.Common.{◌≡◌, ℕ, ◌+◌, ◌-◌, ◌≤◌, inl, inr, Bool, true, false, IsTrue, ◌/◌, ◌%◌, Result, Ok, Err, OnOk, List, length, take, drop, refl, sym, ◌∙◌, ap, subst, arith, length-append, length-take}
 use Rattle.std.proofs.lemmas.Bool.{cases_lt}
 use Rattle.std.proofs.lemmas.List.{get_or_append_left, take-take}

@@ -65,7 +65,8 @@ module _ (s : WavSpecEx) (size length_before : ℕ) (start p : ℕ) (before : p 
       (sym (append_assoc (described s) (bytes_of 4 data_length) (drop start c)))
       ∙ ap (λ l. l ++ drop start c) (sym (header-parts s n data_length))
 
--- so much data behind a header with its sizes, and their pad byte, are the canonical file of its containers
+-- so much data behind a header with its sizes, and their pad byte, are the canonical file of its
+-- containers
 pub canonical_begins : (s : WavSpecEx) (containers : List (List ℕ)) (n start : ℕ)
     (samples contents : List ℕ) → data_start s ≡ start → n ≤ length samples
     → concat containers ≡ take n samples → StartsWith (drop n samples) (padding n)

@@ -1,4 +1,5 @@
--- A writer's file between its calls: the head stands, and the data length counts no more than was accepted.
+-- A writer's file between its calls: the head stands, and the data length counts no more than was
+-- accepted.
 use Rattle.std.proofs.Common.{◌≡◌, ℕ, ◌-◌, ◌≤◌, List, length, take, ap, arith}
 use Rattle.hound_number.specs.Number.{number, mix}
 use Rattle.hound_number.proofs.Mixing.{mix_le}

@@ -5,4 +5,6 @@ use Rattle.hound.specs.Writer.{sample_count}
 use Rattle.hound_callers.proofs.callers.convert.Given as goal
 
 abbrev pub invariant-loop-sample : goal.invariant-loop-sample
-invariant-loop-sample g l = sample_count l.writer + samples_left (lent_reader l.sample-iterator) ≡ sample_count l.fn.writer + samples_left l.fn.reader
+invariant-loop-sample g l =
+    sample_count l.writer + samples_left
+    (lent_reader l.sample-iterator) ≡ sample_count l.fn.writer + samples_left l.fn.reader
