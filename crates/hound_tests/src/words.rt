@@ -131,7 +131,7 @@ impl WriterWords {
     ghost use Rattle.hound.specs.Parts.{HasSize, IsPatched, IsStanding, IsTold, Patches, PatchesAtEach, PutsAt};
     ghost use Rattle.hound.specs.Publishing.{Checkpoints, Finishes};
     ghost use Rattle.hound.specs.Room.{IsSixteen};
-    ghost use Rattle.hound.specs.Writer.{AreFrames, HasRoom, IsCounted, IsSound, IsWhole, WriterState, accepted_samples, data_length, sample_count};
+    ghost use Rattle.hound.specs.Writer.{AreFrames, HasRoom, IsCounted, IsPadded, IsSound, IsWhole, WriterState, accepted_samples, data_end, data_length, padded_end, sample_count};
 
     fn read() -> bool
         ensures { result ≡ result }
