@@ -114,19 +114,19 @@ fn a_checkpoint_stands_while_a_block_goes_out(rt: HostRuntime) -> Result<(), Fai
     writer.flush()?;
     write_all(&mut writer, samples.get(3..).ok_or("4100 samples")?)?;
     let journal = writer.drop_into();
-    // The header, three samples and the sizes; a block, one sample, and the sizes again.
-    assert_eq!(rt; journal.taken(), 55 + 4096 + 1 + 8);
+    // The header, three samples, a pad byte and the sizes; a block, one sample, and the sizes again.
+    assert_eq!(rt; journal.taken(), 56 + 4096 + 1 + 8);
     // The length goes from 3 to 0x1004, by its low byte first.
     for (k, count) in [
-        (55, 3),
         (56, 3),
-        (4150, 3),
+        (57, 3),
         (4151, 3),
         (4152, 3),
-        (4156, 3),
-        (4157, 4),
-        (4158, 4100),
-        (4160, 4100),
+        (4153, 3),
+        (4157, 3),
+        (4158, 4),
+        (4159, 4100),
+        (4161, 4100),
     ] {
         let bytes = bytes_after(&journal, alloc, k)?;
         assert!(rt; has_samples(&bytes, first(&samples, count)?)?);
@@ -164,12 +164,13 @@ fn a_torn_length_of_24_bits_is_refused(rt: HostRuntime) -> Result<(), Fail> {
     writer.write_sample(85i32)?;
     writer.flush()?;
     let journal = writer.drop_into();
-    // The RIFF size is out after 338 bytes, and the length goes from 0x00ff to 0x0102.
-    for (k, count) in [(338, 85), (340, 86)] {
+    // The first checkpoint puts a pad byte. The RIFF size is out after 339 bytes, and the length goes
+    // from 0x00ff to 0x0102.
+    for (k, count) in [(339, 85), (341, 86)] {
         let bytes = bytes_after(&journal, alloc, k)?;
         assert!(rt; has_samples(&bytes, first(&samples, count)?)?);
     }
-    let bytes = bytes_after(&journal, alloc, 339)?;
+    let bytes = bytes_after(&journal, alloc, 340)?;
     assert!(rt;
         matches!(
             WavReader::new(bytes.as_slice()),
@@ -248,11 +249,12 @@ fn a_length_that_a_fault_has_torn_is_appended_to(rt: HostRuntime) -> Result<(), 
     assert_eq!(rt; marks, [true]);
     let bytes = bytes_after(&journal, alloc, journal.taken())?;
     assert_eq!(rt; bytes.len(), 302);
-    assert_eq!(rt; bytes.get(4..8), Some(b"\x27\0\0\0".as_slice()));
+    assert_eq!(rt; bytes.get(4..8), Some(b"\x28\0\0\0".as_slice()));
     assert_eq!(rt; bytes.get(40..44), Some(b"\x03\0\0\0".as_slice()));
+    assert_eq!(rt; bytes.get(47).copied(), Some(0));
     assert!(rt; has_samples(&bytes, &[7i32, 7, 5])?);
-    // The sample and both sizes; bytes that the older length counts lie behind them.
-    assert_eq!(rt; journal.taken(), 1 + 8);
+    // The sample, the pad byte and both sizes; bytes that the older length counts lie behind them.
+    assert_eq!(rt; journal.taken(), 1 + 1 + 8);
     for k in 0..=journal.taken() {
         let bytes = bytes_after(&journal, alloc, k)?;
         assert!(rt; has_first(&bytes, &[7i32, 7, 5], 44, 1, 1), "{k}");
@@ -270,8 +272,8 @@ fn a_length_that_a_fault_has_torn_is_put_over(rt: HostRuntime) -> Result<(), Fai
     let (journal, marks) = run_with_a_torn_length(alloc, 322, &steps)?;
     assert_eq!(rt; marks.iter().position(|mark| !*mark), Some(259));
     assert_eq!(rt; marks.get(260..), Some([true, true].as_slice()));
-    // The torn length stands until the next checkpoint puts its own low byte.
-    for (k, count) in [(315, 2), (316, 2), (320, 2), (321, 3), (322, 259)] {
+    // The torn length stands until the next checkpoint puts its own low byte, behind the pad byte.
+    for (k, count) in [(315, 2), (317, 2), (321, 2), (322, 3), (323, 259)] {
         let bytes = bytes_after(&journal, alloc, k)?;
         assert!(rt; has_samples(&bytes, first(&samples, count)?)?);
     }

@@ -160,10 +160,10 @@ fn sessions_end_at_a_batch_of_other_samples(rt: HostRuntime) -> Result<(), Fail>
         &sessions,
     );
     assert!(rt; matches!(answer, Err(Error::Unsupported)));
-    assert_eq!(rt; tape.bytes().len(), 68 + 3);
+    assert_eq!(rt; tape.bytes().len(), 68 + 3 + 1);
     assert_eq!(rt;
         tape.bytes().get(64..),
-        Some(b"\x03\0\0\0\x01\0\0".as_slice())
+        Some(b"\x03\0\0\0\x01\0\0\0".as_slice())
     );
     Ok(())
 }

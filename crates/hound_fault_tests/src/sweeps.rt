@@ -1,30 +1,58 @@
-// One script of a session over media in which any range of calls fails, read at each moment.
-ghost use Rattle.std.specs.Prelude.{◌≡◌};
+// Scripts of a session over media in which any range of calls fails, read at each moment.
+ghost use Rattle.std.specs.Prelude.{◌≡◌, ◌≤◌};
 
 use crate::helpers::{Recorded, bytes_after, data_length, failing, has_first};
-use hound::{Begin, End, Error, Journal, Placed, Step, run_session};
+use hound::{Begin, End, Error, Journal, Placed, Step, WavSpecEx, run_session};
 use hound_callers::helpers::{integers, samples_of};
 use std::alloc::Global;
 use std::test::Fail;
 
-const SCRIPT: [Step<'static>; 8] = [
-    Step::Whole(1),
-    Step::Whole(2),
-    Step::Flush,
-    Step::Whole(3),
-    Step::Flush,
-    Step::Whole(4),
-    Step::Batch(&[5, 6]),
-    Step::Flush,
-];
+// A session that begins a file.
+#[derive(Clone, Copy)]
+struct Script {
+    spec_ex: WavSpecEx,
+    steps: &'static [Step<'static>],
 
-// What stands between the sizes of a file of two channels with 16 bits, at 44100 Hz.
-const BETWEEN: [u8; 32] = [
-    0x57, 0x41, 0x56, 0x45, 0x66, 0x6d, 0x74, 0x20, 0x10, 0x00, 0x00, 0x00, 0x01, 0x00, 0x02, 0x00,
-    0x44, 0xac, 0x00, 0x00, 0x10, 0xb1, 0x02, 0x00, 0x04, 0x00, 0x10, 0x00, 0x64, 0x61, 0x74, 0x61,
-];
+    // What stands between the sizes of its file.
+    between: [u8; 32],
+}
 
-// Where the data of such a file begin.
+// Two channels with 16 bits, at 44100 Hz: six samples.
+fn stereo() -> Script {
+    Script {
+        spec_ex: integers(2, 44100, 16, 2),
+        steps: &[
+            Step::Whole(1),
+            Step::Whole(2),
+            Step::Flush,
+            Step::Whole(3),
+            Step::Flush,
+            Step::Whole(4),
+            Step::Batch(&[5, 6]),
+            Step::Flush,
+        ],
+        between: *b"WAVEfmt \x10\0\0\0\x01\0\x02\0\x44\xac\0\0\x10\xb1\x02\0\x04\0\x10\0data",
+    }
+}
+
+// One channel with 8 bits, at 44100 Hz: five samples, with a pad byte at each checkpoint.
+fn padded() -> Script {
+    Script {
+        spec_ex: integers(1, 44100, 8, 1),
+        steps: &[
+            Step::Whole(1),
+            Step::Whole(2),
+            Step::Whole(3),
+            Step::Flush,
+            Step::Whole(4),
+            Step::Whole(5),
+            Step::Flush,
+        ],
+        between: *b"WAVEfmt \x10\0\0\0\x01\0\x01\0\x44\xac\0\0\x44\xac\0\0\x01\0\x08\0data",
+    }
+}
+
+// Where the data of such files begin.
 const DATA_START: usize = 44;
 
 // How many bytes a medium takes a call, and the first and the last of its calls that fail.
@@ -38,26 +66,21 @@ struct Faults {
 // What the script's session marked and answered, and its medium.
 #[derive(Drop)]
 struct Run {
-    marks: [bool; 8],
+    marks: Vec<bool>,
     answer: hound::Result<()>,
     journal: Journal,
 }
 
-// The beginning of the script's file.
-fn begin() -> Begin {
-    Begin::New(integers(2, 44100, 16, 2))
-}
-
-// The script over an empty journal.
-fn run_over(alloc: Global, faults: Faults) -> Result<Run, Fail> {
-    let mut marks = [false; 8];
+// A script over an empty journal.
+fn run_over(alloc: Global, script: Script, faults: Faults) -> Result<Run, Fail> {
+    let mut marks = vec![in alloc; false; script.steps.len()]?;
     let mut journal = failing(alloc, faults.from, faults.to)?;
     journal.most(faults.most.max(1));
     let (journal, answer) = run_session(
         alloc,
         journal,
-        begin(),
-        &SCRIPT,
+        Begin::New(script.spec_ex),
+        script.steps,
         &mut marks,
         End::Finalize,
     );
@@ -69,18 +92,26 @@ fn run_over(alloc: Global, faults: Faults) -> Result<Run, Fail> {
 }
 
 // How many bytes had been put when each checkpoint of the same run was done.
-fn checkpoints_over(alloc: Global, faults: Faults) -> Result<Vec<usize>, Fail> {
-    let mut marks = [false; 8];
+fn checkpoints_over(alloc: Global, script: Script, faults: Faults) -> Result<Vec<usize>, Fail> {
+    let mut marks = vec![in alloc; false; script.steps.len()]?;
     let mut medium = Recorded::failing(alloc, faults.from, faults.to)?;
     medium.journal.most(faults.most.max(1));
-    let (medium, _) = run_session(alloc, medium, begin(), &SCRIPT, &mut marks, End::Finalize);
+    let begin = Begin::New(script.spec_ex);
+    let (medium, _) = run_session(
+        alloc,
+        medium,
+        begin,
+        script.steps,
+        &mut marks,
+        End::Finalize,
+    );
     Ok(medium.checkpoints)
 }
 
-// The samples that these marks say were accepted.
-fn marked_samples(alloc: Global, marks: &[bool]) -> Result<Vec<i16>, Fail> {
+// The samples of these steps that their marks say were accepted.
+fn marked_samples(alloc: Global, steps: &[Step], marks: &[bool]) -> Result<Vec<i16>, Fail> {
     let mut samples = Vec::new(alloc);
-    for (step, mark) in SCRIPT.iter().zip(marks) {
+    for (step, mark) in steps.iter().zip(marks) {
         match step {
             Step::Whole(value) if *mark => samples.push(i16::try_from(*value)?)?,
             Step::Batch(values) if *mark => samples.extend_from_slice(values)?,
@@ -90,23 +121,31 @@ fn marked_samples(alloc: Global, marks: &[bool]) -> Result<Vec<i16>, Fail> {
     Ok(samples)
 }
 
-// The bytes of samples.
-fn data_of(alloc: Global, samples: &[i16]) -> Result<Vec<u8>, Fail> {
+// The bytes of samples, one of 8 bits counted from -128.
+fn data_of(alloc: Global, script: Script, samples: &[i16]) -> Result<Vec<u8>, Fail> {
     let mut data = Vec::new(alloc);
     for sample in samples {
-        data.extend_from_slice(&sample.to_le_bytes())?;
+        if script.spec_ex.bytes_per_sample == 1 {
+            data.push(sample.to_le_bytes()[0].wrapping_add(128))?;
+        } else {
+            data.extend_from_slice(&sample.to_le_bytes())?;
+        }
     }
     Ok(data)
 }
 
 // The file of these samples, of which there are few.
-fn stereo_file(alloc: Global, samples: &[i16]) -> Result<Vec<u8>, Fail> {
-    let length = (samples.len() % 100 * 2) as u8;
+fn file_of(alloc: Global, script: Script, samples: &[i16]) -> Result<Vec<u8>, Fail> {
+    let data = data_of(alloc, script, samples)?;
+    let length = (data.len() % 100) as u8;
     let mut bytes = b"RIFF".to_vec(alloc)?;
-    bytes.extend_from_slice(&[36 + length, 0, 0, 0])?;
-    bytes.extend_from_slice(&BETWEEN)?;
+    bytes.extend_from_slice(&[36 + length + length % 2, 0, 0, 0])?;
+    bytes.extend_from_slice(&script.between)?;
     bytes.extend_from_slice(&[length, 0, 0, 0])?;
-    bytes.extend_from_slice(&data_of(alloc, samples)?)?;
+    bytes.extend_from_slice(&data)?;
+    if length % 2 == 1 {
+        bytes.push(0)?;
+    }
     Ok(bytes)
 }
 
@@ -121,10 +160,13 @@ fn standing_length(bytes: &[u8], data: &[u8]) -> Option<usize> {
 // no fewer than the moment before, and is read as the first of the samples.
 fn has_first_at_each_moment(
     alloc: Global,
+    script: Script,
     journal: &Journal,
     samples: &[i16],
 ) -> Result<bool, Fail> {
-    let data = data_of(alloc, samples)?;
+    let data = data_of(alloc, script, samples)?;
+    let width = script.spec_ex.bytes_per_sample.max(1) as usize;
+    let channels = script.spec_ex.spec.channels.max(1) as usize;
     let mut counted = 0;
     for k in DATA_START..=journal.taken() {
         let bytes = bytes_after(journal, alloc, k)?;
@@ -132,7 +174,7 @@ fn has_first_at_each_moment(
             Some(length) if counted <= length => counted = length,
             _ => return Ok(false),
         }
-        if !has_first(&bytes, samples, DATA_START, 2, 2) {
+        if !has_first(&bytes, samples, DATA_START, width, channels) {
             return Ok(false);
         }
     }
@@ -140,64 +182,81 @@ fn has_first_at_each_moment(
 }
 
 // How many bytes of samples each checkpoint that is marked has to count.
-fn published_lengths(alloc: Global, marks: &[bool; 8]) -> Result<Vec<usize>, Fail> {
+fn published_lengths(alloc: Global, script: Script, marks: &[bool]) -> Result<Vec<usize>, Fail> {
     let mut lengths = Vec::new(alloc);
-    for at in 0..8 {
-        if marks[at] && matches!(SCRIPT[at], Step::Flush) {
-            let samples = marked_samples(alloc, &marks[..at])?;
-            lengths.push(data_of(alloc, &samples)?.len())?;
+    for (at, (step, mark)) in script.steps.iter().zip(marks).enumerate() {
+        if *mark && matches!(step, Step::Flush) {
+            let before = marks.get(..at).ok_or("fewer marks")?;
+            let samples = marked_samples(alloc, script.steps, before)?;
+            lengths.push(data_of(alloc, script, &samples)?.len())?;
         }
     }
     Ok(lengths)
 }
 
-// The lengths that a run's file had after so many bytes.
+// The lengths that a run's file had after so many bytes, where behind odd data a pad byte stood.
 fn lengths_at(alloc: Global, journal: &Journal, moments: &[usize]) -> Result<Vec<usize>, Fail> {
     let mut lengths = Vec::new(alloc);
     for k in moments {
         let bytes = bytes_after(journal, alloc, *k)?;
-        lengths.push(data_length(&bytes, DATA_START).ok_or("no length")?)?;
+        let length = data_length(&bytes, DATA_START).ok_or("no length")?;
+        let behind = bytes.get(DATA_START..).and_then(|data| data.get(length));
+        if length % 2 == 1 && behind != Some(&0) {
+            return Err(Fail::from("no pad byte"));
+        }
+        lengths.push(length)?;
     }
     Ok(lengths)
 }
 
 // Whether a run whose header was not put says so.
 fn is_refused(run: &Run) -> bool {
-    matches!(run.answer, Err(Error::IoError(_))) && run.marks == [false; 8]
+    matches!(run.answer, Err(Error::IoError(_))) && run.marks.iter().all(|mark| !*mark)
 }
 
 // Whether a run whose header was put keeps what its marks say, where these checkpoints were done.
-fn keeps_its_marks(alloc: Global, run: &Run, checkpoints: &[usize]) -> Result<bool, Fail> {
-    let samples = marked_samples(alloc, &run.marks)?;
-    let published = published_lengths(alloc, &run.marks)?;
+fn keeps_its_marks(
+    alloc: Global,
+    script: Script,
+    run: &Run,
+    checkpoints: &[usize],
+) -> Result<bool, Fail> {
+    let samples = marked_samples(alloc, script.steps, &run.marks)?;
+    let all = marked_samples(
+        alloc,
+        script.steps,
+        &vec![in alloc; true; script.steps.len()]?,
+    )?;
+    let published = published_lengths(alloc, script, &run.marks)?;
     let bytes = bytes_after(&run.journal, alloc, run.journal.taken())?;
     let ends = match run.answer {
-        Ok(()) => bytes.as_slice() == stereo_file(alloc, &samples)?.as_slice(),
+        Ok(()) => bytes.as_slice() == file_of(alloc, script, &samples)?.as_slice(),
         Err(Error::IoError(_)) => true,
         Err(_) => false,
     };
     // A sample that fits into the block makes no call that could fail.
     Ok(
-        samples.len() == 6
+        samples.as_slice() == all.as_slice()
             && ends
             && lengths_at(alloc, &run.journal, checkpoints)?.as_slice() == published.as_slice()
-            && has_first_at_each_moment(alloc, &run.journal, &samples)?,
+            && has_first_at_each_moment(alloc, script, &run.journal, &samples)?,
     )
 }
 
 // How many runs put their header, where each range of so many calls fails. A run that doesn't keep
 // its marks is an error.
-fn sweep(alloc: Global, most: usize, calls: u64) -> Result<u32, Fail> {
+fn sweep(alloc: Global, script: Script, most: usize, calls: u64) -> Result<u32, Fail> {
     let mut begun = 0u32;
     for from in 1..=calls {
         for to in from..=calls {
             let faults = Faults { most, from, to };
-            let run = run_over(alloc, faults)?;
+            let run = run_over(alloc, script, faults)?;
             let keeps = if run.journal.taken() < DATA_START {
                 is_refused(&run)
             } else {
                 begun = begun.saturating_add(1);
-                keeps_its_marks(alloc, &run, &checkpoints_over(alloc, faults)?)?
+                let checkpoints = checkpoints_over(alloc, script, faults)?;
+                keeps_its_marks(alloc, script, &run, &checkpoints)?
             };
             if !keeps {
                 return Err(Fail::new(format_args!("calls {from} to {to}")));
@@ -207,9 +266,9 @@ fn sweep(alloc: Global, most: usize, calls: u64) -> Result<u32, Fail> {
     Ok(begun)
 }
 
-// Whether a run was without a fault.
-fn is_whole(run: &Run) -> bool {
-    run.answer.is_ok() && run.marks == [true; 8] && run.journal.taken() == 88
+// Whether a run was without a fault, and put so many bytes.
+fn is_whole(run: &Run, taken: usize) -> bool {
+    run.answer.is_ok() && run.marks.iter().all(|mark| *mark) && run.journal.taken() == taken
 }
 
 // The header takes one call, each checkpoint seven with the samples that wait, and the end five.
@@ -224,8 +283,8 @@ fn a_run_without_faults(rt: HostRuntime) -> Result<(), Fail> {
         from: CALLS + 1,
         to: u64::MAX,
     };
-    let run = run_over(alloc, whole)?;
-    assert!(rt; is_whole(&run));
+    let run = run_over(alloc, stereo(), whole)?;
+    assert!(rt; is_whole(&run, 88));
     let bytes = bytes_after(&run.journal, alloc, 88)?;
     assert_eq!(rt; bytes.len(), 56);
     assert_eq!(rt; bytes.get(4..8), Some(b"\x30\0\0\0".as_slice()));
@@ -236,7 +295,7 @@ fn a_run_without_faults(rt: HostRuntime) -> Result<(), Fail> {
     );
     // Two samples behind the header and both sizes, one and both, and three and both.
     assert_eq!(rt;
-        checkpoints_over(alloc, whole)?.as_slice(),
+        checkpoints_over(alloc, stereo(), whole)?.as_slice(),
         [44 + 4 + 8, 56 + 2 + 8, 66 + 6 + 8].as_slice()
     );
     let last = Faults {
@@ -244,14 +303,14 @@ fn a_run_without_faults(rt: HostRuntime) -> Result<(), Fail> {
         from: CALLS,
         to: CALLS,
     };
-    assert!(rt; run_over(alloc, last)?.answer.is_err());
+    assert!(rt; run_over(alloc, stereo(), last)?.answer.is_err());
     // The first call puts the header.
     let first = Faults {
         most,
         from: 1,
         to: 1,
     };
-    let run = run_over(alloc, first)?;
+    let run = run_over(alloc, stereo(), first)?;
     assert!(rt; is_refused(&run));
     assert_eq!(rt; run.journal.taken(), 0);
     Ok(())
@@ -260,7 +319,10 @@ fn a_run_without_faults(rt: HostRuntime) -> Result<(), Fail> {
 // All ranges but those of the first call leave the header.
 #[test]
 fn marks_are_true_over_any_range_of_faults(rt: HostRuntime) -> Result<(), Fail> {
-    assert_eq!(rt; sweep(rt.alloc(), usize::MAX, CALLS)?, 26 * 27 / 2);
+    assert_eq!(rt;
+        sweep(rt.alloc(), stereo(), usize::MAX, CALLS)?,
+        26 * 27 / 2
+    );
     Ok(())
 }
 
@@ -276,14 +338,85 @@ fn marks_are_true_where_each_byte_is_a_call(rt: HostRuntime) -> Result<(), Fail>
         from: CALLS_BY_BYTES + 1,
         to: u64::MAX,
     };
-    assert!(rt; is_whole(&run_over(alloc, whole)?));
+    assert!(rt; is_whole(&run_over(alloc, stereo(), whole)?, 88));
     let last = Faults {
         most,
         from: CALLS_BY_BYTES,
         to: CALLS_BY_BYTES,
     };
-    assert!(rt; run_over(alloc, last)?.answer.is_err());
+    assert!(rt; run_over(alloc, stereo(), last)?.answer.is_err());
     // The ranges that begin behind the 44 calls of the header leave it.
-    assert_eq!(rt; sweep(alloc, most, CALLS_BY_BYTES)?, 59 * 60 / 2);
+    assert_eq!(rt; sweep(alloc, stereo(), most, CALLS_BY_BYTES)?, 59 * 60 / 2);
+    Ok(())
+}
+
+// The header takes one call, each checkpoint eight with its block and its pad byte, and the end six.
+const PADDED_CALLS: u64 = 1 + 2 * 8 + 6;
+
+#[test]
+fn a_padded_run_without_faults(rt: HostRuntime) -> Result<(), Fail> {
+    let alloc = rt.alloc();
+    let most = usize::MAX;
+    let whole = Faults {
+        most,
+        from: PADDED_CALLS + 1,
+        to: u64::MAX,
+    };
+    let run = run_over(alloc, padded(), whole)?;
+    assert!(rt; is_whole(&run, 76));
+    let bytes = bytes_after(&run.journal, alloc, 76)?;
+    assert_eq!(rt; bytes.get(4..8), Some(b"\x2a\0\0\0".as_slice()));
+    assert_eq!(rt;
+        bytes.get(40..),
+        Some(b"\x05\0\0\0\x81\x82\x83\x84\x85\0".as_slice())
+    );
+    // Three samples, a pad byte and both sizes; two, the byte and both.
+    assert_eq!(rt;
+        checkpoints_over(alloc, padded(), whole)?.as_slice(),
+        [44 + 3 + 1 + 8, 56 + 2 + 1 + 8].as_slice()
+    );
+    let last = Faults {
+        most,
+        from: PADDED_CALLS,
+        to: PADDED_CALLS,
+    };
+    assert!(rt; run_over(alloc, padded(), last)?.answer.is_err());
+    Ok(())
+}
+
+// All ranges but those of the first call leave the header.
+#[test]
+fn pad_bytes_stand_over_any_range_of_faults(rt: HostRuntime) -> Result<(), Fail> {
+    assert_eq!(rt;
+        sweep(rt.alloc(), padded(), usize::MAX, PADDED_CALLS)?,
+        22 * 23 / 2
+    );
+    Ok(())
+}
+
+// A call for each byte of the header, the samples, the pad bytes and the sizes.
+const PADDED_CALLS_BY_BYTES: u64 = 44 + 5 + 3 + 2 * 12 + 11;
+
+#[test]
+fn pad_bytes_stand_where_each_byte_is_a_call(rt: HostRuntime) -> Result<(), Fail> {
+    let alloc = rt.alloc();
+    let most = 1;
+    let whole = Faults {
+        most,
+        from: PADDED_CALLS_BY_BYTES + 1,
+        to: u64::MAX,
+    };
+    assert!(rt; is_whole(&run_over(alloc, padded(), whole)?, 76));
+    let last = Faults {
+        most,
+        from: PADDED_CALLS_BY_BYTES,
+        to: PADDED_CALLS_BY_BYTES,
+    };
+    assert!(rt; run_over(alloc, padded(), last)?.answer.is_err());
+    // The ranges that begin behind the 44 calls of the header leave it.
+    assert_eq!(rt;
+        sweep(alloc, padded(), most, PADDED_CALLS_BY_BYTES)?,
+        43 * 44 / 2
+    );
     Ok(())
 }

@@ -104,11 +104,17 @@ fn a_sample_that_does_not_fit_puts_the_whole_block(rt: HostRuntime) -> Result<()
         write_zeros(&mut writer, count)?;
         writer.write_sample(0i8)?;
         assert_eq!(rt; writer.len(), count + 1);
+        // 4097 bytes have a pad byte behind them.
+        let next = if width == 1 {
+            Call::Put(1)
+        } else {
+            Call::Go(4)
+        };
         let calls = [
             Call::Put(header),
             Call::Put(count as usize * width as usize),
             Call::Put(width as usize),
-            Call::Go(4),
+            next,
         ];
         assert_eq!(rt; writer.drop_into().calls.get(..4), Some(calls.as_slice()));
     }
@@ -318,9 +324,10 @@ fn a_sample_whose_block_fails_is_not_accepted(rt: HostRuntime) -> Result<(), Fai
     let (medium, result) = writer.finalize_into();
     result?;
     let bytes = medium.bytes(alloc)?;
-    assert_eq!(rt; bytes.len(), 44 + 4097);
-    assert_eq!(rt; bytes.get(4..8), Some(b"\x25\x10\0\0".as_slice()));
+    assert_eq!(rt; bytes.len(), 44 + 4097 + 1);
+    assert_eq!(rt; bytes.get(4..8), Some(b"\x26\x10\0\0".as_slice()));
     assert_eq!(rt; bytes.get(40..44), Some(b"\x01\x10\0\0".as_slice()));
+    assert_eq!(rt; bytes.last().copied(), Some(0));
     Ok(())
 }
 
@@ -522,15 +529,15 @@ fn nearly_full(alloc: Global, bits: u8, data_length: u32) -> Result<Journal, Fai
     Ok(journal)
 }
 
-// At most 4294967259 data bytes leave the RIFF size within 32 bits.
+// At most 4294967258 data bytes leave the RIFF size within 32 bits: one more has a pad byte behind.
 #[test]
 fn samples_are_too_long_behind_those_that_wait(rt: HostRuntime) -> Result<(), Fail> {
-    let mut writer = WavWriter::new_append(nearly_full(rt.alloc(), 8, 4_294_967_257)?)?;
+    let mut writer = WavWriter::new_append(nearly_full(rt.alloc(), 8, 4_294_967_256)?)?;
     writer.write_sample(1i8)?;
     writer.write_sample(2i8)?;
-    assert_eq!(rt; writer.len(), 4_294_967_259);
+    assert_eq!(rt; writer.len(), 4_294_967_258);
     assert!(rt; matches!(writer.write_sample(3i8), Err(Error::TooLong)));
-    assert_eq!(rt; writer.len(), 4_294_967_259);
+    assert_eq!(rt; writer.len(), 4_294_967_258);
     assert_eq!(rt; writer.drop_into().taken(), 0);
     Ok(())
 }
@@ -593,5 +600,132 @@ fn many_samples_of_24_bits(rt: HostRuntime) -> Result<(), Fail> {
     }
     let whole = file_from(alloc, 60 + 15000, &TWENTY_FOUR, 15000, &data)?;
     assert!(rt; leave(alloc, mono(24, 3), &samples, &whole)?);
+    Ok(())
+}
+
+// Mono, 8 bits.
+fn mono_8(medium: Recorded) -> hound::Result<WavWriter<Recorded>> {
+    WavWriter::new_with_spec_ex(medium, mono(8, 1))
+}
+
+#[test]
+fn a_pad_byte_is_put_in_each_patch(rt: HostRuntime) -> Result<(), Fail> {
+    let alloc = rt.alloc();
+    let mut writer = mono_8(Recorded::new(alloc)?)?;
+    writer.write_sample(1i8)?;
+    writer.flush()?;
+    writer.flush()?;
+    let medium = writer.drop_into();
+    let patch = [
+        Call::Go(4),
+        Call::Put(4),
+        Call::Go(40),
+        Call::Put(4),
+        Call::Flush,
+    ];
+    let mut calls = [Call::Put(44), Call::Put(1), Call::Put(1)].to_vec(alloc)?;
+    calls.extend_from_slice(&patch)?;
+    // The medium goes back to the pad byte, which is put again.
+    calls.extend_from_slice(&[Call::Go(45), Call::Put(1)])?;
+    calls.extend_from_slice(&patch)?;
+    calls.extend_from_slice(&[Call::Go(45), Call::Put(1)])?;
+    calls.extend_from_slice(&patch)?;
+    assert_eq!(rt; medium.calls.as_slice(), calls.as_slice());
+    Ok(())
+}
+
+#[test]
+fn the_next_sample_is_put_over_the_pad_byte(rt: HostRuntime) -> Result<(), Fail> {
+    let alloc = rt.alloc();
+    let mut writer = mono_8(Recorded::new(alloc)?)?;
+    writer.write_sample(1i8)?;
+    writer.flush()?;
+    writer.write_sample(2i8)?;
+    let (medium, result) = writer.finalize_into();
+    result?;
+    // No other go comes before the sample, and behind two samples there is no pad byte.
+    let calls = [
+        Call::Flush,
+        Call::Go(45),
+        Call::Put(1),
+        Call::Go(4),
+        Call::Put(4),
+        Call::Go(40),
+        Call::Put(4),
+        Call::Flush,
+    ];
+    assert_eq!(rt; medium.calls.get(7..), Some(calls.as_slice()));
+    let bytes = medium.bytes(alloc)?;
+    assert_eq!(rt; bytes.len(), 46);
+    assert_eq!(rt; bytes.get(4..8), Some(b"\x26\0\0\0".as_slice()));
+    assert_eq!(rt; bytes.get(40..), Some(b"\x02\0\0\0\x81\x82".as_slice()));
+    Ok(())
+}
+
+#[test]
+fn a_checkpoint_whose_pad_byte_fails_puts_no_size(rt: HostRuntime) -> Result<(), Fail> {
+    let alloc = rt.alloc();
+    // The third call puts the pad byte.
+    let mut writer = mono_8(Recorded::failing(alloc, 3, 3)?)?;
+    writer.write_sample(1i8)?;
+    assert!(rt; matches!(writer.flush(), Err(Error::IoError(_))));
+    assert_eq!(rt; writer.len(), 1);
+    let medium = writer.drop_into();
+    let calls = [
+        Call::Put(44),
+        Call::Put(1),
+        Call::Put(1),
+        // The medium may have moved.
+        Call::Go(45),
+        Call::Put(1),
+        Call::Go(4),
+    ];
+    assert_eq!(rt; medium.calls.get(..6), Some(calls.as_slice()));
+    assert_eq!(rt;
+        medium.bytes(alloc)?.get(40..),
+        Some(b"\x01\0\0\0\x81\0".as_slice())
+    );
+    Ok(())
+}
+
+#[test]
+fn an_end_whose_pad_byte_fails_puts_no_size(rt: HostRuntime) -> Result<(), Fail> {
+    let alloc = rt.alloc();
+    let mut writer = mono_8(Recorded::failing(alloc, 3, u64::MAX)?)?;
+    writer.write_sample(1i8)?;
+    let (medium, result) = writer.finalize_into();
+    assert!(rt; matches!(result, Err(Error::IoError(_))));
+    assert_eq!(rt;
+        medium.calls.as_slice(),
+        [Call::Put(44), Call::Put(1), Call::Put(1)].as_slice()
+    );
+    assert_eq!(rt;
+        medium.bytes(alloc)?.get(40..),
+        Some(b"\0\0\0\0\x81".as_slice())
+    );
+    Ok(())
+}
+
+#[test]
+fn a_go_comes_before_a_sample_behind_a_failed_pad_byte(rt: HostRuntime) -> Result<(), Fail> {
+    let alloc = rt.alloc();
+    let mut writer = mono_8(Recorded::failing(alloc, 3, 3)?)?;
+    writer.write_sample(1i8)?;
+    assert!(rt; matches!(writer.flush(), Err(Error::IoError(_))));
+    writer.write_sample(2i8)?;
+    let medium = writer.drop_into();
+    let calls = [
+        Call::Put(44),
+        Call::Put(1),
+        Call::Put(1),
+        Call::Go(45),
+        Call::Put(1),
+        Call::Go(4),
+    ];
+    assert_eq!(rt; medium.calls.get(..6), Some(calls.as_slice()));
+    assert_eq!(rt;
+        medium.bytes(alloc)?.get(40..),
+        Some(b"\x02\0\0\0\x81\x82".as_slice())
+    );
     Ok(())
 }

@@ -58,20 +58,20 @@ fn every_width_is_gone_on_with(rt: HostRuntime) -> Result<(), Fail> {
     Ok(())
 }
 
-// Mono, 44100 Hz, 8 bits: as many data bytes as the RIFF size can count.
+// Mono, 44100 Hz, 8 bits: as many data bytes as the RIFF size can count, with their pad byte.
 const LONGEST: [u8; 44] = [
     0x52, 0x49, 0x46, 0x46, 0x00, 0x00, 0x00, 0x00, 0x57, 0x41, 0x56, 0x45, 0x66, 0x6d, 0x74, 0x20,
     0x10, 0x00, 0x00, 0x00, 0x01, 0x00, 0x01, 0x00, 0x44, 0xac, 0x00, 0x00, 0x44, 0xac, 0x00, 0x00,
-    0x01, 0x00, 0x08, 0x00, 0x64, 0x61, 0x74, 0x61, 0xdb, 0xff, 0xff, 0xff,
+    0x01, 0x00, 0x08, 0x00, 0x64, 0x61, 0x74, 0x61, 0xda, 0xff, 0xff, 0xff,
 ];
 
 #[test]
 fn the_longest_file_takes_no_sample(rt: HostRuntime) -> Result<(), Fail> {
     let mut writer = WavWriter::new_append(Tape::new(LONGEST.to_vec(rt.alloc())?))?;
-    assert_eq!(rt; writer.len(), 4_294_967_259);
+    assert_eq!(rt; writer.len(), 4_294_967_258);
     assert!(rt; matches!(writer.write_sample(0i8), Err(Error::TooLong)));
     let bytes = writer.drop_into().into_bytes();
-    assert_eq!(rt; bytes.get(4..8), Some([0xffu8; 4].as_slice()));
+    assert_eq!(rt; bytes.get(4..8), Some(b"\xfe\xff\xff\xff".as_slice()));
     assert_eq!(rt; bytes.get(8..), LONGEST.get(8..));
     Ok(())
 }
@@ -136,14 +136,54 @@ fn refusals_come_in_their_order(rt: HostRuntime) -> Result<(), Fail> {
     Ok(())
 }
 
+// One byte more has room, but not with its pad byte.
 #[test]
 fn one_byte_too_many_is_too_long(rt: HostRuntime) -> Result<(), Fail> {
-    let mut bytes = LONGEST.to_vec(rt.alloc())?;
-    if let Some(byte) = bytes.get_mut(40) {
-        *byte = 0xdc;
+    for low in [0xdb, 0xdc, 0xdd] {
+        let mut bytes = LONGEST.to_vec(rt.alloc())?;
+        if let Some(byte) = bytes.get_mut(40) {
+            *byte = low;
+        }
+        let result = WavWriter::new_append(Tape::new(bytes));
+        assert!(rt; matches!(result.err(), Some(Error::TooLong)), "{low}");
     }
-    let result = WavWriter::new_append(Tape::new(bytes));
-    assert!(rt; matches!(result.err(), Some(Error::TooLong)));
+    Ok(())
+}
+
+// Mono, 44100 Hz, 8 bits: three samples, with no pad byte behind them.
+const UNPADDED: [u8; 47] = [
+    0x52, 0x49, 0x46, 0x46, 0x27, 0x00, 0x00, 0x00, 0x57, 0x41, 0x56, 0x45, 0x66, 0x6d, 0x74, 0x20,
+    0x10, 0x00, 0x00, 0x00, 0x01, 0x00, 0x01, 0x00, 0x44, 0xac, 0x00, 0x00, 0x44, 0xac, 0x00, 0x00,
+    0x01, 0x00, 0x08, 0x00, 0x64, 0x61, 0x74, 0x61, 0x03, 0x00, 0x00, 0x00, 0xff, 0xff, 0xff,
+];
+
+#[test]
+fn a_file_gains_its_pad_byte(rt: HostRuntime) -> Result<(), Fail> {
+    let alloc = rt.alloc();
+    let none: [i8; 0] = [];
+    let bytes = appended(UNPADDED.to_vec(alloc)?, &none)?;
+    assert_eq!(rt; bytes.len(), 48);
+    assert_eq!(rt; bytes.get(4).copied(), Some(0x28));
+    assert_eq!(rt; bytes.get(5..47), UNPADDED.get(5..));
+    assert_eq!(rt; bytes.get(47).copied(), Some(0));
+    let whole = file_of(alloc, integers(1, 44100, 8, 1), &[127i8, 127, 127])?;
+    assert_eq!(rt; bytes.as_slice(), whole.as_slice());
+    Ok(())
+}
+
+// What stands behind such data loses its first byte to the pad byte.
+#[test]
+fn a_chunk_without_a_pad_byte_before_it_loses_a_byte(rt: HostRuntime) -> Result<(), Fail> {
+    let alloc = rt.alloc();
+    let mut file = UNPADDED.to_vec(alloc)?;
+    file.extend_from_slice(b"LIST\x02\0\0\0ab")?;
+    let none: [i8; 0] = [];
+    let bytes = appended(file, &none)?;
+    assert_eq!(rt; bytes.len(), 57);
+    assert_eq!(rt;
+        bytes.get(44..),
+        Some(b"\xff\xff\xff\0IST\x02\0\0\0ab".as_slice())
+    );
     Ok(())
 }
 

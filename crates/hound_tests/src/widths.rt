@@ -75,9 +75,11 @@ fn a_sample_that_does_not_fit_is_not_accepted(rt: HostRuntime) -> Result<(), Fai
     assert_eq!(rt; writer.len(), 3);
     let (tape, result) = writer.finalize_into();
     result?;
+    let bytes = tape.into_bytes();
+    assert_eq!(rt; bytes.get(4..8), Some(b"\x28\0\0\0".as_slice()));
     assert_eq!(rt;
-        tape.into_bytes().get(44..),
-        Some([0xffu8, 0xff, 0xff].as_slice())
+        bytes.get(40..),
+        Some(b"\x03\0\0\0\xff\xff\xff\0".as_slice())
     );
     let wide = file_of(rt.alloc(), integers(1, 44100, 16, 2), &[32768i32]);
     assert!(rt; matches!(wide, Err(Error::TooWide)));

@@ -22,13 +22,7 @@ put_stands zero b (x ∷ c) = refl
 put_stands (suc p) b [] = put_stands p b []
 put_stands (suc p) b (x ∷ c) = put_stands p b c
 
--- data of an even length have no pad byte
-pub padded_even : {W : Type 0} (w : WriterState W) (c : List ℕ) → data_length w % 2 ≡ 0
-    → IsPadded w c
-padded_even w c even =
-    subst (λ (k : ℕ). StartsWith (drop (w.data_start + data_length w) c) (replicate k 0))
-    (sym even) refl
-
+-- an odd number leaves one
 one_left : (n : ℕ) → (n % 2 ≡ 0 → ⊥) → n % 2 ≡ 1
 one_left n odd =
     elim (cases_lt 0 (n % 2)) [
