@@ -72,9 +72,10 @@ fn full_tape(alloc: Global, spec: WavSpec, count: u32) -> Result<Tape>
 {
     let header = spec.into_header_for_infinite_file(alloc)?;
     let width = spec.bits_per_sample.div_ceil(8) as usize;
+    let data_length = count as usize * width;
     let mut bytes = Vec::new(alloc);
     bytes
-        .resize(header.len() + count as usize * width, 0)
+        .resize(header.len() + data_length + data_length % 2, 0)
         .map_err(|_| Error::OutOfMemory)?;
     Ok(Tape::new(bytes))
 }

@@ -38,11 +38,12 @@ fn run_on_disk(rt: &HostRuntime, name: &str, count: &str, path: Path<'_>) -> Res
     Ok(answer)
 }
 
-// The sums are those that hound 3.5.1 gives.
+// The sums are those that hound 3.5.1 gives, and one more where the RIFF size counts a pad byte, which
+// is a byte more too.
 #[test]
 fn cases_in_memory_give_their_sums(rt: HostRuntime) -> Result<(), Fail> {
     let cases = [
-        ("write_i8_mem", "5", b"write_i8_mem 5 49 2608\n".as_slice()),
+        ("write_i8_mem", "5", b"write_i8_mem 5 50 2609\n".as_slice()),
         (
             "write_i16_mem",
             "5",
@@ -51,7 +52,7 @@ fn cases_in_memory_give_their_sums(rt: HostRuntime) -> Result<(), Fail> {
         (
             "write_i24_mem",
             "5",
-            b"write_i24_mem 5 83 4985\n".as_slice(),
+            b"write_i24_mem 5 84 4986\n".as_slice(),
         ),
         (
             "write_i32_mem",
@@ -83,12 +84,12 @@ fn cases_in_memory_give_their_sums(rt: HostRuntime) -> Result<(), Fail> {
             "4099",
             b"session_i16_mem 4099 8236 1045841\n".as_slice(),
         ),
-        ("read_i8_mem", "5", b"read_i8_mem 5 49 44\n".as_slice()),
+        ("read_i8_mem", "5", b"read_i8_mem 5 50 44\n".as_slice()),
         ("read_i16_mem", "5", b"read_i16_mem 5 54 11816\n".as_slice()),
         (
             "read_i24_mem",
             "5",
-            b"read_i24_mem 5 83 3025599\n".as_slice(),
+            b"read_i24_mem 5 84 3025599\n".as_slice(),
         ),
         (
             "read_i32_mem",
@@ -142,7 +143,7 @@ fn cases_on_disk_give_their_sums(rt: HostRuntime) -> Result<(), Fail> {
         (
             "write_i24_file",
             "5",
-            b"write_i24_file 5 83 4985\n".as_slice(),
+            b"write_i24_file 5 84 4986\n".as_slice(),
         ),
         (
             "batch_i16_file",
@@ -162,7 +163,7 @@ fn cases_on_disk_give_their_sums(rt: HostRuntime) -> Result<(), Fail> {
         (
             "read_i24_file",
             "5",
-            b"read_i24_file 5 83 3025599\n".as_slice(),
+            b"read_i24_file 5 84 3025599\n".as_slice(),
         ),
         (
             "seek_f32_file",

@@ -55,6 +55,26 @@ fn pack_writes_a_file(rt: HostRuntime) -> Result<(), Fail> {
     Ok(())
 }
 
+// Mono, 8000 Hz, 8 bits: one sample of silence, and the pad byte.
+const SILENCE: [u8; 46] = [
+    0x52, 0x49, 0x46, 0x46, 0x26, 0x00, 0x00, 0x00, 0x57, 0x41, 0x56, 0x45, 0x66, 0x6d, 0x74, 0x20,
+    0x10, 0x00, 0x00, 0x00, 0x01, 0x00, 0x01, 0x00, 0x40, 0x1f, 0x00, 0x00, 0x40, 0x1f, 0x00, 0x00,
+    0x01, 0x00, 0x08, 0x00, 0x64, 0x61, 0x74, 0x61, 0x01, 0x00, 0x00, 0x00, 0x80, 0x00,
+];
+
+#[test]
+fn pack_writes_a_pad_byte(rt: HostRuntime) -> Result<(), Fail> {
+    let Answer {
+        status,
+        output,
+        errors,
+    } = run_on(rt.alloc(), &["pack", "1", "8000", "8"], b"0");
+    assert_eq!(rt; status, 0);
+    assert_eq!(rt; output.as_slice(), SILENCE.as_slice());
+    assert!(rt; errors.is_empty());
+    Ok(())
+}
+
 #[test]
 fn pack_says_why_it_refuses(rt: HostRuntime) -> Result<(), Fail> {
     let unfinished: &[u8] =
