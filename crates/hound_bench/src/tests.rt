@@ -38,8 +38,8 @@ fn run_on_disk(rt: &HostRuntime, name: &str, count: &str, path: Path<'_>) -> Res
     Ok(answer)
 }
 
-// The sums are those that hound 3.5.1 gives, and one more where the RIFF size counts a pad byte, which
-// is a byte more too.
+// The sums are those that hound 3.5.1 gives, and one more where the RIFF size counts a pad byte,
+// which is a byte more too.
 #[test]
 fn cases_in_memory_give_their_sums(rt: HostRuntime) -> Result<(), Fail> {
     let cases = [

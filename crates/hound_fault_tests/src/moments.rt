@@ -114,7 +114,7 @@ fn a_checkpoint_stands_while_a_block_goes_out(rt: HostRuntime) -> Result<(), Fai
     writer.flush()?;
     write_all(&mut writer, samples.get(3..).ok_or("4100 samples")?)?;
     let journal = writer.drop_into();
-    // The header, three samples, a pad byte and the sizes; a block, one sample, and the sizes again.
+    // The header, three samples, a pad byte, the sizes; a block, one sample, the sizes again.
     assert_eq!(rt; journal.taken(), 56 + 4096 + 1 + 8);
     // The length goes from 3 to 0x1004, by its low byte first.
     for (k, count) in [
@@ -164,8 +164,8 @@ fn a_torn_length_of_24_bits_is_refused(rt: HostRuntime) -> Result<(), Fail> {
     writer.write_sample(85i32)?;
     writer.flush()?;
     let journal = writer.drop_into();
-    // The first checkpoint puts a pad byte. The RIFF size is out after 339 bytes, and the length goes
-    // from 0x00ff to 0x0102.
+    // The first checkpoint puts a pad byte. The RIFF size is out after 339 bytes, and the length
+    // goes from 0x00ff to 0x0102.
     for (k, count) in [(339, 85), (341, 86)] {
         let bytes = bytes_after(&journal, alloc, k)?;
         assert!(rt; has_samples(&bytes, first(&samples, count)?)?);

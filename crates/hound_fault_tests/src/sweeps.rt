@@ -350,7 +350,7 @@ fn marks_are_true_where_each_byte_is_a_call(rt: HostRuntime) -> Result<(), Fail>
     Ok(())
 }
 
-// The header takes one call, each checkpoint eight with its block and its pad byte, and the end six.
+// The header takes one call, each checkpoint eight with its block and pad byte, and the end six.
 const PADDED_CALLS: u64 = 1 + 2 * 8 + 6;
 
 #[test]
