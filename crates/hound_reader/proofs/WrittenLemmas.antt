@@ -1,5 +1,5 @@
 -- A header that was written is a head, and the containers behind it are read back.
-use Rattle.std.proofs.Common.{◌≡◌, ℕ, zero, suc, ◌+◌, ◌-◌, ◌*◌, ◌/◌, ◌%◌, ◌^◌, ◌<◌, ◌≤◌, ◌==◌, inl, inr, true, false, nat_le, List, [], ◌∷◌, ◌++◌, length, drop, append-nil, append_assoc, take_at, drop_at, length-append, refl, sym, ap, ◌∙◌, arith, le-ltb, eq-eqb, lit<, Ok}
+use Rattle.std.proofs.Common.{◌≡◌, ℕ, zero, suc, ◌+◌, ◌*◌, ◌/◌, ◌%◌, ◌^◌, ◌<◌, ◌≤◌, ◌==◌, inl, inr, true, false, nat_le, List, [], ◌∷◌, ◌++◌, length, drop, append-nil, append_assoc, take_at, drop_at, length-append, refl, sym, ap, ◌∙◌, arith, le-ltb, eq-eqb, lit<, Ok}
 use Rattle.std.proofs.Math.Nat.{mul-mod_left}
 use Rattle.std.proofs.lemmas.Nat.{div-mul-add}
 use Rattle.std.proofs.lemmas.Bool.{ne_eqb, cases_Bool, and_parts}
