@@ -14,6 +14,14 @@ ghost use Rattle.hound.specs.declared.WavSpecEx.{WavSpecEx};
 use hound::{Medium, Sample, WavReader, WavWriter, one_answer, written_is_read};
 use std::io;
 
+/// Publishes what was accepted so far, and says how many samples these are.
+pub fn publish<M: Medium>(writer: &mut WavWriter<M>) -> hound::Result<u32>
+    ensures { (count : ℕ) → result ≡ Ok count → count ≡ sample_count writer.old }
+{
+    writer.flush()?;
+    Ok(writer.len())
+}
+
 /// Writes a sample and publishes it: the file is then read as the samples before and this one.
 pub fn record_checkpoint<S: Sample, M: Medium>(
     writer: &mut WavWriter<M>,

@@ -7,6 +7,6 @@ mod example;
 pub mod helpers;
 mod twelve;
 
-pub use callers::{convert, open_written, record_checkpoint};
+pub use callers::{convert, open_written, publish, record_checkpoint};
 pub use example::record_and_read;
 pub use twelve::Twelve;

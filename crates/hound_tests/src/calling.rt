@@ -1,7 +1,7 @@
 // The functions of `callers`, each run once.
 use hound::{WavReader, WavWriter};
 use hound_callers::helpers::{empty_tape, file_of, integers, sixteen};
-use hound_callers::{convert, open_written, record_checkpoint};
+use hound_callers::{convert, open_written, publish, record_checkpoint};
 use std::test::Fail;
 
 #[test]
@@ -10,6 +10,7 @@ fn a_recorder_publishes_each_sample(rt: HostRuntime) -> Result<(), Fail> {
     for sample in [2i16, -3, 5, -7] {
         record_checkpoint(&mut writer, sample)?;
     }
+    assert_eq!(rt; publish(&mut writer)?, 4);
     let whole = file_of(rt.alloc(), integers(1, 44100, 16, 2), &[2i16, -3, 5, -7])?;
     assert_eq!(rt;
         writer.drop_into().into_bytes().as_slice(),
