@@ -24,8 +24,8 @@ pub trait Input {
     /// How many reads failed, and what no read changes, where these are known.
     ghost account: { Self → Option (Account Kept) };
 
-    /// Reads bytes into the front of the buffer, and gives their number. It is 0 only at the end
-    /// of the input or where the buffer is empty. At an `Err` no byte was taken.
+    /// Reads bytes into the front of the buffer, and gives their number. It is 0 only at the end of
+    /// the input or where the buffer is empty. At an `Err` no byte was taken.
     fn read_some(&mut self, buf: &mut [u8]) -> io::Result<usize>
         ensures bound { ReadsAtMost result buf.new }
         ensures bytes { ReadConsumes (left self.old) (left self.new) result buf.new }

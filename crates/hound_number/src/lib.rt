@@ -25,8 +25,8 @@ pub fn signed_from_u8(x: u8) -> i8
     (x as i16 - 128) as i8
 }
 
-/// The unsigned byte of a signed number, which counts from -128: the inverse of
-/// [`signed_from_u8`], by [`signed_bytes_come_back`].
+/// The unsigned byte of a signed number, which counts from -128: the inverse of [`signed_from_u8`],
+/// by [`signed_bytes_come_back`].
 #[inline(always)]
 pub fn u8_from_signed(x: i8) -> u8
     ensures { pos result ≡ x +ℤ pos 128 }
@@ -76,8 +76,8 @@ pub fn u16_at(bytes: &[u8], at: usize) -> u16
     bytes[at] as u16 + bytes[at + 1] as u16 * 0x100
 }
 
-/// The number in the four bytes from the index `at` on, which have to be there: `at + 4` is at
-/// most `bytes.len()`.
+/// The number in the four bytes from the index `at` on, which have to be there: `at + 4` is at most
+/// `bytes.len()`.
 #[inline(always)]
 pub fn u32_at(bytes: &[u8], at: usize) -> u32
     requires { at + 4 ≤ length bytes.now }

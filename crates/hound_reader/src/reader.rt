@@ -201,8 +201,8 @@ impl<R: io::Read + Drop> WavReader<R> {
     /// refused, which took none, and after one that was torn, which took a part.
     ///
     /// A `time` at or behind [`WavReader::duration`] is allowed; then no samples are left. A time
-    /// in seconds is that many times the sample rate. The one error is the source's own: then
-    /// the reader counts as before, and a source whose bytes are known stands where it was.
+    /// in seconds is that many times the sample rate. The one error is the source's own: then the
+    /// reader counts as before, and a source whose bytes are known stands where it was.
     pub fn seek(&mut self, time: u32) -> io::Result<()>
     where
         R: Source,

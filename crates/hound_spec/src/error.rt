@@ -15,8 +15,8 @@ pub enum Error {
     /// early, and the kind is `Other`.
     #[error(transparent)]
     IoError(io::Error),
-    /// The bytes are no WAVE file, for this reason. Only `read_wave_header`,
-    /// the constructors of readers and those that append answer so.
+    /// The bytes are no WAVE file, for this reason. Only `read_wave_header`, the constructors of
+    /// readers and those that append answer so.
     #[error("Ill-formed WAVE file: {0}")]
     FormatError(&'static str),
     /// The sample has more bits than the type that is read, or than the file that is written has

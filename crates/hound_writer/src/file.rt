@@ -35,9 +35,9 @@ impl WavWriter<io::BufWriter<fs::File>> {
     /// `rt.alloc()`.
     ///
     /// The file is made or emptied before the spec is looked at, so a refused spec leaves it empty.
-    /// The errors, in their order: `IoError`,
-    /// where the file can't be made; `OutOfMemory`, where there is none for the buffer;
-    /// `Unsupported`, for a spec that can't be written; `IoError`, where the header can't be put.
+    /// The errors, in their order: `IoError`, where the file can't be made; `OutOfMemory`, where
+    /// there is none for the buffer; `Unsupported`, for a spec that can't be written; `IoError`,
+    /// where the header can't be put.
     pub fn create(
         rt: &impl Files<File = fs::File>,
         alloc: Global,
