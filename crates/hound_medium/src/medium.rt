@@ -13,7 +13,7 @@ use std::io;
 ///
 /// Of a value that `tells`, contracts know the bytes; `state` says nothing of any other. There an
 /// `Err` of any call, of `put`, `flush` and `get` too, changes nothing but the count of faults. A
-/// new value stands at 0, where a reader and a writer begin; `go(0)` leads there again.
+/// new value stands at 0, where a writer has to begin; `go(0)` leads there again.
 pub trait Placed: Drop {
     /// Whether the bytes are known: of `Tape` and `Journal` they are, of files not.
     ghost tells: { Bool };
@@ -24,8 +24,7 @@ pub trait Placed: Drop {
     /// The bytes, the place, the count of faults, and what is kept of the past.
     ghost state: { Self → MediumState };
 
-    /// Goes to a place, counted from the beginning. One behind the end is allowed, and puts
-    /// nothing.
+    /// Goes to a place, counted from the beginning. One behind the end is allowed; the bytes stay.
     fn go(&mut self, to: u64) -> io::Result<()>
         ensures { WhereTells tells (Goes to result (state self.old) (state self.new)) };
 

@@ -55,7 +55,7 @@ fn read_until_samples<R: Input>(reader: &mut R) -> result::Result<(WavSpecEx, u3
 
 /// Takes the first twelve bytes of a file, and gives the size of the whole file in bytes as they
 /// say it: the RIFF size, which doesn't count itself and the tag before it, and eight bytes more
-/// (RIFF, "RIFF Forms"). So a caller learns whether this may be a WAVE file at all.
+/// (RIFF, "RIFF Forms"), at most 4294967303. So a caller learns whether this may be a WAVE file.
 ///
 /// The size is compared with nothing. The errors, in the order of the bytes: `FormatError`, for a
 /// wrong RIFF tag and then for a wrong WAVE tag, behind which no byte is taken; `IoError`, where a

@@ -187,7 +187,8 @@ impl<W: Medium> WavWriter<W> {
     }
 
     /// Puts out the samples that wait, the pad byte behind an odd number of bytes, then both sizes
-    /// into the header, flushes the medium, and hands it back: it stands where the data begin.
+    /// into the header, flushes the medium, and hands it back. Where that published, it stands
+    /// where the data begin.
     ///
     /// The errors, in their order: `IoError`, at the first fault of the medium, after which nothing
     /// is tried again; `UnfinishedSample`, where the samples are no whole number of frames,
