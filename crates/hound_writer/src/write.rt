@@ -15,8 +15,8 @@ use std::{io, result};
 ///
 /// Up to 4096 bytes of accepted samples wait in the writer. They go out when no more fit, and
 /// before the sizes are put. Where the medium fails meanwhile all of them go on waiting, and go out
-/// again from the first one on. Behind an odd number of bytes a pad byte goes out before the sizes
-/// are put, and the next sample goes over it.
+/// again from the first one on. Behind an odd number of bytes a pad byte (RIFF, "Chunks") goes out
+/// before the sizes are put, and the next sample goes over it.
 ///
 /// A writer that is dropped publishes what was accepted, as [`WavWriter::finalize`] does, and its
 /// fault goes unseen: who has to know calls `finalize`.
