@@ -1,24 +1,28 @@
 //! WAV audio, written and read: a port of the crate `hound` with every function proved.
 //!
-//! Read are PCMWAVEFORMAT, WAVEFORMATEX and WAVEFORMATEXTENSIBLE; written are the first and the third.
-//! Integers have 8, 16, 24 (in three bytes or in four) or 32 bits, floats 32, which are kept as their
-//! patterns; there are up to 65535 channels.
+//! Read are PCMWAVEFORMAT, WAVEFORMATEX and WAVEFORMATEXTENSIBLE; written are the first and the
+//! third. Integers have 8, 16, 24 (in three bytes or in four) or 32 bits, floats 32, which are kept
+//! as their patterns; there are up to 65535 channels. Places and sizes count bytes, a sample is of
+//! one channel, and a frame has a sample of each.
 //!
 //! To write a file: [`WavWriter`] (`create` on disk, `new` into any [`Medium`], `append` and
 //! `new_append` to go on with one), `write_sample` or a batch of `get_i16_writer`, `flush` for a
 //! checkpoint, and `finalize`. A whole run as one call: [`run_session`], [`run_sessions`].
 //!
-//! To read one: [`WavReader`] (`open`, or `new` over any reader), `samples` or `into_samples`, `seek`;
-//! [`read_wave_header`] for the first twelve bytes alone.
+//! To read one: [`WavReader`] (`open`, or `new` over any reader), `samples` or `into_samples`,
+//! `seek`; [`read_wave_header`] for the first twelve bytes alone.
 //!
-//! What a file is: [`WavSpec`], [`WavSpecEx`], [`SampleFormat`]; what a sample is: [`Sample`], for `i8`,
-//! `i16`, `i32`, [`FloatBits`] and types of your own; why a call failed: [`Error`].
+//! What a file is: [`WavSpec`], [`WavSpecEx`], [`SampleFormat`]; what a sample is: [`Sample`], for
+//! `i8`, `i16`, `i32`, [`FloatBits`] and types of your own; why a call failed: [`Error`]. What
+//! takes memory takes an `alloc`, which is `rt.alloc()`, and what opens a file takes `rt`, which
+//! `main` is given.
 //!
-//! Memory to write into and to read from: [`Tape`]; the same with each moment of its past, and faults
-//! where a test asks for them: [`Journal`]. The traits that these and files have: [`Placed`],
-//! [`Source`], [`Medium`].
+//! Memory to write into and to read from: [`Tape`]; the same with each moment of its past, and
+//! faults where a test asks for them: [`Journal`]. The traits that these and files have:
+//! [`Placed`], [`Source`], [`Medium`].
 //!
-//! The functions without a body are laws: a call of one makes what it ensures known.
+//! The functions without a body are laws: a call of one costs nothing, and what it ensures is known
+//! behind it.
 #![tactic(auto)]
 
 pub use hound_medium::{Journal, Medium, Placed, Source, Tape};

@@ -44,7 +44,7 @@ pub struct Journal {
 
 impl Journal {
     /// A journal of these bytes, at place 0, with nothing taken yet. It keeps a copy of them to
-    /// begin with, so it is an `Err` where there is no memory for that.
+    /// begin with, so it is `OutOfMemory` where there is none for that.
     pub fn new(alloc: Global, bytes: Vec<u8>) -> Result<Journal>
         ensures contents { IfOk result
             (λ j. (⟦<Journal as Placed>⟧.state j).contents ≡ bytes.items) }
@@ -72,8 +72,8 @@ impl Journal {
         })
     }
 
-    /// Limits the bytes that one `put` takes, and that one `get` or `read` gives, to this many. A
-    /// new journal has no such limit; a later one replaces an earlier one.
+    /// Limits the bytes that one `put` takes, and that one `get` or `read` gives, to this many, at
+    /// least 1. A new journal has no such limit; a later one replaces an earlier one.
     pub fn most(&mut self, n: usize)
         requires { 1 ≤ n }
         ensures { ⟦<Journal as Placed>⟧.state self.new ≡ ⟦<Journal as Placed>⟧.state self.old }
@@ -94,7 +94,8 @@ impl Journal {
         self.fail_to = to;
     }
 
-    /// How many bytes have been put in all. One that was put over another counts too.
+    /// How many bytes have been put in all since it was made. One that was put over another counts
+    /// too, and zeros that filled a gap don't.
     pub fn taken(&self) -> usize
         ensures { result ≡ length (⟦<Journal as Placed>⟧.state self.now).past }
     {
@@ -109,8 +110,8 @@ impl Journal {
     }
 
     /// All of the bytes as they were after the first k of those that were put: for 0 the bytes that
-    /// the journal began with, for [`Journal::taken`] those of now. It is an `Err` where there is
-    /// no memory for them.
+    /// the journal began with, for [`Journal::taken`] those of now. `k` is at most `taken()`: ask
+    /// it. `OutOfMemory` where there is none for them.
     pub fn bytes_after(&self, alloc: Global, k: usize) -> Result<Vec<u8>>
         requires { k ≤ length (⟦<Journal as Placed>⟧.state self.now).past }
         ensures moment { let state = ⟦<Journal as Placed>⟧.state self.now in

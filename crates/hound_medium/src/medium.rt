@@ -8,60 +8,75 @@ use std::io;
 
 /// A place among bytes, counted in bytes from 0. It may lie behind the end.
 ///
+/// Implemented for [`Tape`](crate::Tape), [`Journal`](crate::Journal), `BufReader<File>`,
+/// `BufWriter<File>`, and a `&mut` to any such type, so that a medium can be lent.
+///
 /// Of a value that `tells`, contracts know the bytes; `state` says nothing of any other. There an
-/// `Err` of any call, of `put`, `flush` and `get` too, changes nothing but the count of faults.
+/// `Err` of any call, of `put`, `flush` and `get` too, changes nothing but the count of faults. A
+/// new value stands at 0, where a writer has to begin; `go(0)` leads there again.
 pub trait Placed: Drop {
-    /// Whether the bytes are known.
+    /// Whether the bytes are known: of `Tape` and `Journal` they are, of files not.
     ghost tells: { Bool };
 
-    /// Whether each byte that has been put is kept with its place.
+    /// Whether each byte that has been put is kept with its place: `Journal` does so.
     ghost keeps: { Bool } = { false };
 
     /// The bytes, the place, the count of faults, and what is kept of the past.
     ghost state: { Self → MediumState };
 
-    /// Goes to a place, counted from the beginning. One behind the end is allowed.
+    /// Goes to a place, counted from the beginning. One behind the end is allowed; the bytes stay.
     fn go(&mut self, to: u64) -> io::Result<()>
         ensures { WhereTells tells (Goes to result (state self.old) (state self.new)) };
 
-    /// Moves the place. It is an error where the new one would be below 0 or above `u64::MAX`.
+    /// Moves the place by so many bytes, back where they are below 0. It is an error where the new
+    /// one would be below 0 or above `u64::MAX`.
     fn shift(&mut self, by: i64) -> io::Result<()>
         ensures { WhereTells tells (Shifts by result (state self.old) (state self.new)) };
 
-    /// Each of the known bytes is below 256.
+    /// A law: each of the known bytes is below 256.
     ghost bytes: { (m : Self) → WhereTells tells (AreBytes (state m).contents) };
 }
 
-/// A place that bytes are put at.
+/// A place that bytes are put at: what a `WavWriter` writes into.
+///
+/// Implemented for [`Tape`](crate::Tape), [`Journal`](crate::Journal), `BufWriter<File>`, and a
+/// `&mut` to any such type. One of your own gives `put` and `flush`, those of [`Placed`] and their
+/// laws, and the writer's contracts hold over it.
 pub trait Medium: Placed {
-    /// Puts bytes at the place, as many as it takes at once, and moves behind them. Zeros fill a
-    /// gap behind the old end.
+    /// Puts bytes at the place, as many as it takes at once, and moves behind them; the answer is
+    /// their number, at least 1. Zeros fill a gap behind the old end. There has to be a byte to
+    /// put: ask `bytes.is_empty()`. An `Err` puts none.
     fn put(&mut self, bytes: &[u8]) -> io::Result<usize>
         requires { 0 < length bytes.now }
         ensures bound { IfOk result (λ n. (1 ≤ n) × (n ≤ length bytes.now)) }
         ensures puts { WhereTells Self.tells
             (Puts Self.keeps bytes.now result (Self.state self.old) (Self.state self.new)) };
 
-    /// Hands all that has been put to what lies behind the medium.
+    /// Hands all that has been put to what lies behind the medium; the place stays.
     fn flush(&mut self) -> io::Result<()>
         ensures { WhereTells Self.tells
             (Flushes result (Self.state self.old) (Self.state self.new)) };
 
-    /// What has been put leads from the first contents to those of now.
+    /// A law: what has been put leads from the first contents to those of now.
     ghost replays: { (m : Self) → WhereKeeps Self.tells Self.keeps
         ((Self.state m).contents ≡ overlay (Self.state m).start (Self.state m).past) };
 }
 
-/// A place that bytes are read from.
+/// A place that bytes are read from: what `WavReader::seek` and the calls that append need.
+///
+/// Implemented for [`Tape`](crate::Tape), [`Journal`](crate::Journal), `BufReader<File>`, and a
+/// `&mut` to any such type. A `BufWriter<File>` is none, so a file is appended to by
+/// `WavWriter::append`.
 pub trait Source: io::Read + Placed {
-    /// Reads bytes at the place into the front of the buffer, and moves behind them. Unlike
-    /// `read`, its contract says what becomes of the place and of the count of faults.
+    /// Reads bytes at the place into the front of the buffer, and moves behind them; the answer is
+    /// their number, 0 only at the end or for an empty buffer. Unlike `read`, its contract says
+    /// what becomes of the place and of the count of faults.
     fn get(&mut self, buf: &mut [u8]) -> io::Result<usize>
         ensures bound { IfOk result (λ n. n ≤ length buf.new) }
         ensures gets { WhereTells Self.tells
             (Gets buf.new result (Self.state self.old) (Self.state self.new)) };
 
-    /// What is left to be read is the contents from the place on.
+    /// A law: what is left to be read is the contents from the place on.
     ghost left: { (s : Self) → WhereTells Self.tells
         (Self.remaining s ≡ Some (drop (Self.state s).place (Self.state s).contents)) };
 }

@@ -11,6 +11,9 @@ use std::io;
 use std::io::ErrorKind;
 
 /// What bytes are read from: any reader, or one of which contracts see how many reads failed.
+///
+/// Implemented for every `io::Read`, whose failed reads contracts don't count, and for the
+/// `Counted` of `hound_reader`, a source whose failed reads they do.
 pub trait Input {
     /// The bytes that are left, where they are known.
     ghost left: { Self → Option (List ℕ) };
@@ -21,8 +24,8 @@ pub trait Input {
     /// How many reads failed, and what no read changes, where these are known.
     ghost account: { Self → Option (Account Kept) };
 
-    /// Reads bytes into the front of the buffer, and gives their number. It is 0 only at the end
-    /// of the input or where the buffer is empty.
+    /// Reads bytes into the front of the buffer, and gives their number. It is 0 only at the end of
+    /// the input or where the buffer is empty. At an `Err` no byte was taken.
     fn read_some(&mut self, buf: &mut [u8]) -> io::Result<usize>
         ensures bound { ReadsAtMost result buf.new }
         ensures bytes { ReadConsumes (left self.old) (left self.new) result buf.new }
@@ -41,7 +44,7 @@ impl<R: io::Read> Input for R {
     }
 }
 
-/// Why a buffer could not be filled.
+/// Why a buffer could not be filled. As an `io::Error` it is the read's own, or [`early_end`].
 #[derive(Debug, Drop)]
 pub enum ReadError {
     /// A read failed.
@@ -50,7 +53,7 @@ pub enum ReadError {
     Ended,
 }
 
-/// The error of an input that ended early, of kind `Other`.
+/// The error of an input that ended early, of kind `Other`: that of every early end of a file.
 #[cold]
 #[inline(never)]
 pub fn early_end() -> io::Error
@@ -71,7 +74,7 @@ impl From<ReadError> for io::Error {
     }
 }
 
-/// Fills the whole buffer, however the reads are cut.
+/// Fills the whole buffer, however the reads are cut; an empty one without a read.
 ///
 /// `Interrupted` is passed on like any other fault. At an `Err` fewer bytes than the buffer holds
 /// were taken.

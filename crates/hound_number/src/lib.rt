@@ -1,7 +1,7 @@
 //! Little-endian numbers, and the loops over `read` and `write`.
 //!
 //! The lowest layer: each call makes, reads or writes exactly the bytes of its number, or says the
-//! fault.
+//! fault. The root of `hound` gives none of it; a crate that wants it lists `hound_number`.
 #![tactic(auto)]
 
 mod input;
@@ -16,7 +16,8 @@ pub use laws::signed_bytes_come_back;
 use std::io;
 use std::io::{Error, ErrorKind};
 
-/// The signed number of an unsigned byte, which counts from -128.
+/// The signed number of an unsigned byte, which counts from -128, as samples of 8 bits do
+/// (WAVEFORMATEX, "wBitsPerSample").
 #[inline(always)]
 pub fn signed_from_u8(x: u8) -> i8
     ensures { result ≡ pos x -ℤ pos 128 }
@@ -24,7 +25,8 @@ pub fn signed_from_u8(x: u8) -> i8
     (x as i16 - 128) as i8
 }
 
-/// The unsigned byte of a signed number, which counts from -128.
+/// The unsigned byte of a signed number, which counts from -128: the inverse of [`signed_from_u8`],
+/// by [`signed_bytes_come_back`].
 #[inline(always)]
 pub fn u8_from_signed(x: i8) -> u8
     ensures { pos result ≡ x +ℤ pos 128 }
@@ -32,7 +34,7 @@ pub fn u8_from_signed(x: i8) -> u8
     (x as i16 + 128) as u8
 }
 
-/// The two bytes of a number.
+/// The two bytes of a number, the low one first, as in each call here.
 #[inline(always)]
 pub fn le_u16(n: u16) -> [u8; 2]
     ensures { result ≡ bytes_of 2 n }
@@ -64,7 +66,8 @@ pub fn le_i32(n: i32) -> [u8; 4]
     n.to_le_bytes()
 }
 
-/// The number in the two bytes from a place on.
+/// The number in the two bytes from the index `at` on, which have to be there: `at + 2` is at most
+/// `bytes.len()`.
 #[inline(always)]
 pub fn u16_at(bytes: &[u8], at: usize) -> u16
     requires { at + 2 ≤ length bytes.now }
@@ -73,7 +76,8 @@ pub fn u16_at(bytes: &[u8], at: usize) -> u16
     bytes[at] as u16 + bytes[at + 1] as u16 * 0x100
 }
 
-/// The number in the four bytes from a place on.
+/// The number in the four bytes from the index `at` on, which have to be there: `at + 4` is at most
+/// `bytes.len()`.
 #[inline(always)]
 pub fn u32_at(bytes: &[u8], at: usize) -> u32
     requires { at + 4 ≤ length bytes.now }
@@ -93,7 +97,7 @@ pub fn i16_from_le(bytes: [u8; 2]) -> i16
     i16::from_le_bytes(bytes)
 }
 
-/// The signed number in three bytes.
+/// The signed number in three bytes, from -8388608 to 8388607.
 #[inline(always)]
 pub fn i24_from_le(bytes: [u8; 3]) -> i32
     ensures { result ≡ signed_number bytes }
@@ -115,10 +119,10 @@ pub fn i32_from_le(bytes: [u8; 4]) -> i32
     i32::from_le_bytes(bytes)
 }
 
-/// Writes all of the bytes, in order.
+/// Writes all of the bytes, in order; where there are none, without a call of the writer.
 ///
 /// `Interrupted` is passed on like any other fault, and a write that takes no byte is one of kind
-/// `WriteZero`. At an `Err` a beginning of the bytes may be out.
+/// `WriteZero`. At an `Err` a beginning of the bytes may be out, and nothing more is tried.
 pub fn write_bytes<W: io::Write>(writer: &mut W, bytes: &[u8]) -> io::Result<()>
     ensures { Writes bytes.now result (W.contents writer.old) (W.contents writer.new) }
 {

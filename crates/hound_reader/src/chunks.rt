@@ -29,7 +29,7 @@ const FMT: [u8; 4] = *b"fmt ";
 
 const DATA: [u8; 4] = *b"data";
 
-/// What one chunk was.
+/// What one chunk was (RIFF, "Chunks").
 #[derive(Drop)]
 pub enum ChunkRead {
     /// The tag and length of the data chunk: the spec that came before it, and its length.
@@ -100,7 +100,8 @@ fn with_pad_byte(chunk_len: u32) -> u64
     chunk_len as u64 + chunk_len as u64 % 2
 }
 
-// Takes the content of a fmt chunk of this length, so many bytes: what says something, and the rest.
+// Takes the content of a fmt chunk of this length, so many bytes: what says something, and the
+// rest.
 fn read_fmt_content<R: Input>(
     reader: &mut R,
     chunk_len: u32,
@@ -228,7 +229,8 @@ fn read_head<R: Input>(reader: &mut R) -> Result<FileHead, HeadError>
     read_chunks(reader)
 }
 
-/// Takes exactly what stands before the data, however the reads are cut.
+/// Takes exactly what stands before the data, however the reads are cut: the walk that reading and
+/// appending share.
 ///
 /// The length of the data is not looked at. An error that the bytes don't decide is that of a read,
 /// and the only one that counts as failed.

@@ -16,7 +16,8 @@ use hound_spec::WavSpecEx;
 use std::marker::{Brand, PhantomData};
 use std::{io, result};
 
-/// The moment at which counting begins, as contracts see it.
+/// The moment at which counting begins, as contracts see it. A `Brand` is one, whose members are
+/// picked where it is passed.
 pub(crate) trait Beginning {
     /// The bytes that were left then, where they are known.
     ghost left: { Option (List ℕ) };
@@ -31,7 +32,7 @@ impl Beginning for Brand {
     ghost lender = { 0 };
 }
 
-/// A reference to a reader, which stays the same reference.
+/// A reference to a reader, which stays the same reference: that to a [`KeepingReader`].
 pub(crate) trait Lent: Sized {
     /// The bytes that are left, where they are known.
     ghost left: { Self → Option (List ℕ) };
@@ -95,7 +96,7 @@ impl<R: Lent, B: Beginning> io::Read for CountingReader<R, B> {
     }
 }
 
-/// A call that reads, whose value has a type of its own.
+/// A call that reads, whose value has a type of its own: each [`Sample`] is one, by its `read`.
 pub(crate) trait Ask {
     type Value: Drop;
 

@@ -7,7 +7,8 @@ use hound_number::ReadError;
 use hound_spec::Error;
 use std::io;
 
-/// What is wrong with a file, in the order in which it is looked at.
+/// What is wrong with a file. Its words, which a `FormatError` holds, [`error_of`] says; in which
+/// order a walk looks for these, `fmt_of` and `Refused` of the specs do.
 #[derive(Clone, Copy, Debug, PartialEq, Eq)]
 pub enum Reason {
     /// The file doesn't begin with "RIFF".
@@ -32,7 +33,7 @@ pub enum Reason {
     BitsNotWholeBytes,
     /// There are no bits.
     ZeroBits,
-    /// The bits are not 8, 16 or 24 in a longer chunk of integers.
+    /// The bits are not 8, 16 or 24 in a chunk of integers that is longer than sixteen bytes.
     BitsNot8Or16,
     /// A WAVEFORMATEX of floats says that more follows.
     ExSize,
@@ -46,14 +47,14 @@ pub enum Reason {
     FrameLength,
 }
 
-/// Why bytes have no head, by the bytes alone.
+/// Why bytes have no head, or their data no whole frames, by the bytes alone.
 #[derive(Clone, Copy, Debug, PartialEq, Eq)]
 pub enum Cause {
     /// The bytes end inside something that is to be taken.
     Ended,
     /// The bytes are no WAVE file.
     Format(Reason),
-    /// The format is not read.
+    /// The format is not read: another format tag, or another subformat.
     Unsupported,
 }
 
@@ -99,7 +100,8 @@ fn text_of(reason: Reason) -> &'static str
     }
 }
 
-/// The error that callers are told.
+/// The error that callers are told: `FormatError` with its words, `Unsupported`, or `IoError`, for
+/// an early end of kind `Other`.
 pub fn error_of(head_error: HeadError) -> Error
     ensures { ReportsError head_error result }
 {

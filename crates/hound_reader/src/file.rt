@@ -12,7 +12,8 @@ use std::rt::Files;
 use std::{fs, io};
 
 impl WavReader<io::BufReader<fs::File>> {
-    /// Opens a file that is there, which stays as it is, and takes what stands before the data.
+    /// Opens a file that is there, which stays as it is, and takes what stands before the data, by
+    /// a buffer of `alloc`. `rt` is what `main` and each test are given; `alloc` is `rt.alloc()`.
     ///
     /// The errors, in their order: `IoError`, where the file can't be opened; `OutOfMemory`, where
     /// there is none for the buffer; those of [`WavReader::new`].

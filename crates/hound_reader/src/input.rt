@@ -10,7 +10,7 @@ use hound_medium::Source;
 use hound_number::{Input, ReadError, read_into};
 use std::io;
 
-/// A source that is read by `get`, so that its failed reads are counted.
+/// A source that is read by `get`, so that its failed reads are counted: an [`Input`] for the walk.
 #[derive(Drop)]
 pub struct Counted<S> {
     /// The source.

@@ -53,11 +53,13 @@ fn read_until_samples<R: Input>(reader: &mut R) -> result::Result<(WavSpecEx, u3
     Ok((spec_ex, num_samples))
 }
 
-/// Takes the first twelve bytes of a file, and gives the size of the whole file as they say it: the
-/// RIFF size, which doesn't count itself and the tag before it, and eight bytes more.
+/// Takes the first twelve bytes of a file, and gives the size of the whole file in bytes as they
+/// say it: the RIFF size, which doesn't count itself and the tag before it, and eight bytes more
+/// (RIFF, "RIFF Forms"), at most 4294967303. So a caller learns whether this may be a WAVE file.
 ///
-/// The size is compared with nothing. An early end is an `IoError` of kind `Other`. No byte is
-/// taken behind a wrong tag.
+/// The size is compared with nothing. The errors, in the order of the bytes: `FormatError`, for a
+/// wrong RIFF tag and then for a wrong WAVE tag, behind which no byte is taken; `IoError`, where a
+/// read fails or the input ends, which has the kind `Other`.
 pub fn read_wave_header<R: io::Read>(reader: &mut R) -> Result<u64>
     ensures found { IfOk result (λ n. Known (R.remaining reader.old) (R.remaining reader.new)
         (λ xs ys.
@@ -75,7 +77,9 @@ pub fn read_wave_header<R: io::Read>(reader: &mut R) -> Result<u64>
 /// A reader of a file's samples.
 ///
 /// It takes no byte that it doesn't need: what it reads from stands at the data when the reader is
-/// made, and behind the sample that was read last.
+/// made, and behind the sample that was read last. So it has no buffer, and a file wants one around
+/// it, as [`WavReader::open`] makes it. Any `io::Read` is read: a slice of bytes, a `Tape`, a
+/// `Journal`, a `BufReader<File>`, or a `&mut` to one, which is then still there at an error.
 #[derive(Drop)]
 pub struct WavReader<R> {
     reader: KeepingReader<R>,
@@ -102,13 +106,19 @@ impl<R> Model for WavReader<R> {
 }
 
 impl<R: io::Read + Drop> WavReader<R> {
-    /// Takes exactly what stands before the data.
+    /// Takes exactly what stands before the data, from where the reader stands.
     ///
     /// Files are RIFF and WAVE with a fmt chunk before the data, of a PCMWAVEFORMAT, a WAVEFORMATEX
     /// or a WAVEFORMATEXTENSIBLE. Other chunks before the data are passed over, each with its whole
-    /// length and the pad byte behind an odd one, and of several fmt chunks the last counts. Faults
-    /// are told in the order of the bytes: first those of the chunks, then data that are no whole
-    /// samples, then data that are no whole frames. An early end is an `IoError` of kind `Other`.
+    /// length and the pad byte behind an odd one (RIFF, "Chunks"), and of several fmt chunks the
+    /// last counts. Whether the data are all there isn't looked at.
+    ///
+    /// The errors come chunk by chunk, in a fmt chunk check by check: `FormatError`, or
+    /// `Unsupported` for another format tag or subformat whose fields pass the checks that all
+    /// share; then `FormatError` for data that are no whole samples, and for data that are no whole
+    /// frames. `IoError` is a fault of the reader, or an early end, of kind `Other`. Chunks that
+    /// would take more than 4294967295 bytes behind the WAVE tag are a `FormatError`, so an endless
+    /// reader has an answer.
     pub fn new(reader: R) -> Result<WavReader<R>>
         ensures found { IfOk result (λ r. Known (R.remaining reader) (R.remaining r.reader)
             (λ xs ys.
@@ -140,7 +150,8 @@ impl<R: io::Read + Drop> WavReader<R> {
         }
     }
 
-    /// The properties of the audio data, of which the bits are those that are used.
+    /// The properties of the audio data, of which the bits are those that are used. The bytes of a
+    /// sample are no part of it; the reader counts with them.
     pub fn spec(&self) -> WavSpec
         ensures { result ≡ self.now.spec_ex.spec }
     {
@@ -155,17 +166,19 @@ impl<R: io::Read + Drop> WavReader<R> {
         self.len() / self.spec_ex.spec.channels as u32
     }
 
-    /// The number of samples in the file, of all channels together, whatever was read.
+    /// The number of samples in the file, of all channels together, whatever was read: the data
+    /// length by the bytes of a sample. How many are left [`WavReader::samples`] tells, by `len`.
     pub fn len(&self) -> u32
         ensures { result ≡ self.now.num_samples }
     {
         self.num_samples
     }
 
-    /// An iterator over the samples that are left, one item for each.
+    /// An iterator over the samples that are left, one item for each, the channels of a frame one
+    /// after the other.
     ///
     /// The type need not fit the file: each item is then the refusal of the type, and takes no
-    /// byte. A new iterator goes on where the last stopped.
+    /// byte. A new iterator goes on where the last stopped, also one of another type.
     pub fn samples<'wr, S: Sample>(&'wr mut self) -> WavSamples<'wr, R, S>
         ensures reader { lent_reader result ≡ self.old }
         ensures lender { lender result ≡ self.entry.ghost_name }
@@ -173,7 +186,8 @@ impl<R: io::Read + Drop> WavReader<R> {
         WavSamples::new(self)
     }
 
-    /// The same iterator, which keeps the reader.
+    /// The same iterator, which keeps the reader. To have the reader back, lend it to
+    /// [`WavReader::samples`] in place of that.
     pub fn into_samples<S: Sample>(self) -> WavIntoSamples<R, S>
         ensures { taken_reader result ≡ self }
     {
@@ -186,8 +200,9 @@ impl<R: io::Read + Drop> WavReader<R> {
     /// the bytes that samples really took so far. So the place is right after samples that were
     /// refused, which took none, and after one that was torn, which took a part.
     ///
-    /// A `time` at or behind the end is allowed; then no samples are left. An error leaves the
-    /// source where it was, and the reader counts as before.
+    /// A `time` at or behind [`WavReader::duration`] is allowed; then no samples are left. A time
+    /// in seconds is that many times the sample rate. The one error is the source's own: then the
+    /// reader counts as before, and a source whose bytes are known stands where it was.
     pub fn seek(&mut self, time: u32) -> io::Result<()>
     where
         R: Source,
@@ -204,7 +219,8 @@ impl<R: io::Read + Drop> WavReader<R> {
         Ok(())
     }
 
-    /// What the samples were read from, as it was left.
+    /// What the samples were read from, as it was left: behind the last byte that was taken, or
+    /// where a seek led.
     pub fn into_inner(self) -> R
         ensures { result ≡ self.reader }
     {

@@ -4,7 +4,8 @@ ghost use Rattle.hound_sample.specs.Container.{fits, int_container};
 ghost use Rattle.hound_sample.specs.Meaning.{int_meaning, int_refusal, low_short};
 ghost use Rattle.hound_spec.specs.declared.spec.SampleFormat.TheVariants.{Int};
 
-/// Each integer that has a container is read from it as `i32`, as the same number.
+/// Each integer that has a container is read from it as `i32`, as the same number, whatever type it
+/// was written as.
 pub fn integers_come_back()
     ensures taken { (v : ℤ) (bits width : ℕ) (c : List ℕ) → int_container v bits width ≡ Ok c →
         int_refusal 4 Int width bits ≡ None }
@@ -12,7 +13,7 @@ pub fn integers_come_back()
         int_meaning width bits c ≡ v }
 {}
 
-/// An integer of sixteen bits is its own lowest sixteen bits.
+/// An integer of sixteen bits is its own lowest sixteen bits, so a batch takes it unchanged.
 pub fn short_integers_are_kept()
     ensures { (v : ℤ) → IsTrue (fits 16 v) → low_short v ≡ v }
 {}

@@ -1,4 +1,5 @@
-//! Whole runs of a writer as one call each.
+//! Whole runs of a writer as one call each: [`run_session`] takes every step and marks those that
+//! were accepted, [`run_sessions`] ends at the first error.
 #![tactic(auto)]
 
 mod laws;

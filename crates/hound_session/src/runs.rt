@@ -76,11 +76,14 @@ fn end_writer<M: Medium>(writer: WavWriter<M>, end: End) -> (M, Result<()>)
 
 /// Runs a whole session of a writer, and hands the medium back.
 ///
-/// It begins a file or appends to one, takes every step whatever earlier ones answered, and ends.
-/// A mark is true where a sample or a whole batch was accepted, or a flush published all that was.
-/// The answer is that of the constructor, where it refuses, and all marks are false; else that of
-/// `finalize_into`, or Ok at a drop. There are as many marks as steps, and the medium stands at its
-/// beginning.
+/// It begins a file or appends to one, takes every step whatever earlier ones answered, and ends. A
+/// mark is true where a sample or a whole batch was accepted, or a flush published all that was,
+/// with an unfinished frame too. The answer is that of the constructor, where it refuses, and all
+/// marks are false; else that of `finalize_into`, or Ok at a drop.
+///
+/// There are as many marks as steps, which may hold anything before, and the medium stands at 0, as
+/// each new one does; `go(0)` leads there. `alloc` is for batches, two bytes a sample, and a batch
+/// that finds no memory has a false mark.
 pub fn run_session<M: Source + Medium>(
     alloc: Global,
     medium: M,

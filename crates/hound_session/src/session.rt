@@ -2,25 +2,26 @@
 use hound_sample::FloatBits;
 use hound_spec::WavSpecEx;
 
-/// One call of a writer.
+/// One call of a writer, between its constructor and its end.
 #[derive(Clone, Copy)]
 pub enum Step<'a> {
-    /// Writes an integer.
+    /// Writes an integer, by `write_sample` of an `i32`.
     Whole(i32),
-    /// Writes a float by its bits.
+    /// Writes a float by its bits, by `write_sample`.
     Bits(FloatBits),
-    /// Writes a batch of samples of sixteen bits, which a writer of other samples refuses.
+    /// Writes a batch of samples of sixteen bits, all of them or none: by `get_i16_writer` and its
+    /// `flush`. A writer of other samples is asked nothing, and the step is `Unsupported`.
     Batch(&'a [i16]),
-    /// Publishes what was accepted.
+    /// Publishes what was accepted, by `flush`.
     Flush,
 }
 
 /// How a session begins.
 #[derive(Clone, Copy)]
 pub enum Begin {
-    /// With a new file of this spec.
+    /// With a new file of this spec, by `try_new`.
     New(WavSpecEx),
-    /// Behind the data of the file that is there.
+    /// Behind the data of the file that is there, by `try_append`.
     Append,
 }
 
@@ -29,6 +30,6 @@ pub enum Begin {
 pub enum End {
     /// By `finalize_into`, whose answer is told.
     Finalize,
-    /// By a drop, whose fault goes unseen.
+    /// By a drop, which publishes too, and whose error goes unseen.
     Drop,
 }

@@ -88,11 +88,14 @@ fn append_sessions<M: Source + Medium>(
 /// Runs sessions over one medium: the first begins a file of this spec, each further one appends
 /// to it, and each is finalized.
 ///
-/// It ends at the first error of any call, which it answers: `Unsupported`, for a spec that can't be
-/// written or a batch for samples of other than sixteen bits; a refusal of a sample; an
-/// `UnfinishedSample` of a flush or an end; or an `IoError` of the medium. What was accepted before
-/// is published then, unless the medium failed. No sessions: nothing is done. The medium stands at
-/// its beginning, and is handed back.
+/// It ends at the first error of any call, which it answers: `Unsupported`, for a spec that can't
+/// be written or a batch for samples of other than sixteen bits; a refusal of a sample or a batch;
+/// an `UnfinishedSample` of a flush or an end; or an `IoError` of the medium. What was accepted
+/// before is published then, unless the medium failed. No sessions: nothing is done.
+///
+/// The medium is handed back. It stands at 0 before, as each new one does; `go(0)` leads there.
+/// Steps that borrow their batches go to a function that takes `&[Step]`, and gives these as
+/// `&[&steps[..]]`.
 pub fn run_sessions<'a, M: Source + Medium>(
     alloc: Global,
     medium: M,
@@ -110,7 +113,8 @@ pub fn run_sessions<'a, M: Source + Medium>(
         → NoFault (M.state medium) (M.state result.0) →
         OnOk result.1 ((M.state result.0).contents ≡ canonical spec_ex (containers_of spec_ex (all_steps sessions.now)))) }
 
-    // Where no call of the medium failed, an error is that of a step or an end, and those before it are there.
+    // Where no call of the medium failed, an error is that of a step or an end, and those before it
+    // are there.
     ensures stops { WhereTells M.tells (IsWritable spec_ex
         → NoFault (M.state medium) (M.state result.0) →
         IfErr result.1 (λ e. StopsShort spec_ex (all_steps sessions.now) e (M.state result.0).contents)) }

@@ -16,12 +16,12 @@ pub const KSDATAFORMAT_SUBTYPE_PCM: [u8; 16] = [
     0x01, 0x00, 0x00, 0x00, 0x00, 0x00, 0x10, 0x00, 0x80, 0x00, 0x00, 0xaa, 0x00, 0x38, 0x9b, 0x71,
 ];
 
-/// The subformat of floats.
+/// The subformat of floats, likewise.
 pub const KSDATAFORMAT_SUBTYPE_IEEE_FLOAT: [u8; 16] = [
     0x03, 0x00, 0x00, 0x00, 0x00, 0x00, 0x10, 0x00, 0x80, 0x00, 0x00, 0xaa, 0x00, 0x38, 0x9b, 0x71,
 ];
 
-/// The bytes of a header, at most 68.
+/// The bytes of a header, 44 or 68, without memory of their own. Only [`header_of`] makes one.
 #[derive(Drop)]
 pub struct Header {
     bytes: [u8; 68],
@@ -160,7 +160,8 @@ fn write_fmt(header: &mut Header, spec_ex: WavSpecEx)
     }
 }
 
-/// The header of a file of this spec, up to the first data byte.
+/// The header of a file of this spec, up to the first data byte (RIFF, "Waveform Audio File
+/// Format"). The spec has to be writable: ask [`WavSpecEx::is_writable`].
 ///
 /// Both sizes are in bytes. The RIFF size counts all that stands behind its own field, the data
 /// length the content of the data chunk. One or two channels of 8 or 16 bits have the header of 44
@@ -188,6 +189,8 @@ impl WavSpec {
     ghost use Rattle.hound_spec.specs.Writable.{IsWritable, with_default_width};
 
     /// The header of a stream whose length isn't known when it begins: both sizes are 4294967295.
+    /// It is for outputs that can't be gone back in; the containers follow, each by
+    /// `Sample::write_padded`.
     ///
     /// A sample takes the bytes that its bits need: `(bits_per_sample + 7) / 8`, rounded down.
     /// `WavReader` refuses such a header of 16 or 32 bits, since 4294967295 bytes are no whole

@@ -1,23 +1,31 @@
 // What a file says of its samples.
-/// Whether a sample is stored as an integer or as an IEEE float.
+/// Whether a sample is stored as an integer or as an IEEE float (WAVEFORMATEX, "wFormatTag", and
+/// the subformat of a WAVEFORMATEXTENSIBLE).
 #[derive(Clone, Copy, Debug, PartialEq, Eq)]
 pub enum SampleFormat {
     /// The bits of an IEEE float, as files with the format tag `WAVE_FORMAT_IEEE_FLOAT` hold them.
+    /// They are read and written as `FloatBits`; full scale is from -1.0 to 1.0.
     Float,
-    /// An integer, as files with the format tag `WAVE_FORMAT_PCM` hold it.
+    /// An integer, as files with the format tag `WAVE_FORMAT_PCM` hold it. Its values are signed
+    /// here at all widths, though a byte of 8 bits isn't.
     Int,
 }
 
 /// The properties of the audio data.
+///
+/// The fields may be any numbers: which of them a file can be written with
+/// [`WavSpecEx::is_writable`] says.
 #[derive(Clone, Copy, Debug, PartialEq, Eq)]
 pub struct WavSpec {
-    /// The number of channels, whose samples are interleaved.
+    /// The number of channels, whose samples are interleaved: a sample of each is a frame.
     pub channels: u16,
 
-    /// The number of frames a second, in hertz; 44100 on a CD.
+    /// The number of frames a second, in hertz; 44100 on a CD. It may be 0 in a file that is read.
     pub sample_rate: u32,
 
-    /// The number of bits of a sample that are used; 16 on a CD.
+    /// The number of bits of a sample that are used; 16 on a CD. In a file that is read it may be
+    /// any but 0, since the valid bits of a WAVEFORMATEXTENSIBLE aren't checked; types read the
+    /// pairs of [`WavSpecEx::is_writable`] alone.
     pub bits_per_sample: u16,
 
     /// Whether samples are integers or floats.
@@ -30,7 +38,8 @@ pub struct WavSpecEx {
     /// The properties of the audio data; its bits are those that are used.
     pub spec: WavSpec,
 
-    /// The number of bytes that a sample takes in the file, its container.
+    /// The number of bytes that a sample takes in the file, its container: in a file that is read
+    /// the block align by the channels, rounded down (WAVEFORMATEX, "nBlockAlign").
     pub bytes_per_sample: u16,
 }
 
@@ -41,8 +50,9 @@ impl WavSpecEx {
     /// Whether a file of this spec can be written.
     ///
     /// The pairs of bits and bytes are (8, 1), (16, 2), (24, 3), (24, 4) and (32, 4) for integers,
-    /// and (32, 4) for floats. There is at least one channel and one frame a second, and a frame
-    /// and a second have at most as many bytes as the header's fields can say.
+    /// and (32, 4) for floats. There is at least one channel and one frame a second, a frame has at
+    /// most 65535 bytes, and a second at most 4294967295. A writer's constructors refuse exactly
+    /// the other specs, as `Unsupported`.
     pub fn is_writable(&self) -> bool
         ensures { IsTrue result ↔ IsWritable self.now }
     {

@@ -67,10 +67,9 @@ pub(crate) fn append_at<W: Medium>(
 }
 
 impl<W: Source + Medium> WavWriter<W> {
-    /// Appends to the file in a medium that stands at its beginning: the next sample goes after its
-    /// data chunk, over what may stand there.
-    ///
-    /// The errors are those of [`WavWriter::try_append`], which hands the medium back.
+    /// Appends to the file in a medium, as [`WavWriter::try_append`] does, which hands the medium
+    /// back at an error: conditions and errors are the same. Here it is dropped, unless it was
+    /// lent.
     pub fn new_append(writer: W) -> Result<WavWriter<W>>
         requires { WhereTells W.tells ((W.state writer).place ≡ 0) }
         ensures { MatchResult result (Appends W.tells W.state (W.state writer))
@@ -82,8 +81,12 @@ impl<W: Source + Medium> WavWriter<W> {
         }
     }
 
-    /// Appends to the file in a medium that stands at its beginning, and hands the medium back where
-    /// it can't. Nothing is put.
+    /// Appends to the file in a medium that stands at its beginning, and hands the medium back
+    /// where it can't. The next sample goes after the data chunk, over what may stand there.
+    ///
+    /// The medium stands at 0, as each new one does; `go(0)` leads there. This call puts nothing,
+    /// and later ones change before the data the two sizes alone: so a fact chunk keeps the count
+    /// that it had.
     ///
     /// The errors, in their order: those of a reader's walk to the data, by the bytes; a
     /// `FormatError`, for data that are no whole samples; `Unsupported`, for samples that are not

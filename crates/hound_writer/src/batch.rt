@@ -6,7 +6,8 @@ use hound_medium::Medium;
 
 /// A batch of samples of sixteen bits for a writer, all of which are accepted by one call.
 ///
-/// Dropped without [`SampleWriter16::flush`] nothing is accepted.
+/// [`WavWriter::get_i16_writer`] makes it, for a number of samples; each is written, and then
+/// [`SampleWriter16::flush`] ends it. Dropped without that nothing is accepted.
 #[derive(Drop)]
 pub struct SampleWriter16<'parent, W: Medium> {
     // The writer that the batch goes to, in whose memory it is put together.

@@ -104,13 +104,14 @@ impl<W: Medium> Output<W> {
 }
 
 impl<W: Medium> WavWriter<W> {
-    /// A batch of so many samples of sixteen bits, which are accepted by one call. They are samples,
-    /// not frames: the channels of a frame follow one another.
+    /// A batch of so many samples of sixteen bits, which are accepted by one call. They are
+    /// samples, not frames: the channels of a frame follow one another. There may be 0.
     ///
-    /// The writer must be one of integers with sixteen bits, as its spec tells. The memory is kept
-    /// for later batches. The errors, in their order: `TooLong`, where the RIFF size of the longer
-    /// file would pass 4294967295; `OutOfMemory`, where the batch needs more memory than is kept and
-    /// there is none. Either leaves the writer as it was.
+    /// The writer must be one of integers with sixteen bits: ask [`WavWriter::spec`], whose format
+    /// is `Int` then and whose bits are 16. A batch takes two bytes of memory a sample, which are
+    /// kept for later batches. The errors, in their order: `TooLong`, where the RIFF size of the
+    /// longer file would pass 4294967295; `OutOfMemory`, where the batch needs more memory than is
+    /// kept and there is none. Either leaves the writer as it was.
     pub fn get_i16_writer<'s>(
         &'s mut self,
         alloc: Global,
@@ -147,7 +148,9 @@ impl<W: Medium> WavWriter<W> {
 impl<'parent, W: Medium> SampleWriter16<'parent, W> {
     /// Writes a sample to the batch: its lowest sixteen bits, as a signed number.
     ///
-    /// The batch must have room for it, and the sample must have such bits: an integer has.
+    /// The batch must have room for it: [`SampleWriter16::remaining`] is above 0, so ask it, or
+    /// write as many as the batch was made for. And the sample must have such bits, as `can_cast`
+    /// says: each `i8`, `i16` and `i32` has. Higher bits of an `i32` are lost without an error.
     #[inline]
     pub fn write_sample<S: Sample>(&mut self, sample: S)
         requires room { 1 ≤ remaining self.old }
@@ -167,7 +170,8 @@ impl<'parent, W: Medium> SampleWriter16<'parent, W> {
         parent.output.store_sample(index, sample.as_i16());
     }
 
-    /// Does what [`SampleWriter16::write_sample`] does, which is safe and checks nothing.
+    /// Does what [`SampleWriter16::write_sample`] does, which is safe and checks nothing, under the
+    /// same conditions. It is there for code that calls it by that name.
     #[inline]
     pub fn write_sample_unchecked<S: Sample>(&mut self, sample: S)
         requires room { 1 ≤ remaining self.old }
@@ -191,10 +195,11 @@ impl<'parent, W: Medium> SampleWriter16<'parent, W> {
         self.left as u32
     }
 
-    /// Accepts all samples of a batch that is full, or none of them.
+    /// Accepts all samples of a batch that is full, or none of them. It publishes nothing: that
+    /// [`WavWriter::flush`] does.
     ///
-    /// The one error is `IoError`, where the medium failed: none of the batch is accepted, and the
-    /// writer may go on.
+    /// The batch must be full: [`SampleWriter16::remaining`] is 0, so ask it. The one error is
+    /// `IoError`, where the medium failed: none of the batch is accepted, and the writer may go on.
     pub fn flush(self) -> Result<()>
         requires { remaining self ≡ 0 }
         ensures accepts { let old = batch_writer self.entry in Accepts W.tells W.keeps W.state false

@@ -30,12 +30,14 @@ fn buffered(alloc: Global, file: fs::File) -> Result<io::BufWriter<fs::File>>
 }
 
 impl WavWriter<io::BufWriter<fs::File>> {
-    /// Makes a file, or empties the one that is there, and begins it with this spec.
+    /// Makes a file, or empties the one that is there, and begins it with this spec, as
+    /// [`WavWriter::new`] does. `rt` is what `main` and each test are given, `alloc` is
+    /// `rt.alloc()`.
     ///
-    /// A sample takes the bytes that its bits need: `(bits_per_sample + 7) / 8`, rounded down. The
-    /// file is made or emptied before the spec is looked at. The errors, in their order: `IoError`,
-    /// where the file can't be made; `OutOfMemory`, where there is none for the buffer;
-    /// `Unsupported`, for a spec that can't be written; `IoError`, where the header can't be put.
+    /// The file is made or emptied before the spec is looked at, so a refused spec leaves it empty.
+    /// The errors, in their order: `IoError`, where the file can't be made; `OutOfMemory`, where
+    /// there is none for the buffer; `Unsupported`, for a spec that can't be written; `IoError`,
+    /// where the header can't be put.
     pub fn create(
         rt: &impl Files<File = fs::File>,
         alloc: Global,
@@ -50,13 +52,14 @@ impl WavWriter<io::BufWriter<fs::File>> {
         WavWriter::new(writer, spec)
     }
 
-    /// Appends to a file that is there, which is neither made nor emptied: the next sample goes after
-    /// its data chunk, over what may stand there.
+    /// Appends to a file that is there, which is neither made nor emptied: the next sample goes
+    /// after its data chunk, over what may stand there.
     ///
-    /// A refusal leaves the file as it was. The errors, in their order: `IoError`, where the file
-    /// can't be opened for reading and writing or has no place, as a pipe; `OutOfMemory`, where there is no memory for the
-    /// buffer of the walk; those of a reader's walk to the data; `OutOfMemory`, where there is none
-    /// for the writer's buffer; those of [`WavWriter::try_append`] after the walk.
+    /// A refusal leaves the file as it was. `rt` and `alloc` are those of [`WavWriter::create`].
+    /// The errors, in their order: `IoError`, where the file can't be opened for reading and
+    /// writing or has no place, as a pipe; `OutOfMemory`, where there is no memory for the buffer
+    /// of the walk; those of a reader's walk to the data; `OutOfMemory`, where there is none for
+    /// the writer's buffer; those of [`WavWriter::try_append`] after the walk.
     pub fn append(
         rt: &impl Files<File = fs::File>,
         alloc: Global,

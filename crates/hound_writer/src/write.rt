@@ -7,15 +7,19 @@ use hound_spec::{Error, Result, WavSpec, WavSpecEx, header_of, with_default_widt
 use std::marker::Model;
 use std::{io, result};
 
-/// A writer that puts samples into a medium, as a WAVE file.
+/// A writer that puts samples into a medium, as a WAVE file (RIFF, "Waveform Audio File Format").
 ///
-/// Up to 4096 bytes of accepted samples wait in the writer. They go out when no more fit, and before
-/// the sizes are put. Where the medium fails meanwhile all of them go on waiting, and go out again
-/// from the first one on. Behind an odd number of bytes a pad byte goes out before the sizes are put,
-/// and the next sample goes over it.
+/// The medium is a `Tape`, a `Journal`, a `BufWriter<File>`, a `&mut` to one, or a `Medium` of your
+/// own. `create`, `new`, `new_with_spec_ex` and `try_new` begin a file; `append`, `new_append` and
+/// `try_append` go on with one.
+///
+/// Up to 4096 bytes of accepted samples wait in the writer. They go out when no more fit, and
+/// before the sizes are put. Where the medium fails meanwhile all of them go on waiting, and go out
+/// again from the first one on. Behind an odd number of bytes a pad byte (RIFF, "Chunks") goes out
+/// before the sizes are put, and the next sample goes over it.
 ///
 /// A writer that is dropped publishes what was accepted, as [`WavWriter::finalize`] does, and its
-/// fault goes unseen.
+/// fault goes unseen: who has to know calls `finalize`.
 pub struct WavWriter<W: Medium> {
     // The file that it writes.
     pub(crate) output: Output<W>,
@@ -47,11 +51,11 @@ impl<W: Medium> WavWriter<W> {
     ghost use Rattle.hound_writer.specs.Publishing.{Checkpoints, Finishes};
     ghost use Rattle.hound_writer.specs.Writer.{AreFrames, HasRoom, IsSound, IsWhole, IsCounted, data_length, sample_count};
 
-    /// Begins a file of this spec in a medium that stands at its beginning, and puts the header with
-    /// both sizes 0. A sample takes the bytes that its bits need: `(bits_per_sample + 7) / 8`,
-    /// rounded down.
+    /// Begins a file of this spec in a medium that stands at 0, as each new one does. A sample
+    /// takes the bytes that its bits need: `(bits_per_sample + 7) / 8`, rounded down.
     ///
-    /// The errors are those of [`WavWriter::try_new`], which hands the medium back.
+    /// The errors are those of [`WavWriter::try_new`], which hands the medium back; here it is
+    /// dropped at an error, unless it was lent.
     pub fn new(writer: W, spec: WavSpec) -> Result<WavWriter<W>>
         requires { WhereTells W.tells ((W.state writer).place ≡ 0) }
         ensures { MatchResult result (Begins W.tells W.keeps W.state (with_default_width spec)
@@ -61,9 +65,8 @@ impl<W: Medium> WavWriter<W> {
         WavWriter::new_with_spec_ex(writer, with_default_width(spec))
     }
 
-    /// Begins a file of this spec, with this many bytes to a sample.
-    ///
-    /// The errors are those of [`WavWriter::try_new`], which hands the medium back.
+    /// Begins a file of this spec, with this many bytes to a sample, as [`WavWriter::new`] does
+    /// with the bytes that the bits need: condition and errors are the same.
     pub fn new_with_spec_ex(writer: W, spec_ex: WavSpecEx) -> Result<WavWriter<W>>
         requires { WhereTells W.tells ((W.state writer).place ≡ 0) }
         ensures { MatchResult result (Begins W.tells W.keeps W.state spec_ex (W.state writer))
@@ -76,7 +79,10 @@ impl<W: Medium> WavWriter<W> {
     }
 
     /// Begins a file of this spec in a medium that stands at its beginning, puts the header with
-    /// both sizes 0, and hands the medium back where it can't.
+    /// both sizes 0, 44 or 68 bytes, and hands the medium back where it can't.
+    ///
+    /// The medium stands at 0, as each new one does; `go(0)` leads there. Nothing is cut off: bytes
+    /// that it held already stay, until samples go over them.
     ///
     /// The errors, in their order: `Unsupported`, for a spec that can't be written, and the medium
     /// is as it was; `IoError`, where the medium failed, and a beginning of the header may be out.
@@ -99,7 +105,8 @@ impl<W: Medium> WavWriter<W> {
         }
     }
 
-    // A writer of a file whose data begin here and have so many bytes, after which its medium stands.
+    // A writer of a file whose data begin here and have so many bytes, after which its medium
+    // stands.
     pub(crate) fn at_end(
         writer: W,
         spec_ex: WavSpecEx,
@@ -118,7 +125,8 @@ impl<W: Medium> WavWriter<W> {
         }
     }
 
-    /// Writes a sample of one channel; the channels of a frame follow one another.
+    /// Writes a sample of one channel; the channels of a frame follow one another. An Ok accepts
+    /// it: it is in the file at the next `flush` or end that publishes, and may wait till then.
     ///
     /// The errors, in the order in which they are looked for: `Unsupported` or `TooWide`, as the
     /// type's table says of the file's bits and bytes; `TooLong`, where the RIFF size of the longer
@@ -137,14 +145,15 @@ impl<W: Medium> WavWriter<W> {
         Err(error_of(outcome, &self.fault))
     }
 
-    /// Publishes the accepted samples: puts out those that wait, the pad byte behind an odd number of
-    /// bytes, then both sizes into the header, and flushes the medium, so that a reader finds them
-    /// all, whatever becomes of the writer until it patches the header again. The next sample
+    /// Publishes the accepted samples: puts out those that wait, the pad byte behind an odd number
+    /// of bytes, then both sizes into the header, and flushes the medium, so that a reader finds
+    /// them all, whatever becomes of the writer until it patches the header again. The next sample
     /// follows them, over the pad byte.
     ///
     /// The errors, in their order: `IoError`, at the first fault of the medium, after which writing
     /// may go on; `UnfinishedSample`, where the samples are no whole number of frames, although all
-    /// of them are published and the medium is flushed. A recorder relies on it for checkpoints.
+    /// of them are published and the medium is flushed. A recorder relies on it for checkpoints. Of
+    /// a file the system has all bytes then; nothing here asks it to put them on the disk.
     pub fn flush(&mut self) -> Result<()>
         ensures { Checkpoints W.tells W.keeps W.state result self.old self.new }
     {
@@ -166,7 +175,8 @@ impl<W: Medium> WavWriter<W> {
         output.into_medium()
     }
 
-    /// Publishes the accepted samples and closes the file.
+    /// Publishes the accepted samples and closes the file. Behind a [`WavWriter::flush`] with
+    /// nothing accepted since then it leaves the same bytes.
     ///
     /// The errors are those of [`WavWriter::finalize_into`], which hands the medium back.
     pub fn finalize(self) -> Result<()>
@@ -177,11 +187,12 @@ impl<W: Medium> WavWriter<W> {
     }
 
     /// Puts out the samples that wait, the pad byte behind an odd number of bytes, then both sizes
-    /// into the header, flushes the medium, and hands it back: it stands where the data begin.
+    /// into the header, flushes the medium, and hands it back. Where that published, it stands
+    /// where the data begin.
     ///
     /// The errors, in their order: `IoError`, at the first fault of the medium, after which nothing
-    /// is tried again; `UnfinishedSample`, where the samples are no whole number of frames, although
-    /// all of them are published and the medium is flushed.
+    /// is tried again; `UnfinishedSample`, where the samples are no whole number of frames,
+    /// although all of them are published and the medium is flushed.
     pub fn finalize_into(self) -> (W, Result<()>)
         ensures { Finishes W.tells W.keeps W.state self result.1 result.0 }
     {
@@ -191,7 +202,7 @@ impl<W: Medium> WavWriter<W> {
     }
 
     /// Does what a drop does, and hands the medium back: it publishes the accepted samples as
-    /// [`WavWriter::finalize_into`] does, and a fault goes unseen.
+    /// [`WavWriter::finalize_into`] does, and its error goes unseen.
     pub fn drop_into(self) -> W
         ensures { (answer : Result Unit Error)
             × Finishes W.tells W.keeps W.state self answer result }
@@ -200,7 +211,8 @@ impl<W: Medium> WavWriter<W> {
         writer
     }
 
-    /// The spec that the file was begun with.
+    /// The spec that the file was begun with, or that was found in the file that is gone on with.
+    /// It tells whether batches can be written: integers of 16 bits.
     pub fn spec(&self) -> WavSpec
         ensures spec { result ≡ self.now.spec_ex.spec }
         ensures sound { IsSound self.now }
@@ -210,7 +222,8 @@ impl<W: Medium> WavWriter<W> {
         self.output.spec()
     }
 
-    /// The number of frames, rounded down: samples for each channel.
+    /// The number of frames in the file so far, those that wait too, rounded down: samples for each
+    /// channel. Divided by the sample rate it is the time in seconds.
     pub fn duration(&self) -> u32
         ensures frames { result ≡ sample_count self.now / self.now.spec_ex.spec.channels }
         ensures sound { IsSound self.now }
@@ -220,7 +233,9 @@ impl<W: Medium> WavWriter<W> {
         self.len() / self.spec().channels as u32
     }
 
-    /// The number of samples, of all channels together.
+    /// The number of samples in the file so far, of all channels together: those that were
+    /// accepted, whether they wait or are out, and those that a file had before it was gone on
+    /// with.
     pub fn len(&self) -> u32
         ensures samples { result ≡ sample_count self.now }
         ensures sound { IsSound self.now }
