@@ -50,7 +50,7 @@ def levels(name):
         peak = max(abs(number) for number in tenth) / 32768
         mean_square = sum((number / 32768) ** 2 for number in tenth) / len(tenth)
         seconds = start / 44100
-        print(f"{seconds:6.1f} s  peak {peak:.6f} {bar(peak)}", end="")
+        print(f"{seconds:.1f} s  peak {peak:.6f} {bar(peak)}", end="")
         print(f"  mean square {mean_square:.6f} {bar(mean_square)}")
 
 

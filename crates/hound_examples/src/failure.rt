@@ -8,7 +8,8 @@ use thiserror::Error as DeriveError;
 #[derive(Debug, Drop, DeriveError)]
 pub enum Failure {
     /// No example has these words.
-    #[error("usage: hound_examples sine FILE | record FILE LOT | convert IN OUT BITS | join OUT IN.. | levels FILE | mulaw FILE | mend FILE [--yes] | info FILE")]
+    #[error("usage: hound_examples sine FILE | record FILE LOT | convert IN OUT BITS | join OUT IN.. \
+        | levels FILE | mulaw FILE | mend FILE [--yes] | info FILE")]
     Usage,
     /// What should be a number is none, or doesn't fit sixteen bits.
     #[error("bad number")]
@@ -20,11 +21,11 @@ pub enum Failure {
     #[error("the files differ in channels, rate, bits or format")]
     OtherSpec,
     /// The file can't be mended, for this reason.
-    #[error("nothing to mend by: {0}")]
+    #[error("the file can't be mended: {0}")]
     Unmendable(&'static str),
-    /// The bytes can't be read as a WAV file, and how many were looked at until that was known.
-    #[error("{0} This shows behind {1} bytes.")]
-    Unreadable(Error, u64),
+    /// The file can't be read, which shows before this byte.
+    #[error("at byte {0}: {1}")]
+    Unreadable(u64, Error),
     /// The library refused, or the input or the output failed.
     #[error(transparent)]
     Hound(#[from] Error),

@@ -1,11 +1,11 @@
 // What a file is: `info FILE`.
 //
-// The chunks before the data, then the spec and the length; or why the file can't be read, and how
-// many bytes were looked at until that was known, which a reader around the file counts.
-use crate::chunks::chunks_from;
+// The chunks up to the data, each with the place and the length of its content; the spec and the
+// length; or why the file can't be read and at which byte, which a reader around the file counts.
+use crate::chunks::{Chunk, chunks_from};
 use crate::failure::Failure;
 use hound::{SampleFormat, WavReader, WavSpec, read_wave_header};
-use std::io::BufReader;
+use std::io::{BufReader, Seek};
 use std::path::Path;
 use std::{fs, io};
 
@@ -30,18 +30,18 @@ pub fn info<O: io::Write>(rt: &HostRuntime, path: Path<'_>, output: &mut O) -> R
     if read_wave_header(&mut file).is_ok() {
         for chunk in chunks_from(rt.alloc(), &mut file, 12)? {
             let tag = chunk.tag.escape_ascii();
-            let start = chunk.start;
-            let length = chunk.length;
+            let Chunk { start, length, .. } = chunk;
             writeln!(output, "{tag} at byte {start}, {length} bytes")?;
         }
     }
-    let mut counting = Counting {
-        reader: BufReader::new(rt.alloc(), fs::open(rt, path)?)?,
+    file.rewind()?;
+    let mut file = Counting {
+        reader: file,
         taken: 0,
     };
-    match WavReader::new(&mut counting) {
+    match WavReader::new(&mut file) {
         Ok(reader) => Ok(show(&reader, output)?),
-        Err(error) => Err(Failure::Unreadable(error, counting.taken)),
+        Err(error) => Err(Failure::Unreadable(file.taken, error)),
     }
 }
 

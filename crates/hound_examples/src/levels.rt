@@ -8,9 +8,6 @@ use std::io;
 use std::num::saturating_f64_to_usize;
 use std::path::Path;
 
-// The length of a full bar.
-const BAR: f64 = 30.0;
-
 // How loud some samples are.
 #[derive(Clone, Copy)]
 struct Level {
@@ -31,7 +28,7 @@ pub fn levels<O: io::Write>(
         reader.seek(frame)?;
         let Level { peak, mean_square } = level_of(&mut reader, tenth)?;
         let seconds = f64::from(frame) / f64::from(rate);
-        write!(output, "{seconds:6.1} s  peak {peak:.6} ")?;
+        write!(output, "{seconds:.1} s  peak {peak:.6} ")?;
         draw(peak, output)?;
         write!(output, "  mean square {mean_square:.6} ")?;
         draw(mean_square, output)?;
@@ -64,12 +61,9 @@ fn level_of<R: Source>(reader: &mut WavReader<R>, frames: u32) -> hound::Result<
 
 // Draws a bar for a part of 1.
 fn draw<O: io::Write>(part: f64, output: &mut O) -> io::Result<()> {
-    for place in 0..30usize {
-        let mark = if place < saturating_f64_to_usize(part * BAR) {
-            "#"
-        } else {
-            "."
-        };
+    let length = saturating_f64_to_usize(part * 20.0);
+    for place in 0..20 {
+        let mark = if place < length { '#' } else { '.' };
         write!(output, "{mark}")?;
     }
     Ok(())

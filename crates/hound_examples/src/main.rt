@@ -6,6 +6,7 @@ mod convert;
 mod failure;
 mod info;
 mod join;
+mod layout;
 mod levels;
 mod mend;
 mod mulaw;
