@@ -66,6 +66,6 @@ fn show<R: io::Read + Drop, O: io::Write>(reader: &WavReader<R>, output: &mut O)
     let seconds = f64::from(frames) / f64::from(sample_rate);
     writeln!(
         output,
-        "samples {samples}, frames {frames}, seconds {seconds:.3}"
+        "samples {samples}, frames {frames}, seconds {seconds:.6}"
     )
 }

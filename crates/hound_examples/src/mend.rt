@@ -7,7 +7,7 @@ use crate::chunks::Chunk;
 use crate::failure::Failure;
 use crate::layout::{Layout, layout_of};
 use hound::{Error, read_wave_header};
-use std::io::{Read, Seek, SeekFrom, Write};
+use std::io::SeekFrom;
 use std::path::Path;
 use std::{fs, io};
 

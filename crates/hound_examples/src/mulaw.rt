@@ -27,10 +27,15 @@ pub fn mulaw<O: io::Write>(
     Ok(())
 }
 
-// Fourteen bits as eight, of which each is turned over: a sign, three bits for the segment, each of
-// which is twice as long as the one before it, and four for one of its sixteen steps.
+// What is added to a magnitude of thirteen bits, and the greatest sum.
+const BIAS: u16 = 33;
+
+const GREATEST: u16 = 8191;
+
+// Fourteen bits as eight, each of them turned over: a sign, three bits for the segment, of which
+// each is twice as long as the one before it, and four for one of its sixteen steps.
 fn encode(sample: i16) -> u8 {
-    let magnitude = (sample >> 2).unsigned_abs().min(8158) + 33;
+    let magnitude = (sample >> 2).unsigned_abs().min(GREATEST - BIAS) + BIAS;
     let segment = 10u32.saturating_sub(magnitude.leading_zeros());
     let step = (magnitude >> (segment + 1)) & 0x0f;
     let sign = if sample < 0 { 0x80 } else { 0 };
@@ -41,11 +46,8 @@ fn encode(sample: i16) -> u8 {
 fn decode(code: u8) -> i16 {
     let bits = !code;
     let segment = (bits >> 4) & 0x07;
-    let step = i16::from(bits & 0x0f);
-    let magnitude = ((2 * step + 33) << segment).clamp(33, 8191) - 33;
-    if bits & 0x80 == 0 {
-        4 * magnitude
-    } else {
-        -4 * magnitude
-    }
+    let step = u16::from(bits & 0x0f);
+    let magnitude = ((2 * step + BIAS) << segment).clamp(BIAS, GREATEST) - BIAS;
+    let sample = (4 * magnitude) as i16;
+    if bits & 0x80 == 0 { sample } else { -sample }
 }

@@ -24,7 +24,11 @@ pub fn run<I: io::Read, O: io::Write, E: io::Write>(
 ) -> u8
     ensures { result ≤ 2 }
 {
-    match carry_out(rt, words, input, output) {
+    let outcome = carry_out(rt, words, input, output);
+
+    // What was printed before a failure stands.
+    let flushed = output.flush().map_err(Failure::from);
+    match outcome.and(flushed) {
         Ok(()) => 0,
         Err(failure) => {
             let _ = writeln!(errors, "{failure}");
@@ -54,6 +58,5 @@ fn carry_out<I: io::Read, O: io::Write>(
         ["info", file] => info(rt, Path::new(file), output)?,
         _ => return Err(Failure::Usage),
     }
-    output.flush()?;
     Ok(())
 }

@@ -242,7 +242,7 @@ fn info_is_that_of_python(rt: HostRuntime) -> Result<(), Fail> {
 fmt  at byte 20, 16 bytes
 data at byte 44, 20 bytes
 channels 2, rate 44100, bits 16, format int
-samples 10, frames 5, seconds 0.000
+samples 10, frames 5, seconds 0.000113
 ";
     assert_eq!(rt; lines.as_slice(), expected);
     fs::write(&rt, file.as_str(), &FIVE[..30])?;
