@@ -23,12 +23,12 @@ pub fn convert<O: io::Write>(
     let Ok(bits) = bits.parse::<u16>() else {
         return Err(Failure::Usage);
     };
-    let Some(new_missing) = missing_bits(bits) else {
+    let Some(new_shift) = shift_of(bits) else {
         return Err(Failure::Usage);
     };
     let mut reader = WavReader::open(rt, rt.alloc(), Path::new(from))?;
     let old = reader.spec();
-    let Some(old_missing) = missing_bits(old.bits_per_sample) else {
+    let Some(old_shift) = shift_of(old.bits_per_sample) else {
         return Err(Error::Unsupported.into());
     };
     if old.sample_format == SampleFormat::Float {
@@ -41,7 +41,7 @@ pub fn convert<O: io::Write>(
     let mut writer = WavWriter::create(rt, rt.alloc(), Path::new(to), new)?;
     let mut clipped = 0u32;
     for sample in reader.samples::<i32>() {
-        let (sample, is_clipped) = fitted(sample?, old_missing, new_missing);
+        let (sample, is_clipped) = fitted(sample?, old_shift, new_shift);
         if is_clipped {
             clipped = clipped.saturating_add(1);
         }
@@ -52,9 +52,9 @@ pub fn convert<O: io::Write>(
     Ok(())
 }
 
-// How many bits a sample of so many lacks to 32.
-fn missing_bits(bits: u16) -> Option<u16>
-    ensures { IfSome result (λ missing. missing < 32) }
+// By how many bits a sample of so many is shifted to fill 32 of them.
+fn shift_of(bits: u16) -> Option<u16>
+    ensures { IfSome result (λ shift. shift < 32) }
 {
     match bits {
         8 | 16 | 24 | 32 => Some(32 - bits),
@@ -62,16 +62,15 @@ fn missing_bits(bits: u16) -> Option<u16>
     }
 }
 
-// A sample that lacks so many bits to 32 as one that lacks so many others, and whether it had to be
-// clipped.
-fn fitted(sample: i32, old_missing: u16, new_missing: u16) -> (i32, bool)
-    requires old { old_missing < 32 }
-    requires new { new_missing < 32 }
+// A sample of the one width as one of the other, each told by its shift, and whether it was clipped.
+fn fitted(sample: i32, old_shift: u16, new_shift: u16) -> (i32, bool)
+    requires old { old_shift < 32 }
+    requires new { new_shift < 32 }
 {
-    let wide = i64::from(sample) << old_missing;
-    let half = 1 << new_missing >> 1;
-    let rounded = wide.saturating_add(half) >> new_missing;
-    let greatest = i32::MAX >> new_missing;
+    let wide = i64::from(sample) << old_shift;
+    let half = 1 << new_shift >> 1;
+    let rounded = wide.saturating_add(half) >> new_shift;
+    let greatest = i32::MAX >> new_shift;
     match i32::try_from(rounded) {
         Ok(sample) if sample <= greatest => (sample, false),
         _ => (greatest, true),

@@ -33,7 +33,7 @@ pub fn mend<O: io::Write>(
     writeln!(output, "RIFF size {riff_size}, data length {length}")?;
     writeln!(
         output,
-        "{frames} whole frames of {frame} bytes, and {torn} bytes more"
+        "{held} bytes of data: {frames} frames of {frame} bytes, {torn} left over"
     )?;
     if is_followed && torn != 0 {
         return Err(Failure::Unmendable("chunks stand behind a part of a frame"));

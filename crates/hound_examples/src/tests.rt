@@ -40,7 +40,7 @@ fn taken_away(rt: &HostRuntime, file: &str) -> Result<(usize, u32), Fail> {
 // Every third number from 0 to 29997, as text.
 fn ramp(rt: &HostRuntime) -> Result<String, Fail> {
     let mut text = String::new(rt.alloc());
-    for number in (0..30000).step_by(3) {
+    for number in (0..30000u32).step_by(3) {
         writeln!(text, "{number}")?;
     }
     Ok(text)
