@@ -1,0 +1,96 @@
+#!/usr/bin/env python3
+"""Prints what src/tests.rt expects: what the original crate, sox and python make of the same input.
+
+usage: ./expected.py SINE
+
+SINE is the file that the first example in the original crate's README writes. It needs sox, and a
+python that has audioop, chunk and wave, as 3.11."""
+import array
+import audioop
+import chunk
+import os
+import subprocess
+import sys
+import tempfile
+import wave
+import zlib
+
+
+def sox(*words):
+    """Runs sox without dither, and says how many samples it clipped."""
+    ran = subprocess.run(["sox", "-D", *words], check=True, stderr=subprocess.PIPE)
+    print("  sox:", ran.stderr.decode().strip() or "nothing clipped")
+
+
+def say(name):
+    with open(name, "rb") as file:
+        data = file.read()
+    print(f"{name}: {len(data)} bytes, sum {zlib.adler32(data)}")
+
+
+def samples_of(name):
+    with wave.open(name) as file:
+        return array.array("h", file.readframes(file.getnframes()))
+
+
+def record(name, numbers):
+    with wave.open(name, "w") as file:
+        file.setparams((1, 2, 44100, 0, "NONE", None))
+        file.writeframes(array.array("h", numbers).tobytes())
+
+
+def bar(part):
+    return "#" * int(part * 20) + "." * (20 - int(part * 20))
+
+
+def levels(name):
+    numbers = samples_of(name)
+    for start in range(0, len(numbers), 4410):
+        tenth = numbers[start : start + 4410]
+        peak = max(abs(number) for number in tenth) / 32768
+        mean_square = sum((number / 32768) ** 2 for number in tenth) / len(tenth)
+        seconds = start / 44100
+        print(f"{seconds:.1f} s  peak {peak:.6f} {bar(peak)}", end="")
+        print(f"  mean square {mean_square:.6f} {bar(mean_square)}")
+
+
+def mulaw(name):
+    numbers = samples_of(name)
+    coded = audioop.ulaw2lin(audioop.lin2ulaw(numbers.tobytes(), 2), 2)
+    errors = [abs(a - b) for a, b in zip(numbers, array.array("h", coded))]
+    print(f"greatest error {max(errors)}, mean error {sum(errors) / len(errors):.3f}")
+
+
+def info(name):
+    with open(name, "rb") as file:
+        file.read(12)
+        while True:
+            part = chunk.Chunk(file, bigendian=False)
+            print(f"{part.getname().decode()} at byte {file.tell()}, {part.getsize()} bytes")
+            if part.getname() == b"data":
+                break
+            part.skip()
+    with wave.open(name) as file:
+        print(file.getparams(), file.getnframes() / file.getframerate())
+
+
+sine = os.path.abspath(sys.argv[1])
+here = os.path.dirname(os.path.abspath(__file__))
+with tempfile.TemporaryDirectory() as folder:
+    os.chdir(folder)
+    say(sine)
+    record("recorded.wav", [11, 13, 17, 19, 23] * 3)
+    say("recorded.wav")
+    sox(sine, "-b", "8", "eight.wav")
+    say("eight.wav")
+    wide = b"".join((at * 9973 % 2**24 - 2**23).to_bytes(3, "little", signed=True) for at in range(5000))
+    with open("wide.s24", "wb") as file:
+        file.write(wide)
+    sox("-t", "raw", "-e", "signed", "-b", "24", "-c", "1", "-r", "44100", "wide.s24", "-b", "16", "sixteen.wav")
+    say("sixteen.wav")
+    record("ramp.wav", range(0, 30000, 3))
+    sox("ramp.wav", sine, "ramp.wav", "joined.wav")
+    say("joined.wav")
+    levels("ramp.wav")
+    mulaw(sine)
+    info(os.path.join(here, "data", "list.wav"))

@@ -1,0 +1,78 @@
+// A file with another number of bits: `convert IN OUT BITS`, with 8, 16, 24 or 32 of them.
+//
+// Samples are read as `i32`, whatever their width. More bits are got by a shift; fewer by rounding,
+// where a half goes up, and what then passes the greatest sample is clipped to it, and counted.
+ghost use Rattle.std.specs.Prelude.{◌<◌, IfSome};
+
+use crate::failure::Failure;
+use hound::{Error, SampleFormat, WavReader, WavSpec, WavWriter};
+use std::io;
+use std::path::Path;
+
+/// Converts the file, and writes a line with the number of clipped samples.
+pub fn convert<O: io::Write>(
+    rt: &HostRuntime,
+    from: &str,
+    to: &str,
+    bits: &str,
+    output: &mut O,
+) -> Result<(), Failure> {
+    if from == to {
+        return Err(Failure::SameFile);
+    }
+    let Ok(bits) = bits.parse::<u16>() else {
+        return Err(Failure::Usage);
+    };
+    let Some(new_shift) = shift_of(bits) else {
+        return Err(Failure::Usage);
+    };
+    let mut reader = WavReader::open(rt, rt.alloc(), Path::new(from))?;
+    let old = reader.spec();
+    let Some(old_shift) = shift_of(old.bits_per_sample) else {
+        return Err(Error::Unsupported.into());
+    };
+    if old.sample_format == SampleFormat::Float {
+        return Err(Error::InvalidSampleFormat.into());
+    }
+    let new = WavSpec {
+        bits_per_sample: bits,
+        ..old
+    };
+    let mut writer = WavWriter::create(rt, rt.alloc(), Path::new(to), new)?;
+    let mut clipped = 0u32;
+    for sample in reader.samples::<i32>() {
+        let (sample, is_clipped) = fitted(sample?, old_shift, new_shift);
+        if is_clipped {
+            clipped = clipped.saturating_add(1);
+        }
+        writer.write_sample(sample)?;
+    }
+    writer.finalize()?;
+    writeln!(output, "{clipped} samples clipped")?;
+    Ok(())
+}
+
+// By how many bits a sample of so many is shifted to fill 32 of them.
+fn shift_of(bits: u16) -> Option<u16>
+    ensures { IfSome result (λ shift. shift < 32) }
+{
+    match bits {
+        8 | 16 | 24 | 32 => Some(32 - bits),
+        _ => None,
+    }
+}
+
+// A sample of the one width as one of the other, each told by its shift, and whether it was clipped.
+fn fitted(sample: i32, old_shift: u16, new_shift: u16) -> (i32, bool)
+    requires old { old_shift < 32 }
+    requires new { new_shift < 32 }
+{
+    let wide = i64::from(sample) << old_shift;
+    let half = 1 << new_shift >> 1;
+    let rounded = wide.saturating_add(half) >> new_shift;
+    let greatest = i32::MAX >> new_shift;
+    match i32::try_from(rounded) {
+        Ok(sample) if sample <= greatest => (sample, false),
+        _ => (greatest, true),
+    }
+}

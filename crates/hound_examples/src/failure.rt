@@ -1,0 +1,50 @@
+// Why an example failed: what its line on standard error says.
+use hound::Error;
+use std::alloc::{AllocError, AllocFailed};
+use std::io;
+use thiserror::Error as DeriveError;
+
+/// Why an example failed.
+#[derive(Debug, Drop, DeriveError)]
+pub enum Failure {
+    /// No example has these words.
+    #[error("usage: hound_examples sine FILE | record FILE LOT | convert IN OUT BITS | join OUT IN.. \
+        | levels FILE | mulaw FILE | mend FILE [--yes] | info FILE")]
+    Usage,
+    /// What should be a number is none, or doesn't fit sixteen bits.
+    #[error("bad number")]
+    BadNumber,
+    /// The file that is to be written is one of those that are to be read.
+    #[error("a file can't be read and written at once")]
+    SameFile,
+    /// The files that are to be joined have more than one spec.
+    #[error("the files differ in channels, rate, bits or format")]
+    OtherSpec,
+    /// The file can't be mended, for this reason.
+    #[error("the file can't be mended: {0}")]
+    Unmendable(&'static str),
+    /// The file can't be read, which shows before this byte.
+    #[error("at byte {0}: {1}")]
+    Unreadable(u64, Error),
+    /// The library refused, or the input or the output failed.
+    #[error(transparent)]
+    Hound(#[from] Error),
+}
+
+impl From<io::Error> for Failure {
+    fn from(error: io::Error) -> Failure {
+        Failure::Hound(Error::IoError(error))
+    }
+}
+
+impl From<AllocError> for Failure {
+    fn from(_refused: AllocError) -> Failure {
+        Failure::Hound(Error::OutOfMemory)
+    }
+}
+
+impl<T: Drop> From<AllocFailed<T>> for Failure {
+    fn from(_refused: AllocFailed<T>) -> Failure {
+        Failure::Hound(Error::OutOfMemory)
+    }
+}

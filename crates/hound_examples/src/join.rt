@@ -1,0 +1,50 @@
+// Files of one spec behind each other: `join OUT IN..`.
+//
+// Appending goes on with a file that is there, so that the joined file is whole behind each of its
+// parts. Integers are read as `i32` and floats as `FloatBits`, which keep every sample as it is.
+use crate::failure::Failure;
+use hound::{FloatBits, Medium, Sample, SampleFormat, WavReader, WavWriter};
+use std::io;
+use std::path::Path;
+
+/// Makes the joined file, once all files were looked at.
+pub fn join(rt: &HostRuntime, to: &str, from: &[&str]) -> Result<(), Failure> {
+    let Some(first) = from.first() else {
+        return Err(Failure::Usage);
+    };
+    let spec = WavReader::open(rt, rt.alloc(), Path::new(first))?.spec();
+    for part in from {
+        if *part == to {
+            return Err(Failure::SameFile);
+        }
+        if WavReader::open(rt, rt.alloc(), Path::new(part))?.spec() != spec {
+            return Err(Failure::OtherSpec);
+        }
+    }
+    WavWriter::create(rt, rt.alloc(), Path::new(to), spec)?.finalize()?;
+    for part in from {
+        append(rt, Path::new(to), Path::new(part))?;
+    }
+    Ok(())
+}
+
+// Puts the samples of a file behind those of another.
+fn append(rt: &HostRuntime, to: Path<'_>, part: Path<'_>) -> hound::Result<()> {
+    let mut reader = WavReader::open(rt, rt.alloc(), part)?;
+    let mut writer = WavWriter::append(rt, rt.alloc(), to)?;
+    match reader.spec().sample_format {
+        SampleFormat::Int => copy::<i32, _, _>(&mut reader, &mut writer)?,
+        SampleFormat::Float => copy::<FloatBits, _, _>(&mut reader, &mut writer)?,
+    }
+    writer.finalize()
+}
+
+fn copy<S: Sample, R: io::Read + Drop, W: Medium>(
+    reader: &mut WavReader<R>,
+    writer: &mut WavWriter<W>,
+) -> hound::Result<()> {
+    for sample in reader.samples::<S>() {
+        writer.write_sample(sample?)?;
+    }
+    Ok(())
+}

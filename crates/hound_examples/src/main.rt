@@ -1,0 +1,34 @@
+//! The program `hound_examples`: examples of what the library is used for, a module each.
+#![tactic(auto)]
+
+mod chunks;
+mod convert;
+mod failure;
+mod info;
+mod join;
+mod layout;
+mod levels;
+mod mend;
+mod mulaw;
+mod record;
+mod run;
+mod sine;
+#[cfg(test)]
+mod tests;
+
+use run::run;
+use std::io::BufWriter;
+use std::process::ExitCode;
+use std::{env, io};
+
+fn main(rt: HostRuntime) -> io::Result<ExitCode> {
+    let arguments: Vec<String> = env::args(&rt)?.collect(rt.alloc())?;
+    let words: Vec<&str> = arguments
+        .iter()
+        .skip(1)
+        .map(|word| word.as_str())
+        .collect(rt.alloc())?;
+    let mut output = BufWriter::new(rt.alloc(), rt.stdout())?;
+    let status = run(&rt, &words, &mut rt.stdin(), &mut output, &mut rt.stderr());
+    Ok(ExitCode::from(status))
+}

@@ -1,0 +1,62 @@
+// Which example the words ask for.
+ghost use Rattle.std.specs.Prelude.{◌≤◌};
+
+use crate::convert::convert;
+use crate::failure::Failure;
+use crate::info::info;
+use crate::join::join;
+use crate::levels::levels;
+use crate::mend::mend;
+use crate::mulaw::mulaw;
+use crate::record::record;
+use crate::sine::sine;
+use std::io;
+use std::path::Path;
+
+/// Carries out the words, and answers the status: 0 for success, 1 where it failed, with one line on
+/// `errors`, 2 for words that no example has, with the usage line.
+pub fn run<I: io::Read, O: io::Write, E: io::Write>(
+    rt: &HostRuntime,
+    words: &[&str],
+    input: &mut I,
+    output: &mut O,
+    errors: &mut E,
+) -> u8
+    ensures { result ≤ 2 }
+{
+    let outcome = carry_out(rt, words, input, output);
+
+    // What was printed before a failure stands.
+    let flushed = output.flush().map_err(Failure::from);
+    match outcome.and(flushed) {
+        Ok(()) => 0,
+        Err(failure) => {
+            let _ = writeln!(errors, "{failure}");
+            match failure {
+                Failure::Usage => 2,
+                _ => 1,
+            }
+        }
+    }
+}
+
+fn carry_out<I: io::Read, O: io::Write>(
+    rt: &HostRuntime,
+    words: &[&str],
+    input: &mut I,
+    output: &mut O,
+) -> Result<(), Failure> {
+    match words {
+        ["sine", file] => sine(rt, Path::new(file))?,
+        ["record", file, lot] => record(rt, Path::new(file), lot, input)?,
+        ["convert", from, to, bits] => convert(rt, from, to, bits, output)?,
+        ["join", to, from @ ..] => join(rt, to, from)?,
+        ["levels", file] => levels(rt, Path::new(file), output)?,
+        ["mulaw", file] => mulaw(rt, Path::new(file), output)?,
+        ["mend", file] => mend(rt, Path::new(file), false, output)?,
+        ["mend", file, "--yes"] => mend(rt, Path::new(file), true, output)?,
+        ["info", file] => info(rt, Path::new(file), output)?,
+        _ => return Err(Failure::Usage),
+    }
+    Ok(())
+}
