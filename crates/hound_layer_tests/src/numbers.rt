@@ -25,36 +25,57 @@ fn bytes_and_signed_numbers_differ_by_128(rt: HostRuntime) {
 
 #[test]
 fn the_low_byte_comes_first(rt: HostRuntime) {
-    assert_eq!(rt; le_u16(0), [0x00, 0x00]);
-    assert_eq!(rt; le_u16(0xfffe), [0xfe, 0xff]);
-    assert_eq!(rt; le_u32(44100), [0x44, 0xac, 0x00, 0x00]);
-    assert_eq!(rt; le_u32(0x0102_0304), [0x04, 0x03, 0x02, 0x01]);
-    assert_eq!(rt; le_i16(-3), [0xfd, 0xff]);
-    assert_eq!(rt; le_i16(i16::MIN), [0x00, 0x80]);
-    assert_eq!(rt; le_i16(i16::MAX), [0xff, 0x7f]);
-    assert_eq!(rt; le_i32(-229_373), [0x03, 0x80, 0xfc, 0xff]);
-    assert_eq!(rt; le_i32(-2_147_483_497), [0x97, 0x00, 0x00, 0x80]);
+    let of_two = [
+        le_u16(0),
+        le_u16(0xfffe),
+        le_i16(-3),
+        le_i16(i16::MIN),
+        le_i16(i16::MAX),
+    ];
+    let two = [
+        [0x00, 0x00],
+        [0xfe, 0xff],
+        [0xfd, 0xff],
+        [0x00, 0x80],
+        [0xff, 0x7f],
+    ];
+    let of_four = [
+        le_u32(44100),
+        le_u32(0x0102_0304),
+        le_i32(-229_373),
+        le_i32(-2_147_483_497),
+    ];
+    let four = [
+        [0x44, 0xac, 0x00, 0x00],
+        [0x04, 0x03, 0x02, 0x01],
+        [0x03, 0x80, 0xfc, 0xff],
+        [0x97, 0x00, 0x00, 0x80],
+    ];
+    assert_eq!(rt; (of_two, of_four), (two, four));
 }
 
 #[test]
 fn the_high_bit_has_the_sign(rt: HostRuntime) {
-    assert_eq!(rt; i16_from_le([0xf9, 0xff]), -7);
-    assert_eq!(rt; i24_from_le([0x0f, 0x00, 0x40]), 4_194_319);
-    assert_eq!(rt; i24_from_le([0xff, 0xff, 0x7f]), 8_388_607);
-    assert_eq!(rt; i24_from_le([0x00, 0x00, 0x80]), -8_388_608);
-    assert_eq!(rt; i24_from_le([0xef, 0xff, 0xff]), -17);
-    assert_eq!(rt; i32_from_le([0xd9, 0x7f, 0x00, 0x02]), 33_587_161);
-    assert_eq!(rt; i32_from_le([0x97, 0x00, 0x00, 0x80]), -2_147_483_497);
+    for (number, want) in [
+        (i16_from_le([0x02, 0x00]) as i32, 2),
+        (i16_from_le([0xfd, 0xff]) as i32, -3),
+        (i16_from_le([0xf9, 0xff]) as i32, -7),
+        (i24_from_le([0x0f, 0x00, 0x40]), 4_194_319),
+        (i24_from_le([0xff, 0xff, 0x7f]), 8_388_607),
+        (i24_from_le([0x00, 0x00, 0x80]), -8_388_608),
+        (i24_from_le([0xef, 0xff, 0xff]), -17),
+        (i32_from_le([0xd9, 0x7f, 0x00, 0x02]), 33_587_161),
+        (i32_from_le([0x97, 0x00, 0x00, 0x80]), -2_147_483_497),
+    ] {
+        assert_eq!(rt; number, want);
+    }
 }
 
 #[test]
-fn numbers_from_bytes(rt: HostRuntime) {
+fn numbers_at_places(rt: HostRuntime) {
     let bytes = [0x44, 0xac, 0x00, 0x00, 0x88, 0x58, 0x01, 0x00];
-    assert_eq!(rt; u16_at(&bytes, 0), 44100);
-    assert_eq!(rt; u32_at(&bytes, 0), 44100);
-    assert_eq!(rt; u32_at(&bytes, 4), 88200);
-    assert_eq!(rt; i16_from_le([0x02, 0x00]), 2);
-    assert_eq!(rt; i16_from_le([0xfd, 0xff]), -3);
+    let numbers = (u16_at(&bytes, 0), u32_at(&bytes, 0), u32_at(&bytes, 4));
+    assert_eq!(rt; numbers, (44100, 44100, 88200));
 }
 
 #[test]
