@@ -14,12 +14,12 @@ use std::test::Fail;
 #[test]
 fn bytes_and_signed_numbers_differ_by_128(rt: HostRuntime) {
     for n in 0..=255u8 {
-        assert_eq!(rt; signed_from_u8(n) as i16, n as i16 - 128, "of {n}");
-        assert_eq!(rt; u8_from_signed(signed_from_u8(n)), n);
+        let x = signed_from_u8(n);
+        assert_eq!(rt; (x as i16, u8_from_signed(x)), (n as i16 - 128, n));
     }
     for x in -128..=127i8 {
-        assert_eq!(rt; u8_from_signed(x) as i16, x as i16 + 128, "of {x}");
-        assert_eq!(rt; signed_from_u8(u8_from_signed(x)), x);
+        let n = u8_from_signed(x);
+        assert_eq!(rt; (n as i16, signed_from_u8(n)), (x as i16 + 128, x));
     }
 }
 
@@ -82,14 +82,14 @@ fn numbers_at_places(rt: HostRuntime) {
 fn buffers_from_a_reader(rt: HostRuntime) -> Result<(), Fail> {
     let mut reader = b"RIFFWAV".as_slice();
     let mut tag = [0; 4];
-    assert!(rt; read_into(&mut reader, &mut tag).is_ok());
-    assert_eq!(rt; tag.as_slice(), b"RIFF".as_slice());
-    assert!(rt; matches!(read_into(&mut reader, &mut tag), Err(ReadError::Ended)));
-    assert!(rt; reader.is_empty());
+    let is_whole = read_into(&mut reader, &mut tag).is_ok();
+    assert_eq!(rt; (is_whole, tag), (true, *b"RIFF"));
+    let is_early = matches!(read_into(&mut reader, &mut tag), Err(ReadError::Ended));
+    assert_eq!(rt; (is_early, reader.len()), (true, 0));
     for told in [io::Error::from(ReadError::Ended), early_end()] {
-        assert_eq!(rt; told.kind(), ErrorKind::Other);
         let words = format!(in rt.alloc(); "{told}")?;
-        assert_eq!(rt; words.as_str(), "Failed to read enough bytes.");
+        let is_said = words.as_str() == "Failed to read enough bytes.";
+        assert_eq!(rt; (told.kind(), is_said), (ErrorKind::Other, true));
     }
     Ok(())
 }
@@ -146,15 +146,27 @@ fn all_bytes_go_out_in_order(rt: HostRuntime) -> Result<(), Fail> {
     Ok(())
 }
 
+// The kind of the fault of a write of four bytes, and what was taken.
+fn faulted(mut slow: Slow) -> (Option<ErrorKind>, Vec<u8>) {
+    let kind = match write_bytes(&mut slow, b"WAVE") {
+        Ok(()) => None,
+        Err(fault) => Some(fault.kind()),
+    };
+    (kind, slow.taken)
+}
+
 #[test]
-fn a_fault_is_passed_on_after_a_beginning(rt: HostRuntime) -> Result<(), Fail> {
-    let mut full = Slow::new(rt.alloc(), 1, 2, None);
-    let zero = write_bytes(&mut full, b"WAVE").map_err(|e| e.kind());
-    assert_eq!(rt; zero, Err(ErrorKind::WriteZero));
-    assert_eq!(rt; full.taken.as_slice(), b"WA".as_slice());
-    let mut interrupted = Slow::new(rt.alloc(), 1, 3, Some(ErrorKind::Interrupted));
-    let fault = write_bytes(&mut interrupted, b"WAVE").map_err(|e| e.kind());
-    assert_eq!(rt; fault, Err(ErrorKind::Interrupted));
-    assert_eq!(rt; interrupted.taken.as_slice(), b"WAV".as_slice());
-    Ok(())
+fn a_fault_is_passed_on_after_a_beginning(rt: HostRuntime) {
+    for (full, fault, want, beginning) in [
+        (2, None, ErrorKind::WriteZero, b"WA".as_slice()),
+        (
+            3,
+            Some(ErrorKind::Interrupted),
+            ErrorKind::Interrupted,
+            b"WAV".as_slice(),
+        ),
+    ] {
+        let (kind, taken) = faulted(Slow::new(rt.alloc(), 1, full, fault));
+        assert_eq!(rt; (kind, taken.as_slice()), (Some(want), beginning));
+    }
 }
