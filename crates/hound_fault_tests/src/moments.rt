@@ -50,6 +50,23 @@ fn has_first_at_each_moment(
     Ok(true)
 }
 
+// Whether a file has the first of these samples at each of these moments: behind so many bytes, so
+// many of them.
+fn has_first_at(
+    journal: &Journal,
+    alloc: Global,
+    samples: &[i32],
+    moments: &[(usize, usize)],
+) -> Result<bool, Fail> {
+    for (k, count) in moments {
+        let bytes = bytes_after(journal, alloc, *k)?;
+        if !has_samples(&bytes, first(samples, *count)?)? {
+            return Ok(false);
+        }
+    }
+    Ok(true)
+}
+
 #[test]
 fn a_header_of_16_bits_takes_44_bytes(rt: HostRuntime) -> Result<(), Fail> {
     let alloc = rt.alloc();
@@ -57,9 +74,11 @@ fn a_header_of_16_bits_takes_44_bytes(rt: HostRuntime) -> Result<(), Fail> {
     // The sample waits, and fails when it is to go out.
     writer.write_sample(1i16)?;
     let (journal, result) = writer.finalize_into();
-    assert!(rt; matches!(result, Err(Error::IoError(_))));
-    assert_eq!(rt; journal.taken(), 44);
-    assert_eq!(rt; journal.flushed(), 0);
+    let is_told = matches!(result, Err(Error::IoError(_)));
+    assert_eq!(rt;
+        (is_told, journal.taken(), journal.flushed()),
+        (true, 44, 0)
+    );
     let bytes = bytes_after(&journal, alloc, 44)?;
     assert_eq!(rt; bytes.get(36..), Some(b"data\0\0\0\0".as_slice()));
     Ok(())
@@ -71,15 +90,18 @@ fn a_file_whose_samples_are_not_out_is_not_published(rt: HostRuntime) -> Result<
     // 68 calls put the header; the fifth byte of the samples fails.
     let mut writer = WavWriter::new(byte_by_byte(alloc, 73, 73)?, mono(24))?;
     write_all(&mut writer, &[1i32, 2, 3])?;
-    assert_eq!(rt; writer.len(), 3);
+    let length = writer.len();
     let (journal, result) = writer.finalize_into();
-    assert!(rt; matches!(result, Err(Error::IoError(_))));
-    assert_eq!(rt; journal.taken(), 68 + 4);
-    assert_eq!(rt; journal.flushed(), 0);
+    let is_told = matches!(result, Err(Error::IoError(_)));
+    let counts = (length, journal.taken(), journal.flushed());
+    assert_eq!(rt; (is_told, counts), (true, (3, 68 + 4, 0)));
     let bytes = bytes_after(&journal, alloc, 72)?;
-    assert_eq!(rt; bytes.get(64..), Some(b"\0\0\0\0\x01\0\0\x02".as_slice()));
-    assert!(rt; has_samples::<i32>(&bytes, &[])?);
-    assert!(rt; has_first_at_each_moment(&journal, alloc, &[1, 2, 3], 68, 3, 1)?);
+    let stands = [
+        bytes.get(64..) == Some(b"\0\0\0\0\x01\0\0\x02".as_slice()),
+        has_samples::<i32>(&bytes, &[])?,
+        has_first_at_each_moment(&journal, alloc, &[1, 2, 3], 68, 3, 1)?,
+    ];
+    assert_eq!(rt; stands, [true; 3]);
     Ok(())
 }
 
@@ -94,14 +116,12 @@ fn a_checkpoint_in_stereo_stands_until_the_next(rt: HostRuntime) -> Result<(), F
     let journal = writer.drop_into();
     // The header, six samples and the sizes, two samples, and the sizes again.
     assert_eq!(rt; journal.taken(), 44 + 12 + 8 + 4 + 8);
-    for k in [64, 68] {
-        let bytes = bytes_after(&journal, alloc, k)?;
-        assert_eq!(rt; bytes.get(40..44), Some(b"\x0c\0\0\0".as_slice()));
-        assert!(rt; has_samples(&bytes, &samples[..6])?);
-    }
-    let bytes = bytes_after(&journal, alloc, 76)?;
-    assert!(rt; has_samples(&bytes, &samples)?);
-    assert!(rt; has_first_at_each_moment(&journal, alloc, &samples, 44, 2, 2)?);
+    let moments = [(64, 6), (68, 6), (76, 8)];
+    let stands = [
+        has_first_at(&journal, alloc, &samples, &moments)?,
+        has_first_at_each_moment(&journal, alloc, &samples, 44, 2, 2)?,
+    ];
+    assert_eq!(rt; stands, [true; 2]);
     Ok(())
 }
 
@@ -117,7 +137,7 @@ fn a_checkpoint_stands_while_a_block_goes_out(rt: HostRuntime) -> Result<(), Fai
     // The header, three samples, a pad byte, the sizes; a block, one sample, the sizes again.
     assert_eq!(rt; journal.taken(), 56 + 4096 + 1 + 8);
     // The length goes from 3 to 0x1004, by its low byte first.
-    for (k, count) in [
+    let moments = [
         (56, 3),
         (57, 3),
         (4151, 3),
@@ -127,11 +147,12 @@ fn a_checkpoint_stands_while_a_block_goes_out(rt: HostRuntime) -> Result<(), Fai
         (4158, 4),
         (4159, 4100),
         (4161, 4100),
-    ] {
-        let bytes = bytes_after(&journal, alloc, k)?;
-        assert!(rt; has_samples(&bytes, first(&samples, count)?)?);
-    }
-    assert!(rt; has_first_at_each_moment(&journal, alloc, &samples, 44, 1, 1)?);
+    ];
+    let stands = [
+        has_first_at(&journal, alloc, &samples, &moments)?,
+        has_first_at_each_moment(&journal, alloc, &samples, 44, 1, 1)?,
+    ];
+    assert_eq!(rt; stands, [true; 2]);
     Ok(())
 }
 
@@ -146,11 +167,12 @@ fn a_torn_length_of_8_bits_counts_accepted_samples(rt: HostRuntime) -> Result<()
     writer.flush()?;
     let journal = writer.drop_into();
     // The RIFF size is out after 314 bytes, and the length goes from 0x00fe to 0x0102.
-    for (k, count) in [(314, 254), (315, 2), (316, 258)] {
-        let bytes = bytes_after(&journal, alloc, k)?;
-        assert!(rt; has_samples(&bytes, first(&samples, count)?)?);
-    }
-    assert!(rt; has_first_at_each_moment(&journal, alloc, &samples, 44, 1, 1)?);
+    let moments = [(314, 254), (315, 2), (316, 258)];
+    let stands = [
+        has_first_at(&journal, alloc, &samples, &moments)?,
+        has_first_at_each_moment(&journal, alloc, &samples, 44, 1, 1)?,
+    ];
+    assert_eq!(rt; stands, [true; 2]);
     Ok(())
 }
 
@@ -166,18 +188,16 @@ fn a_torn_length_of_24_bits_is_refused(rt: HostRuntime) -> Result<(), Fail> {
     let journal = writer.drop_into();
     // The first checkpoint puts a pad byte. The RIFF size is out after 339 bytes, and the length
     // goes from 0x00ff to 0x0102.
-    for (k, count) in [(339, 85), (341, 86)] {
-        let bytes = bytes_after(&journal, alloc, k)?;
-        assert!(rt; has_samples(&bytes, first(&samples, count)?)?);
-    }
     let bytes = bytes_after(&journal, alloc, 340)?;
-    assert!(rt;
+    let stands = [
+        has_first_at(&journal, alloc, &samples, &[(339, 85), (341, 86)])?,
         matches!(
             WavReader::new(bytes.as_slice()),
             Err(Error::FormatError("data chunk length is not a multiple of sample size"))
-        )
-    );
-    assert!(rt; has_first_at_each_moment(&journal, alloc, &samples, 68, 3, 1)?);
+        ),
+        has_first_at_each_moment(&journal, alloc, &samples, 68, 3, 1)?,
+    ];
+    assert_eq!(rt; stands, [true; 3]);
     Ok(())
 }
 
@@ -219,13 +239,14 @@ fn a_length_that_a_fault_has_torn_is_read(rt: HostRuntime) -> Result<(), Fail> {
     let steps = steps_to_a_torn_length(alloc)?;
     let (journal, marks) = run_with_a_torn_length(alloc, 1_000_000, &steps)?;
     // The last step alone is not marked.
-    assert_eq!(rt; marks.iter().position(|mark| !*mark), Some(259));
-    assert_eq!(rt; journal.taken(), 315);
-    let bytes = bytes_after(&journal, alloc, 315)?;
-    assert_eq!(rt; bytes.get(40..44), Some(b"\x02\0\0\0".as_slice()));
-    assert!(rt; has_samples(&bytes, &[7i32, 7])?);
+    let unmarked = marks.iter().position(|mark| !*mark);
+    assert_eq!(rt; (unmarked, journal.taken()), (Some(259), 315));
     let samples = sevens_and_nines(alloc, 258)?;
-    assert!(rt; has_first_at_each_moment(&journal, alloc, &samples, 44, 1, 1)?);
+    let stands = [
+        has_first_at(&journal, alloc, &samples, &[(315, 2)])?,
+        has_first_at_each_moment(&journal, alloc, &samples, 44, 1, 1)?,
+    ];
+    assert_eq!(rt; stands, [true; 2]);
     Ok(())
 }
 
@@ -246,15 +267,17 @@ fn a_length_that_a_fault_has_torn_is_appended_to(rt: HostRuntime) -> Result<(), 
         End::Finalize,
     );
     answer?;
-    assert_eq!(rt; marks, [true]);
-    let bytes = bytes_after(&journal, alloc, journal.taken())?;
-    assert_eq!(rt; bytes.len(), 302);
-    assert_eq!(rt; bytes.get(4..8), Some(b"\x28\0\0\0".as_slice()));
-    assert_eq!(rt; bytes.get(40..44), Some(b"\x03\0\0\0".as_slice()));
-    assert_eq!(rt; bytes.get(47).copied(), Some(0));
-    assert!(rt; has_samples(&bytes, &[7i32, 7, 5])?);
     // The sample, the pad byte and both sizes; bytes that the older length counts lie behind them.
-    assert_eq!(rt; journal.taken(), 1 + 1 + 8);
+    assert_eq!(rt; (marks, journal.taken()), ([true], 1 + 1 + 8));
+    let bytes = bytes_after(&journal, alloc, 10)?;
+    let stands = [
+        bytes.len() == 302,
+        bytes.get(4..8) == Some(b"\x28\0\0\0".as_slice()),
+        bytes.get(40..44) == Some(b"\x03\0\0\0".as_slice()),
+        bytes.get(47) == Some(&0),
+        has_samples(&bytes, &[7i32, 7, 5])?,
+    ];
+    assert_eq!(rt; stands, [true; 5]);
     for k in 0..=journal.taken() {
         let bytes = bytes_after(&journal, alloc, k)?;
         assert!(rt; has_first(&bytes, &[7i32, 7, 5], 44, 1, 1), "{k}");
@@ -270,13 +293,14 @@ fn a_length_that_a_fault_has_torn_is_put_over(rt: HostRuntime) -> Result<(), Fai
     steps.push(Step::Whole(9))?;
     steps.push(Step::Flush)?;
     let (journal, marks) = run_with_a_torn_length(alloc, 322, &steps)?;
-    assert_eq!(rt; marks.iter().position(|mark| !*mark), Some(259));
-    assert_eq!(rt; marks.get(260..), Some([true, true].as_slice()));
     // The torn length stands until the next checkpoint puts its own low byte, behind the pad byte.
-    for (k, count) in [(315, 2), (317, 2), (321, 2), (322, 3), (323, 259)] {
-        let bytes = bytes_after(&journal, alloc, k)?;
-        assert!(rt; has_samples(&bytes, first(&samples, count)?)?);
-    }
-    assert!(rt; has_first_at_each_moment(&journal, alloc, &samples, 44, 1, 1)?);
+    let moments = [(315, 2), (317, 2), (321, 2), (322, 3), (323, 259)];
+    let stands = [
+        marks.iter().position(|mark| !*mark) == Some(259),
+        marks.get(260..) == Some([true, true].as_slice()),
+        has_first_at(&journal, alloc, &samples, &moments)?,
+        has_first_at_each_moment(&journal, alloc, &samples, 44, 1, 1)?,
+    ];
+    assert_eq!(rt; stands, [true; 4]);
     Ok(())
 }

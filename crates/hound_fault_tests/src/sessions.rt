@@ -49,8 +49,8 @@ fn refused_steps_are_marked_and_passed_over(rt: HostRuntime) -> Result<(), Fail>
     let tape = empty_tape(alloc);
     let (tape, answer) = run_session(alloc, tape, begin, &steps, &mut marks, End::Finalize);
     answer?;
-    assert_eq!(rt; marks, [true, false, true, false, true]);
-    assert_eq!(rt; tape.bytes(), ONE_FRAME.as_slice());
+    let marked = [true, false, true, false, true];
+    assert_eq!(rt; (marks, tape.bytes()), (marked, ONE_FRAME.as_slice()));
     Ok(())
 }
 
@@ -62,15 +62,15 @@ fn two_sessions_are_as_one(rt: HostRuntime) -> Result<(), Fail> {
     let sessions = [first.as_slice(), second.as_slice()];
     let (two, answer) = run_sessions(alloc, empty_tape(alloc), sixteen(1), &sessions);
     answer?;
-    assert_eq!(rt; two.bytes(), THREE_SAMPLES.as_slice());
     let all = [Step::Whole(11), Step::Whole(13), Step::Whole(17)];
     let mut marks = [false; 3];
     let begin = Begin::New(sixteen(1));
     let tape = empty_tape(alloc);
     let (one, answer) = run_session(alloc, tape, begin, &all, &mut marks, End::Finalize);
     answer?;
-    assert_eq!(rt; marks, [true, true, true]);
-    assert_eq!(rt; one.bytes(), two.bytes());
+    let three = THREE_SAMPLES.as_slice();
+    let stands = [two.bytes() == three, one.bytes() == three];
+    assert_eq!(rt; (marks, stands), ([true; 3], [true; 2]));
     Ok(())
 }
 
@@ -91,60 +91,55 @@ fn sessions_end_at_the_first_refusal(rt: HostRuntime) -> Result<(), Fail> {
 }
 
 #[test]
-fn no_sessions_do_nothing(rt: HostRuntime) -> Result<(), Fail> {
+fn no_sessions_do_nothing_and_batches_are_taken(rt: HostRuntime) -> Result<(), Fail> {
     let alloc = rt.alloc();
-    let (tape, answer) = run_sessions(alloc, empty_tape(alloc), sixteen(1), &[]);
-    answer?;
-    assert!(rt; tape.bytes().is_empty());
-    Ok(())
-}
-
-#[test]
-fn batches_of_two_sessions(rt: HostRuntime) -> Result<(), Fail> {
-    let alloc = rt.alloc();
+    let (tape, none) = run_sessions(alloc, empty_tape(alloc), sixteen(1), &[]);
+    none?;
+    let is_empty = tape.bytes().is_empty();
     let first = [Step::Batch(&[11, 13])];
     let second = [Step::Batch(&[17])];
     let sessions = [first.as_slice(), second.as_slice()];
     let (tape, answer) = run_sessions(alloc, empty_tape(alloc), sixteen(1), &sessions);
     answer?;
-    assert_eq!(rt; tape.bytes(), THREE_SAMPLES.as_slice());
+    assert_eq!(rt; (is_empty, tape.bytes()), (true, THREE_SAMPLES.as_slice()));
     Ok(())
 }
 
-// The marks of a sample, a batch and a sample in a session of 24 bits, and how many bytes were put,
-// where the calls with these numbers fail.
+// The marks of a sample, a batch and a sample in a session of 24 bits, how many bytes were put, and
+// whether the answer is an `IoError`, where the calls with these numbers fail.
 fn batch_of_other_samples(
     alloc: Global,
     from: u64,
     to: u64,
-) -> Result<([bool; 3], usize, hound::Result<()>), Fail> {
+) -> hound::Result<([bool; 3], usize, bool)> {
     let steps = [Step::Whole(1), Step::Batch(&[5, 6]), Step::Whole(2)];
     let mut marks = [false; 3];
     let journal = failing(alloc, from, to)?;
     let begin = Begin::New(integers(1, 44100, 24, 3));
     let (journal, answer) = run_session(alloc, journal, begin, &steps, &mut marks, End::Finalize);
-    Ok((marks, journal.taken(), answer))
+    let has_failed = match answer {
+        Ok(()) => false,
+        Err(Error::IoError(_)) => true,
+        Err(error) => return Err(error),
+    };
+    Ok((marks, journal.taken(), has_failed))
 }
 
 #[test]
 fn a_batch_of_other_samples_calls_nothing(rt: HostRuntime) -> Result<(), Fail> {
-    let alloc = rt.alloc();
     // The header, two samples, and the two sizes.
-    let (marks, taken, answer) = batch_of_other_samples(alloc, 1, 0)?;
-    answer?;
-    assert_eq!(rt; marks, [true, false, true]);
-    assert_eq!(rt; taken, 68 + 3 + 3 + 8);
-    // The second call of the medium puts both samples.
-    let (marks, taken, answer) = batch_of_other_samples(alloc, 2, 2)?;
-    assert!(rt; matches!(answer, Err(Error::IoError(_))));
-    assert_eq!(rt; marks, [true, false, true]);
-    assert_eq!(rt; taken, 68);
-    // The seventh is the last: two calls for each size, and a flush.
-    let (_, taken, answer) = batch_of_other_samples(alloc, 7, 7)?;
-    assert!(rt; matches!(answer, Err(Error::IoError(_))));
-    assert_eq!(rt; taken, 68 + 3 + 3 + 8);
-    let (_, _, answer) = batch_of_other_samples(alloc, 8, u64::MAX)?;
-    answer?;
+    let all = 68 + 3 + 3 + 8;
+    for (from, to, taken, has_failed) in [
+        (1, 0, all, false),
+        // The second call of the medium puts both samples.
+        (2, 2, 68, true),
+        // The seventh is the last: two calls for each size, and a flush.
+        (7, 7, all, true),
+        (8, u64::MAX, all, false),
+    ] {
+        let run = batch_of_other_samples(rt.alloc(), from, to)?;
+        assert_eq!(rt; run, ([true, false, true], taken, has_failed), "{from}");
+    }
     Ok(())
 }
 
@@ -159,12 +154,9 @@ fn sessions_end_at_a_batch_of_other_samples(rt: HostRuntime) -> Result<(), Fail>
         integers(1, 44100, 24, 3),
         &sessions,
     );
-    assert!(rt; matches!(answer, Err(Error::Unsupported)));
-    assert_eq!(rt; tape.bytes().len(), 68 + 3 + 1);
-    assert_eq!(rt;
-        tape.bytes().get(64..),
-        Some(b"\x03\0\0\0\x01\0\0\0".as_slice())
-    );
+    let is_told = matches!(answer, Err(Error::Unsupported));
+    let tail = tape.bytes().get(64..) == Some(b"\x03\0\0\0\x01\0\0\0".as_slice());
+    assert_eq!(rt; (is_told, tail), (true, true));
     Ok(())
 }
 
@@ -183,10 +175,9 @@ fn two_more(alloc: Global, end: End) -> Result<Tape, Fail> {
 
 #[test]
 fn a_session_goes_on_with_a_file(rt: HostRuntime) -> Result<(), Fail> {
-    let finalized = two_more(rt.alloc(), End::Finalize)?;
-    assert_eq!(rt; finalized.bytes(), FIVE_SAMPLES.as_slice());
-    let dropped = two_more(rt.alloc(), End::Drop)?;
-    assert_eq!(rt; dropped.bytes(), FIVE_SAMPLES.as_slice());
+    for end in [End::Finalize, End::Drop] {
+        assert_eq!(rt; two_more(rt.alloc(), end)?.bytes(), FIVE_SAMPLES.as_slice());
+    }
     Ok(())
 }
 
@@ -201,9 +192,8 @@ fn an_unwritable_spec_takes_no_step(rt: HostRuntime) -> Result<(), Fail> {
     });
     let tape = empty_tape(alloc);
     let (tape, answer) = run_session(alloc, tape, begin, &steps, &mut marks, End::Finalize);
-    assert!(rt; matches!(answer, Err(Error::Unsupported)));
-    assert_eq!(rt; marks, [false, false]);
-    assert!(rt; tape.bytes().is_empty());
+    let is_told = matches!(answer, Err(Error::Unsupported));
+    assert_eq!(rt; (is_told, marks, tape.bytes().len()), (true, [false; 2], 0));
     Ok(())
 }
 
@@ -222,8 +212,8 @@ fn bytes_that_are_no_file_are_not_gone_on_with(rt: HostRuntime) -> Result<(), Fa
         &mut marks,
         End::Finalize,
     );
-    assert!(rt; matches!(answer, Err(Error::FormatError("no RIFF tag found"))));
-    assert_eq!(rt; marks, [false, false]);
-    assert_eq!(rt; tape.bytes(), bytes.as_slice());
+    let is_told = matches!(answer, Err(Error::FormatError("no RIFF tag found")));
+    let stays = tape.bytes() == bytes.as_slice();
+    assert_eq!(rt; (is_told, marks, stays), (true, [false; 2], true));
     Ok(())
 }

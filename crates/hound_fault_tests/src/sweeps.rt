@@ -274,45 +274,58 @@ fn is_whole(run: &Run, taken: usize) -> bool {
 // The header takes one call, each checkpoint seven with the samples that wait, and the end five.
 const CALLS: u64 = 1 + 3 * 7 + 5;
 
+// Whether a run without faults puts so many bytes by so many calls: no later call can fail it, and
+// the last one does.
+fn takes(
+    alloc: Global,
+    script: Script,
+    most: usize,
+    calls: u64,
+    taken: usize,
+) -> Result<bool, Fail> {
+    let behind = Faults {
+        most,
+        from: calls.saturating_add(1),
+        to: u64::MAX,
+    };
+    let last = Faults {
+        most,
+        from: calls,
+        to: calls,
+    };
+    Ok(
+        is_whole(&run_over(alloc, script, behind)?, taken)
+            && run_over(alloc, script, last)?.answer.is_err(),
+    )
+}
+
+// A run over a medium that takes all bytes of a call, of which none fails.
+const WHOLE: Faults = Faults {
+    most: usize::MAX,
+    from: 1,
+    to: 0,
+};
+
 #[test]
 fn a_run_without_faults(rt: HostRuntime) -> Result<(), Fail> {
     let alloc = rt.alloc();
-    let most = usize::MAX;
-    let whole = Faults {
-        most,
-        from: CALLS + 1,
-        to: u64::MAX,
-    };
-    let run = run_over(alloc, stereo(), whole)?;
-    assert!(rt; is_whole(&run, 88));
+    assert!(rt; takes(alloc, stereo(), usize::MAX, CALLS, 88)?);
+    let run = run_over(alloc, stereo(), WHOLE)?;
     let bytes = bytes_after(&run.journal, alloc, 88)?;
-    assert_eq!(rt; bytes.len(), 56);
-    assert_eq!(rt; bytes.get(4..8), Some(b"\x30\0\0\0".as_slice()));
-    assert_eq!(rt; bytes.get(40..44), Some(b"\x0c\0\0\0".as_slice()));
-    assert_eq!(rt;
-        samples_of::<i16>(alloc, bytes.as_slice())?.as_slice(),
-        [1i16, 2, 3, 4, 5, 6].as_slice()
-    );
     // Two samples behind the header and both sizes, one and both, and three and both.
-    assert_eq!(rt;
-        checkpoints_over(alloc, stereo(), whole)?.as_slice(),
-        [44 + 4 + 8, 56 + 2 + 8, 66 + 6 + 8].as_slice()
-    );
-    let last = Faults {
-        most,
-        from: CALLS,
-        to: CALLS,
-    };
-    assert!(rt; run_over(alloc, stereo(), last)?.answer.is_err());
+    let moments = [44 + 4 + 8, 56 + 2 + 8, 66 + 6 + 8];
+    let stands = [
+        bytes.len() == 56,
+        bytes.get(4..8) == Some(b"\x30\0\0\0".as_slice()),
+        bytes.get(40..44) == Some(b"\x0c\0\0\0".as_slice()),
+        samples_of::<i16>(alloc, bytes.as_slice())?.as_slice() == [1i16, 2, 3, 4, 5, 6].as_slice(),
+        checkpoints_over(alloc, stereo(), WHOLE)?.as_slice() == moments.as_slice(),
+    ];
+    assert_eq!(rt; stands, [true; 5]);
     // The first call puts the header.
-    let first = Faults {
-        most,
-        from: 1,
-        to: 1,
-    };
+    let first = Faults { to: 1, ..WHOLE };
     let run = run_over(alloc, stereo(), first)?;
-    assert!(rt; is_refused(&run));
-    assert_eq!(rt; run.journal.taken(), 0);
+    assert_eq!(rt; (is_refused(&run), run.journal.taken()), (true, 0));
     Ok(())
 }
 
@@ -332,21 +345,10 @@ const CALLS_BY_BYTES: u64 = 44 + 12 + 3 * 12 + 11;
 #[test]
 fn marks_are_true_where_each_byte_is_a_call(rt: HostRuntime) -> Result<(), Fail> {
     let alloc = rt.alloc();
-    let most = 1;
-    let whole = Faults {
-        most,
-        from: CALLS_BY_BYTES + 1,
-        to: u64::MAX,
-    };
-    assert!(rt; is_whole(&run_over(alloc, stereo(), whole)?, 88));
-    let last = Faults {
-        most,
-        from: CALLS_BY_BYTES,
-        to: CALLS_BY_BYTES,
-    };
-    assert!(rt; run_over(alloc, stereo(), last)?.answer.is_err());
+    let is_counted = takes(alloc, stereo(), 1, CALLS_BY_BYTES, 88)?;
     // The ranges that begin behind the 44 calls of the header leave it.
-    assert_eq!(rt; sweep(alloc, stereo(), most, CALLS_BY_BYTES)?, 59 * 60 / 2);
+    let begun = sweep(alloc, stereo(), 1, CALLS_BY_BYTES)?;
+    assert_eq!(rt; (is_counted, begun), (true, 59 * 60 / 2));
     Ok(())
 }
 
@@ -356,31 +358,17 @@ const PADDED_CALLS: u64 = 1 + 2 * 8 + 6;
 #[test]
 fn a_padded_run_without_faults(rt: HostRuntime) -> Result<(), Fail> {
     let alloc = rt.alloc();
-    let most = usize::MAX;
-    let whole = Faults {
-        most,
-        from: PADDED_CALLS + 1,
-        to: u64::MAX,
-    };
-    let run = run_over(alloc, padded(), whole)?;
-    assert!(rt; is_whole(&run, 76));
-    let bytes = bytes_after(&run.journal, alloc, 76)?;
-    assert_eq!(rt; bytes.get(4..8), Some(b"\x2a\0\0\0".as_slice()));
-    assert_eq!(rt;
-        bytes.get(40..),
-        Some(b"\x05\0\0\0\x81\x82\x83\x84\x85\0".as_slice())
-    );
+    let run = run_over(alloc, padded(), WHOLE)?;
+    let bytes = bytes_after(&run.journal, alloc, run.journal.taken())?;
     // Three samples, a pad byte and both sizes; two, the byte and both.
-    assert_eq!(rt;
-        checkpoints_over(alloc, padded(), whole)?.as_slice(),
-        [44 + 3 + 1 + 8, 56 + 2 + 1 + 8].as_slice()
-    );
-    let last = Faults {
-        most,
-        from: PADDED_CALLS,
-        to: PADDED_CALLS,
-    };
-    assert!(rt; run_over(alloc, padded(), last)?.answer.is_err());
+    let moments = [44 + 3 + 1 + 8, 56 + 2 + 1 + 8];
+    let stands = [
+        takes(alloc, padded(), usize::MAX, PADDED_CALLS, 76)?,
+        bytes.get(4..8) == Some(b"\x2a\0\0\0".as_slice()),
+        bytes.get(40..) == Some(b"\x05\0\0\0\x81\x82\x83\x84\x85\0".as_slice()),
+        checkpoints_over(alloc, padded(), WHOLE)?.as_slice() == moments.as_slice(),
+    ];
+    assert_eq!(rt; stands, [true; 4]);
     Ok(())
 }
 
@@ -400,23 +388,9 @@ const PADDED_CALLS_BY_BYTES: u64 = 44 + 5 + 3 + 2 * 12 + 11;
 #[test]
 fn pad_bytes_stand_where_each_byte_is_a_call(rt: HostRuntime) -> Result<(), Fail> {
     let alloc = rt.alloc();
-    let most = 1;
-    let whole = Faults {
-        most,
-        from: PADDED_CALLS_BY_BYTES + 1,
-        to: u64::MAX,
-    };
-    assert!(rt; is_whole(&run_over(alloc, padded(), whole)?, 76));
-    let last = Faults {
-        most,
-        from: PADDED_CALLS_BY_BYTES,
-        to: PADDED_CALLS_BY_BYTES,
-    };
-    assert!(rt; run_over(alloc, padded(), last)?.answer.is_err());
+    let is_counted = takes(alloc, padded(), 1, PADDED_CALLS_BY_BYTES, 76)?;
     // The ranges that begin behind the 44 calls of the header leave it.
-    assert_eq!(rt;
-        sweep(alloc, padded(), most, PADDED_CALLS_BY_BYTES)?,
-        43 * 44 / 2
-    );
+    let begun = sweep(alloc, padded(), 1, PADDED_CALLS_BY_BYTES)?;
+    assert_eq!(rt; (is_counted, begun), (true, 43 * 44 / 2));
     Ok(())
 }

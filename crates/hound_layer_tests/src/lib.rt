@@ -2,8 +2,14 @@
 #![tactic(auto)]
 
 #[cfg(test)]
+mod headers;
+#[cfg(test)]
 mod media;
 #[cfg(test)]
 mod numbers;
 #[cfg(test)]
 mod reading;
+#[cfg(test)]
+mod samples;
+#[cfg(test)]
+mod specs;

@@ -26,17 +26,33 @@ fn skip_and_get<S: Source>(mut source: S) -> io::Result<([u8; 2], usize)> {
     Ok((two, n))
 }
 
+// The kind of a fault, if the answer is one.
+fn kind_of<T: Drop>(answer: io::Result<T>) -> Option<ErrorKind> {
+    match answer {
+        Ok(_) => None,
+        Err(fault) => Some(fault.kind()),
+    }
+}
+
 #[test]
 fn a_tape_takes_bytes_at_its_place(rt: HostRuntime) -> Result<(), Fail> {
     let mut tape = Tape::new(b"wave".to_vec(rt.alloc())?);
     tape.go(4)?;
-    assert_eq!(rt; tape.put(b"form")?, 4);
-    assert_eq!(rt; Tape::bytes(&tape), b"waveform".as_slice());
+    let first = (
+        tape.put(b"form")?,
+        Tape::bytes(&tape) == b"waveform".as_slice(),
+    );
     tape.shift(-5)?;
-    assert_eq!(rt; tape.put(b"E F")?, 3);
-    assert_eq!(rt; Tape::bytes(&tape), b"wavE Frm".as_slice());
+    let second = (
+        tape.put(b"E F")?,
+        Tape::bytes(&tape) == b"wavE Frm".as_slice(),
+    );
     tape.go(10)?;
-    assert_eq!(rt; tape.put(b"!")?, 1);
+    let third = (
+        tape.put(b"!")?,
+        Tape::bytes(&tape) == b"wavE Frm\0\0!".as_slice(),
+    );
+    assert_eq!(rt; (first, second, third), ((4, true), (3, true), (1, true)));
     tape.flush()?;
     assert_eq!(rt; tape.into_bytes().as_slice(), b"wavE Frm\0\0!".as_slice());
     Ok(())
@@ -46,12 +62,18 @@ fn a_tape_takes_bytes_at_its_place(rt: HostRuntime) -> Result<(), Fail> {
 fn a_tape_refuses_places_outside(rt: HostRuntime) -> Result<(), Fail> {
     let mut tape = Tape::new(b"wave".to_vec(rt.alloc())?);
     tape.go(3)?;
-    let below = tape.shift(-4).map_err(|e| e.kind());
-    assert_eq!(rt; below, Err(ErrorKind::InvalidInput));
-    assert_eq!(rt; tape.put(b"y")?, 1);
+    let below = kind_of(tape.shift(-4));
+    let count = tape.put(b"y")?;
     tape.go(u64::MAX)?;
-    let above = tape.put(b"z").map_err(|e| e.kind());
-    assert_eq!(rt; above, Err(ErrorKind::OutOfMemory));
+    let above = kind_of(tape.put(b"z"));
+    assert_eq!(rt;
+        (below, count, above),
+        (
+            Some(ErrorKind::InvalidInput),
+            1,
+            Some(ErrorKind::OutOfMemory)
+        )
+    );
     assert_eq!(rt; Tape::bytes(&tape), b"wavy".as_slice());
     Ok(())
 }
@@ -60,14 +82,13 @@ fn a_tape_refuses_places_outside(rt: HostRuntime) -> Result<(), Fail> {
 fn a_tape_is_read_by_either_trait(rt: HostRuntime) -> Result<(), Fail> {
     let mut tape = Tape::new(b"wave".to_vec(rt.alloc())?);
     let mut three = [0; 3];
-    assert_eq!(rt; tape.get(&mut three)?, 3);
-    assert_eq!(rt; three, *b"wav");
-    assert_eq!(rt; Read::read(&mut tape, &mut three)?, 1);
-    assert_eq!(rt; three.first().copied(), Some(b'e'));
-    assert_eq!(rt; tape.get(&mut three)?, 0);
+    let first = (tape.get(&mut three)?, three);
+    let second = (Read::read(&mut tape, &mut three)?, three);
+    let third = tape.get(&mut three)?;
+    assert_eq!(rt; (first, second, third), ((3, *b"wav"), (1, *b"eav"), 0));
     tape.go(1)?;
     let mut rest = Vec::new(rt.alloc());
-    assert_eq!(rt; tape.read_to_end(&mut rest)?, 3);
+    tape.read_to_end(&mut rest)?;
     assert_eq!(rt; rest.as_slice(), b"ave".as_slice());
     Ok(())
 }
@@ -76,11 +97,14 @@ fn a_tape_is_read_by_either_trait(rt: HostRuntime) -> Result<(), Fail> {
 fn a_tape_serves_through_its_bounds(rt: HostRuntime) -> Result<(), Fail> {
     let mut tape = put_letters(Tape::new(Vec::new(rt.alloc())), 1)?;
     put_letters(&mut tape, 3)?;
-    assert_eq!(rt; Tape::bytes(&tape), b"\0ababc".as_slice());
+    let stands = Tape::bytes(&tape) == b"\0ababc".as_slice();
     tape.go(3)?;
-    assert_eq!(rt; skip_and_get(&mut tape)?, (*b"bc", 2));
+    let lent = skip_and_get(&mut tape)?;
     tape.go(4)?;
-    assert_eq!(rt; skip_and_get(tape)?, (*b"c\0", 1));
+    assert_eq!(rt;
+        (stands, lent, skip_and_get(tape)?),
+        (true, (*b"bc", 2), (*b"c\0", 1))
+    );
     Ok(())
 }
 
@@ -96,52 +120,68 @@ fn was(journal: &Journal, alloc: Global, k: usize, bytes: &[u8]) -> Result<bool,
     Ok(journal.bytes_after(alloc, k)?.as_slice() == bytes)
 }
 
+// Puts bytes by four calls, and flushes behind the first two. What a new journal says, and what each
+// put and a get of the rest answer.
+fn put_and_get(journal: &mut Journal) -> io::Result<[usize; 6]> {
+    let begun = [journal.taken(), journal.flushed()];
+    journal.go(1)?;
+    let first = journal.put(b"AV")?;
+    Medium::flush(journal)?;
+    journal.shift(3)?;
+    let second = journal.put(b"!?")?;
+    journal.go(1)?;
+    let third = journal.put(b"o")?;
+    let [taken, flushed] = begun;
+    Ok([taken, flushed, first, second, third, journal.flushed()])
+}
+
 #[test]
 fn a_journal_keeps_each_moment(rt: HostRuntime) -> Result<(), Fail> {
     let alloc = rt.alloc();
     let mut journal = journal(alloc, b"wave")?;
-    assert_eq!(rt; (journal.taken(), journal.flushed()), (0, 0));
-    assert!(rt; was(&journal, alloc, 0, b"wave")?);
-    journal.go(1)?;
-    assert_eq!(rt; journal.put(b"AV")?, 2);
-    journal.flush()?;
-    journal.shift(3)?;
-    assert_eq!(rt; journal.put(b"!?")?, 2);
-    journal.go(1)?;
-    assert_eq!(rt; journal.put(b"o")?, 1);
-    assert_eq!(rt; (journal.taken(), journal.flushed()), (5, 2));
-    assert!(rt; was(&journal, alloc, 0, b"wave")?);
-    assert!(rt; was(&journal, alloc, 1, b"wAve")?);
-    assert!(rt; was(&journal, alloc, 2, b"wAVe")?);
-    assert!(rt; was(&journal, alloc, 3, b"wAVe\0\0!")?);
-    assert!(rt; was(&journal, alloc, 4, b"wAVe\0\0!?")?);
-    assert!(rt; was(&journal, alloc, 5, b"woVe\0\0!?")?);
+    assert_eq!(rt; put_and_get(&mut journal)?, [0, 0, 2, 2, 1, 2]);
+    for (k, bytes) in [
+        (0, b"wave".as_slice()),
+        (1, b"wAve".as_slice()),
+        (2, b"wAVe".as_slice()),
+        (3, b"wAVe\0\0!".as_slice()),
+        (4, b"wAVe\0\0!?".as_slice()),
+        (5, b"woVe\0\0!?".as_slice()),
+    ] {
+        assert!(rt; was(&journal, alloc, k, bytes)?, "{k}");
+    }
     let mut rest = [0; 8];
-    assert_eq!(rt; journal.get(&mut rest)?, 6);
-    assert_eq!(rt; rest, *b"Ve\0\0!?\0\0");
+    let count = journal.get(&mut rest)?;
     journal.flush()?;
-    assert_eq!(rt; journal.flushed(), 5);
+    let counts = (journal.taken(), journal.flushed());
+    assert_eq!(rt; (count, rest, counts), (6, *b"Ve\0\0!?\0\0", (5, 5)));
     Ok(())
+}
+
+// How many bytes it takes and gives where it takes at most one, three and one a call, and what is
+// got.
+fn by_pieces(journal: &mut Journal) -> io::Result<([usize; 6], [u8; 4], [u8; 4])> {
+    journal.most(1);
+    let one = journal.put(b"wave")?;
+    let another = journal.put(b"ave")?;
+    journal.most(3);
+    let three = journal.put(b"veform")?;
+    let two = journal.put(b"or")?;
+    journal.go(0)?;
+    let mut four = [0; 4];
+    let got = journal.get(&mut four)?;
+    let first = four;
+    journal.most(1);
+    let read = Read::read(journal, &mut four)?;
+    Ok(([one, another, three, two, got, read], first, four))
 }
 
 #[test]
 fn a_journal_takes_and_gives_at_most_so_much(rt: HostRuntime) -> Result<(), Fail> {
-    let alloc = rt.alloc();
-    let mut journal = journal(alloc, b"")?;
-    journal.most(1);
-    assert_eq!(rt; journal.put(b"wave")?, 1);
-    assert_eq!(rt; journal.put(b"ave")?, 1);
-    journal.most(3);
-    assert_eq!(rt; journal.put(b"veform")?, 3);
-    assert_eq!(rt; journal.put(b"or")?, 2);
-    assert!(rt; was(&journal, alloc, 7, b"wavefor")?);
-    journal.go(0)?;
-    let mut four = [0; 4];
-    assert_eq!(rt; journal.get(&mut four)?, 3);
-    assert_eq!(rt; four, *b"wav\0");
-    journal.most(1);
-    assert_eq!(rt; Read::read(&mut journal, &mut four)?, 1);
-    assert_eq!(rt; four, *b"eav\0");
+    let mut journal = journal(rt.alloc(), b"")?;
+    let pieces = by_pieces(&mut journal)?;
+    assert_eq!(rt; pieces, ([1, 1, 3, 2, 3, 1], *b"wav\0", *b"eav\0"));
+    assert!(rt; was(&journal, rt.alloc(), 7, b"wavefor")?);
     Ok(())
 }
 
@@ -161,16 +201,12 @@ fn failed_calls(journal: &mut Journal) -> [bool; 7] {
 
 #[test]
 fn a_journal_fails_at_the_calls_asked_for(rt: HostRuntime) -> Result<(), Fail> {
-    let alloc = rt.alloc();
-    for from in 0..9 {
-        for to in 0..9 {
-            let mut journal = journal(alloc, b"")?;
+    for from in 0..9u64 {
+        for to in 0..9u64 {
+            let mut journal = journal(rt.alloc(), b"")?;
             journal.fail(from, to);
-            let failed = failed_calls(&mut journal);
-            for (i, failed) in failed.iter().enumerate() {
-                let number = i as u64 + 1;
-                assert_eq!(rt; *failed, from <= number && number <= to);
-            }
+            let want = [1u64, 2, 3, 4, 5, 6, 7].map(|number| from <= number && number <= to);
+            assert_eq!(rt; failed_calls(&mut journal), want, "{from} to {to}");
         }
     }
     Ok(())
@@ -180,31 +216,32 @@ fn a_journal_fails_at_the_calls_asked_for(rt: HostRuntime) -> Result<(), Fail> {
 fn a_failed_call_of_a_journal_changes_nothing(rt: HostRuntime) -> Result<(), Fail> {
     let alloc = rt.alloc();
     let mut journal = journal(alloc, b"wave")?;
-    assert_eq!(rt; failed_calls(&mut journal), [false; 7]);
+    let before = failed_calls(&mut journal);
     // The next calls have the numbers from 8 on. The later `fail` replaces the earlier one.
     journal.fail(1, u64::MAX);
     journal.fail(8, 14);
-    assert_eq!(rt; failed_calls(&mut journal), [true; 7]);
-    assert_eq!(rt; (journal.taken(), journal.flushed()), (2, 1));
+    let failed = failed_calls(&mut journal);
+    let counts = (journal.taken(), journal.flushed());
+    assert_eq!(rt; (before, failed, counts), ([false; 7], [true; 7], (2, 1)));
     assert!(rt; was(&journal, alloc, 2, b"wava")?);
     journal.shift(-4)?;
     let mut two = [0; 2];
-    assert_eq!(rt; journal.get(&mut two)?, 2);
-    assert_eq!(rt; two, *b"wa");
+    assert_eq!(rt; (journal.get(&mut two)?, two), (2, *b"wa"));
     Ok(())
 }
 
 #[test]
 fn a_journal_refuses_places_outside(rt: HostRuntime) -> Result<(), Fail> {
     let mut journal = journal(rt.alloc(), b"wave")?;
-    let below = journal.shift(-1).map_err(|e| e.kind());
-    assert_eq!(rt; below, Err(ErrorKind::InvalidInput));
+    let below = kind_of(journal.shift(-1));
     journal.go(u64::MAX)?;
-    let above = journal.shift(1).map_err(|e| e.kind());
-    assert_eq!(rt; above, Err(ErrorKind::InvalidInput));
-    let beyond = journal.put(b"z").map_err(|e| e.kind());
-    assert_eq!(rt; beyond, Err(ErrorKind::OutOfMemory));
-    assert_eq!(rt; journal.taken(), 0);
+    let above = kind_of(journal.shift(1));
+    let beyond = kind_of(journal.put(b"z"));
+    let input = Some(ErrorKind::InvalidInput);
+    assert_eq!(rt;
+        (below, above, beyond, journal.taken()),
+        (input, input, Some(ErrorKind::OutOfMemory), 0)
+    );
     Ok(())
 }
 
@@ -215,9 +252,9 @@ fn a_journal_serves_through_its_bounds(rt: HostRuntime) -> Result<(), Fail> {
     put_letters(&mut journal, 3)?;
     assert!(rt; was(&journal, alloc, 6, b"\0ababc")?);
     journal.go(3)?;
-    assert_eq!(rt; skip_and_get(&mut journal)?, (*b"bc", 2));
+    let lent = skip_and_get(&mut journal)?;
     journal.go(4)?;
-    assert_eq!(rt; skip_and_get(journal)?, (*b"c\0", 1));
+    assert_eq!(rt; (lent, skip_and_get(journal)?), ((*b"bc", 2), (*b"c\0", 1)));
     Ok(())
 }
 
@@ -275,10 +312,12 @@ fn a_medium_of_ones_own_refuses_places_above_all(rt: HostRuntime) {
         offset: 0,
         faults: 0,
     };
-    assert_eq!(rt; two_steps(&mut window), [true, false]);
-    assert_eq!(rt; (window.offset, window.faults), (1, 1));
-    assert!(rt; window.go(u64::MAX).is_ok());
-    assert_eq!(rt; two_steps(window), [false, false]);
+    let lent = (two_steps(&mut window), window.offset, window.faults);
+    let went = (window.go(u64::MAX).is_ok(), two_steps(window));
+    assert_eq!(rt;
+        (lent, went),
+        (([true, false], 1, 1), (true, [false, false]))
+    );
 }
 
 #[test]
@@ -386,7 +425,6 @@ fn a_shift_of_a_file_goes_as_far_as_it_says(rt: HostRuntime) -> Result<(), Fail>
     fs::remove_file(&rt, path.as_path())?;
     let (bytes, below) = put?;
     assert_eq!(rt; bytes.as_slice(), b"waVefoRm\0\0\0!".as_slice());
-    assert!(rt; below);
-    assert!(rt; got?);
+    assert_eq!(rt; (below, got?), (true, true));
     Ok(())
 }

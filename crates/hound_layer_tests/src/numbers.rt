@@ -14,61 +14,82 @@ use std::test::Fail;
 #[test]
 fn bytes_and_signed_numbers_differ_by_128(rt: HostRuntime) {
     for n in 0..=255u8 {
-        assert_eq!(rt; signed_from_u8(n) as i16, n as i16 - 128, "of {n}");
-        assert_eq!(rt; u8_from_signed(signed_from_u8(n)), n);
+        let x = signed_from_u8(n);
+        assert_eq!(rt; (x as i16, u8_from_signed(x)), (n as i16 - 128, n));
     }
     for x in -128..=127i8 {
-        assert_eq!(rt; u8_from_signed(x) as i16, x as i16 + 128, "of {x}");
-        assert_eq!(rt; signed_from_u8(u8_from_signed(x)), x);
+        let n = u8_from_signed(x);
+        assert_eq!(rt; (n as i16, signed_from_u8(n)), (x as i16 + 128, x));
     }
 }
 
 #[test]
 fn the_low_byte_comes_first(rt: HostRuntime) {
-    assert_eq!(rt; le_u16(0), [0x00, 0x00]);
-    assert_eq!(rt; le_u16(0xfffe), [0xfe, 0xff]);
-    assert_eq!(rt; le_u32(44100), [0x44, 0xac, 0x00, 0x00]);
-    assert_eq!(rt; le_u32(0x0102_0304), [0x04, 0x03, 0x02, 0x01]);
-    assert_eq!(rt; le_i16(-3), [0xfd, 0xff]);
-    assert_eq!(rt; le_i16(i16::MIN), [0x00, 0x80]);
-    assert_eq!(rt; le_i16(i16::MAX), [0xff, 0x7f]);
-    assert_eq!(rt; le_i32(-229_373), [0x03, 0x80, 0xfc, 0xff]);
-    assert_eq!(rt; le_i32(-2_147_483_497), [0x97, 0x00, 0x00, 0x80]);
+    let of_two = [
+        le_u16(0),
+        le_u16(0xfffe),
+        le_i16(-3),
+        le_i16(i16::MIN),
+        le_i16(i16::MAX),
+    ];
+    let two = [
+        [0x00, 0x00],
+        [0xfe, 0xff],
+        [0xfd, 0xff],
+        [0x00, 0x80],
+        [0xff, 0x7f],
+    ];
+    let of_four = [
+        le_u32(44100),
+        le_u32(0x0102_0304),
+        le_i32(-229_373),
+        le_i32(-2_147_483_497),
+    ];
+    let four = [
+        [0x44, 0xac, 0x00, 0x00],
+        [0x04, 0x03, 0x02, 0x01],
+        [0x03, 0x80, 0xfc, 0xff],
+        [0x97, 0x00, 0x00, 0x80],
+    ];
+    assert_eq!(rt; (of_two, of_four), (two, four));
 }
 
 #[test]
 fn the_high_bit_has_the_sign(rt: HostRuntime) {
-    assert_eq!(rt; i16_from_le([0xf9, 0xff]), -7);
-    assert_eq!(rt; i24_from_le([0x0f, 0x00, 0x40]), 4_194_319);
-    assert_eq!(rt; i24_from_le([0xff, 0xff, 0x7f]), 8_388_607);
-    assert_eq!(rt; i24_from_le([0x00, 0x00, 0x80]), -8_388_608);
-    assert_eq!(rt; i24_from_le([0xef, 0xff, 0xff]), -17);
-    assert_eq!(rt; i32_from_le([0xd9, 0x7f, 0x00, 0x02]), 33_587_161);
-    assert_eq!(rt; i32_from_le([0x97, 0x00, 0x00, 0x80]), -2_147_483_497);
+    for (number, want) in [
+        (i16_from_le([0x02, 0x00]) as i32, 2),
+        (i16_from_le([0xfd, 0xff]) as i32, -3),
+        (i16_from_le([0xf9, 0xff]) as i32, -7),
+        (i24_from_le([0x0f, 0x00, 0x40]), 4_194_319),
+        (i24_from_le([0xff, 0xff, 0x7f]), 8_388_607),
+        (i24_from_le([0x00, 0x00, 0x80]), -8_388_608),
+        (i24_from_le([0xef, 0xff, 0xff]), -17),
+        (i32_from_le([0xd9, 0x7f, 0x00, 0x02]), 33_587_161),
+        (i32_from_le([0x97, 0x00, 0x00, 0x80]), -2_147_483_497),
+    ] {
+        assert_eq!(rt; number, want);
+    }
 }
 
 #[test]
-fn numbers_from_bytes(rt: HostRuntime) {
+fn numbers_at_places(rt: HostRuntime) {
     let bytes = [0x44, 0xac, 0x00, 0x00, 0x88, 0x58, 0x01, 0x00];
-    assert_eq!(rt; u16_at(&bytes, 0), 44100);
-    assert_eq!(rt; u32_at(&bytes, 0), 44100);
-    assert_eq!(rt; u32_at(&bytes, 4), 88200);
-    assert_eq!(rt; i16_from_le([0x02, 0x00]), 2);
-    assert_eq!(rt; i16_from_le([0xfd, 0xff]), -3);
+    let numbers = (u16_at(&bytes, 0), u32_at(&bytes, 0), u32_at(&bytes, 4));
+    assert_eq!(rt; numbers, (44100, 44100, 88200));
 }
 
 #[test]
 fn buffers_from_a_reader(rt: HostRuntime) -> Result<(), Fail> {
     let mut reader = b"RIFFWAV".as_slice();
     let mut tag = [0; 4];
-    assert!(rt; read_into(&mut reader, &mut tag).is_ok());
-    assert_eq!(rt; tag.as_slice(), b"RIFF".as_slice());
-    assert!(rt; matches!(read_into(&mut reader, &mut tag), Err(ReadError::Ended)));
-    assert!(rt; reader.is_empty());
+    let is_whole = read_into(&mut reader, &mut tag).is_ok();
+    assert_eq!(rt; (is_whole, tag), (true, *b"RIFF"));
+    let is_early = matches!(read_into(&mut reader, &mut tag), Err(ReadError::Ended));
+    assert_eq!(rt; (is_early, reader.len()), (true, 0));
     for told in [io::Error::from(ReadError::Ended), early_end()] {
-        assert_eq!(rt; told.kind(), ErrorKind::Other);
         let words = format!(in rt.alloc(); "{told}")?;
-        assert_eq!(rt; words.as_str(), "Failed to read enough bytes.");
+        let is_said = words.as_str() == "Failed to read enough bytes.";
+        assert_eq!(rt; (told.kind(), is_said), (ErrorKind::Other, true));
     }
     Ok(())
 }
@@ -125,15 +146,27 @@ fn all_bytes_go_out_in_order(rt: HostRuntime) -> Result<(), Fail> {
     Ok(())
 }
 
+// The kind of the fault of a write of four bytes, and what was taken.
+fn faulted(mut slow: Slow) -> (Option<ErrorKind>, Vec<u8>) {
+    let kind = match write_bytes(&mut slow, b"WAVE") {
+        Ok(()) => None,
+        Err(fault) => Some(fault.kind()),
+    };
+    (kind, slow.taken)
+}
+
 #[test]
-fn a_fault_is_passed_on_after_a_beginning(rt: HostRuntime) -> Result<(), Fail> {
-    let mut full = Slow::new(rt.alloc(), 1, 2, None);
-    let zero = write_bytes(&mut full, b"WAVE").map_err(|e| e.kind());
-    assert_eq!(rt; zero, Err(ErrorKind::WriteZero));
-    assert_eq!(rt; full.taken.as_slice(), b"WA".as_slice());
-    let mut interrupted = Slow::new(rt.alloc(), 1, 3, Some(ErrorKind::Interrupted));
-    let fault = write_bytes(&mut interrupted, b"WAVE").map_err(|e| e.kind());
-    assert_eq!(rt; fault, Err(ErrorKind::Interrupted));
-    assert_eq!(rt; interrupted.taken.as_slice(), b"WAV".as_slice());
-    Ok(())
+fn a_fault_is_passed_on_after_a_beginning(rt: HostRuntime) {
+    for (full, fault, want, beginning) in [
+        (2, None, ErrorKind::WriteZero, b"WA".as_slice()),
+        (
+            3,
+            Some(ErrorKind::Interrupted),
+            ErrorKind::Interrupted,
+            b"WAV".as_slice(),
+        ),
+    ] {
+        let (kind, taken) = faulted(Slow::new(rt.alloc(), 1, full, fault));
+        assert_eq!(rt; (kind, taken.as_slice()), (Some(want), beginning));
+    }
 }

@@ -10,7 +10,7 @@ ghost use Rattle.hound_reader.specs.declared.fault.Reason.TheVariants.{NoDataChu
 use hound_medium::Tape;
 use hound_reader::{WavReader, find_data, read_wave_header};
 use hound_sample::{FloatBits, Sample};
-use hound_spec::{Error, SampleFormat};
+use hound_spec::{Error, SampleFormat, WavSpec};
 use std::alloc::Global;
 use std::io;
 use std::io::{ErrorKind, Read};
@@ -171,14 +171,14 @@ fn four_samples(rt: HostRuntime) -> Result<(), Fail> {
     let reader = WavReader::new(Pieces::of(&FOUR_SAMPLES, 4096))
         .ok()
         .ok_or("a file")?;
-    let spec = reader.spec();
-    assert_eq!(rt; spec.channels, 1);
-    assert_eq!(rt; spec.sample_rate, 44100);
-    assert_eq!(rt; spec.bits_per_sample, 16);
-    assert_eq!(rt; spec.sample_format, SampleFormat::Int);
-    assert_eq!(rt; reader.duration(), 4);
-    let pieces = reader.into_inner();
-    assert_eq!(rt; pieces.taken, 44);
+    let spec = WavSpec {
+        channels: 1,
+        sample_rate: 44100,
+        bits_per_sample: 16,
+        sample_format: SampleFormat::Int,
+    };
+    let said = (reader.spec(), reader.duration());
+    assert_eq!(rt; (said, reader.into_inner().taken), ((spec, 4), 44));
     Ok(())
 }
 
@@ -193,25 +193,36 @@ fn no_samples(rt: HostRuntime) -> Result<(), Fail> {
     Ok(())
 }
 
+// Whether a header is refused with these words.
+fn no_header(bytes: &[u8], words: &str) -> bool {
+    let mut input = bytes;
+    match read_wave_header(&mut input) {
+        Ok(_) => false,
+        Err(error) => is_told(&error, words),
+    }
+}
+
 #[test]
 fn header_alone(rt: HostRuntime) -> Result<(), Fail> {
     let mut pieces = Pieces::of(&FOUR_SAMPLES, 1);
     let size = read_wave_header(&mut pieces).ok().ok_or("a header")?;
-    assert_eq!(rt; size, 52);
-    assert_eq!(rt; pieces.taken, 12);
-    let error = read_wave_header(&mut b"RIFX".as_slice())
-        .err()
-        .ok_or("no header")?;
-    assert!(rt; is_told(&error, "no RIFF tag found"));
-    let error = read_wave_header(&mut b"RIFF\0\0\0\0WAVY".as_slice())
-        .err()
-        .ok_or("no header")?;
-    assert!(rt; is_told(&error, "no WAVE tag found"));
-    let error = read_wave_header(&mut b"RIFF\0\0\0\0WAV".as_slice())
-        .err()
-        .ok_or("no header")?;
-    assert!(rt; is_told(&error, "Other"));
+    assert_eq!(rt; (size, pieces.taken), (52, 12));
+    for (bytes, words) in [
+        (b"RIFX".as_slice(), "no RIFF tag found"),
+        (b"RIFF\0\0\0\0WAVY".as_slice(), "no WAVE tag found"),
+        (b"RIFF\0\0\0\0WAV".as_slice(), "Other"),
+    ] {
+        assert!(rt; no_header(bytes, words), "{words}");
+    }
     Ok(())
+}
+
+// The hint before an item, whether it is this number, and the length behind it.
+fn hint_and_item<R: Read + Drop>(reader: &mut WavReader<R>, number: i16) -> (usize, bool, usize) {
+    let mut samples = reader.samples::<i16>();
+    let (hint, _) = samples.size_hint();
+    let is_given = matches!(samples.next(), Some(Ok(sample)) if sample == number);
+    (hint, is_given, samples.len())
 }
 
 #[test]
@@ -219,45 +230,34 @@ fn iterators_go_on(rt: HostRuntime) -> Result<(), Fail> {
     let mut reader = WavReader::new(FOUR_SAMPLES.as_slice())
         .ok()
         .ok_or("a file")?;
-    {
-        let mut samples = reader.samples::<i16>();
-        assert_eq!(rt; samples.size_hint(), (4, Some(4)));
-        assert!(rt; matches!(samples.next(), Some(Ok(2))));
-        assert_eq!(rt; samples.len(), 3);
-    }
-    {
-        let mut samples = reader.samples::<i16>();
-        assert_eq!(rt; samples.size_hint(), (3, Some(3)));
-        assert!(rt; matches!(samples.next(), Some(Ok(-3))));
-    }
-    assert_eq!(rt; reader.len(), 4);
+    let first = hint_and_item(&mut reader, 2);
+    let second = hint_and_item(&mut reader, -3);
+    assert_eq!(rt;
+        (first, second, reader.len()),
+        ((4, true, 3), (3, true, 2), 4)
+    );
     let mut samples = reader.into_samples::<i16>();
-    assert_eq!(rt; samples.size_hint(), (2, Some(2)));
-    assert_eq!(rt; samples.len(), 2);
-    assert!(rt; matches!(samples.next(), Some(Ok(5))));
-    assert!(rt; matches!(samples.next(), Some(Ok(-7))));
-    assert!(rt; samples.next().is_none());
+    let left = (samples.size_hint(), samples.len());
+    let items = [
+        matches!(samples.next(), Some(Ok(5))),
+        matches!(samples.next(), Some(Ok(-7))),
+        samples.next().is_none(),
+    ];
+    assert_eq!(rt; (left, items), (((2, Some(2)), 2), [true; 3]));
     Ok(())
 }
 
 #[test]
 fn other_chunks(rt: HostRuntime) -> Result<(), Fail> {
     let alloc = rt.alloc();
-    let four = [2, -3, 5, -7];
-    let junk = with_chunks(
-        alloc,
-        &FOUR_SAMPLES[..12],
-        b"junk\x02\0\0\0\0\0",
-        &FOUR_SAMPLES[12..],
-    )?;
-    assert!(rt; both_read(&junk, &four));
-    let fact = with_chunks(
-        alloc,
-        &FOUR_SAMPLES[..36],
-        b"fact\x04\0\0\0\x04\0\0\0",
-        &FOUR_SAMPLES[36..],
-    )?;
-    assert!(rt; both_read(&fact, &four));
+    for (at, chunk) in [
+        (12, b"junk\x02\0\0\0\0\0".as_slice()),
+        (36, b"fact\x04\0\0\0\x04\0\0\0".as_slice()),
+    ] {
+        let (front, behind) = FOUR_SAMPLES.split_at(at);
+        let bytes = with_chunks(alloc, front, chunk, behind)?;
+        assert!(rt; both_read(&bytes, &[2, -3, 5, -7]), "{at}");
+    }
     // The last of two fmt chunks counts.
     let mut first = [0; 24];
     first.copy_from_slice(&FOUR_SAMPLES[12..36]);
@@ -267,7 +267,7 @@ fn other_chunks(rt: HostRuntime) -> Result<(), Fail> {
     first[17] = 0x3e;
     first[18] = 0;
     let two = with_chunks(alloc, &FOUR_SAMPLES[..12], &first, &FOUR_SAMPLES[12..])?;
-    assert!(rt; both_read(&two, &four));
+    assert!(rt; both_read(&two, &[2, -3, 5, -7]));
     let reader = WavReader::new(two.as_slice()).ok().ok_or("a file")?;
     assert_eq!(rt; reader.spec().sample_rate, 44100);
     Ok(())
@@ -285,10 +285,12 @@ fn lengths_are_obeyed(rt: HostRuntime) -> Result<(), Fail> {
         b"junk\x03\0\0\0abcj".as_slice(),
         b"LIST\x01\0\0\0I\xffbext\x01\0\0\0b\0".as_slice(),
     ] {
-        let first = with_chunks(alloc, &FOUR_SAMPLES[..12], chunk, &FOUR_SAMPLES[12..])?;
-        assert!(rt; both_read(&first, &[2, -3, 5, -7]));
-        let before_data = with_chunks(alloc, &FOUR_SAMPLES[..36], chunk, &FOUR_SAMPLES[36..])?;
-        assert!(rt; both_read(&before_data, &[2, -3, 5, -7]));
+        // The first chunk, and the one before the data.
+        for at in [12, 36] {
+            let (front, behind) = FOUR_SAMPLES.split_at(at);
+            let bytes = with_chunks(alloc, front, chunk, behind)?;
+            assert!(rt; both_read(&bytes, &[2, -3, 5, -7]), "{at} {chunk:?}");
+        }
     }
     // A pad byte that is missing is an early end.
     let cut = with_chunks(alloc, &FOUR_SAMPLES[..36], b"junk\x03\0\0\0", b"abc")?;
@@ -306,15 +308,17 @@ fn lengths_are_obeyed(rt: HostRuntime) -> Result<(), Fail> {
 
 #[test]
 fn early_ends_and_faults(rt: HostRuntime) -> Result<(), Fail> {
-    assert!(rt; is_refused(&FOUR_SAMPLES[..30], "Other", 30));
-    assert!(rt; is_refused(b"RIFF\0\0\0\0WAVEdata\0\0\0\0", "missing fmt chunk", 20));
-    assert!(rt;
-        is_refused(
+    for (bytes, words, taken) in [
+        (&FOUR_SAMPLES[..30], "Other", 30),
+        (b"RIFF\0\0\0\0WAVEdata\0\0\0\0", "missing fmt chunk", 20),
+        (
             b"RIFF\0\0\0\0WAVEjunk\xff\xff\xff\xff\0\0\0",
             "missing data chunk",
-            20
-        )
-    );
+            20,
+        ),
+    ] {
+        assert!(rt; is_refused(bytes, words, taken), "{words}");
+    }
     let mut failing = Pieces::of(&FOUR_SAMPLES[..30], 4096);
     failing.fault = Some(ErrorKind::Interrupted);
     match WavReader::new(failing) {
@@ -373,12 +377,12 @@ fn torn_samples(rt: HostRuntime) -> Result<(), Fail> {
     {
         let mut reader = WavReader::new(&mut pieces).ok().ok_or("a file")?;
         let mut samples = reader.samples::<i16>();
-        assert!(rt; matches!(samples.next(), Some(Ok(2))));
-        match samples.next() {
-            Some(Err(error)) => assert!(rt; is_early_end(&error, rt.alloc())),
-            _ => return Err("an early end".into()),
-        }
-        assert_eq!(rt; samples.len(), 2);
+        let is_first = matches!(samples.next(), Some(Ok(2)));
+        let is_early = match samples.next() {
+            Some(Err(error)) => is_early_end(&error, rt.alloc()),
+            _ => false,
+        };
+        assert_eq!(rt; (is_first, is_early, samples.len()), (true, true, 2));
     }
     assert_eq!(rt; pieces.taken, 47);
     Ok(())
@@ -389,93 +393,118 @@ fn seeking(rt: HostRuntime) -> Result<(), Fail> {
     let tape = Tape::new(FOUR_SAMPLES.to_vec(rt.alloc())?);
     let mut reader = WavReader::new(tape).ok().ok_or("a file")?;
     reader.seek(2)?;
-    assert_eq!(rt; reader.samples::<i16>().size_hint(), (2, Some(2)));
-    assert!(rt; matches!(reader.samples::<i16>().next(), Some(Ok(5))));
+    let third = hint_and_item(&mut reader, 5);
     reader.seek(4)?;
-    assert!(rt; reader.samples::<i16>().next().is_none());
+    let is_none = reader.samples::<i16>().next().is_none();
     reader.seek(1)?;
     // The source stands at the sample.
     let mut tape = reader.into_inner();
     let mut sample = [0; 2];
-    assert_eq!(rt; tape.read(&mut sample)?, 2);
-    assert_eq!(rt; sample, [0xfd, 0xff]);
+    let read = (tape.read(&mut sample)?, sample);
+    assert_eq!(rt;
+        (third, is_none, read),
+        ((2, true, 1), true, (2, [0xfd, 0xff]))
+    );
     Ok(())
 }
 
+// An unknown tag in place of the data's.
+const JUNK: (usize, u8) = (36, 0x6a);
+
 #[test]
 fn refused_heads(rt: HostRuntime) {
-    assert!(rt; is_refused_with(&[(16, 0x0e)], "invalid fmt chunk size", 20));
-    assert!(rt; is_refused_with(&[(16, 0x11)], "unexpected fmt chunk size", 36));
-    assert!(rt; is_refused_with(&[(20, 0x02)], "Unsupported", 36));
-    assert!(rt; is_refused_with(&[(22, 0), (34, 0x0c)], "file contains zero channels", 36));
-    assert!(rt; is_refused_with(&[(34, 0x18)], "sample bits exceeds size of sample", 36));
-    assert!(rt; is_refused_with(&[(28, 0), (29, 0), (30, 0)], "inconsistent fmt chunk", 36));
-    assert!(rt; is_refused_with(&[(34, 0x0c)], "bits per sample is not a multiple of 8", 36));
-    assert!(rt; is_refused_with(&[(34, 0)], "bits per sample is 0", 36));
-    assert!(rt; is_refused_with(&[(20, 0x03)], "bits per sample is not 32", 36));
-    let ex = [(16, 0x12), (20, 0x03)];
-    assert!(rt; is_refused_with(&ex, "unexpected WAVEFORMATEX size", 38));
-    let extensible = [(16, 0x28), (20, 0xfe), (21, 0xff)];
-    assert!(rt; is_refused_with(&extensible, "unexpected WAVEFORMATEXTENSIBLE size", 38));
     let length = "data chunk length is not a multiple of sample size";
-    assert!(rt; is_refused_with(&[(40, 0x07)], length, 44));
-    // The data of unknown length: 4294967295 bytes are no whole samples of two.
-    let unknown = [(40, 0xff), (41, 0xff), (42, 0xff), (43, 0xff)];
-    assert!(rt; is_refused_with(&unknown, length, 44));
-    // An unknown chunk at the limit: one of an odd length counts for its pad byte too.
-    let limits = [
-        (0xe0, "missing data chunk", 44),
-        (0xdf, "missing data chunk", 44),
-        (0xde, "Other", 52),
+    let rows: [(&[(usize, u8)], &str, usize); 18] = [
+        (&[(16, 0x0e)], "invalid fmt chunk size", 20),
+        (&[(16, 0x11)], "unexpected fmt chunk size", 36),
+        (&[(20, 0x02)], "Unsupported", 36),
+        (&[(22, 0), (34, 0x0c)], "file contains zero channels", 36),
+        (&[(34, 0x18)], "sample bits exceeds size of sample", 36),
+        (&[(28, 0), (29, 0), (30, 0)], "inconsistent fmt chunk", 36),
+        (&[(34, 0x0c)], "bits per sample is not a multiple of 8", 36),
+        (&[(34, 0)], "bits per sample is 0", 36),
+        (&[(20, 0x03)], "bits per sample is not 32", 36),
+        (
+            &[(16, 0x12), (20, 0x03)],
+            "unexpected WAVEFORMATEX size",
+            38,
+        ),
+        (
+            &[(16, 0x28), (20, 0xfe), (21, 0xff)],
+            "unexpected WAVEFORMATEXTENSIBLE size",
+            38,
+        ),
+        (&[(40, 0x07)], length, 44),
+        // The data of unknown length: 4294967295 bytes are no whole samples of two.
+        (
+            &[(40, 0xff), (41, 0xff), (42, 0xff), (43, 0xff)],
+            length,
+            44,
+        ),
+        // An unknown chunk at the limit: one of an odd length counts for its pad byte too.
+        (
+            &[JUNK, (40, 0xe0), (41, 0xff), (42, 0xff), (43, 0xff)],
+            "missing data chunk",
+            44,
+        ),
+        (
+            &[JUNK, (40, 0xdf), (41, 0xff), (42, 0xff), (43, 0xff)],
+            "missing data chunk",
+            44,
+        ),
+        (
+            &[JUNK, (40, 0xde), (41, 0xff), (42, 0xff), (43, 0xff)],
+            "Other",
+            52,
+        ),
+        // The limit comes before any check of a fmt chunk.
+        (
+            &[(16, 0xff), (17, 0xff), (18, 0xff), (19, 0xff)],
+            "missing data chunk",
+            20,
+        ),
+        // One of the greatest length within it has its checks, and then a rest.
+        (
+            &[(16, 0xf6), (17, 0xff), (18, 0xff), (19, 0xff)],
+            "unexpected fmt chunk size",
+            36,
+        ),
     ];
-    for (length, words, taken) in limits {
-        let junk = [
-            (36, 0x6a),
-            (37, 0x75),
-            (38, 0x6e),
-            (39, 0x6b),
-            (40, length),
-            (41, 0xff),
-            (42, 0xff),
-            (43, 0xff),
-        ];
-        assert!(rt; is_refused_with(&junk, words, taken));
+    for (changes, words, taken) in rows {
+        assert!(rt;
+            is_refused_with(changes, words, taken),
+            "{words} {changes:?}"
+        );
     }
-    // The limit comes before any check of a fmt chunk.
-    let longest = [(16, 0xff), (17, 0xff), (18, 0xff), (19, 0xff)];
-    assert!(rt; is_refused_with(&longest, "missing data chunk", 20));
-    // One of the greatest length within it has its checks, and then a rest.
-    let last = [(16, 0xf6), (17, 0xff), (18, 0xff), (19, 0xff)];
-    assert!(rt; is_refused_with(&last, "unexpected fmt chunk size", 36));
 }
 
 #[test]
 fn waveformatex(rt: HostRuntime) -> Result<(), Fail> {
     let alloc = rt.alloc();
-    let mono = file(
-        alloc,
-        18,
-        b"\x01\0\x01\0\x44\xac\0\0\x88\x58\x01\0\x02\0\x10\0\0\0",
-        8,
-        b"\x02\0\xfd\xff\x05\0\xf9\xff",
-    )?;
-    assert!(rt; both_read(&mono, &[2, -3, 5, -7]));
-    let stereo = file(
-        alloc,
-        18,
-        b"\x01\0\x02\0\x44\xac\0\0\x10\xb1\x02\0\x04\0\x10\0\0\0",
-        16,
-        b"\x02\0\xfd\xff\x05\0\xf9\xff\x0b\0\xf3\xff\x11\0\xed\xff",
-    )?;
-    assert!(rt; both_read(&stereo, &[2, -3, 5, -7, 11, -13, 17, -19]));
-    let bytes = file(
-        alloc,
-        18,
-        b"\x01\0\x01\0\x11\x2b\0\0\x11\x2b\0\0\x01\0\x08\0\0\0",
-        4,
-        b"\0\0\0\0",
-    )?;
-    assert!(rt; both_read(&bytes, &[-128, -128, -128, -128]));
+    let rows: [(&[u8], u8, &[u8], &[i16]); 3] = [
+        (
+            b"\x01\0\x01\0\x44\xac\0\0\x88\x58\x01\0\x02\0\x10\0\0\0",
+            8,
+            b"\x02\0\xfd\xff\x05\0\xf9\xff",
+            &[2, -3, 5, -7],
+        ),
+        (
+            b"\x01\0\x02\0\x44\xac\0\0\x10\xb1\x02\0\x04\0\x10\0\0\0",
+            16,
+            b"\x02\0\xfd\xff\x05\0\xf9\xff\x0b\0\xf3\xff\x11\0\xed\xff",
+            &[2, -3, 5, -7, 11, -13, 17, -19],
+        ),
+        (
+            b"\x01\0\x01\0\x11\x2b\0\0\x11\x2b\0\0\x01\0\x08\0\0\0",
+            4,
+            b"\0\0\0\0",
+            &[-128, -128, -128, -128],
+        ),
+    ];
+    for (fmt, length, data, numbers) in rows {
+        let bytes = file(alloc, 18, fmt, length, data)?;
+        assert!(rt; both_read(&bytes, numbers), "{numbers:?}");
+    }
     // Forty bytes of integers: the last 24 say nothing.
     let forty = file(
         alloc,
@@ -485,15 +514,14 @@ fn waveformatex(rt: HostRuntime) -> Result<(), Fail> {
         b"\0\0\0\0\0\0",
     )?;
     let mut reader = WavReader::new(Pieces::of(&forty, 1)).ok().ok_or("a file")?;
-    assert_eq!(rt; reader.spec().bits_per_sample, 24);
-    assert_eq!(rt; reader.len(), 2);
-    {
-        let mut samples = reader.samples::<i16>();
-        assert!(rt; matches!(samples.next(), Some(Err(Error::TooWide))));
-        assert!(rt; matches!(samples.next(), Some(Err(Error::TooWide))));
-        assert!(rt; samples.next().is_none());
-    }
-    assert_eq!(rt; reader.into_inner().taken, 68);
+    let said = (reader.spec().bits_per_sample, reader.len());
+    let items = [
+        matches!(reader.samples::<i16>().next(), Some(Err(Error::TooWide))),
+        matches!(reader.samples::<i16>().next(), Some(Err(Error::TooWide))),
+        reader.samples::<i16>().next().is_none(),
+    ];
+    let taken = reader.into_inner().taken;
+    assert_eq!(rt; (said, items, taken), ((24, 2), [true; 3], 68));
     Ok(())
 }
 
@@ -509,12 +537,14 @@ fn waveformatextensible(rt: HostRuntime) -> Result<(), Fail> {
         b"\x13\0\0\0\x03\x80\xfc\xff\xd9\x7f\0\x02\x97\0\0\x80",
     )?;
     let reader = WavReader::new(Pieces::of(&stereo, 1)).ok().ok_or("a file")?;
-    assert_eq!(rt; reader.spec().channels, 2);
-    assert_eq!(rt; reader.spec().sample_rate, 48000);
-    assert_eq!(rt; reader.spec().bits_per_sample, 32);
-    assert_eq!(rt; reader.spec().sample_format, SampleFormat::Int);
-    assert_eq!(rt; reader.len(), 4);
-    assert_eq!(rt; reader.duration(), 2);
+    let spec = WavSpec {
+        channels: 2,
+        sample_rate: 48000,
+        bits_per_sample: 32,
+        sample_format: SampleFormat::Int,
+    };
+    let said = (reader.spec(), reader.len(), reader.duration());
+    assert_eq!(rt; said, (spec, 4, 2));
     let float = file(
         alloc,
         40,
@@ -523,14 +553,16 @@ fn waveformatextensible(rt: HostRuntime) -> Result<(), Fail> {
         b"\0\0\x80\x3f",
     )?;
     let mut reader = WavReader::new(Pieces::of(&float, 1)).ok().ok_or("a file")?;
-    assert_eq!(rt; reader.spec().sample_format, SampleFormat::Float);
-    assert!(rt;
-        matches!(
-            reader.samples::<i16>().next(),
-            Some(Err(Error::InvalidSampleFormat))
-        )
+    let format = reader.spec().sample_format;
+    let is_refused_so = matches!(
+        reader.samples::<i16>().next(),
+        Some(Err(Error::InvalidSampleFormat))
     );
-    assert_eq!(rt; reader.into_inner().taken, 68);
+    let taken = reader.into_inner().taken;
+    assert_eq!(rt;
+        (format, is_refused_so, taken),
+        (SampleFormat::Float, true, 68)
+    );
     // The rest behind the forty bytes is taken, and a pad byte where it is odd.
     for (length, rest) in [(42, b"\0\0".as_slice()), (43, b"abc\0".as_slice())] {
         let (head, data) = float.split_at_checked(60).ok_or("a head")?;
@@ -539,16 +571,20 @@ fn waveformatextensible(rt: HostRuntime) -> Result<(), Fail> {
             *byte = length;
         }
         let mut reader = WavReader::new(Pieces::of(&longer, 1)).ok().ok_or("a file")?;
-        assert_eq!(rt; reader.spec().sample_format, SampleFormat::Float);
+        let format = reader.spec().sample_format;
         let sample = reader.samples::<FloatBits>().next();
-        assert!(rt; matches!(sample, Some(Ok(FloatBits(0x3f80_0000)))));
-        assert_eq!(rt; reader.into_inner().taken, rest.len().saturating_add(72));
+        let is_one = matches!(sample, Some(Ok(FloatBits(0x3f80_0000))));
+        let taken = reader.into_inner().taken.saturating_sub(rest.len());
         // It is taken behind the checks.
-        assert!(rt; is_refused(longer.get(..61).unwrap_or(&[]), "Other", 61));
+        let is_early = is_refused(longer.get(..61).unwrap_or(&[]), "Other", 61);
         if let Some(byte) = longer.get_mut(44) {
             *byte = 6;
         }
-        assert!(rt; is_refused(&longer, "Unsupported", 60));
+        let is_other = is_refused(&longer, "Unsupported", 60);
+        assert_eq!(rt;
+            (format, taken, [is_one, is_early, is_other]),
+            (SampleFormat::Float, 72, [true; 3])
+        );
     }
     // Another subformat.
     let other = file(
@@ -567,13 +603,14 @@ fn a_source_is_handed_back(rt: HostRuntime) -> Result<(), Fail> {
     let tape = Tape::new(FOUR_SAMPLES.to_vec(rt.alloc())?);
     let (tape, answer) = find_data(tape);
     let head = answer.ok().ok_or("a head")?;
-    assert_eq!(rt; head.data_length, 8);
-    assert_eq!(rt; head.data_start, 44);
-    assert!(rt;
-        matches!(
-            WavReader::new(tape),
-            Err(Error::IoError(_)) | Err(Error::FormatError(_))
-        )
+    // The tape stands behind the header, where no other begins.
+    let is_refused_there = matches!(
+        WavReader::new(tape),
+        Err(Error::IoError(_)) | Err(Error::FormatError(_))
+    );
+    assert_eq!(rt;
+        (head.data_length, head.data_start, is_refused_there),
+        (8, 44, true)
     );
     Ok(())
 }

@@ -9,6 +9,3 @@ mod sample;
 pub use float::FloatBits;
 pub use laws::{integers_come_back, short_integers_are_kept};
 pub use sample::Sample;
-
-#[cfg(test)]
-mod tests;

@@ -1,5 +1,5 @@
 // Files of every fmt chunk that is read, at the types that hold their samples.
-use hound::{Error, FloatBits, WavReader};
+use hound::{Error, FloatBits, Sample, WavReader};
 use hound_callers::helpers::{file_with, read_all, samples_of};
 use std::alloc::Global;
 use std::io;
@@ -22,51 +22,60 @@ impl io::Read for ByteByByte<'_> {
     }
 }
 
-// Whether a file gives these numbers, whole and one byte a read.
+// Whether a file gives these samples, whole and one byte a read.
+fn both_give<S: Sample + PartialEq>(
+    alloc: Global,
+    bytes: &[u8],
+    samples: &[S],
+) -> hound::Result<bool> {
+    let whole: Vec<S> = samples_of(alloc, bytes)?;
+    let by_bytes: Vec<S> = read_all(alloc, WavReader::new(ByteByByte { bytes })?)?;
+    Ok(whole.as_slice() == samples && by_bytes.as_slice() == samples)
+}
+
 fn gives_numbers(alloc: Global, fmt: &[u8], data: &[u8], numbers: &[i32]) -> Result<bool, Fail> {
-    let bytes = file_with(alloc, fmt, data)?;
-    let whole: Vec<i32> = samples_of(alloc, &bytes)?;
-    let pieces = ByteByByte {
-        bytes: bytes.as_slice(),
-    };
-    let by_bytes: Vec<i32> = read_all(alloc, WavReader::new(pieces)?)?;
-    Ok(whole.as_slice() == numbers && by_bytes.as_slice() == numbers)
+    Ok(both_give(alloc, &file_with(alloc, fmt, data)?, numbers)?)
 }
 
 #[test]
 fn integers_of_every_fmt_chunk(rt: HostRuntime) -> Result<(), Fail> {
-    let alloc = rt.alloc();
-    // A PCMWAVEFORMAT of 24 bits in four bytes.
-    let padded = b"\x01\0\x02\0\x80\xbb\0\0\0\xdc\x05\0\x08\0\x18\0";
-    let data = b"\xa0\xff\xff\0\x0c\x5a\0\0\xff\xff\x7f\0\x20\x6d\x80\0";
-    assert!(rt; gives_numbers(alloc, padded, data, &[-96, 23052, 8388607, -8360672])?);
-    // A WAVEFORMATEX of 16 bits, and one of 8.
-    let mono = b"\x01\0\x01\0\x44\xac\0\0\x88\x58\x01\0\x02\0\x10\0\0\0";
-    assert!(rt;
-        gives_numbers(
-            alloc,
-            mono,
+    let rows: [(&[u8], &[u8], &[i32]); 5] = [
+        // A PCMWAVEFORMAT of 24 bits in four bytes.
+        (
+            b"\x01\0\x02\0\x80\xbb\0\0\0\xdc\x05\0\x08\0\x18\0",
+            b"\xa0\xff\xff\0\x0c\x5a\0\0\xff\xff\x7f\0\x20\x6d\x80\0",
+            &[-96, 23052, 8388607, -8360672],
+        ),
+        // A WAVEFORMATEX of 16 bits, and one of 8.
+        (
+            b"\x01\0\x01\0\x44\xac\0\0\x88\x58\x01\0\x02\0\x10\0\0\0",
             b"\x02\0\xfd\xff\x05\0\xf9\xff",
-            &[2, -3, 5, -7]
-        )?
-    );
-    let bytes = b"\x01\0\x01\0\x11\x2b\0\0\x11\x2b\0\0\x01\0\x08\0\0\0";
-    assert!(rt; gives_numbers(alloc, bytes, b"\0\0\0\0", &[-128, -128, -128, -128])?);
-    // A WAVEFORMATEXTENSIBLE of 32 bits that says 0 valid bits.
-    let extensible =
-        b"\xfe\xff\x02\0\x80\xbb\0\0\0\xdc\x05\0\x08\0\x20\0\x16\0\0\0\x03\0\0\0\x01\0\0\0\0\0\x10\0\x80\0\0\xaa\0\x38\x9b\x71";
-    let data = b"\x13\0\0\0\x03\x80\xfc\xff\xd9\x7f\0\x02\x97\0\0\x80";
-    assert!(rt;
-        gives_numbers(
-            alloc,
-            extensible,
-            data,
-            &[19, -229373, 33587161, -2147483497]
-        )?
-    );
-    // Integers in a chunk of forty bytes, of which the last 24 say nothing.
-    let forty = b"\x01\0\x01\0\x44\xac\0\0\xcc\x04\x02\0\x03\0\x18\0abcdefghijklmnopqrstuvwx";
-    assert!(rt; gives_numbers(alloc, forty, b"\0\0\0\0\0\0", &[0, 0])?);
+            &[2, -3, 5, -7],
+        ),
+        (
+            b"\x01\0\x01\0\x11\x2b\0\0\x11\x2b\0\0\x01\0\x08\0\0\0",
+            b"\0\0\0\0",
+            &[-128, -128, -128, -128],
+        ),
+        // A WAVEFORMATEXTENSIBLE of 32 bits that says 0 valid bits.
+        (
+            b"\xfe\xff\x02\0\x80\xbb\0\0\0\xdc\x05\0\x08\0\x20\0\x16\0\0\0\x03\0\0\0\x01\0\0\0\0\0\x10\0\x80\0\0\xaa\0\x38\x9b\x71",
+            b"\x13\0\0\0\x03\x80\xfc\xff\xd9\x7f\0\x02\x97\0\0\x80",
+            &[19, -229373, 33587161, -2147483497],
+        ),
+        // Integers in a chunk of forty bytes, of which the last 24 say nothing.
+        (
+            b"\x01\0\x01\0\x44\xac\0\0\xcc\x04\x02\0\x03\0\x18\0abcdefghijklmnopqrstuvwx",
+            b"\0\0\0\0\0\0",
+            &[0, 0],
+        ),
+    ];
+    for (fmt, data, numbers) in rows {
+        assert!(rt;
+            gives_numbers(rt.alloc(), fmt, data, numbers)?,
+            "{numbers:?}"
+        );
+    }
     Ok(())
 }
 
@@ -84,13 +93,7 @@ fn floats_of_a_waveformatex(rt: HostRuntime) -> Result<(), Fail> {
         FloatBits(0xc680_3600),
         FloatBits(0x447e_c000),
     ];
-    let whole: Vec<FloatBits> = samples_of(alloc, &bytes)?;
-    assert_eq!(rt; whole.as_slice(), patterns.as_slice());
-    let pieces = ByteByByte {
-        bytes: bytes.as_slice(),
-    };
-    let by_bytes: Vec<FloatBits> = read_all(alloc, WavReader::new(pieces)?)?;
-    assert_eq!(rt; by_bytes.as_slice(), patterns.as_slice());
+    assert!(rt; both_give(alloc, &bytes, &patterns)?);
     Ok(())
 }
 
@@ -106,9 +109,12 @@ fn unknown_length_of_single_bytes(rt: HostRuntime) -> Result<(), Fail> {
         *byte = 0xff;
     }
     let mut reader = WavReader::new(bytes.as_slice())?;
-    assert_eq!(rt; reader.len(), 4_294_967_295);
+    let length = reader.len();
     let mut samples = reader.samples::<i8>();
-    assert!(rt; matches!(samples.next(), Some(Ok(0))));
-    assert!(rt; matches!(samples.next(), Some(Err(Error::IoError(_)))));
+    let items = [
+        matches!(samples.next(), Some(Ok(0))),
+        matches!(samples.next(), Some(Err(Error::IoError(_)))),
+    ];
+    assert_eq!(rt; (length, items), (4_294_967_295, [true; 2]));
     Ok(())
 }

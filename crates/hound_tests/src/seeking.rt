@@ -35,31 +35,31 @@ fn gives_a_fault<S: Sample, R: io::Read + Drop>(reader: &mut WavReader<R>) -> bo
 #[test]
 fn a_file_without_samples_gives_none(rt: HostRuntime) -> Result<(), Fail> {
     let mut reader = WavReader::new(NO_SAMPLES.as_slice())?;
-    assert_eq!(rt; reader.len(), 0);
-    assert_eq!(rt; reader.duration(), 0);
+    let counts = (reader.len(), reader.duration());
     let mut samples = reader.samples::<i16>();
-    assert_eq!(rt; samples.size_hint(), (0, Some(0)));
-    assert_eq!(rt; samples.len(), 0);
-    assert!(rt; samples.next().is_none());
+    let hint = (samples.size_hint(), samples.len());
+    let is_none = samples.next().is_none();
+    assert_eq!(rt; (counts, hint, is_none), ((0, 0), ((0, Some(0)), 0), true));
     Ok(())
+}
+
+// The hints before and behind an item, and whether it is this number.
+fn hints_around<R: io::Read + Drop>(
+    reader: &mut WavReader<R>,
+    number: i16,
+) -> (usize, usize, bool) {
+    let mut samples = reader.samples::<i16>();
+    let (before, _) = samples.size_hint();
+    let is_given = matches!(samples.next(), Some(Ok(value)) if value == number);
+    let (behind, _) = samples.size_hint();
+    (before, behind, is_given)
 }
 
 #[test]
 fn one_iterator_after_another(rt: HostRuntime) -> Result<(), Fail> {
     let mut reader = WavReader::new(FOUR_SAMPLES.as_slice())?;
-    {
-        let mut samples = reader.samples::<i16>();
-        assert_eq!(rt; samples.size_hint(), (4, Some(4)));
-        assert!(rt; matches!(samples.next(), Some(Ok(2))));
-        assert_eq!(rt; samples.size_hint(), (3, Some(3)));
-    }
-    {
-        let mut samples = reader.samples::<i16>();
-        assert_eq!(rt; samples.size_hint(), (3, Some(3)));
-        assert!(rt; matches!(samples.next(), Some(Ok(-3))));
-        assert_eq!(rt; samples.size_hint(), (2, Some(2)));
-    }
-    assert_eq!(rt; reader.len(), 4);
+    let hints = [hints_around(&mut reader, 2), hints_around(&mut reader, -3)];
+    assert_eq!(rt; (hints, reader.len()), ([(4, 3, true), (3, 2, true)], 4));
     Ok(())
 }
 
@@ -67,44 +67,48 @@ fn one_iterator_after_another(rt: HostRuntime) -> Result<(), Fail> {
 fn a_seek_goes_by_the_width_of_the_container(rt: HostRuntime) -> Result<(), Fail> {
     let mut reader = open(rt.alloc(), &FOUR_BYTES)?;
     reader.seek(1)?;
-    assert!(rt; gives(&mut reader, 8388607i32));
-    assert!(rt; gives(&mut reader, -8360672i32));
-    assert!(rt; reader.samples::<i32>().next().is_none());
+    let given = [
+        gives(&mut reader, 8388607i32),
+        gives(&mut reader, -8360672i32),
+        reader.samples::<i32>().next().is_none(),
+    ];
+    assert_eq!(rt; given, [true; 3]);
     Ok(())
 }
 
 #[test]
 fn a_seek_is_right_after_a_refused_sample(rt: HostRuntime) -> Result<(), Fail> {
     let mut reader = open(rt.alloc(), &FOUR_BYTES)?;
-    assert!(rt; gives_too_wide::<i16, Tape>(&mut reader));
+    let is_refused = gives_too_wide::<i16, Tape>(&mut reader);
     reader.seek(1)?;
-    assert!(rt; gives(&mut reader, 8388607i32));
+    assert_eq!(rt; [is_refused, gives(&mut reader, 8388607i32)], [true; 2]);
     Ok(())
 }
 
 #[test]
 fn a_seek_behind_the_end_leaves_none(rt: HostRuntime) -> Result<(), Fail> {
     let mut reader = open(rt.alloc(), &FOUR_BYTES)?;
-    assert!(rt; reader.seek(4294967295).is_ok());
-    {
-        let mut samples = reader.samples::<i32>();
-        assert_eq!(rt; samples.size_hint(), (0, Some(0)));
-        assert!(rt; samples.next().is_none());
-    }
+    reader.seek(4294967295)?;
+    let none = (
+        reader.samples::<i32>().size_hint(),
+        reader.samples::<i32>().next().is_none(),
+    );
     // And back.
     reader.seek(0)?;
-    assert_eq!(rt; reader.samples::<i32>().len(), 4);
-    assert!(rt; gives(&mut reader, -96i32));
+    let back = (reader.samples::<i32>().len(), gives(&mut reader, -96i32));
+    assert_eq!(rt; (none, back), (((0, Some(0)), true), (4, true)));
     Ok(())
 }
 
 #[test]
 fn a_seek_is_right_after_a_torn_sample(rt: HostRuntime) -> Result<(), Fail> {
     let mut reader = open(rt.alloc(), &FOUR_SAMPLES[..47])?;
-    assert!(rt; gives(&mut reader, 2i16));
-    assert!(rt; gives_a_fault::<i16, Tape>(&mut reader));
+    let before = [
+        gives(&mut reader, 2i16),
+        gives_a_fault::<i16, Tape>(&mut reader),
+    ];
     reader.seek(0)?;
-    assert!(rt; gives(&mut reader, 2i16));
+    assert_eq!(rt; (before, gives(&mut reader, 2i16)), ([true; 2], true));
     Ok(())
 }
 
@@ -148,11 +152,14 @@ impl Source for Held {
 fn a_seek_that_fails_changes_nothing(rt: HostRuntime) -> Result<(), Fail> {
     let tape = tape_of(rt.alloc(), &FOUR_SAMPLES)?;
     let mut reader = WavReader::new(Held { tape })?;
-    assert!(rt; gives(&mut reader, 2i16));
+    let is_first = gives(&mut reader, 2i16);
     let error = reader.seek(0).err().ok_or("a tape that stays")?;
-    assert_eq!(rt; error.kind(), ErrorKind::Interrupted);
-    assert_eq!(rt; reader.samples::<i16>().size_hint(), (3, Some(3)));
-    assert!(rt; gives(&mut reader, -3i16));
+    let hint = reader.samples::<i16>().size_hint();
+    let is_next = gives(&mut reader, -3i16);
+    assert_eq!(rt;
+        (is_first, error.kind(), hint, is_next),
+        (true, ErrorKind::Interrupted, (3, Some(3)), true)
+    );
     Ok(())
 }
 
@@ -166,9 +173,12 @@ fn a_refused_sample_takes_no_byte(rt: HostRuntime) -> Result<(), Fail> {
         b"\xef\xff\xff\x0f\0\x40\x13\0\xa0\xe9\x7f\x7f",
     )?;
     let mut reader = WavReader::new(bytes.as_slice())?;
-    assert!(rt; gives_too_wide::<i8, &[u8]>(&mut reader));
-    assert!(rt; gives_too_wide::<i16, &[u8]>(&mut reader));
-    assert!(rt; gives(&mut reader, -17i32));
+    let wide = [
+        gives_too_wide::<i8, &[u8]>(&mut reader),
+        gives_too_wide::<i16, &[u8]>(&mut reader),
+        gives(&mut reader, -17i32),
+    ];
+    assert_eq!(rt; wide, [true; 3]);
     // Mono, floats.
     let floats = file_with(
         alloc,
@@ -176,10 +186,13 @@ fn a_refused_sample_takes_no_byte(rt: HostRuntime) -> Result<(), Fail> {
         b"\0\0\0\x40\0\0\x40\x40\0\x36\x80\xc6\0\xc0\x7e\x44",
     )?;
     let mut reader = WavReader::new(floats.as_slice())?;
-    assert!(rt; gives_other_format::<i8, &[u8]>(&mut reader));
-    assert!(rt; gives_other_format::<i16, &[u8]>(&mut reader));
-    assert!(rt; gives_other_format::<i32, &[u8]>(&mut reader));
-    assert!(rt; gives(&mut reader, FloatBits(0x4000_0000)));
+    let other = [
+        gives_other_format::<i8, &[u8]>(&mut reader),
+        gives_other_format::<i16, &[u8]>(&mut reader),
+        gives_other_format::<i32, &[u8]>(&mut reader),
+        gives(&mut reader, FloatBits(0x4000_0000)),
+    ];
+    assert_eq!(rt; other, [true; 4]);
     // Mono, 8 bits.
     let single = file_with(
         alloc,
@@ -242,26 +255,29 @@ fn counts_are_right(alloc: Global, bytes: &[u8], numbers: &[i32]) -> Result<bool
 fn counts_hints_and_seeks_agree(rt: HostRuntime) -> Result<(), Fail> {
     let alloc = rt.alloc();
     assert!(rt; counts_are_right(alloc, &FOUR_SAMPLES, &[2, -3, 5, -7])?);
-    // Stereo, an extensible format of 32 bits that says 0 valid bits.
-    let extensible = file_with(
-        alloc,
-        b"\xfe\xff\x02\0\x80\xbb\0\0\0\xdc\x05\0\x08\0\x20\0\x16\0\0\0\x03\0\0\0\x01\0\0\0\0\0\x10\0\x80\0\0\xaa\0\x38\x9b\x71",
-        b"\x13\0\0\0\x03\x80\xfc\xff\xd9\x7f\0\x02\x97\0\0\x80",
-    )?;
-    assert!(rt; counts_are_right(alloc, &extensible, &[19, -229373, 33587161, -2147483497])?);
-    // Stereo, a WAVEFORMATEX of 16 bits.
-    let stereo = file_with(
-        alloc,
-        b"\x01\0\x02\0\x44\xac\0\0\x10\xb1\x02\0\x04\0\x10\0\0\0",
-        b"\x02\0\xfd\xff\x05\0\xf9\xff\x0b\0\xf3\xff\x11\0\xed\xff",
-    )?;
-    assert!(rt; counts_are_right(alloc, &stereo, &[2, -3, 5, -7, 11, -13, 17, -19])?);
-    // Stereo, a PCMWAVEFORMAT of 24 bits in four bytes.
-    let padded = file_with(
-        alloc,
-        b"\x01\0\x02\0\x80\xbb\0\0\0\xdc\x05\0\x08\0\x18\0",
-        b"\xa0\xff\xff\0\x0c\x5a\0\0\xff\xff\x7f\0\x20\x6d\x80\0",
-    )?;
-    assert!(rt; counts_are_right(alloc, &padded, &[-96, 23052, 8388607, -8360672])?);
+    let rows: [(&[u8], &[u8], &[i32]); 3] = [
+        // Stereo, an extensible format of 32 bits that says 0 valid bits.
+        (
+            b"\xfe\xff\x02\0\x80\xbb\0\0\0\xdc\x05\0\x08\0\x20\0\x16\0\0\0\x03\0\0\0\x01\0\0\0\0\0\x10\0\x80\0\0\xaa\0\x38\x9b\x71",
+            b"\x13\0\0\0\x03\x80\xfc\xff\xd9\x7f\0\x02\x97\0\0\x80",
+            &[19, -229373, 33587161, -2147483497],
+        ),
+        // Stereo, a WAVEFORMATEX of 16 bits.
+        (
+            b"\x01\0\x02\0\x44\xac\0\0\x10\xb1\x02\0\x04\0\x10\0\0\0",
+            b"\x02\0\xfd\xff\x05\0\xf9\xff\x0b\0\xf3\xff\x11\0\xed\xff",
+            &[2, -3, 5, -7, 11, -13, 17, -19],
+        ),
+        // Stereo, a PCMWAVEFORMAT of 24 bits in four bytes.
+        (
+            b"\x01\0\x02\0\x80\xbb\0\0\0\xdc\x05\0\x08\0\x18\0",
+            b"\xa0\xff\xff\0\x0c\x5a\0\0\xff\xff\x7f\0\x20\x6d\x80\0",
+            &[-96, 23052, 8388607, -8360672],
+        ),
+    ];
+    for (fmt, data, numbers) in rows {
+        let bytes = file_with(alloc, fmt, data)?;
+        assert!(rt; counts_are_right(alloc, &bytes, numbers)?, "{numbers:?}");
+    }
     Ok(())
 }

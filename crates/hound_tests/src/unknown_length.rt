@@ -22,12 +22,11 @@ const TEN_CHANNELS: [u8; 68] = [
 #[test]
 fn sizes_are_the_greatest(rt: HostRuntime) -> Result<(), Fail> {
     let alloc = rt.alloc();
-    let mono = integers(1, 16000, 16, 2).spec;
-    let header = mono.into_header_for_infinite_file(alloc)?;
-    assert_eq!(rt; header.as_slice(), MONO.as_slice());
-    let ten = integers(10, 16000, 16, 2).spec;
-    let header = ten.into_header_for_infinite_file(alloc)?;
-    assert_eq!(rt; header.as_slice(), TEN_CHANNELS.as_slice());
+    for (channels, bytes) in [(1, MONO.as_slice()), (10, TEN_CHANNELS.as_slice())] {
+        let spec = integers(channels, 16000, 16, 2).spec;
+        let header = spec.into_header_for_infinite_file(alloc)?;
+        assert_eq!(rt; header.as_slice(), bytes);
+    }
     let none = integers(0, 16000, 16, 2).spec;
     let refused = none.into_header_for_infinite_file(alloc);
     assert!(rt; matches!(refused, Err(Error::Unsupported)));

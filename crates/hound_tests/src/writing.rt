@@ -8,23 +8,11 @@ use std::alloc::Global;
 use std::test::Fail;
 
 #[test]
-fn four_samples_are_52_bytes(rt: HostRuntime) -> Result<(), Fail> {
+fn four_samples_are_counted(rt: HostRuntime) -> Result<(), Fail> {
     let mut writer = WavWriter::new(empty_tape(rt.alloc()), sixteen(1))?;
     write_all(&mut writer, &[2i16, -3, 5, -7])?;
-    assert_eq!(rt; writer.len(), 4);
-    assert_eq!(rt; writer.duration(), 4);
-    assert_eq!(rt; writer.spec(), sixteen(1));
-    let (tape, result) = writer.finalize_into();
-    result?;
-    assert_eq!(rt; tape.into_bytes().as_slice(), FOUR_SAMPLES.as_slice());
-    Ok(())
-}
-
-#[test]
-fn no_samples_are_44_bytes(rt: HostRuntime) -> Result<(), Fail> {
-    let (tape, result) = WavWriter::new(empty_tape(rt.alloc()), sixteen(1))?.finalize_into();
-    result?;
-    assert_eq!(rt; tape.into_bytes().as_slice(), NO_SAMPLES.as_slice());
+    let counts = (writer.len(), writer.duration(), writer.spec());
+    assert_eq!(rt; counts, (4, 4, sixteen(1)));
     Ok(())
 }
 
@@ -36,14 +24,30 @@ fn write_and_finalize(tape: &mut Tape, samples: &[i16]) -> hound::Result<()>
     writer.finalize()
 }
 
+// Whether these samples leave this file, where the medium is handed back and where it is lent.
+fn both_leave(alloc: Global, samples: &[i16], file: &[u8]) -> hound::Result<bool> {
+    let mut writer = WavWriter::new(empty_tape(alloc), sixteen(1))?;
+    write_all(&mut writer, samples)?;
+    let (back, result) = writer.finalize_into();
+    result?;
+    let mut lent = empty_tape(alloc);
+    write_and_finalize(&mut lent, samples)?;
+    Ok(back.bytes() == file && lent.bytes() == file)
+}
+
 #[test]
-fn finalize_publishes_over_a_lent_medium(rt: HostRuntime) -> Result<(), Fail> {
-    let mut tape = empty_tape(rt.alloc());
-    write_and_finalize(&mut tape, &[2, -3, 5, -7])?;
-    assert_eq!(rt; tape.into_bytes().as_slice(), FOUR_SAMPLES.as_slice());
-    let mut tape = empty_tape(rt.alloc());
-    write_and_finalize(&mut tape, &[])?;
-    assert_eq!(rt; tape.into_bytes().as_slice(), NO_SAMPLES.as_slice());
+fn four_samples_are_52_bytes_and_none_are_44(rt: HostRuntime) -> Result<(), Fail> {
+    let four = [2, -3, 5, -7];
+    for (samples, file) in [
+        (four.as_slice(), FOUR_SAMPLES.as_slice()),
+        ([].as_slice(), NO_SAMPLES.as_slice()),
+    ] {
+        assert!(rt;
+            both_leave(rt.alloc(), samples, file)?,
+            "{} bytes",
+            file.len()
+        );
+    }
     Ok(())
 }
 
@@ -73,9 +77,8 @@ fn an_unwritable_spec_puts_nothing(rt: HostRuntime) -> Result<(), Fail> {
     ];
     for spec in specs {
         let mut tape = empty_tape(rt.alloc());
-        let result = begin(&mut tape, spec);
-        assert!(rt; matches!(result, Err(Error::Unsupported)));
-        assert!(rt; tape.into_bytes().is_empty());
+        let is_refused = matches!(begin(&mut tape, spec), Err(Error::Unsupported));
+        assert_eq!(rt; (is_refused, tape.bytes().len()), (true, 0), "{spec:?}");
     }
     Ok(())
 }
@@ -95,8 +98,8 @@ fn an_unwritable_width_hands_the_medium_back(rt: HostRuntime) -> Result<(), Fail
         bytes_per_sample: 4,
     };
     let (bytes, error) = refused(rt.alloc(), wide).ok_or("16 bits in 4 bytes were taken")?;
-    assert!(rt; matches!(error, Error::Unsupported));
-    assert!(rt; bytes.is_empty());
+    let is_refused = matches!(error, Error::Unsupported);
+    assert_eq!(rt; (is_refused, bytes.len()), (true, 0));
     Ok(())
 }
 
@@ -104,14 +107,15 @@ fn an_unwritable_width_hands_the_medium_back(rt: HostRuntime) -> Result<(), Fail
 fn an_unfinished_frame_is_told_and_published(rt: HostRuntime) -> Result<(), Fail> {
     let mut writer = WavWriter::new(empty_tape(rt.alloc()), sixteen(2))?;
     writer.write_sample(1i16)?;
-    assert_eq!(rt; writer.len(), 1);
-    assert_eq!(rt; writer.duration(), 0);
+    let counts = (writer.len(), writer.duration());
     let (tape, result) = writer.finalize_into();
-    assert!(rt; matches!(result, Err(Error::UnfinishedSample)));
+    let is_told = matches!(result, Err(Error::UnfinishedSample));
     let bytes = tape.into_bytes();
-    assert_eq!(rt; bytes.len(), 46);
-    assert_eq!(rt; bytes.get(40).copied(), Some(2));
-    assert_eq!(rt; bytes.get(44).copied(), Some(1));
+    let left = (bytes.len(), bytes.get(40).copied(), bytes.get(44).copied());
+    assert_eq!(rt;
+        (counts, is_told, left),
+        ((1, 0), true, (46, Some(2), Some(1)))
+    );
     Ok(())
 }
 
@@ -123,19 +127,19 @@ fn the_next_sample_goes_where_the_failed_one_began(rt: HostRuntime) -> Result<()
     for _ in 0..2048 {
         writer.write_sample(1i16)?;
     }
-    assert!(rt; matches!(writer.write_sample(0x0202i16), Err(Error::IoError(_))));
-    assert_eq!(rt; writer.len(), 2048);
+    let has_failed = matches!(writer.write_sample(0x0202i16), Err(Error::IoError(_)));
+    let before = writer.len();
     writer.write_sample(3i16)?;
-    assert_eq!(rt; writer.len(), 2049);
+    assert_eq!(rt; (has_failed, before, writer.len()), (true, 2048, 2049));
     let (medium, result) = writer.finalize_into();
     result?;
     let bytes = medium.tape.into_bytes();
     // The RIFF size is 36 + 4098, the data length 4098.
-    assert_eq!(rt; bytes.get(4..8), Some([0x26u8, 0x10, 0, 0].as_slice()));
-    assert_eq!(rt;
-        bytes.get(40..48),
-        Some([2u8, 0x10, 0, 0, 1, 0, 1, 0].as_slice())
-    );
-    assert_eq!(rt; bytes.get(4138..), Some([1u8, 0, 3, 0].as_slice()));
+    let stands = [
+        bytes.get(4..8) == Some([0x26u8, 0x10, 0, 0].as_slice()),
+        bytes.get(40..48) == Some([2u8, 0x10, 0, 0, 1, 0, 1, 0].as_slice()),
+        bytes.get(4138..) == Some([1u8, 0, 3, 0].as_slice()),
+    ];
+    assert_eq!(rt; stands, [true; 3]);
     Ok(())
 }

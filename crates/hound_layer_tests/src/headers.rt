@@ -2,7 +2,7 @@
 ghost use Rattle.std.specs.Prelude.{◌≡◌, ◌∷◌, []};
 ghost use Rattle.hound_spec.specs.Header.{canonical, header, mask, riff_size};
 
-use crate::{SampleFormat, WavSpec, WavSpecEx, header_of};
+use hound_spec::{SampleFormat, WavSpec, WavSpecEx, header_of};
 
 const MONO_16: WavSpecEx = WavSpecEx {
     spec: WavSpec {
@@ -75,7 +75,7 @@ const MONO_FLOAT_HEADER: [u8; 68] = [
 ];
 
 // The definition of a header at these specs, by computing.
-#[tactic(auto, unfolding(crate::specs::Header::header, crate::specs::Header::sized_fmt))]
+#[tactic(auto, unfolding(hound_spec::specs::Header::header, hound_spec::specs::Header::sized_fmt))]
 fn the_definition_gives_the_headers()
     ensures mono_16 { header MONO_16 44 8 ≡ MONO_16_HEADER }
     ensures stereo_24_in_4 { header STEREO_24_IN_4 76 16 ≡ STEREO_24_IN_4_HEADER }
@@ -108,7 +108,7 @@ const MONO_8_EVEN_FILE: [u8; 46] = [
 ];
 
 // The definition of a whole file at these samples, and of the greatest sizes, by computing.
-#[tactic(auto, unfolding(crate::specs::Header::header, crate::specs::Header::sized_fmt))]
+#[tactic(auto, unfolding(hound_spec::specs::Header::header, hound_spec::specs::Header::sized_fmt))]
 fn the_definition_gives_the_files()
     ensures odd { canonical MONO_8 ((0x80 ∷ []) ∷ []) ≡ MONO_8_FILE }
     ensures even { canonical MONO_8 ((0x81 ∷ []) ∷ (0x82 ∷ []) ∷ []) ≡ MONO_8_EVEN_FILE }
@@ -119,32 +119,31 @@ fn the_definition_gives_the_files()
 {}
 
 #[test]
-fn files_begin_with_their_header(rt: HostRuntime) {
+fn headers_have_these_bytes(rt: HostRuntime) {
+    the_definition_gives_the_headers();
     the_definition_gives_the_files();
-    assert!(rt; is_header(MONO_8, 38, 1, &MONO_8_FILE[..44]));
-    assert!(rt; is_header(MONO_8, 38, 2, &MONO_8_EVEN_FILE[..44]));
+    let mut empty = MONO_16_HEADER;
+    empty[4] = 0x24;
+    empty[40] = 0;
+    for (spec_ex, riff_size, data_length, bytes) in [
+        (MONO_16, 44, 8, MONO_16_HEADER.as_slice()),
+        (MONO_16, 36, 0, empty.as_slice()),
+        (STEREO_24_IN_4, 76, 16, STEREO_24_IN_4_HEADER.as_slice()),
+        (WIDEST, 60, 0, WIDEST_HEADER.as_slice()),
+        (MONO_FLOAT, 64, 4, MONO_FLOAT_HEADER.as_slice()),
+        (MONO_8, 38, 1, &MONO_8_FILE[..44]),
+        (MONO_8, 38, 2, &MONO_8_EVEN_FILE[..44]),
+    ] {
+        assert!(rt;
+            is_header(spec_ex, riff_size, data_length, bytes),
+            "{data_length} bytes"
+        );
+    }
 }
 
 // Whether this is the header of a writable spec.
 fn is_header(spec_ex: WavSpecEx, riff_size: u32, data_length: u32, bytes: &[u8]) -> bool {
     spec_ex.is_writable() && header_of(spec_ex, riff_size, data_length).as_slice() == bytes
-}
-
-#[test]
-fn headers_have_these_bytes(rt: HostRuntime) {
-    the_definition_gives_the_headers();
-    assert!(rt; is_header(MONO_16, 44, 8, &MONO_16_HEADER));
-    assert!(rt; is_header(STEREO_24_IN_4, 76, 16, &STEREO_24_IN_4_HEADER));
-    assert!(rt; is_header(WIDEST, 60, 0, &WIDEST_HEADER));
-    assert!(rt; is_header(MONO_FLOAT, 64, 4, &MONO_FLOAT_HEADER));
-}
-
-#[test]
-fn a_header_without_samples_differs_in_its_sizes(rt: HostRuntime) {
-    let mut empty = MONO_16_HEADER;
-    empty[4] = 0x24;
-    empty[40] = 0;
-    assert!(rt; is_header(MONO_16, 36, 0, &empty));
 }
 
 // The definition of a mask at these channels, by computing.
