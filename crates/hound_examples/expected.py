@@ -28,6 +28,11 @@ def say(name):
     print(f"{name}: {len(data)} bytes, sum {zlib.adler32(data)}")
 
 
+def show(name):
+    with open(name, "rb") as file:
+        print(f"{name}: {file.read()}")
+
+
 def samples_of(name):
     with wave.open(name) as file:
         return array.array("h", file.readframes(file.getnframes()))
@@ -83,10 +88,11 @@ with tempfile.TemporaryDirectory() as folder:
     say("recorded.wav")
     sox(sine, "-b", "8", "eight.wav")
     say("eight.wav")
-    wide = b"".join((at * 9973 % 2**24 - 2**23).to_bytes(3, "little", signed=True) for at in range(5000))
     with open("wide.s24", "wb") as file:
-        file.write(wide)
-    sox("-t", "raw", "-e", "signed", "-b", "24", "-c", "1", "-r", "44100", "wide.s24", "-b", "16", "sixteen.wav")
+        for at in range(5000):
+            file.write((at * 9973 % 2**24 - 2**23).to_bytes(3, "little", signed=True))
+    raw = "-t raw -e signed -b 24 -c 1 -r 44100"
+    sox(*raw.split(), "wide.s24", "-b", "16", "sixteen.wav")
     say("sixteen.wav")
     record("ramp.wav", range(0, 30000, 3))
     sox("ramp.wav", sine, "ramp.wav", "joined.wav")
@@ -94,3 +100,13 @@ with tempfile.TemporaryDirectory() as folder:
     levels("ramp.wav")
     mulaw(sine)
     info(os.path.join(here, "data", "list.wav"))
+    with open("five.s16", "wb") as file:
+        array.array("h", [2, -3, 5, -7, 11, -13, 17, -19, 23, -29]).tofile(file)
+    sox(*"-t raw -e signed -b 16 -c 2 -r 44100 five.s16 five.wav".split())
+    show("five.wav")
+    info("five.wav")
+    with open("three.s24", "wb") as file:
+        for number in [-8388608, 300, -70000]:
+            file.write(number.to_bytes(3, "little", signed=True))
+    sox(*"-t raw -e signed -b 24 -c 1 -r 44100 three.s24 three.wav".split())
+    show("three.wav")

@@ -34,7 +34,7 @@ impl Chunk {
     }
 }
 
-/// The chunks from a place on: up to the data chunk, to the end of the file, or to what is no chunk.
+/// The chunks from a place on: up to the data chunk, to the end of the file, or to what is none.
 pub fn chunks_from<F: io::Read + io::Seek>(
     alloc: Global,
     file: &mut F,

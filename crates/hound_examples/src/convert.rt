@@ -62,7 +62,8 @@ fn shift_of(bits: u16) -> Option<u16>
     }
 }
 
-// A sample of the one width as one of the other, each told by its shift, and whether it was clipped.
+// A sample of the one width as one of the other, each told by its shift; and whether that clipped
+// it.
 fn fitted(sample: i32, old_shift: u16, new_shift: u16) -> (i32, bool)
     requires old { old_shift < 32 }
     requires new { new_shift < 32 }

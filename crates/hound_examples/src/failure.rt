@@ -8,8 +8,8 @@ use thiserror::Error as DeriveError;
 #[derive(Debug, Drop, DeriveError)]
 pub enum Failure {
     /// No example has these words.
-    #[error("usage: hound_examples sine FILE | record FILE LOT | convert IN OUT BITS | join OUT IN.. \
-        | levels FILE | mulaw FILE | mend FILE [--yes] | info FILE")]
+    #[error("usage: hound_examples sine FILE | record FILE LOT | convert IN OUT BITS \
+        | join OUT IN.. | levels FILE | mulaw FILE | mend FILE [--yes] | info FILE")]
     Usage,
     /// What should be a number is none, or doesn't fit sixteen bits.
     #[error("bad number")]

@@ -24,8 +24,8 @@ pub struct Layout {
     ghost positive: { 0 < frame },
 }
 
-/// Data that end where the file does, or where other chunks begin that go on to its end, are as long
-/// as their length says; else they go on to the end of the file.
+/// Finds the data of a file. Where they end with the file, or other chunks behind them do, they are
+/// as long as their length says; else they go on to the end of the file.
 pub fn layout_of<F: io::Read + io::Seek>(
     alloc: Global,
     file: &mut F,

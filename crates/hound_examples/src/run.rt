@@ -13,8 +13,8 @@ use crate::sine::sine;
 use std::io;
 use std::path::Path;
 
-/// Carries out the words, and answers the status: 0 for success, 1 where it failed, with one line on
-/// `errors`, 2 for words that no example has, with the usage line.
+/// Carries out the words, and answers the status: 0 for success, 1 where it failed, 2 for words
+/// that no example has. A failure has one line on `errors`, and such words the usage line.
 pub fn run<I: io::Read, O: io::Write, E: io::Write>(
     rt: &HostRuntime,
     words: &[&str],

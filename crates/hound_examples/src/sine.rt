@@ -1,9 +1,9 @@
 // A second of a sine of 440 Hz, in sixteen bits: `sine FILE`.
 //
-// The shortest writer there is: `create`, a `write_sample` for each sample, and `finalize`, whose Ok
-// says that the file is whole. The sine is the C library's, as in Rust. Over one C library the file
-// is the same, byte for byte, whatever compiled the program; over another a few samples may differ
-// by one.
+// The shortest writer there is: `create`, a `write_sample` for each sample, and `finalize`, whose
+// Ok says that the file is whole. The sine is the C library's, as in Rust: over one C library the
+// file is the same, byte for byte, whatever compiled the program, and over another a few samples
+// may differ by one.
 use hound::{SampleFormat, WavSpec, WavWriter};
 use std::f32::consts::PI;
 use std::num::saturating_f32_to_i16;

@@ -214,13 +214,16 @@ fn mend_puts_the_sizes_of_sox(rt: HostRuntime) -> Result<(), Fail> {
     let earlier = [[0x38, 0, 0, 0], [8, 0, 0, 0]];
     let torn = [[0x38, 0, 0, 0], [0x14, 0x14, 0, 0]];
     let unknown = [[0xff, 0xff, 0xff, 0xff], [0xff, 0xff, 0xff, 0xff]];
-    let cases: [(&[u8], usize, [[u8; 4]; 2], &[u8]); 8] = [
+    let no_riff_size = [[0, 0, 0, 0], [9, 0, 0, 0]];
+    let cases: [(&[u8], usize, [[u8; 4]; 2], &[u8]); 10] = [
         (FIVE, 44, half, &[1, 2, 3]),
         (FIVE, 44, begun, &[]),
         (FIVE, 44, earlier, &[]),
         (FIVE, 44, torn, &[1]),
         (THREE, 80, begun, &[]),
         (THREE, 80, unknown, &[1]),
+        (THREE, 80, no_riff_size, &[]),
+        (&THREE[..89], 80, no_riff_size, &[]),
         (&THREE[..89], 80, begun, &[]),
         (&THREE[..89], 80, torn, &[]),
     ];
@@ -245,6 +248,8 @@ channels 2, rate 44100, bits 16, format int
 samples 10, frames 5, seconds 0.000113
 ";
     assert_eq!(rt; lines.as_slice(), expected);
+
+    // The original takes these thirty bytes and says the same.
     fs::write(&rt, file.as_str(), &FIVE[..30])?;
     let mut errors = Vec::new(rt.alloc());
     let mut input = b"".as_slice();
