@@ -6,7 +6,6 @@ use crate::run::{run, run_append};
 use std::alloc::Global;
 use std::io::{Error, ErrorKind};
 use std::path::{Path, PathBuf};
-use std::process::Abort;
 use std::test::Fail;
 use std::{env, fs, io, process};
 
@@ -16,6 +15,15 @@ struct Answer {
     status: u8,
     output: Vec<u8>,
     errors: Vec<u8>,
+}
+
+impl Answer {
+    // Whether the run answered, wrote and said this.
+    fn is(&self, status: u8, output: &[u8], errors: &[u8]) -> bool {
+        self.status == status
+            && self.output.as_slice() == output
+            && self.errors.as_slice() == errors
+    }
 }
 
 fn run_on(alloc: Global, words: &[&str], input: &[u8]) -> Answer {
@@ -43,15 +51,12 @@ const FOUR_SAMPLES: [u8; 52] = [
 #[test]
 fn pack_writes_a_file(rt: HostRuntime) -> Result<(), Fail> {
     for input in ["2 -3 5 -7", "2\t-3\r\n5 -7\n", "002 -3 5 -07 "] {
-        let Answer {
-            status,
-            output,
-            errors,
-        } = run_on(rt.alloc(), &["pack", "1", "44100", "16"], input.as_bytes());
-        assert_eq!(rt; status, 0, "{input:?}");
-        assert_eq!(rt; output.as_slice(), FOUR_SAMPLES.as_slice(), "{input:?}");
-        assert!(rt; errors.is_empty(), "{input:?}");
+        let answer = run_on(rt.alloc(), &["pack", "1", "44100", "16"], input.as_bytes());
+        assert!(rt; answer.is(0, &FOUR_SAMPLES, b""), "{input:?}");
     }
+    // An odd number of bytes has its pad byte.
+    let answer = run_on(rt.alloc(), &["pack", "1", "8000", "8"], b"0");
+    assert!(rt; answer.is(0, &SILENCE, b""));
     Ok(())
 }
 
@@ -61,19 +66,6 @@ const SILENCE: [u8; 46] = [
     0x10, 0x00, 0x00, 0x00, 0x01, 0x00, 0x01, 0x00, 0x40, 0x1f, 0x00, 0x00, 0x40, 0x1f, 0x00, 0x00,
     0x01, 0x00, 0x08, 0x00, 0x64, 0x61, 0x74, 0x61, 0x01, 0x00, 0x00, 0x00, 0x80, 0x00,
 ];
-
-#[test]
-fn pack_writes_a_pad_byte(rt: HostRuntime) -> Result<(), Fail> {
-    let Answer {
-        status,
-        output,
-        errors,
-    } = run_on(rt.alloc(), &["pack", "1", "8000", "8"], b"0");
-    assert_eq!(rt; status, 0);
-    assert_eq!(rt; output.as_slice(), SILENCE.as_slice());
-    assert!(rt; errors.is_empty());
-    Ok(())
-}
 
 #[test]
 fn pack_says_why_it_refuses(rt: HostRuntime) -> Result<(), Fail> {
@@ -97,45 +89,30 @@ fn pack_says_why_it_refuses(rt: HostRuntime) -> Result<(), Fail> {
         ("1", "16", "-2147483649", bad),
     ];
     for (channels, bits, input, line) in refusals {
-        let Answer {
-            status,
-            output,
-            errors,
-        } = run_on(
-            rt.alloc(),
-            &["pack", channels, "44100", bits],
-            input.as_bytes(),
-        );
-        assert_eq!(rt; status, 1, "{input:?}");
-        assert!(rt; output.is_empty(), "{input:?}");
-        assert_eq!(rt; errors.as_slice(), line, "{input:?}");
+        let words = ["pack", channels, "44100", bits];
+        let answer = run_on(rt.alloc(), &words, input.as_bytes());
+        assert!(rt; answer.is(1, b"", line), "{input:?}");
     }
     Ok(())
 }
 
-fn expect_usage(rt: &impl Abort, alloc: Global, words: &[&str]) {
-    let Answer {
-        status,
-        output,
-        errors,
-    } = run_on(alloc, words, b"1");
-    assert_eq!(rt; status, 2);
-    assert!(rt; output.is_empty());
-    assert_eq!(rt; errors.as_slice(), USAGE);
-}
-
 #[test]
-fn other_words_print_the_usage(rt: HostRuntime) -> Result<(), Fail> {
-    expect_usage(&rt, rt.alloc(), &[]);
-    expect_usage(&rt, rt.alloc(), &["show", "a.wav"]);
-    expect_usage(&rt, rt.alloc(), &["append", "a.wav"]);
-    expect_usage(&rt, rt.alloc(), &["pack", "1", "44100"]);
-    expect_usage(&rt, rt.alloc(), &["pack", "1", "44100", "16", "more"]);
-    expect_usage(&rt, rt.alloc(), &["pack", "+1", "44100", "16"]);
-    expect_usage(&rt, rt.alloc(), &["pack", "1", "", "16"]);
-    expect_usage(&rt, rt.alloc(), &["pack", "65536", "44100", "16"]);
-    expect_usage(&rt, rt.alloc(), &["pack", "1", "4294967296", "16"]);
-    Ok(())
+fn other_words_print_the_usage(rt: HostRuntime) {
+    let rows: [&[&str]; 9] = [
+        &[],
+        &["show", "a.wav"],
+        &["append", "a.wav"],
+        &["pack", "1", "44100"],
+        &["pack", "1", "44100", "16", "more"],
+        &["pack", "+1", "44100", "16"],
+        &["pack", "1", "", "16"],
+        &["pack", "65536", "44100", "16"],
+        &["pack", "1", "4294967296", "16"],
+    ];
+    for words in rows {
+        let answer = run_on(rt.alloc(), words, b"1");
+        assert!(rt; answer.is(2, b"", USAGE), "{words:?}");
+    }
 }
 
 // Gives some bytes, and then fails.
@@ -178,24 +155,21 @@ fn faults_of_input_and_output_are_told(rt: HostRuntime) -> Result<(), Fail> {
     let mut output = Vec::new(alloc);
     let mut errors = Vec::new(alloc);
     let mut input = BreaksOff { given: false };
-    assert_eq!(rt; run(alloc, &words, &mut input, &mut output, &mut errors), 1);
-    assert!(rt; output.is_empty());
-    assert_eq!(rt; errors.as_slice(), line);
+    let status = run(alloc, &words, &mut input, &mut output, &mut errors);
+    let answer = Answer {
+        status,
+        output,
+        errors,
+    };
+    assert!(rt; answer.is(1, b"", line));
 
     let mut errors = Vec::new(alloc);
     let mut numbers: &[u8] = b"1";
-    assert_eq!(rt;
-        run(alloc, &words, &mut numbers, &mut Broken, &mut errors),
-        1
-    );
-    assert_eq!(rt; errors.as_slice(), line);
-
+    let status = run(alloc, &words, &mut numbers, &mut Broken, &mut errors);
     // A fault while the line is written isn't told.
     let mut letters: &[u8] = b"x";
-    assert_eq!(rt;
-        run(alloc, &words, &mut letters, &mut Broken, &mut Broken),
-        1
-    );
+    let unsaid = run(alloc, &words, &mut letters, &mut Broken, &mut Broken);
+    assert_eq!(rt; (status, errors.as_slice(), unsaid), (1, line, 1));
     Ok(())
 }
 
@@ -226,24 +200,9 @@ fn output_that_is_not_handed_on_is_told(rt: HostRuntime) -> Result<(), Fail> {
         let mut errors = Vec::new(alloc);
         let mut bytes = input;
         let status = run(alloc, words, &mut bytes, &mut output, &mut errors);
-        assert_eq!(rt; status, 1);
-        assert_eq!(rt; output.taken, count);
-        assert_eq!(rt; errors.as_slice(), b"input or output failed\n".as_slice());
+        let told = b"input or output failed\n".as_slice();
+        assert_eq!(rt; (status, output.taken, errors.as_slice()), (1, count, told));
     }
-    Ok(())
-}
-
-#[test]
-fn show_prints_what_pack_wrote(rt: HostRuntime) -> Result<(), Fail> {
-    let Answer {
-        status,
-        output,
-        errors,
-    } = run_on(rt.alloc(), &["show"], &FOUR_SAMPLES);
-    let lines: &[u8] = b"channels 1 rate 44100 bits 16 format int samples 4\n2\n-3\n5\n-7\n";
-    assert_eq!(rt; status, 0);
-    assert_eq!(rt; output.as_slice(), lines);
-    assert!(rt; errors.is_empty());
     Ok(())
 }
 
@@ -258,14 +217,8 @@ fn show_stops_at_the_first_fault(rt: HostRuntime) -> Result<(), Fail> {
         (b"RIFX".as_slice(), b"".as_slice(), no_riff),
     ];
     for (input, lines, line) in runs {
-        let Answer {
-            status,
-            output,
-            errors,
-        } = run_on(rt.alloc(), &["show"], input);
-        assert_eq!(rt; status, 1);
-        assert_eq!(rt; output.as_slice(), lines);
-        assert_eq!(rt; errors.as_slice(), line);
+        let answer = run_on(rt.alloc(), &["show"], input);
+        assert!(rt; answer.is(1, lines, line), "{} bytes", input.len());
     }
     Ok(())
 }
@@ -289,15 +242,9 @@ fn show_says_each_refusal(rt: HostRuntime) -> Result<(), Fail> {
     for (at, byte, reason) in refusals {
         let mut file = FOUR_SAMPLES;
         file[at] = byte;
-        let Answer {
-            status,
-            output,
-            errors,
-        } = run_on(rt.alloc(), &["show"], &file);
+        let answer = run_on(rt.alloc(), &["show"], &file);
         let line = format!(in rt.alloc(); "Ill-formed WAVE file: {reason}\n")?;
-        assert_eq!(rt; status, 1, "{reason}");
-        assert!(rt; output.is_empty(), "{reason}");
-        assert_eq!(rt; errors.as_slice(), line.as_bytes(), "{reason}");
+        assert!(rt; answer.is(1, b"", line.as_bytes()), "{reason}");
     }
     Ok(())
 }
@@ -331,13 +278,15 @@ fn a_line_of_errors_is_one_write(rt: HostRuntime) {
         };
         let mut input = b"RIFX".as_slice();
         run(rt.alloc(), words, &mut input, &mut output, &mut errors);
-        assert_eq!(rt; errors.writes, 1);
-        assert_eq!(rt; errors.bytes, length);
+        assert_eq!(rt; (errors.writes, errors.bytes), (1, length));
     }
 }
 
 #[test]
-fn show_prints_floats_as_their_bits(rt: HostRuntime) -> Result<(), Fail> {
+fn show_prints_each_sample(rt: HostRuntime) -> Result<(), Fail> {
+    let lines: &[u8] = b"channels 1 rate 44100 bits 16 format int samples 4\n2\n-3\n5\n-7\n";
+    let answer = run_on(rt.alloc(), &["show"], &FOUR_SAMPLES);
+    assert!(rt; answer.is(0, lines, b""));
     // Mono, 44100 Hz, two floats: 1.0, and the least above 0.
     let file: [u8; 76] = [
         0x52, 0x49, 0x46, 0x46, 0x44, 0x00, 0x00, 0x00, 0x57, 0x41, 0x56, 0x45, 0x66, 0x6d, 0x74,
@@ -349,58 +298,57 @@ fn show_prints_floats_as_their_bits(rt: HostRuntime) -> Result<(), Fail> {
     ];
     let lines: &[u8] =
         b"channels 1 rate 44100 bits 32 format float samples 2\n3f800000\n00000001\n";
-    let Answer {
-        status,
-        output,
-        errors,
-    } = run_on(rt.alloc(), &["show"], &file);
-    assert_eq!(rt; status, 0);
-    assert_eq!(rt; output.as_slice(), lines);
-    assert!(rt; errors.is_empty());
+    let answer = run_on(rt.alloc(), &["show"], &file);
+    assert!(rt; answer.is(0, lines, b""));
     Ok(())
 }
 
+// Packs these numbers in one channel at 8000 Hz, and shows them again.
+fn pack_and_show(alloc: Global, bits: &str, numbers: &[u8]) -> Answer {
+    let file = run_on(alloc, &["pack", "1", "8000", bits], numbers);
+    if file.status != 0 {
+        return file;
+    }
+    run_on(alloc, &["show"], &file.output)
+}
+
 #[test]
-fn every_width_goes_through(rt: HostRuntime) -> Result<(), Fail> {
-    let runs: [(&str, &[u8]); 3] = [
+fn every_width_goes_through(rt: HostRuntime) {
+    let runs: [(&str, &[u8], &[u8]); 4] = [
         (
             "8",
+            b"-128 127",
             b"channels 1 rate 8000 bits 8 format int samples 2\n-128\n127\n",
         ),
         (
             "24",
+            b"-128 127",
             b"channels 1 rate 8000 bits 24 format int samples 2\n-128\n127\n",
         ),
         (
             "32",
+            b"-128 127",
             b"channels 1 rate 8000 bits 32 format int samples 2\n-128\n127\n",
         ),
+        // The least and the greatest number.
+        (
+            "32",
+            b"-2147483648 2147483647",
+            b"channels 1 rate 8000 bits 32 format int samples 2\n-2147483648\n2147483647\n",
+        ),
     ];
-    for (bits, lines) in runs {
-        let file = run_on(rt.alloc(), &["pack", "1", "8000", bits], b"-128 127");
-        assert_eq!(rt; file.status, 0);
-        let shown = run_on(rt.alloc(), &["show"], &file.output);
-        assert_eq!(rt; shown.output.as_slice(), lines);
+    for (bits, numbers, lines) in runs {
+        let answer = pack_and_show(rt.alloc(), bits, numbers);
+        assert!(rt; answer.is(0, lines, b""), "{bits}");
     }
-    Ok(())
 }
 
 #[test]
-fn the_least_and_the_greatest_number_go_through(rt: HostRuntime) -> Result<(), Fail> {
+fn the_least_and_the_greatest_number_have_these_bytes(rt: HostRuntime) {
     let words = ["pack", "1", "44100", "32"];
     let file = run_on(rt.alloc(), &words, b"-2147483648 2147483647");
-    assert_eq!(rt; file.status, 0);
     let data = [0x00u8, 0x00, 0x00, 0x80, 0xff, 0xff, 0xff, 0x7f];
     assert_eq!(rt; file.output.get(68..), Some(data.as_slice()));
-    let lines: &[u8] =
-        b"channels 1 rate 44100 bits 32 format int samples 2\n-2147483648\n2147483647\n";
-    assert_eq!(rt;
-        run_on(rt.alloc(), &["show"], &file.output)
-            .output
-            .as_slice(),
-        lines
-    );
-    Ok(())
 }
 
 // A file that no other test names.
@@ -435,35 +383,29 @@ fn append_on(rt: &HostRuntime, name: &str, file: &[u8], input: &[u8]) -> Result<
 fn append_goes_on_with_a_file(rt: HostRuntime) -> Result<(), Fail> {
     let packed = run_on(rt.alloc(), &["pack", "1", "44100", "16"], b"11 13 17");
     let answer = append_on(&rt, "append", &packed.output, b"19 23")?;
-    assert_eq!(rt; answer.status, 0);
-    assert!(rt; answer.errors.is_empty());
-    assert_eq!(rt; answer.output.len(), 54);
+    let (status, length) = (answer.status, answer.output.len());
+    assert_eq!(rt;
+        (status, answer.errors.as_slice(), length),
+        (0, b"".as_slice(), 54)
+    );
     let shown = run_on(rt.alloc(), &["show"], &answer.output);
     let lines: &[u8] = b"channels 1 rate 44100 bits 16 format int samples 5\n11\n13\n17\n19\n23\n";
     assert_eq!(rt; shown.output.as_slice(), lines);
     Ok(())
 }
 
-// No numbers are none to be put, but the file is opened and its sizes are put.
 #[test]
-fn append_of_no_numbers_ends_the_file(rt: HostRuntime) -> Result<(), Fail> {
+fn append_leaves_a_file_of_the_same_samples(rt: HostRuntime) -> Result<(), Fail> {
     let mut begun = FOUR_SAMPLES.to_vec(rt.alloc())?;
     for byte in begun.iter_mut().skip(4).take(4) {
         *byte = 0;
     }
-    let answer = append_on(&rt, "none", &begun, b" \n")?;
-    assert_eq!(rt; answer.status, 0);
-    assert!(rt; answer.errors.is_empty());
-    assert_eq!(rt; answer.output.as_slice(), FOUR_SAMPLES.as_slice());
-    Ok(())
-}
-
-#[test]
-fn append_tests_its_numbers_before_it_opens_a_file(rt: HostRuntime) -> Result<(), Fail> {
-    let answer = append_on(&rt, "numbers", &FOUR_SAMPLES, b"19 x")?;
-    assert_eq!(rt; answer.status, 1);
-    assert_eq!(rt; answer.errors.as_slice(), b"bad number\n".as_slice());
-    assert_eq!(rt; answer.output.as_slice(), FOUR_SAMPLES.as_slice());
+    // No numbers are none to be put, but the file is opened and its sizes are put.
+    let none = append_on(&rt, "none", &begun, b" \n")?;
+    assert!(rt; none.is(0, &FOUR_SAMPLES, b""));
+    // Numbers are tested before the file is opened.
+    let bad = append_on(&rt, "numbers", &begun, b"19 x")?;
+    assert!(rt; bad.is(1, &begun, b"bad number\n"));
     Ok(())
 }
 
@@ -471,8 +413,7 @@ fn append_tests_its_numbers_before_it_opens_a_file(rt: HostRuntime) -> Result<()
 fn append_keeps_what_came_before_a_refusal(rt: HostRuntime) -> Result<(), Fail> {
     let answer = append_on(&rt, "refused", &FOUR_SAMPLES, b"11 32768 13")?;
     let line: &[u8] = b"The sample has more bits than the destination type.\n";
-    assert_eq!(rt; answer.status, 1);
-    assert_eq!(rt; answer.errors.as_slice(), line);
+    assert_eq!(rt; (answer.status, answer.errors.as_slice()), (1, line));
     let shown = run_on(rt.alloc(), &["show"], &answer.output);
     let lines: &[u8] = b"channels 1 rate 44100 bits 16 format int samples 5\n2\n-3\n5\n-7\n11\n";
     assert_eq!(rt; shown.output.as_slice(), lines);
@@ -486,9 +427,9 @@ fn append_makes_no_file(rt: HostRuntime) -> Result<(), Fail> {
         let mut errors = Vec::new(rt.alloc());
         let mut input = numbers;
         let status = run_append(&rt, rt.alloc(), path.as_path(), &mut input, &mut errors);
-        assert_eq!(rt; status, 1);
-        assert_eq!(rt; errors.as_slice(), b"input or output failed\n".as_slice());
-        assert!(rt; fs::read(&rt, path.as_path()).is_err());
+        let is_made = fs::read(&rt, path.as_path()).is_ok();
+        let told = b"input or output failed\n".as_slice();
+        assert_eq!(rt; (status, errors.as_slice(), is_made), (1, told, false));
     }
     Ok(())
 }

@@ -1,10 +1,9 @@
 // Files of more samples than a batch has, and lines of more bytes than are written at once.
-use super::{Answer, run_on};
+use super::{Answer, pack_and_show, run_on};
 use crate::run::run;
 use std::alloc::{AllocError, Global};
 use std::io;
 use std::io::{Error, ErrorKind, Write};
-use std::process::Abort;
 use std::test::Fail;
 
 const PACK: [&str; 4] = ["pack", "1", "44100", "16"];
@@ -38,24 +37,18 @@ fn a_long_file_goes_through(rt: HostRuntime) -> Result<(), Fail> {
     let numbers = ten_thousand_and_one(alloc)?;
     let lines = lines_of(alloc, &numbers)?;
     let packed = run_on(alloc, &PACK, &lines);
-    assert_eq!(rt; packed.status, 0);
-    assert_eq!(rt; packed.output.len(), 44 + 20002);
-    assert_eq!(rt;
-        packed.output.get(40..44),
-        Some([0x22, 0x4e, 0, 0].as_slice())
-    );
-    for (i, number) in numbers.iter().enumerate() {
-        let low = packed.output.get(44 + 2 * i).copied();
-        let high = packed.output.get(45 + 2 * i).copied();
-        let [a, b, _, _] = number.to_le_bytes();
-        assert_eq!(rt; low, Some(a), "{number}");
-        assert_eq!(rt; high, Some(b), "{number}");
+    let mut data = [0x22, 0x4e, 0, 0].to_vec(alloc)?;
+    for number in &numbers {
+        data.extend_from_slice(&number.to_le_bytes()[..2])?;
     }
+    assert_eq!(rt;
+        (packed.status, packed.output.get(40..)),
+        (0, Some(data.as_slice()))
+    );
     let shown = run_on(alloc, &["show"], &packed.output);
     let mut wanted = SPEC_LINE.to_vec(alloc)?;
     wanted.extend_from_slice(&lines)?;
-    assert_eq!(rt; shown.status, 0);
-    assert_eq!(rt; shown.output.as_slice(), wanted.as_slice());
+    assert!(rt; shown.is(0, &wanted, b""));
     Ok(())
 }
 
@@ -70,14 +63,8 @@ fn a_long_file_is_refused(rt: HostRuntime) -> Result<(), Fail> {
                 *number = wide;
             }
             let lines = lines_of(alloc, &numbers)?;
-            let Answer {
-                status,
-                output,
-                errors,
-            } = run_on(alloc, &PACK, &lines);
-            assert_eq!(rt; status, 1);
-            assert!(rt; output.is_empty());
-            assert_eq!(rt; errors.as_slice(), TOO_WIDE);
+            let answer = run_on(alloc, &PACK, &lines);
+            assert!(rt; answer.is(1, b"", TOO_WIDE), "{wide} at {at}");
         }
     }
     Ok(())
@@ -90,9 +77,7 @@ fn a_long_file_has_whole_frames(rt: HostRuntime) -> Result<(), Fail> {
     let lines = lines_of(alloc, &numbers)?;
     for bits in ["16", "24"] {
         let refused = run_on(alloc, &["pack", "2", "44100", bits], &lines);
-        assert_eq!(rt; refused.status, 1);
-        assert!(rt; refused.output.is_empty());
-        assert_eq!(rt; refused.errors.as_slice(), UNFINISHED);
+        assert!(rt; refused.is(1, b"", UNFINISHED), "{bits}");
     }
     let packed = run_on(alloc, &["pack", "73", "44100", "16"], &lines);
     assert_eq!(rt; packed.status, 0);
@@ -107,12 +92,10 @@ fn every_count_of_digits_is_shown(rt: HostRuntime) -> Result<(), Fail> {
 99999999\n100000000\n999999999\n1000000000\n2147483647\n12\n123\n1234\n12345\n123456\n1234567\n\
 12345678\n123456789\n1234567890\n-1002003004\n-1020304050\n100000001\n2000000010\n";
     let alloc = rt.alloc();
-    let packed = run_on(alloc, &["pack", "1", "44100", "32"], lines);
-    assert_eq!(rt; packed.status, 0);
-    let shown = run_on(alloc, &["show"], &packed.output);
-    let mut wanted = b"channels 1 rate 44100 bits 32 format int samples 54\n".to_vec(alloc)?;
+    let shown = pack_and_show(alloc, "32", lines);
+    let mut wanted = b"channels 1 rate 8000 bits 32 format int samples 54\n".to_vec(alloc)?;
     wanted.extend_from_slice(lines)?;
-    assert_eq!(rt; shown.output.as_slice(), wanted.as_slice());
+    assert!(rt; shown.is(0, &wanted, b""));
     Ok(())
 }
 
@@ -125,14 +108,7 @@ fn every_digit_of_a_pattern_is_shown(rt: HostRuntime) {
 \0\0\0\0\xff\xff\xff\xff\x67\x45\x23\x01\xef\xcd\xab\x89\x0f\0\0\0\0\0\0\xf0";
     let lines: &[u8] = b"channels 1 rate 44100 bits 32 format float samples 6\n\
 00000000\nffffffff\n01234567\n89abcdef\n0000000f\nf0000000\n";
-    let Answer {
-        status,
-        output,
-        errors,
-    } = run_on(rt.alloc(), &["show"], file);
-    assert_eq!(rt; status, 0);
-    assert_eq!(rt; output.as_slice(), lines);
-    assert!(rt; errors.is_empty());
+    assert!(rt; run_on(rt.alloc(), &["show"], file).is(0, lines, b""));
 }
 
 // Every line before the cut is shown.
@@ -151,13 +127,7 @@ fn a_cut_file_is_shown_as_far_as_it_goes(rt: HostRuntime) -> Result<(), Fail> {
                 .get(..44 + 2 * whole + torn)
                 .ok_or("a shorter file")?;
             let shown = run_on(alloc, &["show"], cut);
-            assert_eq!(rt; shown.status, 1, "{whole} {torn}");
-            assert_eq!(rt;
-                shown.output.as_slice(),
-                wanted.as_slice(),
-                "{whole} {torn}"
-            );
-            assert_eq!(rt; shown.errors.as_slice(), FAILED, "{whole} {torn}");
+            assert!(rt; shown.is(1, &wanted, FAILED), "{whole} {torn}");
         }
     }
     Ok(())
@@ -200,9 +170,12 @@ fn a_file_that_breaks_off_is_shown_as_far_as_it_goes(rt: HostRuntime) -> Result<
         let mut errors = Vec::new(alloc);
         let mut input = BreaksOff { bytes };
         let status = run(alloc, &["show"], &mut input, &mut output, &mut errors);
-        assert_eq!(rt; status, 1, "{length}");
-        assert_eq!(rt; output.as_slice(), wanted.as_slice(), "{length}");
-        assert_eq!(rt; errors.as_slice(), FAILED, "{length}");
+        let shown = Answer {
+            status,
+            output,
+            errors,
+        };
+        assert!(rt; shown.is(1, &wanted, FAILED), "{length}");
     }
     Ok(())
 }
@@ -230,31 +203,35 @@ impl io::Write for Full {
     }
 }
 
-// Runs with outputs that fail early and late. What they took is the beginning of what is wanted.
-fn expect_full(rt: &impl Abort, alloc: Global, words: &[&str], input: &[u8], wanted: &[u8]) {
-    for room in [0, 43, 55, 100, 16000, 20000] {
-        let mut output = Full {
-            room,
-            taken: Vec::new(alloc),
-        };
-        let mut errors = Vec::new(alloc);
-        let mut bytes = input;
-        let status = run(alloc, words, &mut bytes, &mut output, &mut errors);
-        assert_eq!(rt; status, 1, "{room}");
-        assert_eq!(rt; Some(output.taken.as_slice()), wanted.get(..room), "{room}");
-        assert_eq!(rt; errors.as_slice(), FAILED, "{room}");
-    }
+// Whether a run says so where its output takes only so many bytes, the beginning of what is wanted.
+fn is_told(alloc: Global, room: usize, words: &[&str], input: &[u8], wanted: &[u8]) -> bool {
+    let mut output = Full {
+        room,
+        taken: Vec::new(alloc),
+    };
+    let mut errors = Vec::new(alloc);
+    let mut bytes = input;
+    let status = run(alloc, words, &mut bytes, &mut output, &mut errors);
+    status == 1
+        && Some(output.taken.as_slice()) == wanted.get(..room)
+        && errors.as_slice() == FAILED
 }
 
+// Outputs that fail early and late.
 #[test]
 fn a_full_output_is_told(rt: HostRuntime) -> Result<(), Fail> {
     let alloc = rt.alloc();
     let numbers = ten_thousand_and_one(alloc)?;
     let lines = lines_of(alloc, &numbers)?;
-    let packed = run_on(alloc, &PACK, &lines);
-    expect_full(&rt, alloc, &PACK, &lines, &packed.output);
-    let shown = run_on(alloc, &["show"], &packed.output);
-    expect_full(&rt, alloc, &["show"], &packed.output, &shown.output);
+    let packed = run_on(alloc, &PACK, &lines).output;
+    let shown = run_on(alloc, &["show"], &packed).output;
+    for room in [0, 43, 55, 100, 16000, 20000] {
+        let told = (
+            is_told(alloc, room, &PACK, &lines, &packed),
+            is_told(alloc, room, &["show"], &packed, &shown),
+        );
+        assert_eq!(rt; told, (true, true), "{room}");
+    }
     Ok(())
 }
 
@@ -300,11 +277,11 @@ fn memory_that_is_gone_is_told(rt: HostRuntime) -> Result<(), Fail> {
     };
     let status = run(alloc, &PACK, &mut input, &mut output, &mut errors);
     drop(input);
-    assert_eq!(rt; status, 1);
-    assert!(rt; output.is_empty());
-    assert_eq!(rt;
-        errors.as_slice(),
-        b"There is not enough memory.\n".as_slice()
-    );
+    let answer = Answer {
+        status,
+        output,
+        errors,
+    };
+    assert!(rt; answer.is(1, b"", b"There is not enough memory.\n"));
     Ok(())
 }
