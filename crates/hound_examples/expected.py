@@ -1,5 +1,5 @@
 #!/usr/bin/env python3
-"""Prints what src/tests.rt expects: what the original crate, sox and python make of the same input.
+"""Prints what scripts/try_programs expects of the examples: what the original crate, sox and python make of the same input.
 
 usage: ./expected.py SINE
 

@@ -7,8 +7,6 @@ mod measure;
 mod pattern;
 mod run;
 mod sessions;
-#[cfg(test)]
-mod tests;
 mod workloads;
 
 use run::run;

@@ -13,8 +13,6 @@ mod mulaw;
 mod record;
 mod run;
 mod sine;
-#[cfg(test)]
-mod tests;
 
 use run::run;
 use std::io::BufWriter;

@@ -9,11 +9,11 @@ use std::io;
 use std::io::ErrorKind;
 use std::test::Fail;
 
-// The numbers below 100 in turn, so many.
-pub(crate) fn numbers(alloc: Global, count: i32) -> Result<Vec<i32>, Fail> {
+// The numbers from 1 to 100 in turn, so many.
+pub(crate) fn numbers(alloc: Global, count: usize) -> Result<Vec<i32>, Fail> {
     let mut numbers = Vec::new(alloc);
     for i in 0..count {
-        numbers.push(i % 100)?;
+        numbers.push((i % 100) as i32 + 1)?;
     }
     Ok(numbers)
 }

@@ -4,8 +4,6 @@
 
 mod record;
 mod run;
-#[cfg(test)]
-mod tests;
 
 use run::run;
 use std::process::ExitCode;

@@ -6,8 +6,6 @@ mod eight;
 mod lines;
 mod numbers;
 mod run;
-#[cfg(test)]
-mod tests;
 
 use run::{run, run_append};
 use std::io::{BufWriter, ErrorKind};
