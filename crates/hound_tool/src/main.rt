@@ -1,10 +1,7 @@
 //! The program `hound_tool`: numbers to WAV files.
 #![tactic(auto)]
 
-mod ahead;
-mod eight;
-mod lines;
-mod numbers;
+mod failure;
 mod run;
 
 use run::{run, run_append};

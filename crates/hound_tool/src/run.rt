@@ -1,12 +1,11 @@
 // What the program does, over any reader and writers.
 ghost use Rattle.std.specs.Prelude.{◌≡◌, ◌≤◌};
 
-use crate::ahead::Ahead;
-use crate::lines::Lines;
-use crate::numbers::{Failure, digits, read_numbers};
+use crate::failure::Failure;
 use hound::{
     FloatBits, SampleFormat, Step, Tape, WavReader, WavSpec, WavSpecEx, WavWriter, run_sessions,
 };
+use hound_text::{Ahead, Lines, digits, read_numbers};
 use std::alloc::{AllocError, Global};
 use std::fmt::Display;
 use std::io::Write;

@@ -1,5 +1,5 @@
 use Rattle.std.proofs.Common.{◌≤◌}
-use Rattle.hound_tool.proofs.numbers.digits.Given as goal
+use Rattle.hound_text.proofs.numbers.digits.Given as goal
 
 abbrev pub invariant-loop-byte : goal.invariant-loop-byte
 invariant-loop-byte l = l.number ≤ l.most

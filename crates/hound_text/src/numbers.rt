@@ -1,62 +1,31 @@
 // Numbers as text.
 ghost use Rattle.std.specs.Prelude.{◌<◌, ◌≤◌, IfOk, IfSome, length};
-ghost use Rattle.hound_tool.specs.Text.{IsFront};
+ghost use Rattle.hound_text.specs.Text.{IsFront};
 
 use crate::eight::leading_digits;
-use hound::Error;
-use std::alloc::{AllocError, AllocFailed, Global};
+use std::alloc::{AllocFailed, Global};
 use std::io;
-use std::io::ErrorKind;
-use thiserror::Error as DeriveError;
 
 /// The bytes of input that are read at most, where numbers are read.
 const MOST_BYTES: u64 = 4_294_967_295;
 
-/// Why the program answers status 1: what its line on standard error says.
-#[derive(Debug, Drop, DeriveError)]
-pub enum Failure {
-    #[error("bad number")]
-    BadNumber,
-    #[error("input or output failed")]
-    InputOrOutput,
-    #[error(transparent)]
-    Refused(Error),
-}
-
-impl From<Error> for Failure {
-    fn from(error: Error) -> Failure {
-        match error {
-            Error::IoError(_) => Failure::InputOrOutput,
-            refusal => Failure::Refused(refusal),
-        }
-    }
-}
-
-impl From<io::Error> for Failure {
-    fn from(_: io::Error) -> Failure {
-        Failure::InputOrOutput
-    }
-}
-
-impl From<AllocError> for Failure {
-    fn from(_: AllocError) -> Failure {
-        Failure::Refused(Error::OutOfMemory)
-    }
-}
-
-// Why a text is not taken. It has one byte where a `Failure` has a hundred, and answers each number.
+/// Why a text is not taken. It has one byte, where an error that holds an `io::Error` has a hundred,
+/// and it is part of the answer for each number.
 #[derive(Clone, Copy)]
-enum Refusal {
+pub enum Refusal {
+    /// A byte stands where no number can have it, or a number is beyond `i32`.
     BadNumber,
+
+    /// The input failed, or has more than 4294967295 bytes.
+    InputOrOutput,
+
+    /// There is no memory for the numbers.
     OutOfMemory,
 }
 
-impl From<Refusal> for Failure {
-    fn from(refusal: Refusal) -> Failure {
-        match refusal {
-            Refusal::BadNumber => Failure::BadNumber,
-            Refusal::OutOfMemory => Failure::Refused(Error::OutOfMemory),
-        }
+impl From<io::Error> for Refusal {
+    fn from(_: io::Error) -> Refusal {
+        Refusal::InputOrOutput
     }
 }
 
@@ -239,7 +208,7 @@ fn take_bytes(place: Place, bytes: &[u8], numbers: &mut Vec<i32>) -> Result<Plac
 /// They are separated by spaces, tabs, carriage returns and line feeds: an optional `-`, and then
 /// digits, within `i32`. The first byte that breaks this is `BadNumber`. A fault of the input, or
 /// more than 4294967295 bytes of it, is `InputOrOutput`.
-pub fn read_numbers<R: io::Read>(alloc: Global, input: &mut R) -> Result<Vec<i32>, Failure> {
+pub fn read_numbers<R: io::Read>(alloc: Global, input: &mut R) -> Result<Vec<i32>, Refusal> {
     let mut numbers = Vec::new(alloc);
     let mut place = Place::Between;
     let mut buffer = [0; 16384];
@@ -252,7 +221,7 @@ pub fn read_numbers<R: io::Read>(alloc: Global, input: &mut R) -> Result<Vec<i32
         }
         if count as u64 > room {
             take_bytes(place, &buffer[..room as usize], &mut numbers)?;
-            return Err(Failure::InputOrOutput);
+            return Err(Refusal::InputOrOutput);
         }
         place = take_bytes(place, &buffer[..count], &mut numbers)?;
         room -= count as u64;

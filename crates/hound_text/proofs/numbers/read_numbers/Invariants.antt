@@ -1,4 +1,4 @@
-use Rattle.hound_tool.proofs.numbers.read_numbers.Given as goal
+use Rattle.hound_text.proofs.numbers.read_numbers.Given as goal
 
 -- what may still be read
 abbrev pub decreases-loop-numbers : goal.decreases-loop-numbers

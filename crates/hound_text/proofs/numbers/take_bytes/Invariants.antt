@@ -1,5 +1,5 @@
 use Rattle.std.proofs.Common.{length}
-use Rattle.hound_tool.proofs.numbers.take_bytes.Given as goal
+use Rattle.hound_text.proofs.numbers.take_bytes.Given as goal
 
 -- what is left of the text
 abbrev pub decreases-loop-place : goal.decreases-loop-place

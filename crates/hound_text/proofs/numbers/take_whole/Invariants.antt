@@ -1,5 +1,5 @@
 use Rattle.std.proofs.Common.{◌≤◌, length}
-use Rattle.hound_tool.proofs.numbers.take_whole.Given as goal
+use Rattle.hound_text.proofs.numbers.take_whole.Given as goal
 
 abbrev pub invariant-loop-number : goal.invariant-loop-number
 invariant-loop-number l = length l.rest ≤ length l.text

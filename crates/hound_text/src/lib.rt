@@ -1,0 +1,12 @@
+//! Numbers as text: how the program `hound_tool` reads them from its input, and makes lines of them
+//! for its output.
+#![tactic(auto)]
+
+mod ahead;
+mod eight;
+mod lines;
+mod numbers;
+
+pub use ahead::Ahead;
+pub use lines::Lines;
+pub use numbers::{Refusal, digits, read_numbers};
