@@ -1,4 +1,4 @@
-//! Tests over the public items of the layers below the writer.
+//! Tests over the public items of the layers below the reader.
 #![tactic(auto)]
 
 #[cfg(test)]
@@ -7,8 +7,6 @@ mod headers;
 mod media;
 #[cfg(test)]
 mod numbers;
-#[cfg(test)]
-mod reading;
 #[cfg(test)]
 mod samples;
 #[cfg(test)]
