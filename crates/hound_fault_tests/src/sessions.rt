@@ -1,15 +1,42 @@
-// Whole runs of a writer as one call.
+// Whole runs of a writer as one call, most of them rows of two tables.
 ghost use Rattle.std.specs.Prelude.{◌≡◌};
 
 use crate::helpers::failing;
-use hound::{Begin, End, Error, FloatBits, Step, Tape, WavSpecEx, run_session, run_sessions};
-use hound_callers::helpers::{empty_tape, integers, samples_of, tape_of};
+use hound::{
+    Begin, End, Error, FloatBits, SampleFormat, Step, WavSpec, WavSpecEx, run_session, run_sessions,
+};
+use hound_callers::helpers::{integers, tape_of};
 use std::alloc::Global;
 use std::test::Fail;
 
-fn sixteen(channels: u16) -> WavSpecEx {
-    integers(channels, 44100, 16, 2)
-}
+// Mono, 44100 Hz, 16 bits.
+const MONO_SPEC: WavSpec = WavSpec {
+    channels: 1,
+    sample_rate: 44100,
+    bits_per_sample: 16,
+    sample_format: SampleFormat::Int,
+};
+
+const MONO: WavSpecEx = WavSpecEx {
+    spec: MONO_SPEC,
+    bytes_per_sample: 2,
+};
+
+const STEREO: WavSpecEx = WavSpecEx {
+    spec: WavSpec {
+        channels: 2,
+        ..MONO_SPEC
+    },
+    bytes_per_sample: 2,
+};
+
+const MONO_24: WavSpecEx = WavSpecEx {
+    spec: WavSpec {
+        bits_per_sample: 24,
+        ..MONO_SPEC
+    },
+    bytes_per_sample: 3,
+};
 
 // Stereo, 44100 Hz, 16 bits: 1, 2.
 const ONE_FRAME: [u8; 48] = [
@@ -26,7 +53,14 @@ const THREE_SAMPLES: [u8; 50] = [
     0x11, 0x00,
 ];
 
-// The same with 19 and 23 behind them.
+// Mono, 44100 Hz, 16 bits: 11.
+const ONE_SAMPLE: [u8; 46] = [
+    0x52, 0x49, 0x46, 0x46, 0x26, 0x00, 0x00, 0x00, 0x57, 0x41, 0x56, 0x45, 0x66, 0x6d, 0x74, 0x20,
+    0x10, 0x00, 0x00, 0x00, 0x01, 0x00, 0x01, 0x00, 0x44, 0xac, 0x00, 0x00, 0x88, 0x58, 0x01, 0x00,
+    0x02, 0x00, 0x10, 0x00, 0x64, 0x61, 0x74, 0x61, 0x02, 0x00, 0x00, 0x00, 0x0b, 0x00,
+];
+
+// That of THREE_SAMPLES with 19 and 23 behind them.
 const FIVE_SAMPLES: [u8; 54] = [
     0x52, 0x49, 0x46, 0x46, 0x2e, 0x00, 0x00, 0x00, 0x57, 0x41, 0x56, 0x45, 0x66, 0x6d, 0x74, 0x20,
     0x10, 0x00, 0x00, 0x00, 0x01, 0x00, 0x01, 0x00, 0x44, 0xac, 0x00, 0x00, 0x88, 0x58, 0x01, 0x00,
@@ -34,74 +68,192 @@ const FIVE_SAMPLES: [u8; 54] = [
     0x11, 0x00, 0x13, 0x00, 0x17, 0x00,
 ];
 
-#[test]
-fn refused_steps_are_marked_and_passed_over(rt: HostRuntime) -> Result<(), Fail> {
-    let alloc = rt.alloc();
-    let steps = [
-        Step::Whole(1),
-        Step::Whole(40000),
-        Step::Flush,
-        Step::Bits(FloatBits(1)),
-        Step::Whole(2),
-    ];
-    let mut marks = [false; 5];
-    let begin = Begin::New(sixteen(2));
-    let tape = empty_tape(alloc);
-    let (tape, answer) = run_session(alloc, tape, begin, &steps, &mut marks, End::Finalize);
-    answer?;
-    let marked = [true, false, true, false, true];
-    assert_eq!(rt; (marks, tape.bytes()), (marked, ONE_FRAME.as_slice()));
-    Ok(())
+// What a run answers.
+#[derive(Clone, Copy, PartialEq, Eq)]
+enum Ending {
+    Done,
+    Unsupported,
+    TooWide,
+    NoRiffTag,
+    Other,
+}
+
+fn ending_of(answer: hound::Result<()>) -> Ending {
+    match answer {
+        Ok(()) => Ending::Done,
+        Err(Error::Unsupported) => Ending::Unsupported,
+        Err(Error::TooWide) => Ending::TooWide,
+        Err(Error::FormatError("no RIFF tag found")) => Ending::NoRiffTag,
+        Err(_) => Ending::Other,
+    }
+}
+
+// A session over these bytes, what it answers, the marks of its steps, and the bytes after it.
+#[derive(Clone, Copy)]
+struct OneSession {
+    name: &'static str,
+    over: &'static [u8],
+    begin: Begin,
+    steps: &'static [Step<'static>],
+    end: End,
+    ending: Ending,
+    marks: &'static [bool],
+    bytes: &'static [u8],
+}
+
+const TWO_MORE: OneSession = OneSession {
+    name: "a session goes on with a file and ends",
+    over: &THREE_SAMPLES,
+    begin: Begin::Append,
+    steps: &[Step::Whole(19), Step::Whole(23)],
+    end: End::Finalize,
+    ending: Ending::Done,
+    marks: &[true, true],
+    bytes: &FIVE_SAMPLES,
+};
+
+const ONE_SESSION: &[OneSession] = &[
+    TWO_MORE,
+    OneSession {
+        name: "a session goes on with a file and is dropped",
+        end: End::Drop,
+        ..TWO_MORE
+    },
+    OneSession {
+        name: "refused steps are marked and passed over",
+        over: &[],
+        begin: Begin::New(STEREO),
+        steps: &[
+            Step::Whole(1),
+            Step::Whole(40000),
+            Step::Flush,
+            Step::Bits(FloatBits(1)),
+            Step::Whole(2),
+        ],
+        marks: &[true, false, true, false, true],
+        bytes: &ONE_FRAME,
+        ..TWO_MORE
+    },
+    OneSession {
+        name: "all steps of two sessions",
+        over: &[],
+        begin: Begin::New(MONO),
+        steps: &[Step::Whole(11), Step::Whole(13), Step::Whole(17)],
+        marks: &[true; 3],
+        bytes: &THREE_SAMPLES,
+        ..TWO_MORE
+    },
+    OneSession {
+        name: "an unwritable spec takes no step",
+        over: &[],
+        begin: Begin::New(WavSpecEx {
+            bytes_per_sample: 4,
+            ..MONO
+        }),
+        steps: &[Step::Whole(1), Step::Flush],
+        ending: Ending::Unsupported,
+        marks: &[false; 2],
+        bytes: &[],
+        ..TWO_MORE
+    },
+    OneSession {
+        name: "bytes that are no file are not gone on with",
+        over: b"this is no WAVE file",
+        steps: &[Step::Whole(1), Step::Flush],
+        ending: Ending::NoRiffTag,
+        marks: &[false; 2],
+        bytes: b"this is no WAVE file",
+        ..TWO_MORE
+    },
+];
+
+// Whether a session comes out as said, where all its marks are as this one before it.
+fn comes_out(alloc: Global, session: &OneSession, mark: bool) -> Result<bool, Fail> {
+    let mut marks = vec![in alloc; mark; session.steps.len()]?;
+    let tape = tape_of(alloc, session.over)?;
+    let (begin, end) = (session.begin, session.end);
+    let (tape, answer) = run_session(alloc, tape, begin, session.steps, &mut marks, end);
+    let is_marked = marks.as_slice() == session.marks;
+    Ok(ending_of(answer) == session.ending && is_marked && tape.bytes() == session.bytes)
 }
 
 #[test]
-fn two_sessions_are_as_one(rt: HostRuntime) -> Result<(), Fail> {
-    let alloc = rt.alloc();
-    let first = [Step::Whole(11), Step::Whole(13)];
-    let second = [Step::Whole(17)];
-    let sessions = [first.as_slice(), second.as_slice()];
-    let (two, answer) = run_sessions(alloc, empty_tape(alloc), sixteen(1), &sessions);
-    answer?;
-    let all = [Step::Whole(11), Step::Whole(13), Step::Whole(17)];
-    let mut marks = [false; 3];
-    let begin = Begin::New(sixteen(1));
-    let tape = empty_tape(alloc);
-    let (one, answer) = run_session(alloc, tape, begin, &all, &mut marks, End::Finalize);
-    answer?;
-    let three = THREE_SAMPLES.as_slice();
-    let stands = [two.bytes() == three, one.bytes() == three];
-    assert_eq!(rt; (marks, stands), ([true; 3], [true; 2]));
+fn a_session_comes_out_as_it_says(rt: HostRuntime) -> Result<(), Fail> {
+    for session in ONE_SESSION {
+        for mark in [false, true] {
+            assert!(rt; comes_out(rt.alloc(), session, mark)?, "{}", session.name);
+        }
+    }
     Ok(())
 }
 
-#[test]
-fn sessions_end_at_the_first_refusal(rt: HostRuntime) -> Result<(), Fail> {
-    let alloc = rt.alloc();
-    let first = [Step::Whole(11)];
-    let second = [Step::Whole(40000)];
-    let third = [Step::Whole(17)];
-    let sessions = [first.as_slice(), second.as_slice(), third.as_slice()];
-    let (tape, answer) = run_sessions(alloc, empty_tape(alloc), sixteen(1), &sessions);
-    assert!(rt; matches!(answer, Err(Error::TooWide)));
-    assert_eq!(rt;
-        samples_of::<i16>(alloc, tape.bytes())?.as_slice(),
-        [11i16].as_slice()
-    );
-    Ok(())
+// Sessions over a tape without bytes, what they answer, and the bytes after them from a place on.
+#[derive(Clone, Copy)]
+struct Sessions {
+    name: &'static str,
+    spec_ex: WavSpecEx,
+    sessions: &'static [&'static [Step<'static>]],
+    ending: Ending,
+    from: usize,
+    bytes: &'static [u8],
 }
 
+const SESSIONS: &[Sessions] = &[
+    Sessions {
+        name: "two sessions are as one",
+        spec_ex: MONO,
+        sessions: &[&[Step::Whole(11), Step::Whole(13)], &[Step::Whole(17)]],
+        ending: Ending::Done,
+        from: 0,
+        bytes: &THREE_SAMPLES,
+    },
+    Sessions {
+        name: "sessions end at the first refusal",
+        spec_ex: MONO,
+        sessions: &[
+            &[Step::Whole(11)],
+            &[Step::Whole(40000)],
+            &[Step::Whole(17)],
+        ],
+        ending: Ending::TooWide,
+        from: 0,
+        bytes: &ONE_SAMPLE,
+    },
+    Sessions {
+        name: "no sessions do nothing",
+        spec_ex: MONO,
+        sessions: &[],
+        ending: Ending::Done,
+        from: 0,
+        bytes: &[],
+    },
+    Sessions {
+        name: "batches are taken",
+        spec_ex: MONO,
+        sessions: &[&[Step::Batch(&[11, 13])], &[Step::Batch(&[17])]],
+        ending: Ending::Done,
+        from: 0,
+        bytes: &THREE_SAMPLES,
+    },
+    // From the data length on: one sample and the pad byte.
+    Sessions {
+        name: "sessions end at a batch of other samples",
+        spec_ex: MONO_24,
+        sessions: &[&[Step::Whole(1), Step::Batch(&[5, 6]), Step::Whole(2)]],
+        ending: Ending::Unsupported,
+        from: 64,
+        bytes: b"\x03\0\0\0\x01\0\0\0",
+    },
+];
+
 #[test]
-fn no_sessions_do_nothing_and_batches_are_taken(rt: HostRuntime) -> Result<(), Fail> {
-    let alloc = rt.alloc();
-    let (tape, none) = run_sessions(alloc, empty_tape(alloc), sixteen(1), &[]);
-    none?;
-    let is_empty = tape.bytes().is_empty();
-    let first = [Step::Batch(&[11, 13])];
-    let second = [Step::Batch(&[17])];
-    let sessions = [first.as_slice(), second.as_slice()];
-    let (tape, answer) = run_sessions(alloc, empty_tape(alloc), sixteen(1), &sessions);
-    answer?;
-    assert_eq!(rt; (is_empty, tape.bytes()), (true, THREE_SAMPLES.as_slice()));
+fn sessions_come_out_as_they_say(rt: HostRuntime) -> Result<(), Fail> {
+    for row in SESSIONS {
+        let tape = tape_of(rt.alloc(), &[])?;
+        let (tape, answer) = run_sessions(rt.alloc(), tape, row.spec_ex, row.sessions);
+        let is_left = tape.bytes().get(row.from..) == Some(row.bytes);
+        assert!(rt; is_left && ending_of(answer) == row.ending, "{}", row.name);
+    }
     Ok(())
 }
 
@@ -140,80 +292,5 @@ fn a_batch_of_other_samples_calls_nothing(rt: HostRuntime) -> Result<(), Fail> {
         let run = batch_of_other_samples(rt.alloc(), from, to)?;
         assert_eq!(rt; run, ([true, false, true], taken, has_failed), "{from}");
     }
-    Ok(())
-}
-
-#[test]
-fn sessions_end_at_a_batch_of_other_samples(rt: HostRuntime) -> Result<(), Fail> {
-    let alloc = rt.alloc();
-    let first = [Step::Whole(1), Step::Batch(&[5, 6]), Step::Whole(2)];
-    let sessions = [first.as_slice()];
-    let (tape, answer) = run_sessions(
-        alloc,
-        empty_tape(alloc),
-        integers(1, 44100, 24, 3),
-        &sessions,
-    );
-    let is_told = matches!(answer, Err(Error::Unsupported));
-    let tail = tape.bytes().get(64..) == Some(b"\x03\0\0\0\x01\0\0\0".as_slice());
-    assert_eq!(rt; (is_told, tail), (true, true));
-    Ok(())
-}
-
-// Goes on with the file of three samples by two more.
-fn two_more(alloc: Global, end: End) -> Result<Tape, Fail> {
-    let steps = [Step::Whole(19), Step::Whole(23)];
-    let mut marks = [false; 2];
-    let tape = tape_of(alloc, &THREE_SAMPLES)?;
-    let (tape, answer) = run_session(alloc, tape, Begin::Append, &steps, &mut marks, end);
-    answer?;
-    if marks != [true, true] {
-        return Err(Fail::from("a sample was refused"));
-    }
-    Ok(tape)
-}
-
-#[test]
-fn a_session_goes_on_with_a_file(rt: HostRuntime) -> Result<(), Fail> {
-    for end in [End::Finalize, End::Drop] {
-        assert_eq!(rt; two_more(rt.alloc(), end)?.bytes(), FIVE_SAMPLES.as_slice());
-    }
-    Ok(())
-}
-
-#[test]
-fn an_unwritable_spec_takes_no_step(rt: HostRuntime) -> Result<(), Fail> {
-    let alloc = rt.alloc();
-    let steps = [Step::Whole(1), Step::Flush];
-    let mut marks = [true; 2];
-    let begin = Begin::New(WavSpecEx {
-        bytes_per_sample: 4,
-        ..sixteen(1)
-    });
-    let tape = empty_tape(alloc);
-    let (tape, answer) = run_session(alloc, tape, begin, &steps, &mut marks, End::Finalize);
-    let is_told = matches!(answer, Err(Error::Unsupported));
-    assert_eq!(rt; (is_told, marks, tape.bytes().len()), (true, [false; 2], 0));
-    Ok(())
-}
-
-#[test]
-fn bytes_that_are_no_file_are_not_gone_on_with(rt: HostRuntime) -> Result<(), Fail> {
-    let alloc = rt.alloc();
-    let steps = [Step::Whole(1), Step::Flush];
-    let mut marks = [true; 2];
-    let bytes = b"this is no WAVE file";
-    let tape = tape_of(alloc, bytes)?;
-    let (tape, answer) = run_session(
-        alloc,
-        tape,
-        Begin::Append,
-        &steps,
-        &mut marks,
-        End::Finalize,
-    );
-    let is_told = matches!(answer, Err(Error::FormatError("no RIFF tag found")));
-    let stays = tape.bytes() == bytes.as_slice();
-    assert_eq!(rt; (is_told, marks, stays), (true, [false; 2], true));
     Ok(())
 }
