@@ -1,7 +1,7 @@
 // Checkpoints, and writers that are dropped.
 ghost use Rattle.std.specs.Prelude.{◌≡◌};
 
-use hound::{Error, Placed, Tape, WavReader, WavWriter};
+use hound::{Error, Placed, Tape, WavWriter};
 use hound_callers::helpers::{
     Faulty, empty_tape, file_of, integers, samples_of, sixteen, write_all,
 };
@@ -12,18 +12,19 @@ use std::test::Fail;
 fn a_checkpoint_inside_a_frame(rt: HostRuntime) -> Result<(), Fail> {
     let mut writer = WavWriter::new(empty_tape(rt.alloc()), sixteen(2))?;
     writer.write_sample(1i16)?;
-    assert!(rt; matches!(writer.flush(), Err(Error::UnfinishedSample)));
+    let is_told = matches!(writer.flush(), Err(Error::UnfinishedSample));
     writer.write_sample(2i16)?;
     let (tape, result) = writer.finalize_into();
     result?;
     let bytes = tape.into_bytes();
-    assert_eq!(rt; bytes.get(4..8), Some([0x28u8, 0, 0, 0].as_slice()));
-    assert_eq!(rt;
-        bytes.get(40..),
-        Some([4u8, 0, 0, 0, 1, 0, 2, 0].as_slice())
-    );
     let read: Vec<i16> = samples_of(rt.alloc(), &bytes)?;
-    assert_eq!(rt; read.as_slice(), [1i16, 2].as_slice());
+    let stands = [
+        is_told,
+        bytes.get(4..8) == Some([0x28u8, 0, 0, 0].as_slice()),
+        bytes.get(40..) == Some([4u8, 0, 0, 0, 1, 0, 2, 0].as_slice()),
+        read.as_slice() == [1i16, 2].as_slice(),
+    ];
+    assert_eq!(rt; stands, [true; 4]);
     Ok(())
 }
 
@@ -79,10 +80,8 @@ fn a_checkpoint_outlasts_a_failing_end(rt: HostRuntime) -> Result<(), Fail> {
     writer.flush()?;
     writer.write_sample(2i16)?;
     let bytes = writer.drop_into().tape.into_bytes();
-    assert_eq!(rt; bytes.len(), 48);
-    let mut reader = WavReader::new(bytes.as_slice())?;
-    assert_eq!(rt; reader.len(), 1);
-    assert!(rt; matches!(reader.samples::<i16>().next(), Some(Ok(1))));
+    let read: Vec<i16> = samples_of(rt.alloc(), &bytes)?;
+    assert_eq!(rt; (bytes.len(), read.as_slice()), (48, [1i16].as_slice()));
     Ok(())
 }
 
