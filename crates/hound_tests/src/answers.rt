@@ -23,3 +23,11 @@ pub fn answer_of(returned: hound::Result<bool>) -> &'static str {
         Err(error) => name_of(error),
     }
 }
+
+/// The same where there is nothing to find.
+pub fn done_or_error(returned: hound::Result<()>) -> &'static str {
+    match returned {
+        Ok(()) => "done",
+        Err(error) => name_of(error),
+    }
+}

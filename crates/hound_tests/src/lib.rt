@@ -6,8 +6,6 @@ mod answers;
 #[cfg(test)]
 mod appending;
 #[cfg(test)]
-mod batches;
-#[cfg(test)]
 mod calling;
 #[cfg(test)]
 mod channels;
@@ -15,6 +13,8 @@ mod channels;
 mod files;
 #[cfg(test)]
 mod reading;
+#[cfg(test)]
+mod scripts;
 #[cfg(test)]
 mod seeking;
 #[cfg(test)]
