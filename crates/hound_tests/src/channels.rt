@@ -40,9 +40,7 @@ fn sixteen_channels_are_read_as_they_were_written(rt: HostRuntime) -> Result<(),
 }
 
 #[test]
-fn a_frame_of_seventeen_channels_lacks_a_sample(rt: HostRuntime) -> Result<(), Fail> {
-    let short: Vec<i16> = (0i16..84).collect(rt.alloc())?;
-    let file = file_of(rt.alloc(), integers(17, 48000, 8, 1), &short);
+fn a_frame_of_seventeen_channels_lacks_a_sample(rt: HostRuntime) {
+    let file = file_of(rt.alloc(), integers(17, 48000, 8, 1), &[1i16; 84]);
     assert!(rt; matches!(file, Err(Error::UnfinishedSample)));
-    Ok(())
 }
