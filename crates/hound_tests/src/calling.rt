@@ -1,8 +1,19 @@
 // The functions of `callers`, each run once.
 use hound::{WavReader, WavWriter};
-use hound_callers::helpers::{empty_tape, file_of, integers, sixteen};
+use hound_callers::helpers::{FOUR_SAMPLES, empty_tape, integers, sixteen};
 use hound_callers::{convert, open_written, publish, record_checkpoint};
 use std::test::Fail;
+
+// Stereo, 44100 Hz, 16 bits: 2, -3, 5, -7.
+const STEREO: &[u8] = b"RIFF\x2c\0\0\0WAVEfmt \x10\0\0\0\
+    \x01\0\x02\0\x44\xac\0\0\x10\xb1\x02\0\x04\0\x10\0\
+    data\x08\0\0\0\x02\0\xfd\xff\x05\0\xf9\xff";
+
+// The same with 24 bits in three bytes.
+const WIDE_STEREO: &[u8] = b"RIFF\x48\0\0\0WAVEfmt \x28\0\0\0\
+    \xfe\xff\x02\0\x44\xac\0\0\x98\x09\x04\0\x06\0\x18\0\x16\0\x18\0\x03\0\0\0\
+    \x01\0\0\0\0\0\x10\0\x80\0\0\xaa\0\x38\x9b\x71\
+    data\x0c\0\0\0\x02\0\0\xfd\xff\xff\x05\0\0\xf9\xff\xff";
 
 #[test]
 fn a_recorder_publishes_each_sample(rt: HostRuntime) -> Result<(), Fail> {
@@ -10,38 +21,32 @@ fn a_recorder_publishes_each_sample(rt: HostRuntime) -> Result<(), Fail> {
     for sample in [2i16, -3, 5, -7] {
         record_checkpoint(&mut writer, sample)?;
     }
-    assert_eq!(rt; publish(&mut writer)?, 4);
-    let whole = file_of(rt.alloc(), integers(1, 44100, 16, 2), &[2i16, -3, 5, -7])?;
-    assert_eq!(rt;
-        writer.drop_into().into_bytes().as_slice(),
-        whole.as_slice()
-    );
+    let published = publish(&mut writer)?;
+    let tape = writer.drop_into();
+    let is_whole = tape.bytes() == FOUR_SAMPLES.as_slice();
+    assert_eq!(rt; (published, is_whole), (4, true));
     Ok(())
 }
 
 #[test]
 fn a_file_is_written_in_another_width(rt: HostRuntime) -> Result<(), Fail> {
-    let alloc = rt.alloc();
-    let narrow = file_of(alloc, integers(2, 44100, 16, 2), &[2i16, -3, 5, -7])?;
-    let mut reader = WavReader::new(narrow.as_slice())?;
-    let mut writer = WavWriter::new_with_spec_ex(empty_tape(alloc), integers(2, 44100, 24, 3))?;
+    let mut reader = WavReader::new(STEREO)?;
+    let tape = empty_tape(rt.alloc());
+    let mut writer = WavWriter::new_with_spec_ex(tape, integers(2, 44100, 24, 3))?;
     convert(&mut reader, &mut writer)?;
-    assert_eq!(rt; writer.len(), reader.len());
+    let counts = (writer.len(), reader.len());
     let (tape, result) = writer.finalize_into();
     result?;
-    let wide = file_of(alloc, integers(2, 44100, 24, 3), &[2i32, -3, 5, -7])?;
-    assert_eq!(rt; tape.into_bytes().as_slice(), wide.as_slice());
+    let is_wide = tape.bytes() == WIDE_STEREO;
+    assert_eq!(rt; (counts, is_wide), ((4, 4), true));
     Ok(())
 }
 
 #[test]
 fn a_written_file_is_opened(rt: HostRuntime) -> Result<(), Fail> {
-    let file = file_of(rt.alloc(), integers(1, 44100, 16, 2), &[2i16, -3, 5, -7])?;
-    let reader = open_written(&file)?;
-    assert_eq!(rt; reader.len(), 4);
-    assert_eq!(rt;
-        reader.into_inner(),
-        [2u8, 0, 0xfd, 0xff, 5, 0, 0xf9, 0xff].as_slice()
-    );
+    let reader = open_written(&FOUR_SAMPLES)?;
+    let count = reader.len();
+    let is_at_data = reader.into_inner() == [2u8, 0, 0xfd, 0xff, 5, 0, 0xf9, 0xff].as_slice();
+    assert_eq!(rt; (count, is_at_data), (4, true));
     Ok(())
 }

@@ -1,164 +1,229 @@
-// Files on disk.
-use hound::{Error, WavReader, WavWriter};
+// Files on disk. What is done to a file is a row of a table (`ROWS`).
+use crate::answers::answer_of;
+use hound::{WavReader, WavWriter};
 use hound_callers::helpers::{
-    FOUR_SAMPLES, NO_SAMPLES, file_of, integers, read_all, seeks_everywhere, sixteen, write_all,
+    FOUR_SAMPLES, NO_SAMPLES, read_all, seeks_everywhere, sixteen, write_all,
 };
 use hound_callers::record_and_read;
 use std::path::{Path, PathBuf};
 use std::test::Fail;
-use std::{env, fs, io, process};
+use std::{env, fs, process};
 
-// A file that no other test names.
-fn path_of(rt: &HostRuntime, name: &str) -> Result<PathBuf, Fail> {
+// What is done to a file, or asked of it.
+#[derive(Clone, Copy)]
+enum Deed {
+    // It has these bytes from now on.
+    Put(&'static [u8]),
+    // A writer makes it, with so many channels, and is finalized behind these samples.
+    Create(u16, &'static [i16]),
+    // A writer goes on with it, and is finalized behind these samples.
+    Append(&'static [i16]),
+    // A writer goes on with it, and is dropped behind this sample.
+    AppendOne(i16),
+    // The first samples are read at a checkpoint, while the writer stands that goes on with the
+    // second.
+    Checkpoint(&'static [i16], &'static [i16]),
+    // The README's example adds its samples up to this.
+    Example(i64),
+    HasBytes(&'static [u8]),
+    HasSamples(&'static [i16]),
+    // A reader seeks from each sample to each other one.
+    Seeks(&'static [i32]),
+}
+
+// Mono, 44100 Hz, 16 bits: 11, 13, 17, 19, 23, 29.
+const SIX_SAMPLES: [u8; 56] = [
+    0x52, 0x49, 0x46, 0x46, 0x30, 0x00, 0x00, 0x00, 0x57, 0x41, 0x56, 0x45, 0x66, 0x6d, 0x74, 0x20,
+    0x10, 0x00, 0x00, 0x00, 0x01, 0x00, 0x01, 0x00, 0x44, 0xac, 0x00, 0x00, 0x88, 0x58, 0x01, 0x00,
+    0x02, 0x00, 0x10, 0x00, 0x64, 0x61, 0x74, 0x61, 0x0c, 0x00, 0x00, 0x00, 0x0b, 0x00, 0x0d, 0x00,
+    0x11, 0x00, 0x13, 0x00, 0x17, 0x00, 0x1d, 0x00,
+];
+
+// The first thirty bytes of a file.
+const BEGUN: [u8; 30] = [
+    0x52, 0x49, 0x46, 0x46, 0x2c, 0x00, 0x00, 0x00, 0x57, 0x41, 0x56, 0x45, 0x66, 0x6d, 0x74, 0x20,
+    0x10, 0x00, 0x00, 0x00, 0x01, 0x00, 0x01, 0x00, 0x44, 0xac, 0x00, 0x00, 0x88, 0x58,
+];
+
+// Two channels of 16 bits with a data length of 2.
+const HALF_A_FRAME: [u8; 48] = [
+    0x52, 0x49, 0x46, 0x46, 0x28, 0x00, 0x00, 0x00, 0x57, 0x41, 0x56, 0x45, 0x66, 0x6d, 0x74, 0x20,
+    0x10, 0x00, 0x00, 0x00, 0x01, 0x00, 0x02, 0x00, 0x44, 0xac, 0x00, 0x00, 0x10, 0xb1, 0x02, 0x00,
+    0x04, 0x00, 0x10, 0x00, 0x64, 0x61, 0x74, 0x61, 0x02, 0x00, 0x00, 0x00, 0x02, 0x00, 0xfd, 0xff,
+];
+
+// What is done to a file, each with its answer, and whether there is a file at the end.
+#[derive(Clone, Copy)]
+struct Row {
+    name: &'static str,
+    deeds: &'static [(Deed, &'static str)],
+    is_left: bool,
+}
+
+const ROWS: &[Row] = &[
+    Row {
+        name: "a file is made, gone on with and read",
+        deeds: &[
+            (Deed::Create(1, &[11, 13, 17]), "done"),
+            (Deed::Append(&[19, 23]), "done"),
+            (Deed::AppendOne(29), "done"),
+            (Deed::HasSamples(&[11, 13, 17, 19, 23, 29]), "done"),
+            (Deed::HasBytes(&SIX_SAMPLES), "done"),
+        ],
+        is_left: true,
+    },
+    // The numbers from 0 to 4799, and -1.
+    Row {
+        name: "the first example adds up",
+        deeds: &[(Deed::Example(4799 * 4800 / 2 - 1), "done")],
+        is_left: true,
+    },
+    Row {
+        name: "a checkpoint is read while the writer stands",
+        deeds: &[
+            (Deed::Checkpoint(&[11, 13, 17], &[19, 23]), "done"),
+            (Deed::HasSamples(&[11, 13, 17, 19, 23]), "done"),
+        ],
+        is_left: true,
+    },
+    Row {
+        name: "a file of no samples is finalized",
+        deeds: &[
+            (Deed::Create(1, &[]), "done"),
+            (Deed::HasBytes(&NO_SAMPLES), "done"),
+        ],
+        is_left: true,
+    },
+    Row {
+        name: "a seek in a file leads to its sample",
+        deeds: &[
+            (Deed::Put(&FOUR_SAMPLES), "done"),
+            (Deed::Seeks(&[2, -3, 5, -7]), "done"),
+        ],
+        is_left: true,
+    },
+    Row {
+        name: "a file that is missing stays so",
+        deeds: &[
+            (Deed::Append(&[]), "IoError"),
+            (Deed::HasSamples(&[]), "IoError"),
+            (Deed::HasBytes(&[]), "IoError"),
+        ],
+        is_left: false,
+    },
+    Row {
+        name: "an unwritable spec leaves an empty file",
+        deeds: &[
+            (Deed::Put(&FOUR_SAMPLES), "done"),
+            (Deed::Create(0, &[]), "Unsupported"),
+            (Deed::HasBytes(&[]), "done"),
+        ],
+        is_left: true,
+    },
+    Row {
+        name: "a file that ends early is refused and stays",
+        deeds: &[
+            (Deed::Put(&BEGUN), "done"),
+            (Deed::Append(&[]), "IoError"),
+            (Deed::HasBytes(&BEGUN), "done"),
+        ],
+        is_left: true,
+    },
+    Row {
+        name: "a file of half a frame is refused and stays",
+        deeds: &[
+            (Deed::Put(&HALF_A_FRAME), "done"),
+            (Deed::Append(&[]), "invalid data chunk length"),
+            (Deed::HasBytes(&HALF_A_FRAME), "done"),
+        ],
+        is_left: true,
+    },
+];
+
+fn create(rt: &HostRuntime, path: Path<'_>, channels: u16, samples: &[i16]) -> hound::Result<bool> {
+    let mut writer = WavWriter::create(rt, rt.alloc(), path, sixteen(channels))?;
+    write_all(&mut writer, samples)?;
+    writer.finalize()?;
+    Ok(true)
+}
+
+fn append(rt: &HostRuntime, path: Path<'_>, samples: &[i16]) -> hound::Result<bool> {
+    let mut writer = WavWriter::append(rt, rt.alloc(), path)?;
+    write_all(&mut writer, samples)?;
+    writer.finalize()?;
+    Ok(true)
+}
+
+fn append_one(rt: &HostRuntime, path: Path<'_>, sample: i16) -> hound::Result<bool> {
+    let mut writer = WavWriter::append(rt, rt.alloc(), path)?;
+    writer.write_sample(sample)?;
+    Ok(true)
+}
+
+fn has_samples(rt: &HostRuntime, path: Path<'_>, samples: &[i16]) -> hound::Result<bool> {
+    let read: Vec<i16> = read_all(rt.alloc(), WavReader::open(rt, rt.alloc(), path)?)?;
+    Ok(read.as_slice() == samples)
+}
+
+fn checkpoint(
+    rt: &HostRuntime,
+    path: Path<'_>,
+    first: &[i16],
+    second: &[i16],
+) -> hound::Result<bool> {
+    let mut writer = WavWriter::create(rt, rt.alloc(), path, sixteen(1))?;
+    write_all(&mut writer, first)?;
+    writer.flush()?;
+    let is_read = has_samples(rt, path, first)?;
+    write_all(&mut writer, second)?;
+    writer.finalize()?;
+    Ok(is_read)
+}
+
+fn put(rt: &HostRuntime, path: Path<'_>, bytes: &[u8]) -> hound::Result<bool> {
+    fs::write(rt, path, bytes)?;
+    Ok(true)
+}
+
+fn does(rt: &HostRuntime, path: Path<'_>, deed: Deed) -> hound::Result<bool> {
+    match deed {
+        Deed::Put(bytes) => put(rt, path, bytes),
+        Deed::Create(channels, samples) => create(rt, path, channels, samples),
+        Deed::Append(samples) => append(rt, path, samples),
+        Deed::AppendOne(sample) => append_one(rt, path, sample),
+        Deed::Checkpoint(first, second) => checkpoint(rt, path, first, second),
+        Deed::Example(sum) => Ok(record_and_read(rt, path, sixteen(1))? == sum),
+        Deed::HasBytes(bytes) => Ok(fs::read(rt, path)?.as_slice() == bytes),
+        Deed::HasSamples(samples) => has_samples(rt, path, samples),
+        Deed::Seeks(numbers) => {
+            seeks_everywhere(WavReader::open(rt, rt.alloc(), path)?, numbers)
+        }
+    }
+}
+
+impl Row {
+    // Whether each deed is answered as said; the file is removed behind them.
+    fn holds(&self, rt: &HostRuntime, path: Path<'_>) -> bool {
+        let mut holds = true;
+        for (deed, answer) in self.deeds {
+            holds = answer_of(does(rt, path, *deed)) == *answer && holds;
+        }
+        fs::remove_file(rt, path).is_ok() == self.is_left && holds
+    }
+}
+
+// A file that no other process names.
+fn path_of(rt: &HostRuntime) -> Result<PathBuf, Fail> {
     let id = process::id(rt.process());
-    let name = format!(in rt.alloc(); "hound_tests_{id}_{name}.wav")?;
+    let name = format!(in rt.alloc(); "hound_tests_{id}.wav")?;
     Ok(env::temp_dir(rt)?.join(rt.alloc(), name.as_str())?)
 }
 
-fn write_to(rt: &HostRuntime, path: Path<'_>, samples: &[i16]) -> hound::Result<()> {
-    let mut writer = WavWriter::create(rt, rt.alloc(), path, sixteen(1))?;
-    write_all(&mut writer, samples)?;
-    writer.finalize()
-}
-
-fn append_to(rt: &HostRuntime, path: Path<'_>, samples: &[i16]) -> hound::Result<()> {
-    let mut writer = WavWriter::append(rt, rt.alloc(), path)?;
-    write_all(&mut writer, samples)?;
-    writer.finalize()
-}
-
-// The writer is dropped.
-fn append_one(rt: &HostRuntime, path: Path<'_>, sample: i16) -> hound::Result<()> {
-    let mut writer = WavWriter::append(rt, rt.alloc(), path)?;
-    writer.write_sample(sample)
-}
-
-fn read_from(rt: &HostRuntime, path: Path<'_>) -> hound::Result<Vec<i16>> {
-    read_all(rt.alloc(), WavReader::open(rt, rt.alloc(), path)?)
-}
-
-// A file that is made, gone on with twice, and read.
-fn make_and_read(rt: &HostRuntime, path: Path<'_>) -> hound::Result<Vec<i16>> {
-    write_to(rt, path, &[11, 13, 17])?;
-    append_to(rt, path, &[19, 23])?;
-    append_one(rt, path, 29)?;
-    read_from(rt, path)
-}
-
 #[test]
-fn a_file_is_made_gone_on_with_and_read(rt: HostRuntime) -> Result<(), Fail> {
-    let path = path_of(&rt, "made")?;
-    let read = make_and_read(&rt, path.as_path());
-    let bytes = fs::read(&rt, path.as_path());
-    fs::remove_file(&rt, path.as_path())?;
-    let numbers = [11i16, 13, 17, 19, 23, 29];
-    assert_eq!(rt; read?.as_slice(), numbers.as_slice());
-    let whole = file_of(rt.alloc(), integers(1, 44100, 16, 2), &numbers)?;
-    assert_eq!(rt; bytes?.as_slice(), whole.as_slice());
-    Ok(())
-}
-
-// The README's example: the numbers from 0 to 4799, and -1.
-#[test]
-fn the_first_example_adds_up(rt: HostRuntime) -> Result<(), Fail> {
-    let path = path_of(&rt, "example")?;
-    let sum = record_and_read(&rt, path.as_path(), sixteen(1));
-    fs::remove_file(&rt, path.as_path())?;
-    assert_eq!(rt; sum?, 4799 * 4800 / 2 - 1);
-    Ok(())
-}
-
-// What a reader finds behind a checkpoint, while the writer stands, and then what it finds at the end.
-fn checkpoint_and_end(rt: &HostRuntime, path: Path<'_>) -> hound::Result<(Vec<i16>, Vec<i16>)> {
-    let mut writer = WavWriter::create(rt, rt.alloc(), path, sixteen(1))?;
-    write_all(&mut writer, &[11i16, 13, 17])?;
-    writer.flush()?;
-    let first = read_from(rt, path)?;
-    write_all(&mut writer, &[19i16, 23])?;
-    writer.finalize()?;
-    Ok((first, read_from(rt, path)?))
-}
-
-#[test]
-fn a_checkpoint_is_read_while_the_writer_stands(rt: HostRuntime) -> Result<(), Fail> {
-    let path = path_of(&rt, "checkpoint")?;
-    let read = checkpoint_and_end(&rt, path.as_path());
-    fs::remove_file(&rt, path.as_path())?;
-    let (first, all) = read?;
-    assert_eq!(rt; first.as_slice(), [11i16, 13, 17].as_slice());
-    assert_eq!(rt; all.as_slice(), [11i16, 13, 17, 19, 23].as_slice());
-    Ok(())
-}
-
-#[test]
-fn a_file_of_no_samples_is_finalized(rt: HostRuntime) -> Result<(), Fail> {
-    let path = path_of(&rt, "none")?;
-    let written = write_to(&rt, path.as_path(), &[]);
-    let bytes = fs::read(&rt, path.as_path());
-    fs::remove_file(&rt, path.as_path())?;
-    written?;
-    assert_eq!(rt; bytes?.as_slice(), NO_SAMPLES.as_slice());
-    Ok(())
-}
-
-#[test]
-fn a_seek_in_a_file_leads_to_its_sample(rt: HostRuntime) -> Result<(), Fail> {
-    let path = path_of(&rt, "seek")?;
-    fs::write(&rt, path.as_path(), FOUR_SAMPLES.as_slice())?;
-    let reader = WavReader::open(&rt, rt.alloc(), path.as_path());
-    fs::remove_file(&rt, path.as_path())?;
-    assert!(rt; seeks_everywhere(reader?, &[2, -3, 5, -7])?);
-    Ok(())
-}
-
-#[test]
-fn a_file_that_is_missing_stays_so(rt: HostRuntime) -> Result<(), Fail> {
-    let path = path_of(&rt, "missing")?;
-    let writer = WavWriter::append(&rt, rt.alloc(), path.as_path());
-    assert!(rt; matches!(writer.err(), Some(Error::IoError(_))));
-    let reader = WavReader::open(&rt, rt.alloc(), path.as_path());
-    assert!(rt; matches!(reader.err(), Some(Error::IoError(_))));
-    assert!(rt; fs::read(&rt, path.as_path()).is_err());
-    Ok(())
-}
-
-#[test]
-fn an_unwritable_spec_leaves_an_empty_file(rt: HostRuntime) -> Result<(), Fail> {
-    let path = path_of(&rt, "unwritable")?;
-    fs::write(&rt, path.as_path(), FOUR_SAMPLES.as_slice())?;
-    let writer = WavWriter::create(&rt, rt.alloc(), path.as_path(), sixteen(0));
-    let error = writer.err();
-    let bytes = fs::read(&rt, path.as_path());
-    fs::remove_file(&rt, path.as_path())?;
-    assert!(rt; matches!(error, Some(Error::Unsupported)));
-    assert!(rt; bytes?.is_empty());
-    Ok(())
-}
-
-// What appending to a file of these bytes is refused with, and its bytes behind that.
-fn refusal(rt: &HostRuntime, path: Path<'_>, bytes: &[u8]) -> io::Result<(Option<Error>, Vec<u8>)> {
-    fs::write(rt, path, bytes)?;
-    let error = WavWriter::append(rt, rt.alloc(), path).err();
-    Ok((error, fs::read(rt, path)?))
-}
-
-#[test]
-fn a_file_that_is_refused_stays(rt: HostRuntime) -> Result<(), Fail> {
-    let path = path_of(&rt, "refused")?;
-    let begun = FOUR_SAMPLES.get(..30).ok_or("52 bytes")?;
-    let early = refusal(&rt, path.as_path(), begun);
-    // Two channels of 16 bits with a data length of 2.
-    let mut half = file_of(rt.alloc(), integers(2, 44100, 16, 2), &[2i16, -3])?;
-    if let Some(byte) = half.get_mut(40) {
-        *byte = 2;
+fn files_do_as_their_rows_say(rt: HostRuntime) -> Result<(), Fail> {
+    let path = path_of(&rt)?;
+    for row in ROWS {
+        assert!(rt; row.holds(&rt, path.as_path()), "{}", row.name);
     }
-    let torn = refusal(&rt, path.as_path(), &half);
-    fs::remove_file(&rt, path.as_path())?;
-    let (error, left) = early?;
-    assert!(rt; matches!(error, Some(Error::IoError(_))));
-    assert_eq!(rt; left.as_slice(), begun);
-    let (error, left) = torn?;
-    assert!(rt; matches!(error, Some(Error::FormatError("invalid data chunk length"))));
-    assert_eq!(rt; left.as_slice(), half.as_slice());
     Ok(())
 }

@@ -2,9 +2,9 @@
 #![tactic(auto)]
 
 #[cfg(test)]
-mod appending;
+mod answers;
 #[cfg(test)]
-mod batches;
+mod appending;
 #[cfg(test)]
 mod calling;
 #[cfg(test)]
@@ -13,6 +13,8 @@ mod channels;
 mod files;
 #[cfg(test)]
 mod reading;
+#[cfg(test)]
+mod scripts;
 #[cfg(test)]
 mod seeking;
 #[cfg(test)]

@@ -1,46 +1,148 @@
-// Iterators that count, and seeking.
+// Iterators that count, and seeking. What a reader is asked is a row of a table (`ROWS`).
 ghost use Rattle.std.specs.Prelude.{◌≡◌, false};
 ghost use Rattle.std.proofs.lemmas.Bool.{false≢true};
 ghost use Rattle.hound.specs.State.{MediumState, unknown};
 
-use hound::{Error, FloatBits, Placed, Sample, Source, Tape, WavReader};
+use crate::answers::name_of;
+use hound::{FloatBits, Placed, Sample, Source, Tape, WavReader};
 use hound_callers::helpers::{
-    FOUR_BYTES, FOUR_SAMPLES, NO_SAMPLES, file_with, gives, seeks_everywhere, tape_of,
+    FOUR_BYTES, FOUR_SAMPLES, NO_SAMPLES, gives, seeks_everywhere, tape_of,
 };
 use std::alloc::Global;
 use std::io;
 use std::io::ErrorKind;
 use std::test::Fail;
 
-// A reader of a file in memory.
-fn open(alloc: Global, file: &[u8]) -> Result<WavReader<Tape>, Fail> {
-    Ok(WavReader::new(tape_of(alloc, file)?)?)
+// What a reader is asked, and what it answers.
+#[derive(Clone, Copy)]
+enum Move {
+    // A seek to this frame succeeds, or is interrupted.
+    Seek(u32),
+    SeekStops(u32),
+    // The next sample is this number, read as one of the two types.
+    Short(i16),
+    Long(i32),
+    Pattern(u32),
+    // The hint is this before the next sample, which is this number, and that one behind it.
+    Around(usize, i16, usize),
+    // The next item is refused as this, read as one of the types.
+    NoByte(&'static str),
+    NoShort(&'static str),
+    NoLong(&'static str),
+    NoPattern(&'static str),
+    // So many samples are left.
+    Left(usize),
+    // The file has so many samples and frames.
+    Counts(u32, u32),
 }
 
-fn gives_too_wide<S: Sample, R: io::Read + Drop>(reader: &mut WavReader<R>) -> bool {
-    matches!(reader.samples::<S>().next(), Some(Err(Error::TooWide)))
+// What a reader of a file is asked, in turn.
+#[derive(Clone, Copy)]
+struct Row {
+    name: &'static str,
+    file: &'static [u8],
+    moves: &'static [Move],
 }
 
-fn gives_other_format<S: Sample, R: io::Read + Drop>(reader: &mut WavReader<R>) -> bool {
-    matches!(
-        reader.samples::<S>().next(),
-        Some(Err(Error::InvalidSampleFormat))
-    )
-}
+// Mono, 44100 Hz, 16 bits: 2, and half of the next of four samples.
+const TORN: [u8; 47] = [
+    0x52, 0x49, 0x46, 0x46, 0x2c, 0x00, 0x00, 0x00, 0x57, 0x41, 0x56, 0x45, 0x66, 0x6d, 0x74, 0x20,
+    0x10, 0x00, 0x00, 0x00, 0x01, 0x00, 0x01, 0x00, 0x44, 0xac, 0x00, 0x00, 0x88, 0x58, 0x01, 0x00,
+    0x02, 0x00, 0x10, 0x00, 0x64, 0x61, 0x74, 0x61, 0x08, 0x00, 0x00, 0x00, 0x02, 0x00, 0xfd,
+];
 
-fn gives_a_fault<S: Sample, R: io::Read + Drop>(reader: &mut WavReader<R>) -> bool {
-    matches!(reader.samples::<S>().next(), Some(Err(Error::IoError(_))))
-}
+const ROWS: &[Row] = &[
+    Row {
+        name: "a file without samples gives none",
+        file: &NO_SAMPLES,
+        moves: &[Move::Counts(0, 0), Move::Left(0), Move::NoShort("none")],
+    },
+    Row {
+        name: "one iterator goes on after another",
+        file: &FOUR_SAMPLES,
+        moves: &[
+            Move::Around(4, 2, 3),
+            Move::Around(3, -3, 2),
+            Move::Counts(4, 4),
+        ],
+    },
+    Row {
+        name: "a seek goes by the width of the container",
+        file: &FOUR_BYTES,
+        moves: &[
+            Move::Seek(1),
+            Move::Long(8388607),
+            Move::Long(-8360672),
+            Move::NoLong("none"),
+        ],
+    },
+    Row {
+        name: "a seek is right after a refused sample",
+        file: &FOUR_BYTES,
+        moves: &[Move::NoShort("TooWide"), Move::Seek(1), Move::Long(8388607)],
+    },
+    Row {
+        name: "a seek behind the end leaves none",
+        file: &FOUR_BYTES,
+        moves: &[
+            Move::Seek(4294967295),
+            Move::Left(0),
+            Move::NoLong("none"),
+            Move::Seek(0),
+            Move::Left(4),
+            Move::Long(-96),
+        ],
+    },
+    Row {
+        name: "a seek is right after a torn sample",
+        file: &TORN,
+        moves: &[
+            Move::Short(2),
+            Move::NoShort("IoError"),
+            Move::Seek(0),
+            Move::Short(2),
+        ],
+    },
+    // Mono, in three bytes.
+    Row {
+        name: "a sample of 24 bits that is refused takes no byte",
+        file: b"RIFF\0\0\0\0WAVEfmt \x10\0\0\0\
+            \x01\0\x01\0\x44\xac\0\0\xcc\x04\x02\0\x03\0\x18\0\
+            data\x0c\0\0\0\xef\xff\xff\x0f\0\x40\x13\0\xa0\xe9\x7f\x7f",
+        moves: &[
+            Move::NoByte("TooWide"),
+            Move::NoShort("TooWide"),
+            Move::Long(-17),
+        ],
+    },
+    Row {
+        name: "a float that is refused takes no byte",
+        file: b"RIFF\0\0\0\0WAVEfmt \x12\0\0\0\
+            \x03\0\x01\0\x44\xac\0\0\x10\xb1\x02\0\x04\0\x20\0\0\0\
+            data\x10\0\0\0\0\0\0\x40\0\0\x40\x40\0\x36\x80\xc6\0\xc0\x7e\x44",
+        moves: &[
+            Move::NoByte("InvalidSampleFormat"),
+            Move::NoShort("InvalidSampleFormat"),
+            Move::NoLong("InvalidSampleFormat"),
+            Move::Pattern(0x4000_0000),
+        ],
+    },
+    Row {
+        name: "an integer is no float",
+        file: b"RIFF\0\0\0\0WAVEfmt \x12\0\0\0\
+            \x01\0\x01\0\x11\x2b\0\0\x11\x2b\0\0\x01\0\x08\0\0\0\
+            data\x04\0\0\0\0\0\0\0",
+        moves: &[Move::NoPattern("InvalidSampleFormat")],
+    },
+];
 
-#[test]
-fn a_file_without_samples_gives_none(rt: HostRuntime) -> Result<(), Fail> {
-    let mut reader = WavReader::new(NO_SAMPLES.as_slice())?;
-    let counts = (reader.len(), reader.duration());
-    let mut samples = reader.samples::<i16>();
-    let hint = (samples.size_hint(), samples.len());
-    let is_none = samples.next().is_none();
-    assert_eq!(rt; (counts, hint, is_none), ((0, 0), ((0, Some(0)), 0), true));
-    Ok(())
+// What the next item is, but for its value.
+fn next<S: Sample, R: io::Read + Drop>(reader: &mut WavReader<R>) -> &'static str {
+    match reader.samples::<S>().next() {
+        None => "none",
+        Some(Ok(_)) => "a sample",
+        Some(Err(error)) => name_of(error),
+    }
 }
 
 // The hints before and behind an item, and whether it is this number.
@@ -55,60 +157,57 @@ fn hints_around<R: io::Read + Drop>(
     (before, behind, is_given)
 }
 
-#[test]
-fn one_iterator_after_another(rt: HostRuntime) -> Result<(), Fail> {
-    let mut reader = WavReader::new(FOUR_SAMPLES.as_slice())?;
-    let hints = [hints_around(&mut reader, 2), hints_around(&mut reader, -3)];
-    assert_eq!(rt; (hints, reader.len()), ([(4, 3, true), (3, 2, true)], 4));
-    Ok(())
+// Whether the hint is exact, and says this.
+fn has_left<R: io::Read + Drop>(reader: &mut WavReader<R>, count: usize) -> bool {
+    let samples = reader.samples::<i32>();
+    (samples.size_hint(), samples.len()) == ((count, Some(count)), count)
+}
+
+fn is_interrupted(answer: io::Result<()>) -> bool {
+    match answer {
+        Ok(()) => false,
+        Err(error) => error.kind() == ErrorKind::Interrupted,
+    }
+}
+
+fn answers<R: Source>(reader: &mut WavReader<R>, asked: Move) -> bool {
+    match asked {
+        Move::Seek(time) => reader.seek(time).is_ok(),
+        Move::SeekStops(time) => is_interrupted(reader.seek(time)),
+        Move::Short(number) => gives(reader, number),
+        Move::Long(number) => gives(reader, number),
+        Move::Pattern(pattern) => gives(reader, FloatBits(pattern)),
+        Move::Around(before, number, behind) => {
+            hints_around(reader, number) == (before, behind, true)
+        }
+        Move::NoByte(why) => next::<i8, R>(reader) == why,
+        Move::NoShort(why) => next::<i16, R>(reader) == why,
+        Move::NoLong(why) => next::<i32, R>(reader) == why,
+        Move::NoPattern(why) => next::<FloatBits, R>(reader) == why,
+        Move::Left(count) => has_left(reader, count),
+        Move::Counts(samples, frames) => (reader.len(), reader.duration()) == (samples, frames),
+    }
+}
+
+fn all_are_answered<R: Source>(reader: &mut WavReader<R>, moves: &[Move]) -> bool {
+    let mut holds = true;
+    for asked in moves {
+        holds = answers(reader, *asked) && holds;
+    }
+    holds
+}
+
+// A reader of a file in memory.
+fn open(alloc: Global, file: &[u8]) -> Result<WavReader<Tape>, Fail> {
+    Ok(WavReader::new(tape_of(alloc, file)?)?)
 }
 
 #[test]
-fn a_seek_goes_by_the_width_of_the_container(rt: HostRuntime) -> Result<(), Fail> {
-    let mut reader = open(rt.alloc(), &FOUR_BYTES)?;
-    reader.seek(1)?;
-    let given = [
-        gives(&mut reader, 8388607i32),
-        gives(&mut reader, -8360672i32),
-        reader.samples::<i32>().next().is_none(),
-    ];
-    assert_eq!(rt; given, [true; 3]);
-    Ok(())
-}
-
-#[test]
-fn a_seek_is_right_after_a_refused_sample(rt: HostRuntime) -> Result<(), Fail> {
-    let mut reader = open(rt.alloc(), &FOUR_BYTES)?;
-    let is_refused = gives_too_wide::<i16, Tape>(&mut reader);
-    reader.seek(1)?;
-    assert_eq!(rt; [is_refused, gives(&mut reader, 8388607i32)], [true; 2]);
-    Ok(())
-}
-
-#[test]
-fn a_seek_behind_the_end_leaves_none(rt: HostRuntime) -> Result<(), Fail> {
-    let mut reader = open(rt.alloc(), &FOUR_BYTES)?;
-    reader.seek(4294967295)?;
-    let none = (
-        reader.samples::<i32>().size_hint(),
-        reader.samples::<i32>().next().is_none(),
-    );
-    // And back.
-    reader.seek(0)?;
-    let back = (reader.samples::<i32>().len(), gives(&mut reader, -96i32));
-    assert_eq!(rt; (none, back), (((0, Some(0)), true), (4, true)));
-    Ok(())
-}
-
-#[test]
-fn a_seek_is_right_after_a_torn_sample(rt: HostRuntime) -> Result<(), Fail> {
-    let mut reader = open(rt.alloc(), &FOUR_SAMPLES[..47])?;
-    let before = [
-        gives(&mut reader, 2i16),
-        gives_a_fault::<i16, Tape>(&mut reader),
-    ];
-    reader.seek(0)?;
-    assert_eq!(rt; (before, gives(&mut reader, 2i16)), ([true; 2], true));
+fn readers_answer_as_their_rows_say(rt: HostRuntime) -> Result<(), Fail> {
+    for row in ROWS {
+        let mut reader = open(rt.alloc(), row.file)?;
+        assert!(rt; all_are_answered(&mut reader, row.moves), "{}", row.name);
+    }
     Ok(())
 }
 
@@ -152,55 +251,13 @@ impl Source for Held {
 fn a_seek_that_fails_changes_nothing(rt: HostRuntime) -> Result<(), Fail> {
     let tape = tape_of(rt.alloc(), &FOUR_SAMPLES)?;
     let mut reader = WavReader::new(Held { tape })?;
-    let is_first = gives(&mut reader, 2i16);
-    let error = reader.seek(0).err().ok_or("a tape that stays")?;
-    let hint = reader.samples::<i16>().size_hint();
-    let is_next = gives(&mut reader, -3i16);
-    assert_eq!(rt;
-        (is_first, error.kind(), hint, is_next),
-        (true, ErrorKind::Interrupted, (3, Some(3)), true)
-    );
-    Ok(())
-}
-
-#[test]
-fn a_refused_sample_takes_no_byte(rt: HostRuntime) -> Result<(), Fail> {
-    let alloc = rt.alloc();
-    // Mono, 24 bits in three bytes.
-    let bytes = file_with(
-        alloc,
-        b"\x01\0\x01\0\x44\xac\0\0\xcc\x04\x02\0\x03\0\x18\0",
-        b"\xef\xff\xff\x0f\0\x40\x13\0\xa0\xe9\x7f\x7f",
-    )?;
-    let mut reader = WavReader::new(bytes.as_slice())?;
-    let wide = [
-        gives_too_wide::<i8, &[u8]>(&mut reader),
-        gives_too_wide::<i16, &[u8]>(&mut reader),
-        gives(&mut reader, -17i32),
+    let moves = [
+        Move::Short(2),
+        Move::SeekStops(0),
+        Move::Left(3),
+        Move::Short(-3),
     ];
-    assert_eq!(rt; wide, [true; 3]);
-    // Mono, floats.
-    let floats = file_with(
-        alloc,
-        b"\x03\0\x01\0\x44\xac\0\0\x10\xb1\x02\0\x04\0\x20\0\0\0",
-        b"\0\0\0\x40\0\0\x40\x40\0\x36\x80\xc6\0\xc0\x7e\x44",
-    )?;
-    let mut reader = WavReader::new(floats.as_slice())?;
-    let other = [
-        gives_other_format::<i8, &[u8]>(&mut reader),
-        gives_other_format::<i16, &[u8]>(&mut reader),
-        gives_other_format::<i32, &[u8]>(&mut reader),
-        gives(&mut reader, FloatBits(0x4000_0000)),
-    ];
-    assert_eq!(rt; other, [true; 4]);
-    // Mono, 8 bits.
-    let single = file_with(
-        alloc,
-        b"\x01\0\x01\0\x11\x2b\0\0\x11\x2b\0\0\x01\0\x08\0\0\0",
-        b"\0\0\0\0",
-    )?;
-    let mut reader = WavReader::new(single.as_slice())?;
-    assert!(rt; gives_other_format::<FloatBits, &[u8]>(&mut reader));
+    assert!(rt; all_are_answered(&mut reader, &moves));
     Ok(())
 }
 
@@ -251,33 +308,37 @@ fn counts_are_right(alloc: Global, bytes: &[u8], numbers: &[i32]) -> Result<bool
     )
 }
 
+// Files, and what they give.
+const FILES: &[(&[u8], &[i32])] = &[
+    (&FOUR_SAMPLES, &[2, -3, 5, -7]),
+    // Stereo, an extensible format of 32 bits that says 0 valid bits.
+    (
+        b"RIFF\0\0\0\0WAVEfmt \x28\0\0\0\
+            \xfe\xff\x02\0\x80\xbb\0\0\0\xdc\x05\0\x08\0\x20\0\x16\0\0\0\x03\0\0\0\
+            \x01\0\0\0\0\0\x10\0\x80\0\0\xaa\0\x38\x9b\x71\
+            data\x10\0\0\0\x13\0\0\0\x03\x80\xfc\xff\xd9\x7f\0\x02\x97\0\0\x80",
+        &[19, -229373, 33587161, -2147483497],
+    ),
+    // Stereo, a WAVEFORMATEX of 16 bits.
+    (
+        b"RIFF\0\0\0\0WAVEfmt \x12\0\0\0\
+            \x01\0\x02\0\x44\xac\0\0\x10\xb1\x02\0\x04\0\x10\0\0\0\
+            data\x10\0\0\0\x02\0\xfd\xff\x05\0\xf9\xff\x0b\0\xf3\xff\x11\0\xed\xff",
+        &[2, -3, 5, -7, 11, -13, 17, -19],
+    ),
+    // Stereo, a PCMWAVEFORMAT of 24 bits in four bytes.
+    (
+        b"RIFF\0\0\0\0WAVEfmt \x10\0\0\0\
+            \x01\0\x02\0\x80\xbb\0\0\0\xdc\x05\0\x08\0\x18\0\
+            data\x10\0\0\0\xa0\xff\xff\0\x0c\x5a\0\0\xff\xff\x7f\0\x20\x6d\x80\0",
+        &[-96, 23052, 8388607, -8360672],
+    ),
+];
+
 #[test]
 fn counts_hints_and_seeks_agree(rt: HostRuntime) -> Result<(), Fail> {
-    let alloc = rt.alloc();
-    assert!(rt; counts_are_right(alloc, &FOUR_SAMPLES, &[2, -3, 5, -7])?);
-    let rows: [(&[u8], &[u8], &[i32]); 3] = [
-        // Stereo, an extensible format of 32 bits that says 0 valid bits.
-        (
-            b"\xfe\xff\x02\0\x80\xbb\0\0\0\xdc\x05\0\x08\0\x20\0\x16\0\0\0\x03\0\0\0\x01\0\0\0\0\0\x10\0\x80\0\0\xaa\0\x38\x9b\x71",
-            b"\x13\0\0\0\x03\x80\xfc\xff\xd9\x7f\0\x02\x97\0\0\x80",
-            &[19, -229373, 33587161, -2147483497],
-        ),
-        // Stereo, a WAVEFORMATEX of 16 bits.
-        (
-            b"\x01\0\x02\0\x44\xac\0\0\x10\xb1\x02\0\x04\0\x10\0\0\0",
-            b"\x02\0\xfd\xff\x05\0\xf9\xff\x0b\0\xf3\xff\x11\0\xed\xff",
-            &[2, -3, 5, -7, 11, -13, 17, -19],
-        ),
-        // Stereo, a PCMWAVEFORMAT of 24 bits in four bytes.
-        (
-            b"\x01\0\x02\0\x80\xbb\0\0\0\xdc\x05\0\x08\0\x18\0",
-            b"\xa0\xff\xff\0\x0c\x5a\0\0\xff\xff\x7f\0\x20\x6d\x80\0",
-            &[-96, 23052, 8388607, -8360672],
-        ),
-    ];
-    for (fmt, data, numbers) in rows {
-        let bytes = file_with(alloc, fmt, data)?;
-        assert!(rt; counts_are_right(alloc, &bytes, numbers)?, "{numbers:?}");
+    for (file, numbers) in FILES {
+        assert!(rt; counts_are_right(rt.alloc(), file, numbers)?, "{numbers:?}");
     }
     Ok(())
 }
