@@ -187,7 +187,7 @@ pub(crate) enum Item {
 pub(crate) const ITEMS: usize = 8;
 
 // What was read of a file.
-#[derive(Clone, Copy, Debug, PartialEq)]
+#[derive(Clone, Copy, PartialEq)]
 pub(crate) struct Reading {
     // No words where the file has a reader.
     pub(crate) refusal: &'static str,
