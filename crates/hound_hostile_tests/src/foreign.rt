@@ -40,7 +40,7 @@ fn reading_of(file: &Foreign, further: &[i8]) -> Reading {
 // More items than any of the files has.
 const WANTED: usize = 20;
 
-// Whether these bytes are read as the file with further samples behind its own, whole and one byte a
+// Whether these bytes are read as the file with further samples behind its own, whole and a byte a
 // read.
 fn are_read_as(
     alloc: Global,

@@ -267,7 +267,7 @@ fn journal_without(
     Ok(journal)
 }
 
-// Whether a journal of the four samples is refused, and one of no bytes is none the less there. Both
+// Whether a journal of the four samples is refused, and one of no bytes is still there. Both
 // while the same blocks are taken: with further blocks taken in between, 52 bytes are at times not
 // enough for the four samples.
 fn begins_without(alloc: Global) -> Result<bool, Fail> {
@@ -419,7 +419,7 @@ fn open_without(
     Ok(words)
 }
 
-// Whether the call over the four samples is refused for memory, and the file stays or is empty where
+// Whether the call over the four samples is refused for memory, and the file stays or is empty if
 // it was to be made; with this buffer, whether it is done.
 fn opens_as_said(
     rt: &HostRuntime,
