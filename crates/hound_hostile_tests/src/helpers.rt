@@ -153,6 +153,9 @@ pub(crate) const ENDED: &str = "IoError of kind Other";
 // The words of a fault that a reader is made to have.
 pub(crate) const INTERRUPTED: &str = "IoError of kind Interrupted";
 
+// The words of a medium that finds no memory.
+pub(crate) const NO_MEMORY: &str = "IoError of kind OutOfMemory";
+
 // What tells an error from the others: the reason of an ill-formed file, or the name of the variant.
 pub(crate) fn words_of(error: &Error) -> &'static str {
     match error {
@@ -166,6 +169,7 @@ pub(crate) fn words_of(error: &Error) -> &'static str {
         Error::IoError(e) => match e.kind() {
             ErrorKind::Other => ENDED,
             ErrorKind::Interrupted => INTERRUPTED,
+            ErrorKind::OutOfMemory => NO_MEMORY,
             _ => "IoError of another kind",
         },
     }
@@ -183,7 +187,7 @@ pub(crate) enum Item {
 pub(crate) const ITEMS: usize = 8;
 
 // What was read of a file.
-#[derive(Clone, Copy, Debug, PartialEq)]
+#[derive(Clone, Copy, PartialEq)]
 pub(crate) struct Reading {
     // No words where the file has a reader.
     pub(crate) refusal: &'static str,

@@ -204,16 +204,20 @@ fn put_fmt(bytes: &mut Vec<u8>, format: Format, dice: &mut Dice) -> Result<(), A
     bytes.extend_from_slice(b"fmt ")?;
     put(bytes, format.length, 4)?;
     let start = bytes.len();
-    put(bytes, format.tag, 2)?;
-    put(bytes, format.channels, 2)?;
-    put(bytes, format.rate, 4)?;
-    put(bytes, format.per_second, 4)?;
-    put(bytes, format.align, 2)?;
-    put(bytes, format.bits, 2)?;
-    put(bytes, format.size, 2)?;
-    put(bytes, format.valid, 2)?;
-    put(bytes, dice.below(8), 4)?;
-    put(bytes, format.subformat, 2)?;
+    for (field, count) in [
+        (format.tag, 2),
+        (format.channels, 2),
+        (format.rate, 4),
+        (format.per_second, 4),
+        (format.align, 2),
+        (format.bits, 2),
+        (format.size, 2),
+        (format.valid, 2),
+        (dice.below(8), 4),
+        (format.subformat, 2),
+    ] {
+        put(bytes, field, count)?;
+    }
     bytes.extend_from_slice(&[0, 0, 0, 0, 16, 0, 128, 0, 0, 170, 0, 56, 155])?;
     put(bytes, format.last, 1)?;
     put_any(bytes, 24, dice)?;
@@ -273,38 +277,45 @@ fn put_data(bytes: &mut Vec<u8>, format: Format, dice: &mut Dice) -> Result<(), 
     put_chunk(bytes, b"data", length, length, dice)
 }
 
-// A file with few faults.
-fn file(alloc: Global, dice: &mut Dice) -> Result<Vec<u8>, AllocError> {
-    let mut bytes = b"RIFF".to_vec(alloc)?;
-    put(&mut bytes, dice.roll(), 4)?;
+// Puts a chunk that is none of the format's, one time in four.
+fn put_other_at_times(bytes: &mut Vec<u8>, dice: &mut Dice) -> Result<(), AllocError> {
+    if dice.is_once_in(4) {
+        return put_other(bytes, dice);
+    }
+    Ok(())
+}
+
+// Puts a fmt chunk of another format, one time in eight, and then that of this one, mostly.
+fn put_formats(bytes: &mut Vec<u8>, format: Format, dice: &mut Dice) -> Result<(), AllocError> {
+    if dice.is_once_in(8) {
+        let other = sound_format(dice);
+        put_fmt(bytes, other, dice)?;
+    }
+    if !dice.is_once_in(16) {
+        return put_fmt(bytes, format, dice);
+    }
+    Ok(())
+}
+
+// Puts a file with few faults.
+fn put_file(bytes: &mut Vec<u8>, dice: &mut Dice) -> Result<(), AllocError> {
+    bytes.extend_from_slice(b"RIFF")?;
+    put(bytes, dice.roll(), 4)?;
     bytes.extend_from_slice(b"WAVE")?;
     if dice.is_once_in(24) {
-        change(&mut bytes, dice);
+        change(bytes, dice);
     }
     let mut format = sound_format(dice);
     for _ in 0..dice.one_of(&[0, 0, 0, 1, 2]) {
         spoil(&mut format, dice);
     }
-    if dice.is_once_in(4) {
-        put_other(&mut bytes, dice)?;
-    }
-    if dice.is_once_in(8) {
-        let other = sound_format(dice);
-        put_fmt(&mut bytes, other, dice)?;
-    }
-    if !dice.is_once_in(16) {
-        put_fmt(&mut bytes, format, dice)?;
-    }
-    if dice.is_once_in(4) {
-        put_other(&mut bytes, dice)?;
-    }
+    put_other_at_times(bytes, dice)?;
+    put_formats(bytes, format, dice)?;
+    put_other_at_times(bytes, dice)?;
     if !dice.is_once_in(24) {
-        put_data(&mut bytes, format, dice)?;
+        put_data(bytes, format, dice)?;
     }
-    if dice.is_once_in(4) {
-        put_other(&mut bytes, dice)?;
-    }
-    Ok(bytes)
+    put_other_at_times(bytes, dice)
 }
 
 // A place in these bytes, or their end.
@@ -320,16 +331,23 @@ fn change(bytes: &mut [u8], dice: &mut Dice) {
     }
 }
 
+// Puts the end of another file behind the beginning of this one.
+fn splice(bytes: &mut Vec<u8>, alloc: Global, dice: &mut Dice) -> Result<(), AllocError> {
+    let mut other = Vec::new(alloc);
+    put_file(&mut other, dice)?;
+    let kept = place(bytes, dice);
+    bytes.truncate(kept);
+    let from = place(&other, dice);
+    bytes.extend_from_slice(other.get(from..).unwrap_or(&[]))
+}
+
 // The input with this number.
 pub(crate) fn input(alloc: Global, number: u64) -> Result<Vec<u8>, AllocError> {
     let mut dice = Dice::of(number);
-    let mut bytes = file(alloc, &mut dice)?;
+    let mut bytes = Vec::new(alloc);
+    put_file(&mut bytes, &mut dice)?;
     if dice.is_once_in(8) {
-        let other = file(alloc, &mut dice)?;
-        let kept = place(&bytes, &mut dice);
-        bytes.truncate(kept);
-        let from = place(&other, &mut dice);
-        bytes.extend_from_slice(other.get(from..).unwrap_or(&[]))?;
+        splice(&mut bytes, alloc, &mut dice)?;
     }
     if dice.is_once_in(6) {
         change(&mut bytes, &mut dice);

@@ -1,12 +1,11 @@
 // Calls whose requests for memory are refused, each in turn: all of it is taken by blocks that
 // nothing touches, but for one block, and given back before anything is compared.
-ghost use Rattle.std.specs.Prelude.{◌≡◌};
-ghost use Rattle.hound.specs.Room.{IsSixteen};
-
+use crate::helpers::{NO_MEMORY, words_of};
 use hound::{
-    Begin, End, Error, Journal, Medium, Placed, Step, Tape, WavReader, WavWriter, run_session,
+    Begin, End, Error, Journal, Medium, Placed, SampleFormat, Step, Tape, WavReader, WavWriter,
+    run_session,
 };
-use hound_callers::helpers::{FOUR_SAMPLES, empty_tape, integers, sixteen, tape_of, write_all};
+use hound_callers::helpers::{FOUR_SAMPLES, empty_tape, integers, sixteen, tape_of, write_up};
 use std::alloc::Global;
 use std::io::ErrorKind;
 use std::path::{Path, PathBuf};
@@ -46,79 +45,167 @@ fn take_all_but(alloc: Global, room: usize) -> Result<Vec<Vec<u8>>, Fail> {
     Ok(blocks)
 }
 
-#[test]
-fn a_header_of_unknown_length(rt: HostRuntime) -> Result<(), Fail> {
-    let alloc = rt.alloc();
-    let spec = integers(10, 16000, 16, 2).spec;
-    let whole = spec.into_header_for_infinite_file(alloc)?;
-    let blocks = take_all_but(alloc, 0)?;
-    let refused = spec.into_header_for_infinite_file(alloc);
-    let unwritable = integers(0, 16000, 16, 2)
-        .spec
-        .into_header_for_infinite_file(alloc);
-    drop(blocks);
-    assert!(rt; matches!(refused, Err(Error::OutOfMemory)));
-    assert!(rt; matches!(unwritable, Err(Error::Unsupported)));
-    let blocks = take_all_but(alloc, 68)?;
+// What is told of a refusal, and no words where it is none.
+fn told<T>(answer: &hound::Result<T>) -> &'static str {
+    match answer {
+        Ok(_) => "",
+        Err(error) => words_of(error),
+    }
+}
+
+// The header of a file of unknown length, where all memory but so much is taken.
+fn header_without(
+    alloc: Global,
+    channels: u16,
+    room: usize,
+) -> Result<hound::Result<Vec<u8>>, Fail> {
+    let spec = integers(channels, 16000, 16, 2).spec;
+    let blocks = take_all_but(alloc, room)?;
     let header = spec.into_header_for_infinite_file(alloc);
     drop(blocks);
-    assert_eq!(rt; header?.as_slice(), whole.as_slice());
-    Ok(())
+    Ok(header)
 }
 
-// For how many samples a new batch of so many has room.
-fn room_of(writer: &mut WavWriter<Tape>, alloc: Global, count: u32) -> hound::Result<u32>
-    requires { IsSixteen writer.old.spec_ex }
-    ensures { writer.new.spec_ex ≡ writer.old.spec_ex }
-{
-    let batch = writer.get_i16_writer(alloc, count)?;
-    Ok(batch.remaining())
-}
-
-#[test]
-fn the_first_batch(rt: HostRuntime) -> Result<(), Fail> {
-    let alloc = rt.alloc();
-    let mut writer = WavWriter::new(empty_tape(alloc), sixteen(1))?;
-    let blocks = take_all_but(alloc, 0)?;
-    let refused = room_of(&mut writer, alloc, 1);
-    let none = room_of(&mut writer, alloc, 0);
-    // A batch that is too long for a file is refused before memory.
-    let long = room_of(&mut writer, alloc, 2_147_483_630);
-    drop(blocks);
-    assert!(rt; matches!(refused, Err(Error::OutOfMemory)));
-    assert!(rt; matches!(none, Ok(0)));
-    assert!(rt; matches!(long, Err(Error::TooLong)));
-    assert_eq!(rt; writer.len(), 0);
-    let blocks = take_all_but(alloc, 2000)?;
-    let small = room_of(&mut writer, alloc, 1000);
-    let large = room_of(&mut writer, alloc, 2000);
-    drop(blocks);
-    assert!(rt; matches!(small, Ok(1000)));
-    assert!(rt; matches!(large, Err(Error::OutOfMemory)));
-    write_all(&mut writer, &[2i16, -3, 5, -7])?;
-    let (tape, result) = writer.finalize_into();
-    result?;
-    assert_eq!(rt; tape.bytes(), FOUR_SAMPLES.as_slice());
-    Ok(())
+// Whether a header is refused by these words, or is the one that is made with all memory.
+fn header_is_told(alloc: Global, channels: u16, room: usize, words: &str) -> Result<bool, Fail> {
+    match header_without(alloc, channels, room)? {
+        Ok(header) => {
+            let whole = header_without(alloc, channels, PLENTY)??;
+            Ok(words.is_empty() && header.as_slice() == whole.as_slice())
+        }
+        Err(error) => Ok(words_of(&error) == words),
+    }
 }
 
 #[test]
-fn a_batch_uses_memory_that_is_kept(rt: HostRuntime) -> Result<(), Fail> {
-    let alloc = rt.alloc();
-    let mut writer = WavWriter::new(empty_tape(alloc), sixteen(1))?;
-    let mut batch = writer.get_i16_writer(alloc, 4)?;
-    batch.write_sample(2i16);
-    batch.write_sample(3i16);
-    batch.write_sample(5i16);
-    batch.write_sample(7i16);
-    batch.flush()?;
-    let blocks = take_all_but(alloc, 0)?;
-    let within = room_of(&mut writer, alloc, 2);
-    let beyond = room_of(&mut writer, alloc, 100_000);
+fn a_header_of_unknown_length(rt: HostRuntime) -> Result<(), Fail> {
+    for (channels, room, words) in [(10, 0, "OutOfMemory"), (0, 0, "Unsupported"), (10, 68, "")] {
+        let is_told = header_is_told(rt.alloc(), channels, room, words)?;
+        assert!(rt; is_told, "{channels} channels with {room}");
+    }
+    Ok(())
+}
+
+// So much memory that a test needs no more.
+const PLENTY: usize = 1 << 30;
+
+// A call of a writer.
+#[derive(Clone, Copy)]
+enum Act {
+    // A batch of so many samples is begun, and let go.
+    Begin(u32),
+    // A batch of so many samples that count up from 2.
+    Batch(u32),
+    Sample(i16),
+    Flush,
+}
+
+// What a writer is called for, each with so much memory, what it answers and how many samples it
+// has then accepted.
+struct Script {
+    name: &'static str,
+    acts: &'static [(usize, Act, &'static str, u32)],
+    file: &'static [u8],
+}
+
+const SCRIPTS: [Script; 3] = [
+    // A batch that is too long for a file is refused before memory, and the one of 1000 takes the
+    // 2000 bytes that there are.
+    Script {
+        name: "the first batch",
+        acts: &[
+            (0, Act::Begin(1), "OutOfMemory", 0),
+            (0, Act::Begin(0), "", 0),
+            (0, Act::Begin(2_147_483_630), "TooLong", 0),
+            (2000, Act::Begin(1000), "", 0),
+            (0, Act::Begin(2000), "OutOfMemory", 0),
+            (PLENTY, Act::Sample(2), "", 1),
+            (PLENTY, Act::Sample(-3), "", 2),
+            (PLENTY, Act::Sample(5), "", 3),
+            (PLENTY, Act::Sample(-7), "", 4),
+        ],
+        file: &FOUR_SAMPLES,
+    },
+    Script {
+        name: "a batch uses memory that is kept",
+        acts: &[
+            (PLENTY, Act::Batch(4), "", 4),
+            (0, Act::Begin(2), "", 4),
+            (0, Act::Begin(100_000), "OutOfMemory", 4),
+        ],
+        file: b"RIFF\x2c\0\0\0WAVEfmt \x10\0\0\0\x01\0\x01\0\x44\xac\0\0\x88\x58\x01\0\x02\0\x10\0data\x08\0\0\0\x02\0\x03\0\x04\0\x05\0",
+    },
+    // The samples wait, and go out once there is memory.
+    Script {
+        name: "a writer over a tape that can't grow keeps its samples",
+        acts: &[
+            (0, Act::Sample(2), "", 1),
+            (0, Act::Sample(-3), "", 2),
+            (0, Act::Sample(5), "", 3),
+            (0, Act::Sample(-7), "", 4),
+            (0, Act::Flush, NO_MEMORY, 4),
+            (PLENTY, Act::Flush, "", 4),
+        ],
+        file: &FOUR_SAMPLES,
+    },
+];
+
+fn take(writer: &mut WavWriter<Tape>, alloc: Global, act: Act) -> hound::Result<()> {
+    let spec = writer.spec();
+    if spec.sample_format != SampleFormat::Int || spec.bits_per_sample != 16 {
+        return Err(Error::InvalidSampleFormat);
+    }
+    match act {
+        Act::Begin(count) => match writer.get_i16_writer(alloc, count)?.remaining() == count {
+            true => Ok(()),
+            false => Err(Error::UnfinishedSample),
+        },
+        Act::Batch(count) => write_up(writer, alloc, 2, count),
+        Act::Sample(sample) => writer.write_sample(sample),
+        Act::Flush => writer.flush(),
+    }
+}
+
+fn take_without(
+    writer: &mut WavWriter<Tape>,
+    alloc: Global,
+    act: Act,
+    room: usize,
+) -> Result<hound::Result<()>, Fail> {
+    let blocks = take_all_but(alloc, room)?;
+    let answer = take(writer, alloc, act);
     drop(blocks);
-    assert!(rt; matches!(within, Ok(2)));
-    assert!(rt; matches!(beyond, Err(Error::OutOfMemory)));
-    assert_eq!(rt; writer.len(), 4);
+    Ok(answer)
+}
+
+impl Script {
+    // Whether all comes of it that it says.
+    fn holds(&self, alloc: Global) -> Result<bool, Fail> {
+        let mut writer = WavWriter::new(empty_tape(alloc), sixteen(1))?;
+        for (room, next, words, len) in self.acts {
+            let answer = take_without(&mut writer, alloc, *next, *room)?;
+            if told(&answer) != *words || writer.len() != *len {
+                return Ok(false);
+            }
+        }
+        Ok(writer.drop_into().bytes() == self.file)
+    }
+}
+
+#[test]
+fn a_writer_without_memory(rt: HostRuntime) -> Result<(), Fail> {
+    for script in &SCRIPTS {
+        assert!(rt; script.holds(rt.alloc())?, "{}", script.name);
+    }
+    Ok(())
+}
+
+#[test]
+fn a_writer_begins_over_a_tape_that_cannot_grow(rt: HostRuntime) -> Result<(), Fail> {
+    let blocks = take_all_but(rt.alloc(), 0)?;
+    let refused = WavWriter::new(empty_tape(rt.alloc()), sixteen(1));
+    drop(blocks);
+    assert!(rt; told(&refused) == NO_MEMORY);
     Ok(())
 }
 
@@ -126,49 +213,39 @@ fn is_out_of_memory<T>(answer: &io::Result<T>) -> bool {
     matches!(answer, Err(e) if e.kind() == ErrorKind::OutOfMemory)
 }
 
-// A tape that can't grow, at its end and behind a gap.
-#[test]
-fn a_tape_that_grows(rt: HostRuntime) -> Result<(), Fail> {
-    let alloc = rt.alloc();
-    for place in [52, 60] {
-        let mut tape = tape_of(alloc, &FOUR_SAMPLES)?;
-        tape.go(place)?;
-        let blocks = take_all_but(alloc, 0)?;
-        let refused = tape.put(&[7; 3000]);
-        drop(blocks);
-        assert!(rt; is_out_of_memory(&refused));
-        assert_eq!(rt; tape.bytes(), FOUR_SAMPLES.as_slice());
-        // It stands where it stood.
-        assert_eq!(rt; tape.put(&[7; 3000])?, 3000);
-        assert_eq!(rt; tape.bytes().len(), place as usize + 3000);
-    }
-    Ok(())
+// What 3000 bytes more are answered, where all memory but so much is taken.
+fn put_without<M: Medium>(
+    medium: &mut M,
+    alloc: Global,
+    room: usize,
+) -> Result<io::Result<usize>, Fail> {
+    let blocks = take_all_but(alloc, room)?;
+    let answer = medium.put(&[7; 3000]);
+    drop(blocks);
+    Ok(answer)
 }
 
-// A journal's list of what was put grows first, and then its contents.
+// Whether a tape that can't grow stays, and stands where it stood.
+fn tape_grows(alloc: Global, place: u32) -> Result<bool, Fail> {
+    let mut tape = tape_of(alloc, &FOUR_SAMPLES)?;
+    tape.go(place as u64)?;
+    let answer = put_without(&mut tape, alloc, 0)?;
+    let stays = tape.bytes() == FOUR_SAMPLES.as_slice();
+    let count = tape.put(&[7; 3000])?;
+    Ok(
+        is_out_of_memory(&answer)
+            && stays
+            && count == 3000
+            && tape.bytes().len() == place as usize + 3000,
+    )
+}
+
+// At its end and behind a gap.
 #[test]
-fn a_journal_that_grows(rt: HostRuntime) -> Result<(), Fail> {
-    let alloc = rt.alloc();
-    let _taken = take_most(alloc)?;
-    let mut refusals = 0u32;
-    for room in [0, 16384, 32768, 49152, 50176, 65536] {
-        let mut journal = Journal::new(alloc, FOUR_SAMPLES.to_vec(alloc)?)?;
-        journal.go(52)?;
-        let blocks = take_all_but(alloc, room)?;
-        let answer = journal.put(&[7; 3000]);
-        drop(blocks);
-        if answer.is_err() {
-            refusals = refusals.saturating_add(1);
-            assert!(rt; is_out_of_memory(&answer), "room {room}");
-            assert_eq!(rt; journal.taken(), 0);
-            let bytes = bytes_of_now(&journal, alloc)?;
-            assert_eq!(rt; bytes.as_slice(), FOUR_SAMPLES.as_slice());
-            journal.put(&[7; 3000])?;
-        }
-        assert_eq!(rt; journal.taken(), 3000);
-        assert_eq!(rt; bytes_of_now(&journal, alloc)?.len(), 3052);
+fn a_tape_that_grows(rt: HostRuntime) -> Result<(), Fail> {
+    for place in [52, 60] {
+        assert!(rt; tape_grows(rt.alloc(), place)?, "{place}");
     }
-    assert_eq!(rt; refusals, 5);
     Ok(())
 }
 
@@ -177,82 +254,123 @@ fn bytes_of_now(journal: &Journal, alloc: Global) -> hound::Result<Vec<u8>> {
     journal.bytes_after(alloc, journal.taken())
 }
 
-#[test]
-fn a_journal_that_begins(rt: HostRuntime) -> Result<(), Fail> {
-    let alloc = rt.alloc();
+// A journal of these bytes, where all memory but so much is taken.
+fn journal_without(
+    alloc: Global,
+    bytes: &[u8],
+    room: usize,
+) -> Result<hound::Result<Journal>, Fail> {
+    let bytes = bytes.to_vec(alloc)?;
+    let blocks = take_all_but(alloc, room)?;
+    let journal = Journal::new(alloc, bytes);
+    drop(blocks);
+    Ok(journal)
+}
+
+// Whether a journal of the four samples is refused, and one of no bytes is still there. Both
+// while the same blocks are taken: with further blocks taken in between, 52 bytes are at times not
+// enough for the four samples.
+fn begins_without(alloc: Global) -> Result<bool, Fail> {
     let bytes = FOUR_SAMPLES.to_vec(alloc)?;
     let blocks = take_all_but(alloc, 0)?;
     let refused = Journal::new(alloc, bytes);
     let empty = Journal::new(alloc, Vec::new(alloc));
     drop(blocks);
-    assert!(rt; matches!(refused, Err(Error::OutOfMemory)));
-    assert!(rt; empty.is_ok());
-    let bytes = FOUR_SAMPLES.to_vec(alloc)?;
-    let blocks = take_all_but(alloc, 52)?;
-    let journal = Journal::new(alloc, bytes);
-    drop(blocks);
-    assert_eq!(rt;
-        bytes_of_now(&journal?, alloc)?.as_slice(),
-        FOUR_SAMPLES.as_slice()
-    );
+    Ok(matches!(refused, Err(Error::OutOfMemory)) && empty.is_ok())
+}
+
+#[test]
+fn a_journal_that_begins(rt: HostRuntime) -> Result<(), Fail> {
+    assert!(rt; begins_without(rt.alloc())?);
+    let journal = journal_without(rt.alloc(), &FOUR_SAMPLES, 52)??;
+    let bytes = bytes_of_now(&journal, rt.alloc())?;
+    assert!(rt; bytes.as_slice() == FOUR_SAMPLES.as_slice());
     Ok(())
+}
+
+// Whether a journal of the four samples takes 3000 bytes more, if not with so much memory then with
+// all; counts the refusals.
+fn journal_grows(alloc: Global, room: usize, refusals: &mut u32) -> Result<bool, Fail> {
+    let mut journal = Journal::new(alloc, FOUR_SAMPLES.to_vec(alloc)?)?;
+    journal.go(52)?;
+    let answer = put_without(&mut journal, alloc, room)?;
+    if answer.is_err() {
+        *refusals = refusals.saturating_add(1);
+        let stays = bytes_of_now(&journal, alloc)?.as_slice() == FOUR_SAMPLES.as_slice();
+        if !is_out_of_memory(&answer) || journal.taken() != 0 || !stays {
+            return Ok(false);
+        }
+        journal.put(&[7; 3000])?;
+    }
+    Ok(journal.taken() == 3000 && bytes_of_now(&journal, alloc)?.len() == 3052)
+}
+
+// A journal's list of what was put grows first, and then its contents.
+#[test]
+fn a_journal_that_grows(rt: HostRuntime) -> Result<(), Fail> {
+    let _taken = take_most(rt.alloc())?;
+    let mut refusals = 0u32;
+    for room in [0, 16384, 32768, 49152, 50176, 65536] {
+        let grows = journal_grows(rt.alloc(), room, &mut refusals)?;
+        assert!(rt; grows, "room {room}");
+    }
+    assert!(rt; refusals == 5);
+    Ok(())
+}
+
+// The beginning of a journal, which then takes 10000 bytes.
+const BEGINNING: [u8; 2000] = [1; 2000];
+
+// All bytes of a journal, where all memory but so much is taken.
+fn moment_without(
+    journal: &Journal,
+    alloc: Global,
+    room: usize,
+) -> Result<hound::Result<Vec<u8>>, Fail> {
+    let blocks = take_all_but(alloc, room)?;
+    let answer = bytes_of_now(journal, alloc);
+    drop(blocks);
+    Ok(answer)
+}
+
+// How often a moment of the journal is whole, is refused for memory, and is something else, each
+// time with a kibibyte more.
+fn moments_of(journal: &Journal, alloc: Global) -> Result<[u32; 3], Fail> {
+    let whole = bytes_of_now(journal, alloc)?;
+    let mut counts = [0u32; 3];
+    for kibibytes in 0..48 {
+        let at = match moment_without(journal, alloc, kibibytes * 1024)? {
+            Ok(bytes) => if bytes == whole { 0 } else { 2 },
+            Err(Error::OutOfMemory) => 1,
+            Err(_) => 2,
+        };
+        counts[at] = counts[at].saturating_add(1);
+    }
+    Ok(counts)
 }
 
 // The bytes of a moment are those of the beginning, of which the list grows several times.
 #[test]
 fn a_moment_of_a_journal(rt: HostRuntime) -> Result<(), Fail> {
-    let alloc = rt.alloc();
-    let mut start = Vec::new(alloc);
-    start.resize(2000, 1)?;
-    let mut journal = Journal::new(alloc, start)?;
+    let mut journal = journal_without(rt.alloc(), &BEGINNING, PLENTY)??;
     journal.go(2000)?;
     journal.put(&[7; 10_000])?;
-    let whole = bytes_of_now(&journal, alloc)?;
-    let _taken = take_most(alloc)?;
-    let mut answers = [0u32; 2];
-    for kibibytes in 0..48 {
-        let blocks = take_all_but(alloc, kibibytes * 1024)?;
-        let answer = bytes_of_now(&journal, alloc);
-        drop(blocks);
-        match answer {
-            Ok(bytes) => {
-                answers[0] = answers[0].saturating_add(1);
-                assert_eq!(rt; bytes.as_slice(), whole.as_slice());
-            }
-            Err(error) => {
-                answers[1] = answers[1].saturating_add(1);
-                assert!(rt; matches!(error, Error::OutOfMemory));
-            }
-        }
-    }
+    let _taken = take_most(rt.alloc())?;
+    let counts = moments_of(&journal, rt.alloc())?;
     // Less than the 12000 bytes can't be enough, and four times as much is.
-    assert!(rt; 12 <= answers[1], "{answers:?}");
-    assert!(rt; 1 <= answers[0], "{answers:?}");
+    assert!(rt;
+        1 <= counts[0] && 12 <= counts[1] && counts[2] == 0,
+        "{counts:?}"
+    );
     Ok(())
 }
 
-// A writer whose tape can't grow keeps its samples, and they go out once there is memory.
-#[test]
-fn a_writer_over_a_tape_that_grows(rt: HostRuntime) -> Result<(), Fail> {
-    let alloc = rt.alloc();
-    let blocks = take_all_but(alloc, 0)?;
-    let refused = WavWriter::new(empty_tape(alloc), sixteen(1));
-    drop(blocks);
-    assert!(rt; matches!(refused, Err(Error::IoError(e)) if e.kind() == ErrorKind::OutOfMemory));
-    let mut writer = WavWriter::new(empty_tape(alloc), sixteen(1))?;
-    let blocks = take_all_but(alloc, 0)?;
-    let written = write_all(&mut writer, &[2i16, -3, 5, -7]);
-    let refused = writer.flush();
-    drop(blocks);
-    assert!(rt; written.is_ok());
-    assert!(rt; matches!(refused, Err(Error::IoError(e)) if e.kind() == ErrorKind::OutOfMemory));
-    assert_eq!(rt; writer.len(), 4);
-    writer.flush()?;
-    assert_eq!(rt; writer.drop_into().bytes(), FOUR_SAMPLES.as_slice());
-    Ok(())
-}
+// The four samples whose first two are those behind them.
+const OVERWRITTEN: &[u8] =
+    b"RIFF\x28\0\0\0WAVEfmt \x10\0\0\0\x01\0\x01\0\x44\xac\0\0\x88\x58\x01\0\x02\0\x10\0data\x04\0\0\0\x05\0\xf9\xff\x05\0\xf9\xff";
 
-// A batch that finds no memory isn't done; the steps behind it are.
+// A batch that finds no memory isn't done; the steps behind it are. The last four bytes are those
+// of the file that was there.
 #[test]
 fn a_batch_of_a_session(rt: HostRuntime) -> Result<(), Fail> {
     let alloc = rt.alloc();
@@ -263,14 +381,8 @@ fn a_batch_of_a_session(rt: HostRuntime) -> Result<(), Fail> {
     let blocks = take_all_but(alloc, 0)?;
     let (tape, answer) = run_session(alloc, tape, begin, &steps, &mut marks, End::Finalize);
     drop(blocks);
-    answer?;
-    assert_eq!(rt; marks, [false, true, true]);
-    // The last four bytes are those of the file that was there.
-    let mut file = FOUR_SAMPLES;
-    file[4] = 40;
-    file[40] = 4;
-    file[44..48].copy_from_slice(&FOUR_SAMPLES[48..]);
-    assert_eq!(rt; tape.bytes(), file.as_slice());
+    let stands = answer.is_ok() && marks == [false, true, true] && tape.bytes() == OVERWRITTEN;
+    assert!(rt; stands, "{marks:?}");
     Ok(())
 }
 
@@ -282,42 +394,50 @@ fn path_of(rt: &HostRuntime, name: &str) -> Result<PathBuf, Fail> {
 }
 
 // A call that opens a file.
-#[derive(Clone, Copy, Debug, PartialEq)]
+#[derive(Clone, Copy)]
 enum Opening {
     Open,
     Create,
     Append,
 }
 
-// What the call answers over the four samples where all memory but so much is taken, and the file's
-// bytes then.
+// What the call is refused for where all memory but so much is taken.
 fn open_without(
     rt: &HostRuntime,
     path: Path<'_>,
     opening: Opening,
     room: usize,
-) -> Result<(hound::Result<()>, Vec<u8>), Fail> {
+) -> Result<&'static str, Fail> {
     let alloc = rt.alloc();
-    fs::write(rt, path, FOUR_SAMPLES.as_slice())?;
     let blocks = take_all_but(alloc, room)?;
-    let answer = match opening {
-        Opening::Open => WavReader::open(rt, alloc, path).map(|_| ()),
-        Opening::Create => WavWriter::create(rt, alloc, path, sixteen(1)).map(|_| ()),
-        Opening::Append => WavWriter::append(rt, alloc, path).map(|_| ()),
+    let words = match opening {
+        Opening::Open => told(&WavReader::open(rt, alloc, path)),
+        Opening::Create => told(&WavWriter::create(rt, alloc, path, sixteen(1))),
+        Opening::Append => told(&WavWriter::append(rt, alloc, path)),
     };
     drop(blocks);
-    Ok((answer, fs::read(rt, path)?))
+    Ok(words)
 }
 
-// Whether a refusal is for memory, and the file stays, or is empty where it was to be made.
-fn is_refused_for_memory(opening: Opening, answer: hound::Result<()>, bytes: &[u8]) -> bool {
-    let is_told = match answer {
-        Err(Error::OutOfMemory) => true,
-        Err(Error::IoError(e)) => e.kind() == ErrorKind::OutOfMemory,
-        _ => false,
-    };
-    let stays = bytes == FOUR_SAMPLES.as_slice();
-    is_told && (stays || opening == Opening::Create && bytes.is_empty())
+// Whether the call over the four samples is refused for memory, and the file stays or is empty if
+// it was to be made; with this buffer, whether it is done.
+fn opens_as_said(
+    rt: &HostRuntime,
+    path: Path<'_>,
+    opening: Opening,
+    room: usize,
+    buffer: usize,
+) -> Result<bool, Fail> {
+    fs::write(rt, path, FOUR_SAMPLES.as_slice())?;
+    let words = open_without(rt, path, opening, room)?;
+    let bytes = fs::read(rt, path)?;
+    if room == buffer {
+        return Ok(words.is_empty());
+    }
+    let stays = bytes.as_slice() == FOUR_SAMPLES.as_slice();
+    let is_refused = words == "OutOfMemory" || words == NO_MEMORY;
+    let is_made = matches!(opening, Opening::Create);
+    Ok(is_refused && (stays || is_made && bytes.is_empty()))
 }
 
 // The buffer is all that is asked for.
@@ -325,18 +445,15 @@ fn is_refused_for_memory(opening: Opening, answer: hound::Result<()>, bytes: &[u
 fn files_that_are_opened(rt: HostRuntime) -> Result<(), Fail> {
     let _taken = take_most(rt.alloc())?;
     let path = path_of(&rt, "opened")?;
-    for (opening, buffer) in [
-        (Opening::Open, 8192),
-        (Opening::Create, 65536),
-        (Opening::Append, 65536),
+    for (name, opening, buffer) in [
+        ("open", Opening::Open, 8192),
+        ("create", Opening::Create, 65536),
+        ("append", Opening::Append, 65536),
     ] {
-        for room in [0, 16, 1024, buffer - 64] {
-            let (answer, bytes) = open_without(&rt, path.as_path(), opening, room)?;
-            let is_refused = is_refused_for_memory(opening, answer, &bytes);
-            assert!(rt; is_refused, "{opening:?} with {room}");
+        for room in [0, 16, 1024, buffer - 64, buffer] {
+            let is_as_said = opens_as_said(&rt, path.as_path(), opening, room, buffer)?;
+            assert!(rt; is_as_said, "{name} with {room}");
         }
-        let (answer, _) = open_without(&rt, path.as_path(), opening, buffer)?;
-        assert!(rt; answer.is_ok(), "{opening:?}");
     }
     fs::remove_file(&rt, path.as_path())?;
     Ok(())
