@@ -173,7 +173,8 @@ struct Head {
 
 // Eight channels of the widest containers, of which no byte is there.
 const WIDEST: &[u8] =
-    b"RIFF\0\0\0\0WAVEfmt \x10\0\0\0\x01\0\x08\0\x01\0\0\0\xff\xff\0\0\xff\xff\x08\0data\xf8\xff\0\0";
+    b"RIFF\0\0\0\0WAVEfmt \x10\0\0\0\x01\0\x08\0\x01\0\0\0\xff\xff\0\0\xff\xff\x08\0\
+        data\xf8\xff\0\0";
 
 const HEADS: [Head; 3] = [
     Head {

@@ -133,7 +133,8 @@ const SCRIPTS: [Script; 3] = [
             (0, Act::Begin(2), "", 4),
             (0, Act::Begin(100_000), "OutOfMemory", 4),
         ],
-        file: b"RIFF\x2c\0\0\0WAVEfmt \x10\0\0\0\x01\0\x01\0\x44\xac\0\0\x88\x58\x01\0\x02\0\x10\0data\x08\0\0\0\x02\0\x03\0\x04\0\x05\0",
+        file: b"RIFF\x2c\0\0\0WAVEfmt \x10\0\0\0\x01\0\x01\0\x44\xac\0\0\x88\x58\x01\0\x02\0\x10\0\
+            data\x08\0\0\0\x02\0\x03\0\x04\0\x05\0",
     },
     // The samples wait, and go out once there is memory.
     Script {
@@ -367,7 +368,8 @@ fn a_moment_of_a_journal(rt: HostRuntime) -> Result<(), Fail> {
 
 // The four samples whose first two are those behind them.
 const OVERWRITTEN: &[u8] =
-    b"RIFF\x28\0\0\0WAVEfmt \x10\0\0\0\x01\0\x01\0\x44\xac\0\0\x88\x58\x01\0\x02\0\x10\0data\x04\0\0\0\x05\0\xf9\xff\x05\0\xf9\xff";
+    b"RIFF\x28\0\0\0WAVEfmt \x10\0\0\0\x01\0\x01\0\x44\xac\0\0\x88\x58\x01\0\x02\0\x10\0\
+        data\x04\0\0\0\x05\0\xf9\xff\x05\0\xf9\xff";
 
 // A batch that finds no memory isn't done; the steps behind it are. The last four bytes are those
 // of the file that was there.

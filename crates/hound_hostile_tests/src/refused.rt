@@ -185,20 +185,23 @@ const CASES: &[Case] = &[
         ..EMPTY
     },
     Case {
-        fmt: b"\xfe\xff\x01\0\x44\xac\0\0\x88\x58\x01\0\x02\0\x10\0\x16\0\x10\0\x04\0\0\0\x01\0\0\0\0\0\x10\0\x80\0\0\xaa\0\x38\x9b",
+        fmt: b"\xfe\xff\x01\0\x44\xac\0\0\x88\x58\x01\0\x02\0\x10\0\
+            \x16\0\x10\0\x04\0\0\0\x01\0\0\0\0\0\x10\0\x80\0\0\xaa\0\x38\x9b",
         words: "unexpected fmt chunk size",
         taken: 36,
         ..EMPTY
     },
     // One that says another size, and a subformat that differs in its last byte.
     Case {
-        fmt: b"\xfe\xff\x01\0\x44\xac\0\0\x88\x58\x01\0\x02\0\x10\0\x16\x01\x10\0\x04\0\0\0\x01\0\0\0\0\0\x10\0\x80\0\0\xaa\0\x38\x9b\x70",
+        fmt: b"\xfe\xff\x01\0\x44\xac\0\0\x88\x58\x01\0\x02\0\x10\0\
+            \x16\x01\x10\0\x04\0\0\0\x01\0\0\0\0\0\x10\0\x80\0\0\xaa\0\x38\x9b\x70",
         words: "unexpected WAVEFORMATEXTENSIBLE size",
         taken: 38,
         ..EMPTY
     },
     Case {
-        fmt: b"\xfe\xff\x01\0\x44\xac\0\0\x88\x58\x01\0\x02\0\x10\0\x16\0\x10\0\x04\0\0\0\x01\0\0\0\0\0\x10\0\x80\0\0\xaa\0\x38\x9b\x70",
+        fmt: b"\xfe\xff\x01\0\x44\xac\0\0\x88\x58\x01\0\x02\0\x10\0\
+            \x16\0\x10\0\x04\0\0\0\x01\0\0\0\0\0\x10\0\x80\0\0\xaa\0\x38\x9b\x70",
         words: "Unsupported",
         taken: 60,
         ..EMPTY
