@@ -1,9 +1,17 @@
-use Rattle.std.proofs.Common.{inr, subst}
+use Rattle.std.proofs.Common.{inl, inr, refl, rules, subst}
 use Rattle.hound_session.specs.declared.session.Begin.{Begin}
 use Rattle.hound_session.specs.declared.session.End.{End}
 use Rattle.hound_session.specs.Run.{Ran}
 use Rattle.hound_session.proofs.Whole.{ran, new_canonical, new_exact}
 use Rattle.hound_session.proofs.runs.run_session.Goals as goal
+
+pub returns-in-Err-clause-session : goal.returns-in-Err-clause-session
+returns-in-Err-clause-session g c = inl record {
+  error = c.in-Err.error;
+  told = refl;
+  why = c.in-Err.ensures;
+  marked = search rules;
+}
 
 pub returns-clause-session : goal.returns-clause-session
 returns-clause-session g c =
