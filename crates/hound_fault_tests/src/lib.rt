@@ -11,5 +11,3 @@ mod moments;
 mod sessions;
 #[cfg(test)]
 mod sweeps;
-#[cfg(test)]
-mod waiting;

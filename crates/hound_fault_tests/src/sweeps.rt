@@ -1,9 +1,10 @@
 // Scripts of a session over media in which any range of calls fails, read at each moment.
 ghost use Rattle.std.specs.Prelude.{◌≡◌, ◌≤◌};
 
-use crate::helpers::{Recorded, bytes_after, data_length, failing, has_first};
+use crate::helpers::{bytes_after, data_length, failing, has_first};
 use hound::{Begin, End, Error, Journal, Placed, Step, WavSpecEx, run_session};
 use hound_callers::helpers::{integers, samples_of};
+use hound_callers::recorded::Recorded;
 use std::alloc::Global;
 use std::test::Fail;
 

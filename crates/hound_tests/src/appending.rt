@@ -1,9 +1,8 @@
 // Going on with files that are there, and those that are refused.
 ghost use Rattle.std.specs.Prelude.{◌≡◌};
 
-use crate::scripts::LONGEST;
 use hound::{Error, FloatBits, Placed, Sample, Tape, WavSpecEx, WavWriter};
-use hound_callers::helpers::{file_of, floats, integers, samples_of, tape_of, write_all};
+use hound_callers::helpers::{LONGEST, file_of, floats, integers, samples_of, tape_of, write_all};
 use std::alloc::Global;
 use std::io::ErrorKind;
 use std::test::Fail;

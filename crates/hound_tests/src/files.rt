@@ -1,6 +1,6 @@
 // Files on disk. What is done to a file is a row of a table (`ROWS`).
-use crate::answers::answer_of;
 use hound::{WavReader, WavWriter};
+use hound_callers::answers::answer_of;
 use hound_callers::helpers::{
     FOUR_SAMPLES, NO_SAMPLES, read_all, seeks_everywhere, sixteen, write_all,
 };

@@ -2,8 +2,6 @@
 #![tactic(auto)]
 
 #[cfg(test)]
-mod answers;
-#[cfg(test)]
 mod appending;
 #[cfg(test)]
 mod calling;
@@ -13,8 +11,6 @@ mod channels;
 mod files;
 #[cfg(test)]
 mod reading;
-#[cfg(test)]
-mod scripts;
 #[cfg(test)]
 mod seeking;
 #[cfg(test)]

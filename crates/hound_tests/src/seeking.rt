@@ -3,8 +3,8 @@ ghost use Rattle.std.specs.Prelude.{◌≡◌, false};
 ghost use Rattle.std.proofs.lemmas.Bool.{false≢true};
 ghost use Rattle.hound.specs.State.{MediumState, unknown};
 
-use crate::answers::name_of;
 use hound::{FloatBits, Placed, Sample, Source, Tape, WavReader};
+use hound_callers::answers::name_of;
 use hound_callers::helpers::{
     FOUR_BYTES, FOUR_SAMPLES, NO_SAMPLES, gives, seeks_everywhere, tape_of,
 };

@@ -1,6 +1,6 @@
 // Headers of streams whose length isn't known.
-use crate::answers::answer_of;
 use hound::{Error, WavReader};
+use hound_callers::answers::answer_of;
 use hound_callers::helpers::integers;
 use std::alloc::Global;
 

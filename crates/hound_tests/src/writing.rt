@@ -2,8 +2,8 @@
 ghost use Rattle.std.specs.Prelude.{◌≡◌};
 ghost use Rattle.hound.specs.State.{MediumState};
 
-use crate::answers::name_of;
 use hound::{Error, Placed, SampleFormat, Tape, WavSpec, WavSpecEx, WavWriter};
+use hound_callers::answers::name_of;
 use hound_callers::helpers::{FOUR_SAMPLES, NO_SAMPLES, empty_tape, integers, sixteen, write_all};
 use std::alloc::Global;
 use std::test::Fail;

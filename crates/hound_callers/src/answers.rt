@@ -1,8 +1,8 @@
-// The name of an answer, as the rows of the tables say it.
+//! The name of an answer, as the rows of the tables say it.
 use hound::Error;
 
-// The name of an error, or of an ill-formed file the reason.
-pub(crate) fn name_of(error: Error) -> &'static str {
+/// The name of an error, or of an ill-formed file the reason.
+pub fn name_of(error: Error) -> &'static str {
     match error {
         Error::IoError(_) => "IoError",
         Error::FormatError(reason) => reason,
@@ -15,8 +15,8 @@ pub(crate) fn name_of(error: Error) -> &'static str {
     }
 }
 
-// "done" where a call did what was asked, "not so" where it found something else.
-pub(crate) fn answer_of(returned: hound::Result<bool>) -> &'static str {
+/// "done" where a call did what was asked, "not so" where it found something else.
+pub fn answer_of(returned: hound::Result<bool>) -> &'static str {
     match returned {
         Ok(true) => "done",
         Ok(false) => "not so",
@@ -24,8 +24,8 @@ pub(crate) fn answer_of(returned: hound::Result<bool>) -> &'static str {
     }
 }
 
-// The same where there is nothing to find.
-pub(crate) fn done_or_error(returned: hound::Result<()>) -> &'static str {
+/// The same where there is nothing to find.
+pub fn done_or_error(returned: hound::Result<()>) -> &'static str {
     match returned {
         Ok(()) => "done",
         Err(error) => name_of(error),
