@@ -2,7 +2,7 @@
 ghost use Rattle.std.specs.Prelude.{◌≡◌};
 
 use hound::{Error, Placed, Tape, WavWriter};
-use hound_callers::helpers::{
+use hound_test_helpers::helpers::{
     Faulty, empty_tape, file_of, integers, samples_of, sixteen, write_all,
 };
 use std::alloc::Global;

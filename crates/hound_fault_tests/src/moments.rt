@@ -4,7 +4,7 @@ ghost use Rattle.std.specs.Prelude.{◌≡◌, ◌≤◌};
 
 use crate::helpers::{bytes_after, data_length, failing, has_first, has_samples, numbers};
 use hound::{Begin, End, Error, Journal, Placed, Step, WavReader, run_session};
-use hound_callers::helpers::integers;
+use hound_test_helpers::helpers::integers;
 use std::alloc::Global;
 use std::test::Fail;
 

@@ -5,7 +5,7 @@ use crate::helpers::failing;
 use hound::{
     Begin, End, Error, FloatBits, SampleFormat, Step, WavSpec, WavSpecEx, run_session, run_sessions,
 };
-use hound_callers::helpers::{integers, tape_of};
+use hound_test_helpers::helpers::{integers, tape_of};
 use std::alloc::Global;
 use std::test::Fail;
 

@@ -3,8 +3,8 @@ ghost use Rattle.std.specs.Prelude.{◌≡◌, ◌≤◌};
 
 use crate::helpers::{bytes_after, data_length, failing, has_first};
 use hound::{Begin, End, Error, Journal, Placed, Step, WavSpecEx, run_session};
-use hound_callers::helpers::{integers, samples_of};
-use hound_callers::recorded::Recorded;
+use hound_test_helpers::helpers::{integers, samples_of};
+use hound_test_helpers::recorded::Recorded;
 use std::alloc::Global;
 use std::test::Fail;
 

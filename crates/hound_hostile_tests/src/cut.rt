@@ -2,7 +2,7 @@
 // are there for.
 use crate::helpers::{ENDED, Fed, INTERRUPTED, ITEMS, Item, Reading, Stumble, Then, changed, read};
 use hound::{Error, Journal, Placed, SampleFormat, WavReader, WavSpec};
-use hound_callers::helpers::{FOUR_BYTES, FOUR_SAMPLES, gives, sixteen};
+use hound_test_helpers::helpers::{FOUR_BYTES, FOUR_SAMPLES, gives, sixteen};
 use std::alloc::{AllocError, Global};
 use std::io::ErrorKind;
 use std::test::Fail;

@@ -2,7 +2,7 @@
 use crate::foreign_files::{FILES, Foreign};
 use crate::helpers::{Fed, Item, Reading, read};
 use hound::{FloatBits, SampleFormat, Tape, WavSpec, WavWriter};
-use hound_callers::helpers::write_all;
+use hound_test_helpers::helpers::write_all;
 use std::alloc::{AllocError, Global};
 use std::test::Fail;
 

@@ -5,7 +5,7 @@ use hound::{
     Begin, End, Error, Journal, Medium, Placed, SampleFormat, Step, Tape, WavReader, WavWriter,
     run_session,
 };
-use hound_callers::helpers::{FOUR_SAMPLES, empty_tape, integers, sixteen, tape_of, write_up};
+use hound_test_helpers::helpers::{FOUR_SAMPLES, empty_tape, integers, sixteen, tape_of, write_up};
 use std::alloc::Global;
 use std::io::ErrorKind;
 use std::path::{Path, PathBuf};

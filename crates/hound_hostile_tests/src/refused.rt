@@ -2,7 +2,7 @@
 // taken, whole and one byte a read.
 use crate::helpers::{Fed, ITEMS, Item, Reading, changed, read, words_of};
 use hound::read_wave_header;
-use hound_callers::helpers::{FOUR_SAMPLES, file_with};
+use hound_test_helpers::helpers::{FOUR_SAMPLES, file_with};
 use std::alloc::{AllocError, Global};
 use std::test::Fail;
 

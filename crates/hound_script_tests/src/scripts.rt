@@ -3,8 +3,8 @@ ghost use Rattle.std.specs.Prelude.{◌≡◌};
 
 use hound::{Error, FloatBits, Medium, SampleFormat, WavSpec, WavSpecEx, WavWriter};
 use hound_callers::Twelve;
-use hound_callers::answers::done_or_error;
-use hound_callers::helpers::{Faulty, LONGEST, tape_of, write_up};
+use hound_test_helpers::answers::done_or_error;
+use hound_test_helpers::helpers::{Faulty, LONGEST, tape_of, write_up};
 use std::alloc::Global;
 use std::test::Fail;
 

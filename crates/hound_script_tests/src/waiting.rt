@@ -1,10 +1,10 @@
 // The block of accepted samples that wait in a writer: which calls of the medium are made, and what
 // a fault leaves. Most of it are rows of a table (`SCRIPTS`).
 use hound::{Error, Medium, Sample, SampleFormat, WavSpecEx, WavWriter};
-use hound_callers::helpers::{
+use hound_test_helpers::helpers::{
     FOUR_SAMPLES, Faulty, NO_SAMPLES, empty_tape, integers, sixteen, write_all, write_up,
 };
-use hound_callers::recorded::Recorded;
+use hound_test_helpers::recorded::Recorded;
 use std::alloc::Global;
 use std::test::Fail;
 

@@ -2,7 +2,9 @@
 ghost use Rattle.std.specs.Prelude.{◌≡◌};
 
 use hound::{Error, FloatBits, Placed, Sample, Tape, WavSpecEx, WavWriter};
-use hound_callers::helpers::{LONGEST, file_of, floats, integers, samples_of, tape_of, write_all};
+use hound_test_helpers::helpers::{
+    LONGEST, file_of, floats, integers, samples_of, tape_of, write_all,
+};
 use std::alloc::Global;
 use std::io::ErrorKind;
 use std::test::Fail;

@@ -1,6 +1,6 @@
 // Files of many channels.
 use hound::{Error, Sample, WavSpecEx};
-use hound_callers::helpers::{file_of, integers, samples_of};
+use hound_test_helpers::helpers::{file_of, integers, samples_of};
 use std::alloc::Global;
 use std::test::Fail;
 

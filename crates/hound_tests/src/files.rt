@@ -1,10 +1,10 @@
 // Files on disk. What is done to a file is a row of a table (`ROWS`).
 use hound::{WavReader, WavWriter};
-use hound_callers::answers::answer_of;
-use hound_callers::helpers::{
+use hound_callers::record_and_read;
+use hound_test_helpers::answers::answer_of;
+use hound_test_helpers::helpers::{
     FOUR_SAMPLES, NO_SAMPLES, read_all, seeks_everywhere, sixteen, write_all,
 };
-use hound_callers::record_and_read;
 use std::path::{Path, PathBuf};
 use std::test::Fail;
 use std::{env, fs, process};

@@ -1,6 +1,6 @@
 // Files of every fmt chunk that is read, at the types that hold their samples.
 use hound::{Error, FloatBits, Sample, WavReader};
-use hound_callers::helpers::{read_all, samples_of};
+use hound_test_helpers::helpers::{read_all, samples_of};
 use std::alloc::Global;
 use std::io;
 use std::test::Fail;

@@ -4,8 +4,8 @@ ghost use Rattle.std.proofs.lemmas.Bool.{false≢true};
 ghost use Rattle.hound.specs.State.{MediumState, unknown};
 
 use hound::{FloatBits, Placed, Sample, Source, Tape, WavReader};
-use hound_callers::answers::name_of;
-use hound_callers::helpers::{
+use hound_test_helpers::answers::name_of;
+use hound_test_helpers::helpers::{
     FOUR_BYTES, FOUR_SAMPLES, NO_SAMPLES, gives, seeks_everywhere, tape_of,
 };
 use std::alloc::Global;

@@ -1,7 +1,7 @@
 // Headers of streams whose length isn't known.
 use hound::{Error, WavReader};
-use hound_callers::answers::answer_of;
-use hound_callers::helpers::integers;
+use hound_test_helpers::answers::answer_of;
+use hound_test_helpers::helpers::integers;
 use std::alloc::Global;
 
 // 16000 Hz, 16 bits, one channel.

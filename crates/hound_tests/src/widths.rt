@@ -1,7 +1,7 @@
 // Every width and every sample type, written and read back.
 use hound::{Error, FloatBits, Sample, WavSpecEx};
 use hound_callers::Twelve;
-use hound_callers::helpers::{FOUR_BYTES, file_of, floats, integers, samples_of};
+use hound_test_helpers::helpers::{FOUR_BYTES, file_of, floats, integers, samples_of};
 use std::alloc::Global;
 use std::test::Fail;
 

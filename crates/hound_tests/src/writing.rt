@@ -3,8 +3,10 @@ ghost use Rattle.std.specs.Prelude.{◌≡◌};
 ghost use Rattle.hound.specs.State.{MediumState};
 
 use hound::{Error, Placed, SampleFormat, Tape, WavSpec, WavSpecEx, WavWriter};
-use hound_callers::answers::name_of;
-use hound_callers::helpers::{FOUR_SAMPLES, NO_SAMPLES, empty_tape, integers, sixteen, write_all};
+use hound_test_helpers::answers::name_of;
+use hound_test_helpers::helpers::{
+    FOUR_SAMPLES, NO_SAMPLES, empty_tape, integers, sixteen, write_all,
+};
 use std::alloc::Global;
 use std::test::Fail;
 
