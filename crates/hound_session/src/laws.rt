@@ -10,11 +10,8 @@ use hound_medium::Medium;
 
 /// A batch accepts what its values do one by one: the same samples, and the same count of them.
 ///
-/// So a caller that has whole blocks may hand them over as batches, which is faster, and what it
-/// proved of the steps one by one holds of them. It is said of a medium that tells, from a writer
-/// whose accepted samples are there, where every step answered Ok: a batch is refused as a whole,
-/// where steps one by one accept what comes before the first that is refused, and only a batch asks
-/// for memory.
+/// It is said of a medium that tells, from one writer whose accepted samples are there, where the
+/// batch and each step answered Ok.
 pub fn a_batch_is_its_values<M: Medium>(values: &[i16])
     ensures { WhereTells M.tells ((a b c : WriterState M) → 4 ≤ a.data_start → IsWhole M.state a →
         Takes M.tells M.keeps M.state (Batch values.entry) (Ok tt) a b → RunsOk M.tells M.keeps M.state (map (λ v. Whole v) values.now) a c →

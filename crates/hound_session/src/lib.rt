@@ -1,8 +1,7 @@
 //! Whole runs of a writer as one call each: [`run_session`] takes every step and marks those that
 //! were accepted, [`run_sessions`] ends at the first error.
 //!
-//! A run that is a value can be kept, repeated and compared, and a contract can say what the whole
-//! of it leaves. A recorder that has to know which samples came through takes the first:
+//! A recorder that has to know which samples came through takes the first:
 //!
 //! ```
 //! use hound::{Begin, End, Step, Tape, run_session, run_sessions};
@@ -40,7 +39,7 @@
 //! ```
 //!
 //! The steps 2 and a batch of 5 and -7 come to the file of 2, 5, -7, 2, 5 and -7; with 40000 among
-//! them it answers `TooWide`, and the medium, which is handed back, has what was accepted before.
+//! them the answer is `TooWide`.
 #![tactic(auto)]
 
 mod laws;
