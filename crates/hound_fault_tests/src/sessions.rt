@@ -1,5 +1,11 @@
 // Whole runs of a writer as one call, most of them rows of two tables.
-ghost use Rattle.std.specs.Prelude.{◌≡◌};
+ghost use Rattle.std.specs.Borrow.{Bor};
+ghost use Rattle.std.specs.Prelude.{◌≡◌, ◌≤◌, ℤ, List, [], ◌∷◌, length, pos, Ok, Err};
+ghost use Rattle.hound.specs.FirstError.{AnswersAll, AnswersSession, AnswersStep};
+ghost use Rattle.hound.specs.declared.Error.TheVariants.{OutOfMemory, TooLong, UnfinishedSample};
+ghost use Rattle.hound.specs.declared.Step.{Step};
+ghost use Rattle.hound.specs.declared.Step.TheVariants.{Whole, Batch, Flush};
+ghost use Rattle.hound_fault_tests.specs.Rows.{mono, stereo};
 
 use crate::helpers::failing;
 use hound::{
@@ -255,6 +261,29 @@ fn sessions_come_out_as_they_say(rt: HostRuntime) -> Result<(), Fail> {
         assert!(rt; is_left && ending_of(answer) == row.ending, "{}", row.name);
     }
     Ok(())
+}
+
+// What the definition of an answer of sessions leaves out: a sample that is too wide passed over,
+// the error of a later step, a fault told as another error, an unfinished frame at a flush or at an
+// end, and no memory for a batch no longer than one before it.
+fn wrong_answers()
+    ensures passed_over { (first second third : Bor (List Step))
+        → second.now ≡ Whole (pos 40000) ∷ [] →
+        AnswersAll mono [] (first ∷ second ∷ third ∷ []) (Ok tt) → ⊥ }
+    ensures later_error { AnswersSession stereo [] 0
+        (Whole (pos 40000) ∷ Whole (pos 11) ∷ Flush ∷ []) (Err UnfinishedSample) → ⊥ }
+    ensures fault_as_too_long { AnswersSession mono [] 0 (Whole (pos 11) ∷ []) (Err TooLong) → ⊥ }
+    ensures unfinished_flush { AnswersSession stereo [] 0
+        (Whole (pos 11) ∷ Flush ∷ Whole (pos 13) ∷ []) (Ok tt) → ⊥ }
+    ensures unfinished_end { AnswersSession stereo [] 0 (Whole (pos 11) ∷ []) (Ok tt) → ⊥ }
+    ensures smaller_batch { (first second : Bor (List ℤ)) → length second.now ≤ length first.now →
+        AnswersSession mono [] 0 (Batch first ∷ Batch second ∷ []) (Err OutOfMemory) →
+        AnswersStep mono [] 0 (Batch first) (Err OutOfMemory) }
+{}
+
+#[test]
+fn definitions_leave_wrong_answers_out(_rt: HostRuntime) {
+    wrong_answers();
 }
 
 // The marks of a sample, a batch and a sample in a session of 24 bits, how many bytes were put, and

@@ -3,6 +3,7 @@ pub mod Running
 pub mod Leading
 pub mod Moments
 pub mod Whole
+pub mod Answering
 pub mod Batching
 pub mod Chaining
 pub mod WholeSessions

@@ -1,5 +1,5 @@
 -- A whole run, from its beginning to its end.
-use Rattle.std.proofs.Common.{◌≡◌, ℕ, zero, suc, ◌+◌, ◌/◌, ◌<◌, ◌≤◌, Bool, List, [], ◌++◌, length, take, drop, map, Result, Ok, Err, OnOk, IsTrue, refl, sym, ◌∙◌, ap, subst, arith, length-append, length-drop}
+use Rattle.std.proofs.Common.{◌≡◌, ℕ, zero, suc, ◌+◌, ◌/◌, ◌<◌, ◌≤◌, Bool, List, [], ◌++◌, length, take, drop, map, Result, Ok, Err, OnOk, IsTrue, inl, inr, refl, sym, ◌∙◌, ap, subst, arith, length-append, length-drop}
 use Rattle.std.proofs.lemmas.List.{take_all, length-take-le}
 use Rattle.std.specs.List.{concat}
 use Rattle.std.specs.Io.{StartsWith}
@@ -7,7 +7,7 @@ use Rattle.hound_spec.specs.declared.error.Error.{Error}
 use Rattle.hound_spec.specs.declared.error.Error.TheVariants.{IoError, UnfinishedSample}
 use Rattle.hound_spec.specs.declared.spec.WavSpecEx.{WavSpecEx}
 use Rattle.hound_spec.specs.Header.{header, data_start, canonical}
-use Rattle.hound_spec.proofs.HeaderLemmas.{length-canonical, length-header}
+use Rattle.hound_spec.proofs.HeaderLemmas.{data_start_least, length-canonical, length-header}
 use Rattle.hound_sample.specs.Container.{containers}
 use Rattle.hound_medium.specs.State.{MediumState, WhereTells, WhereKeeps}
 use Rattle.hound_medium.specs.Bytes.{placed, overlay}
@@ -17,6 +17,7 @@ use Rattle.hound_writer.specs.Counts.{Counts}
 use Rattle.hound_writer.specs.Publishing.{Finishes}
 use Rattle.hound_writer.specs.Sizes.{ChangesSizesOnly}
 use Rattle.hound_writer.specs.Writer.{WriterState, IsSound, IsWhole, IsBegun, accepted_samples, data_length}
+use Rattle.hound_writer.proofs.Accepting.{length_overlay_max}
 use Rattle.hound_writer.proofs.Answers.{on_published_then}
 use Rattle.hound_writer.proofs.Samples.{concat-samples, length_out, samples_out}
 use Rattle.hound_session.specs.declared.session.Step.{Step}
@@ -25,7 +26,7 @@ use Rattle.hound_session.specs.declared.session.Begin.TheVariants.{New, Append}
 use Rattle.hound_session.specs.declared.session.End.{End}
 use Rattle.hound_session.specs.declared.session.End.TheVariants.{Finalize, Drop}
 use Rattle.hound_session.specs.Headline.{CanonicalAtEnd}
-use Rattle.hound_session.specs.Run.{Begins, Ends, Leaves, LeavesAtEach, NoFault, Ran, Runs}
+use Rattle.hound_session.specs.Run.{Begins, Ends, IsNotBegun, Leaves, LeavesAtEach, NoFault, Ran, Runs}
 use Rattle.hound_session.specs.Steps.{accepted_by_all}
 use Rattle.hound_session.proofs.Leading.{Leads, leads, grows_told, no_fault_parts, length-concat-append}
 use Rattle.hound_session.proofs.Moments.{counted, published, span_later}
@@ -55,6 +56,27 @@ all_published (Ok x) w f small same is here = here
 all_published (Err (IoError e)) w f small same is here = absurd (omega (arith, small, same))
 all_published (Err UnfinishedSample) w f small same is here = here
 all_published (Err e) w f small same is here = absurd is
+
+-- a file that wasn't begun is shorter than its header
+pub short_of_header : {M : Type 0} (tells keeps : Bool) (state : M → MediumState) (s : WavSpecEx)
+    (old back : M) (e : Error) → IsTrue tells → (state old).place ≡ 0 → (state old).contents ≡ []
+    → IsNotBegun tells keeps state (New s) old back e
+    → length (state back).contents < data_start s
+short_of_header tells keeps state s old back e told place empty (inl (not, is, same)) =
+    omega (arith, ap (λ m. length (state m).contents) same, ap length empty, data_start_least s)
+short_of_header tells keeps state s old back e told place empty (inr (writable, io, failed)) =
+    let p = failed told in
+    let h = take p.count (header s 0 0) in
+    let put : (state back).contents ≡ overlay [] (placed 0 h) =
+    p.takes.contents ∙ (λ i. overlay (empty i) (placed (place i) h)) in
+    omega (
+      arith,
+      ap length put,
+      length_overlay_max h 0 [],
+      length-take-le p.count (header s 0 0) p.within,
+      p.part,
+      length-header s 0 0,
+    )
 
 -- what an end published, and its answer
 ended : {M : Type 0} (tells keeps : Bool) (state : M → MediumState) (end : End)

@@ -133,7 +133,7 @@ pub record HoldsFile (s : WavSpecEx) (list : List (List ℕ)) (start now : Mediu
       → length now.contents ≤ max (length start.contents) (length (canonical s list))
 
 -- a call that puts nothing leaves the file
-holds_still : (s : WavSpecEx) (list : List (List ℕ)) (start old new : MediumState)
+pub holds_still : (s : WavSpecEx) (list : List (List ℕ)) (start old new : MediumState)
     → new.contents ≡ old.contents → new.faults ≡ old.faults → HoldsFile s list start old
     → HoldsFile s list start new
 holds_still s list start old new same faults file = record {
@@ -157,7 +157,7 @@ holds_still s list start old new same faults file = record {
 pub record Led (s : WavSpecEx) (list : List (List ℕ)) (steps : List Step) (start now : MediumState)
     (answer : Result (Unit {0}) Error) : Type 0 where
   faults : FaultsGrow start now
-  done : OnOk answer (HoldsFile s (list ++ containers_of s steps) start now)
+  pub done : OnOk answer (HoldsFile s (list ++ containers_of s steps) start now)
   stopped : NoFault start now
       → IfErr answer (λ e. (IsIoError e → ⊥) × (before : List Step) × (after : List Step)
       × (steps ≡ before ++ after)
@@ -232,12 +232,12 @@ led_failed s list steps start now new e grows faults = record {
 module _ {M : Type 0} (tells keeps : Bool) (state : M → MediumState) (told : IsTrue tells)
     (small : (m : M) → AreBytes (state m).contents) where
   -- a writer of a file of these containers, whose medium began as `start`
-  record OnFile (s : WavSpecEx) (list : List (List ℕ)) (start : MediumState)
+  pub record OnFile (s : WavSpecEx) (list : List (List ℕ)) (start : MediumState)
       (w : WriterState M) : Type 0 where
     writable : IsWritable s
-    spec : w.spec_ex ≡ s
-    at : w.data_start ≡ data_start s
-    size : data_length w ≡ length (concat list)
+    pub spec : w.spec_ex ≡ s
+    pub at : w.data_start ≡ data_start s
+    pub size : data_length w ≡ length (concat list)
     whole : IsWhole state w
     begun : IsBegun state w
     holds : accepted_samples state w ≡ list
@@ -310,7 +310,7 @@ module _ {M : Type 0} (tells keeps : Bool) (state : M → MediumState) (told : I
       }
 
   -- after steps that were all Ok
-  on_file_then : (s : WavSpecEx) (list : List (List ℕ)) (start : MediumState) (steps : List Step)
+  pub on_file_then : (s : WavSpecEx) (list : List (List ℕ)) (start : MediumState) (steps : List Step)
       (first last : WriterState M) → OnFile s list start first
       → RunsOk tells keeps state steps first last
       → OnFile s (list ++ containers_of s steps) start last
@@ -542,7 +542,7 @@ module _ {M : Type 0} (tells keeps : Bool) (state : M → MediumState) (told : I
         }
 
   -- what a session begins over, which leads to the writer of its file or to a fault of the medium
-  abbrev IsReady : Begin → WavSpecEx → List (List ℕ) → MediumState → M → Type 0
+  abbrev pub IsReady : Begin → WavSpecEx → List (List ℕ) → MediumState → M → Type 0
   IsReady (New spec) s list start old =
       (spec ≡ s) × (list ≡ []) × (start ≡ state old) × ((state old).place ≡ 0) × IsWritable s
   IsReady Append s list start old = HoldsFile s list start (state old)
@@ -553,7 +553,7 @@ module _ {M : Type 0} (tells keeps : Bool) (state : M → MediumState) (told : I
       ap (λ t. t.faults) ready.2 in (omega (arith, e), omega (arith, e, few))
   ready_grows Append s list start old ready = ready.faults
 
-  first_on : (begin : Begin) (s : WavSpecEx) (list : List (List ℕ)) (start : MediumState) (old : M)
+  pub first_on : (begin : Begin) (s : WavSpecEx) (list : List (List ℕ)) (start : MediumState) (old : M)
       (w : WriterState M) → IsReady begin s list start old → Begins tells keeps state begin old w
       → OnFile s list start w
   first_on (New spec) s list start old w (same, empty, began, place, writable) begins =
@@ -562,17 +562,17 @@ module _ {M : Type 0} (tells keeps : Bool) (state : M → MediumState) (told : I
   first_on Append s list start old w ready begins =
       on_append s list start (state old) w ready begins
 
-  first_failed : (begin : Begin) (s : WavSpecEx) (list : List (List ℕ)) (start : MediumState)
+  pub first_failed : (begin : Begin) (s : WavSpecEx) (list : List (List ℕ)) (start : MediumState)
       (old back : M) (e : Error) → IsReady begin s list start old
       → IsNotBegun tells keeps state begin old back e
-      → (state back).faults ≡ one_more (state old).faults
+      → IsIoError e × ((state back).faults ≡ one_more (state old).faults)
   first_failed (New spec) s list start old back e (same, empty, began, place, writable)
       (inl (unwritable, is, still)) = absurd (unwritable (subst IsWritable (sym same) writable))
   first_failed (New spec) s list start old back e ready (inr (writable, io, puts)) =
-      (puts told).faults
+      (io, (puts told).faults)
   first_failed Append s list start old back e file refused = elim (refused told).why [
     | inl (fault, is, names, same) ↦ absurd (never fault is)
-    | inr (io, faults) ↦ faults
+    | inr (io, faults) ↦ (io, faults)
   ]
     where
       some_none : (fault : AppendFault) → Some fault ≡ None → ⊥
@@ -590,7 +590,7 @@ module _ {M : Type 0} (tells keeps : Bool) (state : M → MediumState) (told : I
           ∙ (λ i. head_fault (sym agree.0 i) (sym agree.1 i) (sym agree.2 i)) ∙ file.check)
 
   -- one session
-  once : (begin : Begin) (s : WavSpecEx) (list : List (List ℕ)) (start : MediumState)
+  pub once : (begin : Begin) (s : WavSpecEx) (list : List (List ℕ)) (start : MediumState)
       (steps : List Step) (old : M) (answer : Result (Unit {0}) Error) (medium : M)
       → IsReady begin s list start old → RunsOnce tells keeps state begin steps old answer medium
       → Led s list steps start (state medium) answer
@@ -598,7 +598,7 @@ module _ {M : Type 0} (tells keeps : Bool) (state : M → MediumState) (told : I
       subst (Led s list steps start (state medium)) (sym is)
       (led_failed s list steps start (state old) (state medium) e
       (ready_grows begin s list start old ready)
-      (first_failed begin s list start old medium e ready not))
+      (first_failed begin s list start old medium e ready not).1)
   once begin s list start steps old answer medium ready (inr (inl st)) =
       subst (Led s list steps start (state medium)) (sym st.told)
       (stops_short s list start steps st.first

@@ -1,3 +1,4 @@
+pub mod FirstError
 pub mod Headline
 pub mod Run
 pub mod Sessions

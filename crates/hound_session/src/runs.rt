@@ -1,15 +1,15 @@
 // Whole runs.
-ghost use Rattle.std.specs.Prelude.{◌≡◌, ℕ, Ok, OnOk, List, Result, [], length, map, MatchResult};
+ghost use Rattle.std.specs.Prelude.{◌≡◌, ◌≤◌, ℕ, Ok, OnOk, List, Result, [], length, map, MatchResult};
 ghost use Rattle.std.specs.Io.{StartsWith};
 ghost use Rattle.hound_spec.specs.declared.error.Error.{Error};
 ghost use Rattle.hound_spec.specs.declared.spec.WavSpecEx.{WavSpecEx};
 ghost use Rattle.hound_spec.specs.Writable.{IsWritable};
-ghost use Rattle.hound_spec.specs.Header.{canonical};
+ghost use Rattle.hound_spec.specs.Header.{canonical, data_start};
 ghost use Rattle.hound_medium.specs.State.{WhereTells};
 ghost use Rattle.hound_writer.specs.Answers.{mark_of};
 ghost use Rattle.hound_session.specs.declared.session.Begin.TheVariants.{New};
 ghost use Rattle.hound_session.specs.declared.session.End.TheVariants.{Finalize};
-ghost use Rattle.hound_session.specs.Run.{Begins, IsNotBegun, Runs, Ends, IsSession, NoFault};
+ghost use Rattle.hound_session.specs.Run.{Begins, IsNotBegun, Runs, Ran, Ends, IsSession, NoFault};
 ghost use Rattle.hound_session.specs.Steps.{accepted_by_all};
 
 use crate::session::{Begin, End, Step};
@@ -97,6 +97,11 @@ pub fn run_session<M: Source + Medium>(
     ensures size { length marks.new ≡ length marks.old }
     ensures session { IsSession M.tells M.keeps M.state begin steps.now marks.new end medium
         result.1 result.0 }
+
+    // An empty medium that has a whole header then is a file that was begun.
+    ensures begun { WhereTells M.tells ((spec_ex : WavSpecEx) → begin ≡ New spec_ex
+        → (M.state medium).contents ≡ [] → data_start spec_ex ≤ length (M.state result.0).contents →
+        Ran M.tells M.keeps M.state begin steps.now marks.new end medium result.1 result.0) }
 
     // A new file that was finalized is the canonical one of what was accepted.
     ensures canonical { WhereTells M.tells ((spec_ex : WavSpecEx) → begin ≡ New spec_ex

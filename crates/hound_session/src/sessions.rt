@@ -4,6 +4,7 @@ ghost use Rattle.std.specs.Io.{StartsWith};
 ghost use Rattle.hound_spec.specs.Header.{canonical};
 ghost use Rattle.hound_medium.specs.State.{WhereTells};
 ghost use Rattle.hound_spec.specs.Writable.{IsWritable};
+ghost use Rattle.hound_session.specs.FirstError.{IsAnswered};
 ghost use Rattle.hound_session.specs.Run.{NoFault};
 ghost use Rattle.hound_session.specs.Sessions.{AreSessions, RunsOk, RunsOn, RunsOnce, RunsAgain, StopsIn, StopsShort, all_steps};
 ghost use Rattle.hound_session.specs.Steps.{containers_of};
@@ -105,6 +106,9 @@ pub fn run_sessions<'a, M: Source + Medium>(
     requires { WhereTells M.tells ((M.state medium).place ≡ 0) }
     ensures sessions { AreSessions M.tells M.keeps M.state spec_ex sessions.now medium result.1
         result.0 }
+
+    // An error is that of the first step or end that isn't Ok, by the spec and the steps.
+    ensures answered { IsAnswered M.tells M.state spec_ex sessions.now medium result.1 result.0 }
 
     // The bytes of one session over all containers.
     ensures canonical { WhereTells M.tells (0 < length sessions.now →

@@ -143,7 +143,8 @@ impl WriterWords {
 struct SessionWords;
 
 impl SessionWords {
-    ghost use Rattle.hound.specs.Run.{Begins, Ends, IsNotBegun, IsSession, NoFault, Runs, Takes};
+    ghost use Rattle.hound.specs.FirstError.{IsAnswered};
+    ghost use Rattle.hound.specs.Run.{Begins, Ends, IsNotBegun, IsSession, NoFault, Ran, Runs, Takes};
     ghost use Rattle.hound.specs.Sessions.{AreSessions, RunsAgain, RunsOk, RunsOn, RunsOnce, StopsIn, StopsShort, all_steps};
     ghost use Rattle.hound.specs.Steps.{accepted_by_all, batch_containers, containers_of, is_sixteen, wants_memory};
 

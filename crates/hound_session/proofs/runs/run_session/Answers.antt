@@ -1,8 +1,8 @@
-use Rattle.std.proofs.Common.{inl, inr, refl, rules, subst}
+use Rattle.std.proofs.Common.{arith, inl, inr, refl, rules, subst}
 use Rattle.hound_session.specs.declared.session.Begin.{Begin}
 use Rattle.hound_session.specs.declared.session.End.{End}
-use Rattle.hound_session.specs.Run.{Ran}
-use Rattle.hound_session.proofs.Whole.{ran, new_canonical, new_exact}
+use Rattle.hound_session.specs.Run.{IsNotBegun, Ran}
+use Rattle.hound_session.proofs.Whole.{ran, new_canonical, new_exact, short_of_header}
 use Rattle.hound_session.proofs.runs.run_session.Goals as goal
 
 pub returns-in-Err-clause-session : goal.returns-in-Err-clause-session
@@ -12,6 +12,25 @@ returns-in-Err-clause-session g c = inl record {
   why = c.in-Err.ensures;
   marked = search rules;
 }
+
+pub returns-in-Err-clause-begun : goal.returns-in-Err-clause-begun
+returns-in-Err-clause-begun g c tells s is_new empty long =
+    let W = g.M.Placed in
+    let short =
+    short_of_header W.tells W.keeps W.state s c.args.medium c.in-Err.medium c.in-Err.error tells
+    (c.requires.place tells) empty
+    (subst (λ b. IsNotBegun W.tells W.keeps W.state b c.args.medium c.in-Err.medium
+    c.in-Err.error) is_new c.in-Err.ensures) in
+    absurd (omega (arith, long, short))
+
+pub returns-clause-begun : goal.returns-clause-begun
+returns-clause-begun g c tells s is_new empty long =
+    let W = g.M.Placed in
+    let runs = c.take_steps.ensures.runs in
+    ran W.tells W.keeps W.state c.args.begin c.args.steps.now c.take_steps.new.marks c.args.end
+    c.args.medium c.end_writer.result.1 c.end_writer.result.0 c.in-Ok.writer
+    c.take_steps.new.writer runs.0 runs.1
+    c.in-Ok.ensures runs.3 runs.2 c.end_writer.ensures (g.met.M.Medium.replays)
 
 pub returns-clause-session : goal.returns-clause-session
 returns-clause-session g c =

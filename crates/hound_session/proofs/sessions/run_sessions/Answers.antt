@@ -1,6 +1,7 @@
 use Rattle.std.proofs.Common.{Err, inl, inr, refl, subst, sym}
 use Rattle.hound_session.specs.declared.session.Begin.TheVariants.{New}
 use Rattle.hound_session.specs.Sessions.{AreSessions, RunsOnce}
+use Rattle.hound_session.proofs.Answering.{sessions_answered}
 use Rattle.hound_session.proofs.Chaining.{is_ok}
 use Rattle.hound_session.proofs.WholeSessions.{sessions_canonical, sessions_exact, sessions_stop}
 use Rattle.hound_session.proofs.sessions.run_sessions.Goals as goal
@@ -18,6 +19,14 @@ returns-in-Err-clause-sessions g c =
           (New c.args.spec_ex) c.in-Some.first.now.now c.args.medium r run.result.0) c.in-Err.is
           run.ensures,
     ))
+
+pub returns-in-Err-clause-answered : goal.returns-in-Err-clause-answered
+returns-in-Err-clause-answered g c =
+    let W = g.M.Placed in
+    sessions_answered W.tells W.keeps W.state
+    (λ tells m. g.met.M.Placed.bytes m tells) c.args.spec_ex c.args.sessions.now c.args.medium
+    (Err c.in-Err.error) c.run_until_error-medium.result.0 c.requires
+    (returns-in-Err-clause-sessions g c)
 
 pub returns-in-Err-clause-stops : goal.returns-in-Err-clause-stops
 returns-in-Err-clause-stops g c tells =
@@ -42,6 +51,13 @@ returns-clause-sessions g c =
           (New c.args.spec_ex) c.in-Some.first.now.now c.args.medium r run.result.0) ok run.ensures,
       on.ensures,
     ))
+
+pub returns-clause-answered : goal.returns-clause-answered
+returns-clause-answered g c =
+    let W = g.M.Placed in
+    sessions_answered W.tells W.keeps W.state
+    (λ tells m. g.met.M.Placed.bytes m tells) c.args.spec_ex c.args.sessions.now c.args.medium
+    c.append_sessions.result.1 c.append_sessions.result.0 c.requires (returns-clause-sessions g c)
 
 pub returns-clause-canonical : goal.returns-clause-canonical
 returns-clause-canonical g c tells =
