@@ -11,7 +11,8 @@ use Rattle.hound_writer.specs.Writer.{WriterState, IsWhole, IsBegun, accepted_sa
 use Rattle.hound_session.specs.declared.session.Step.{Step}
 use Rattle.hound_session.specs.Run.{Runs, NoFault}
 use Rattle.hound_session.specs.Steps.{accepted_by, accepted_by_all}
-use Rattle.hound_session.proofs.Stepping.{did, sizes_still, sizes_then}
+use Rattle.hound_writer.proofs.Sizes.{sizes_then}
+use Rattle.hound_session.proofs.Stepping.{did, sizes_still}
 
 -- faults only grow, up to the greatest count
 abbrev pub FaultsGrow : MediumState → MediumState → Type 0

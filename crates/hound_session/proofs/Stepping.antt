@@ -1,10 +1,9 @@
 -- What one step did, of whatever kind it was.
-use Rattle.std.proofs.Common.{◌≡◌, ℕ, ◌+◌, ◌-◌, ◌%◌, ◌≤◌, max, Bool, true, false, List, [], ◌++◌, length, take, drop, Result, Ok, IsTrue, refl, sym, ◌∙◌, ap, subst, arith}
-use Rattle.std.proofs.lemmas.List.{append-nil, take-take}
+use Rattle.std.proofs.Common.{◌≡◌, ℕ, ◌+◌, ◌%◌, ◌≤◌, max, Bool, true, false, List, [], ◌++◌, length, take, Result, Ok, IsTrue, refl, sym, ◌∙◌, ap, subst, arith}
+use Rattle.std.proofs.lemmas.List.{append-nil}
 use Rattle.std.specs.List.{concat}
 use Rattle.hound_spec.specs.declared.error.Error.{Error}
 use Rattle.hound_spec.specs.Header.{data_start, header}
-use Rattle.hound_spec.proofs.HeaderLemmas.{length-header}
 use Rattle.hound_medium.specs.Spans.{Span}
 use Rattle.hound_medium.specs.State.{MediumState}
 use Rattle.hound_sample.specs.Container.{Refusal}
@@ -15,6 +14,7 @@ use Rattle.hound_writer.specs.Publishing.{Checkpoints}
 use Rattle.hound_writer.specs.Sizes.{ChangesSizesOnly}
 use Rattle.hound_writer.specs.Writer.{WriterState, HasHeader, IsWhole, IsBegun, IsCounted, accepted_samples, data_length, padded_end}
 use Rattle.hound_writer.proofs.Answers.{unless_failed, unless_then}
+use Rattle.hound_writer.proofs.Sizes.{header_front, sizes_front}
 use Rattle.hound_session.specs.declared.session.Step.{Step}
 use Rattle.hound_session.specs.declared.session.Step.TheVariants.{Whole, Bits, Batch, Flush}
 use Rattle.hound_session.specs.Run.{Takes}
@@ -24,33 +24,18 @@ use Rattle.hound_session.specs.Steps.{step_containers}
 pub sizes_still : (start : ℕ) (c : List ℕ) → ChangesSizesOnly start c c
 sizes_still start c = record { front = refl; middle = refl }
 
-pub sizes_then : (start : ℕ) (a b c : List ℕ) → ChangesSizesOnly start a b
-    → ChangesSizesOnly start b c → ChangesSizesOnly start a c
-sizes_then start a b c first then =
-    record { front = then.front ∙ first.front; middle = then.middle ∙ first.middle }
-
-sizes_front : (start : ℕ) (old new : List ℕ) → 4 ≤ start → take start new ≡ take start old
-    → ChangesSizesOnly start old new
-sizes_front start old new behind same =
-    record { front = part 4 behind; middle = ap (drop 8) (part (start - 4) (omega arith)) }
-  where
-    part : (n : ℕ) → n ≤ start → take n new ≡ take n old
-    part n le = sym (take-take n start new le) ∙ ap (take n) same ∙ take-take n start old le
-
 -- what stands before the data stays, so the header does
 begun_front : {M : Type 0} (state : M → MediumState) (old new : WriterState M)
     → new.spec_ex ≡ old.spec_ex → new.data_start ≡ old.data_start
     → take old.data_start (state new.medium).contents ≡ take old.data_start
     (state old.medium).contents
     → IsBegun state old → IsBegun state new
-begun_front state old new spec start front ((size, len, begins), at) =
-    let long : length (header old.spec_ex size len) ≡ old.data_start =
-    length-header old.spec_ex size len ∙ sym at in
-    let c = (state new.medium).contents in
-    let here : take (length (header old.spec_ex size len)) c ≡ header old.spec_ex size len =
-    (λ i. take (long i) c) ∙ front ∙ (λ i. take (sym long i) (state old.medium).contents)
-    ∙ begins in
-    (subst (λ s. HasHeader s c) (sym spec) (size, len, here), start ∙ at ∙ ap data_start (sym spec))
+begun_front state old new spec start front (has, at) = (
+  subst (λ s. HasHeader s (state new.medium).contents) (sym spec)
+      (header_front old.spec_ex old.data_start (state old.medium).contents
+      (state new.medium).contents at front has),
+  start ∙ at ∙ ap data_start (sym spec),
+)
 
 -- of a step that was asked to accept these containers, with this answer
 pub record Did {M : Type 0} (state : M → MediumState) (asked : Result (List (List ℕ)) Refusal)

@@ -20,6 +20,7 @@ use Rattle.hound_writer.specs.Writer.{WriterState, IsSound, IsWhole, IsBegun, ac
 use Rattle.hound_writer.proofs.Accepting.{length_overlay_max}
 use Rattle.hound_writer.proofs.Answers.{on_published_then}
 use Rattle.hound_writer.proofs.Samples.{concat-samples, length_out, samples_out}
+use Rattle.hound_writer.proofs.Sizes.{sizes_then}
 use Rattle.hound_session.specs.declared.session.Step.{Step}
 use Rattle.hound_session.specs.declared.session.Begin.{Begin}
 use Rattle.hound_session.specs.declared.session.Begin.TheVariants.{New, Append}
@@ -30,7 +31,6 @@ use Rattle.hound_session.specs.Run.{Begins, Ends, IsNotBegun, Leaves, LeavesAtEa
 use Rattle.hound_session.specs.Steps.{accepted_by_all}
 use Rattle.hound_session.proofs.Leading.{Leads, leads, grows_told, no_fault_parts, length-concat-append}
 use Rattle.hound_session.proofs.Moments.{counted, published, span_later}
-use Rattle.hound_session.proofs.Stepping.{sizes_then}
 
 -- the writer that a run begins with
 first_sound : {M : Type 0} (tells keeps : Bool) (state : M → MediumState) (begin : Begin) (old : M)

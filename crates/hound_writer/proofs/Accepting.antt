@@ -1,6 +1,6 @@
 -- What bytes after the accepted ones change.
 use Rattle.std.proofs.Common.{◌≡◌, ℕ, zero, suc, ◌+◌, ◌*◌, ◌-◌, ◌/◌, ◌%◌, ◌≤◌, max, nat_le, Bool, true, false, List, [], ◌∷◌, ◌++◌, length, take, drop, replicate, Result, Ok, Err, IfErr, IsTrue, refl, sym, subst, ◌∙◌, ap, arith, length-append, length-take, le-leb}
-use Rattle.std.proofs.lemmas.List.{take_at, take_all, drop_at, drop-drop, append-nil, length-take-le, take-take}
+use Rattle.std.proofs.lemmas.List.{take_at, take_all, drop_at, drop-drop, append-nil, length-take-le}
 use Rattle.std.proofs.lemmas.Bool.{false≢true}
 use Rattle.std.specs.List.{concat}
 use Rattle.std.specs.declared.io.Error.{Error as IoFault}
@@ -20,11 +20,12 @@ use Rattle.hound_writer.specs.Block.{all_out}
 use Rattle.hound_writer.specs.Counts.{Counts}
 use Rattle.hound_writer.specs.Parts.{PutsAt, IsStanding}
 use Rattle.hound_writer.specs.Writer.{WriterState, HasRoom, IsCounted, IsSound, IsWhole, accepted_samples, data_length}
-use Rattle.hound_writer.proofs.Answers.{on_refused, unless_failed}
+use Rattle.hound_writer.proofs.Answers.{accept_as, on_refused, unless_failed}
 use Rattle.hound_writer.proofs.Containers.{containers_append, containers_front, count_append, count_bytes, joined_bytes, whole_more}
 use Rattle.hound_writer.proofs.Samples.{counts_at, samples_out, samples_same, whole_out}
 use Rattle.hound_writer.proofs.Standing.{inside, stands_front, stands_more}
 use Rattle.hound_spec.specs.FmtChunk.{greatest_u32}
+use Rattle.hound_writer.proofs.Sizes.{take_front}
 
 -- bytes at a place reach no further than the old end or their own
 pub length_overlay_max : (bs : List ℕ) (p : ℕ) (c : List ℕ)
@@ -131,8 +132,7 @@ module _ {W : Type 0} (tells keeps : Bool) (state : W → MediumState) (w : Writ
       → Counts w.spec_ex w.data_start (accepted_samples state w) c
   counts_front told whole c same =
       let first : take w.data_start c ≡ take w.data_start old.contents =
-      sym (take-take w.data_start end c (omega arith)) ∙ ap (take w.data_start) same
-      ∙ take-take w.data_start end old.contents (omega arith) in
+      take_front w.data_start end old.contents c (omega arith) same in
       let long : w.data_start ≤ length c =
       omega (arith, ap length same, length-take end c, length-take-le end old.contents whole) in
       counts_at state w sound (whole_out state w none sound) c whole
@@ -449,7 +449,8 @@ accepts_swapped tells keeps state memory asked answer a b c d before after faile
     in
     record {
       adds = record {
-        answers = swap_answer (asked b) answer inner.adds.answers;
+        answers = accept_as false memory (asked b) answer old b
+            (λ wants. absurd (false≢true wants)) refl refl inner.adds.answers;
         refused = not_refused _ answer failed;
         spec_ex = inner.adds.spec_ex;
         data_start = inner.adds.data_start;
@@ -469,23 +470,6 @@ accepts_swapped tells keeps state memory asked answer a b c d before after faile
       moments = λ told kept. let at_each = inner.moments told kept in
           record { counts = at_each.counts; front = at_each.front };
     }
-  where
-    fits : (room : Bool) (answer : Result (Unit {0}) Error) → FitAnswer room false answer
-        → FitAnswer room memory answer
-    fits false answer here = here
-    fits true (Ok x) here = tt
-    fits true (Err (IoError e)) here = tt
-    fits true (Err OutOfMemory) here = absurd (false≢true here)
-    fits true (Err e) here = absurd here
-
-    swap_answer : (r : Result (List (List ℕ)) Refusal) (answer : Result (Unit {0}) Error)
-        → AcceptAnswer false r (record b { buffer = before }) answer
-        → AcceptAnswer memory r b answer
-    swap_answer (Ok asked_for) answer here =
-        fits (nat_le
-        (riff_size b.data_start (data_length b + length (concat asked_for))) greatest_u32) answer
-        here
-    swap_answer (Err refusal) answer here = here
 
 -- an answer to containers for which there is room and no memory is wanted
 pub fit_failed : (answer : Result (Unit {0}) Error) → FitAnswer true false answer

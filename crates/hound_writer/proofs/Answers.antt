@@ -1,11 +1,16 @@
 -- What holds by the answer of a call.
-use Rattle.std.proofs.Common.{◌≡◌, ℕ, Bool, true, false, Result, Ok, Err, OnOk, refl, subst, sym}
+use Rattle.std.proofs.Common.{◌≡◌, ℕ, ◌+◌, ◌/◌, ◌%◌, nat_le, Bool, true, false, IsTrue, List, length, Result, Ok, Err, OnOk, refl, subst, sym, ◌∙◌}
+use Rattle.std.specs.List.{concat}
 use Rattle.std.specs.declared.io.Error.{Error as IoFault}
 use Rattle.hound_spec.specs.declared.error.Error.{Error}
-use Rattle.hound_spec.specs.declared.error.Error.TheVariants.{IoError, UnfinishedSample}
+use Rattle.hound_spec.specs.declared.error.Error.TheVariants.{IoError, OutOfMemory, UnfinishedSample}
+use Rattle.hound_spec.specs.FmtChunk.{greatest_u32}
+use Rattle.hound_spec.specs.Header.{riff_size}
 use Rattle.hound_medium.specs.State.{faults_after}
-use Rattle.hound_writer.specs.Answers.{OnRefused, OnPublished, UnlessFailed, faults_told}
+use Rattle.hound_sample.specs.Container.{Refusal}
+use Rattle.hound_writer.specs.Answers.{AcceptAnswer, FitAnswer, IsPublishing, OnRefused, OnPublished, UnlessFailed, faults_told}
 use Rattle.hound_writer.specs.Parts.{IsTold}
+use Rattle.hound_writer.specs.Writer.{WriterState, data_length, sample_count}
 
 pub on_refused : {T P : Type 0} (answer : Result T Error) → P → OnRefused answer P
 on_refused (Ok x) here = tt
@@ -57,3 +62,39 @@ told_faults (Err e) are_frames told old new is here =
     subst (λ t. new ≡ faults_told t old) (sym is) here
 told_faults (Ok x) true told old new is here = subst (λ t. new ≡ faults_told t old) (sym is) here
 told_faults (Ok x) false told old new is here = subst (λ t. new ≡ faults_told t old) (sym is) here
+
+-- an answer that may want memory may do so where more may want it
+pub fit_as : (fits memory more : Bool) (answer : Result (Unit {0}) Error)
+    → (IsTrue memory → IsTrue more) → FitAnswer fits memory answer → FitAnswer fits more answer
+fit_as false memory more answer weaker is = is
+fit_as true memory more (Ok x) weaker is = tt
+fit_as true memory more (Err OutOfMemory) weaker is = weaker is
+fit_as true memory more (Err (IoError e)) weaker is = tt
+fit_as true memory more (Err e) weaker is = absurd is
+
+-- writers of as many bytes behind the same head answer the same to what they are asked
+pub accept_as : {V W : Type 0} (memory more : Bool) (asked : Result (List (List ℕ)) Refusal)
+    (answer : Result (Unit {0}) Error) (w : WriterState W) (v : WriterState V)
+    → (IsTrue memory → IsTrue more) → w.data_start ≡ v.data_start → data_length w ≡ data_length v
+    → AcceptAnswer memory asked w answer → AcceptAnswer more asked v answer
+accept_as memory more (Err refusal) answer w v weaker start size is = is
+accept_as memory more (Ok list) answer w v weaker start size is =
+    fit_as (nat_le (riff_size v.data_start (data_length v + length (concat list))) greatest_u32)
+    memory more answer weaker
+    (subst (λ n. FitAnswer (nat_le n greatest_u32) memory answer)
+    (λ i. riff_size (start i) (size i + length (concat list))) is)
+
+-- and so they do where they publish
+pub publishing_as : {V W : Type 0} (answer : Result (Unit {0}) Error) (w : WriterState W)
+    (v : WriterState V) → w.spec_ex ≡ v.spec_ex → data_length w ≡ data_length v
+    → IsPublishing answer w → IsPublishing answer v
+publishing_as answer w v spec size is = go answer is
+  where
+    same : sample_count w % w.spec_ex.spec.channels ≡ sample_count v % v.spec_ex.spec.channels
+    same = λ i. size i / (spec i).bytes_per_sample % (spec i).spec.channels
+
+    go : (answer : Result (Unit {0}) Error) → IsPublishing answer w → IsPublishing answer v
+    go (Ok x) here = sym same ∙ here
+    go (Err UnfinishedSample) here = λ frames. here (same ∙ frames)
+    go (Err (IoError e)) here = tt
+    go (Err e) here = absurd here

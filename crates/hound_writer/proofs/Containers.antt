@@ -6,6 +6,7 @@ use Rattle.std.proofs.Math.Nat.{add-mod, add-div_right, mul-add-div_right}
 use Rattle.std.proofs.Math.Seq.{take-add}
 use Rattle.std.specs.List.{concat}
 use Rattle.hound_sample.specs.Container.{containers}
+use Rattle.hound_writer.proofs.Sizes.{take_front}
 
 -- the same front has the same containers
 pub containers_front : (width count : ℕ) (a b : List ℕ)
@@ -17,8 +18,7 @@ containers_front width (suc count) a b same =
     let all : take (width + count * width) a ≡ take (width + count * width) b =
     ap (λ n. take n a) (sym e) ∙ same ∙ ap (λ n. take n b) e in
     let first : take width a ≡ take width b =
-    sym (take-take width (width + count * width) a (omega arith)) ∙ ap (take width) all
-    ∙ take-take width (width + count * width) b (omega arith) in
+    take_front width (width + count * width) b a (omega arith) all in
     let rest : take (count * width) (drop width a) ≡ take (count * width) (drop width b) =
     sym (drop-take width (count * width) a) ∙ ap (drop width) all
     ∙ drop-take width (count * width) b in

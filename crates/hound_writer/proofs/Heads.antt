@@ -1,12 +1,13 @@
 -- The head of a file while its two sizes change.
 use Rattle.std.proofs.Common.{◌≡◌, ℕ, ◌+◌, ◌-◌, ◌≤◌, List, ◌++◌, length, take, drop, refl, sym, ◌∙◌, ap, arith, append_assoc, length-append, length-drop, take-append-drop}
-use Rattle.std.proofs.lemmas.List.{take_at, drop_at, drop-drop, take-take, length-take-le}
+use Rattle.std.proofs.lemmas.List.{take_at, drop_at, drop-drop, length-take-le}
 use Rattle.std.proofs.lemmas.Slice.{between_is}
 use Rattle.hound_number.specs.Number.{number}
 use Rattle.hound_spec.specs.declared.spec.WavSpecEx.{WavSpecEx}
 use Rattle.hound_spec.specs.Header.{riff_tag, wave_tag, data_tag}
 use Rattle.hound_reader.specs.Chunks.{Head, joined}
 use Rattle.hound_writer.specs.Sizes.{field}
+use Rattle.hound_writer.proofs.Sizes.{take_front}
 
 -- contents as their four bytes at 4 and at p, and what stands before, between and behind these
 pub in_parts : (p : ℕ) (c : List ℕ) → 8 ≤ p
@@ -123,8 +124,5 @@ module _ (old : List ℕ) (s : WavSpecEx) (len h : ℕ) (head : Head old s len h
       → Head new s (field (h - 4) new) h
   head_front new same inside =
       head_with new inside
-      (first 4 (omega (arith, head.place)))
-      (ap (drop 8) (first (h - 4) (omega arith)))
-    where
-      first : (n : ℕ) → n ≤ h → take n new ≡ take n old
-      first n le = sym (take-take n h new le) ∙ ap (take n) same ∙ take-take n h old le
+      (take_front 4 h old new (omega (arith, head.place)) same)
+      (ap (drop 8) (take_front (h - 4) h old new (omega arith) same))

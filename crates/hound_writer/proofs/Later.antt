@@ -1,22 +1,21 @@
 -- A call that goes on once what waited is out.
-use Rattle.std.proofs.Common.{◌≡◌, ℕ, ◌+◌, ◌-◌, ◌≤◌, ◌%◌, ◌/◌, nat_le, Bool, true, false, IsTrue, Result, Ok, Err, IfErr, List, ◌++◌, length, take, drop, refl, sym, ◌∙◌, ap, subst, arith}
-use Rattle.std.proofs.lemmas.List.{take-take, drop-drop, append-nil}
+use Rattle.std.proofs.Common.{◌≡◌, ℕ, ◌+◌, ◌-◌, ◌≤◌, ◌%◌, ◌/◌, Bool, true, false, IsTrue, Result, Ok, Err, IfErr, List, ◌++◌, length, take, drop, refl, sym, ◌∙◌, ap, subst, arith}
+use Rattle.std.proofs.lemmas.List.{drop-drop, append-nil}
 use Rattle.std.specs.List.{concat}
 use Rattle.std.specs.declared.io.Error.{Error as IoFault}
 use Rattle.hound_medium.specs.State.{MediumState}
 use Rattle.hound_medium.proofs.Spans.{join, span_weaker}
 use Rattle.hound_spec.specs.declared.error.Error.{Error}
 use Rattle.hound_spec.specs.declared.error.Error.TheVariants.{IoError}
-use Rattle.hound_spec.specs.Header.{riff_size}
 use Rattle.hound_sample.specs.Container.{Refusal, containers}
 use Rattle.hound_writer.specs.Accepting.{Accepts, AddsAtEach}
-use Rattle.hound_writer.specs.Answers.{AcceptAnswer, FitAnswer, IsIoError, faults_told, if_marked, mark_of}
+use Rattle.hound_writer.specs.Answers.{FitAnswer, IsIoError, faults_told, if_marked, mark_of}
 use Rattle.hound_writer.specs.Block.{GoesOut, after_out, or_fault}
 use Rattle.hound_writer.specs.Counts.{Counts}
 use Rattle.hound_writer.proofs.Accepting.{not_refused, room_fits}
-use Rattle.hound_writer.proofs.Answers.{unless_then}
+use Rattle.hound_writer.proofs.Answers.{accept_as, unless_then}
+use Rattle.hound_writer.proofs.Sizes.{take_front}
 use Rattle.hound_writer.specs.Writer.{WriterState, HasRoom, IsWhole, accepted_samples, data_length, data_end}
-use Rattle.hound_spec.specs.FmtChunk.{greatest_u32}
 
 -- bytes behind others that stay, stay
 pub drop_later : (n m : ℕ) (a b : List ℕ) → n ≤ m → drop n a ≡ drop n b → drop m a ≡ drop m b
@@ -24,16 +23,6 @@ drop_later n m a b le same =
     let at : n + (m - n) ≡ m = omega (arith, le) in
     (λ i. drop (sym at i) a) ∙ sym (drop-drop (m - n) n a) ∙ ap (drop (m - n)) same
     ∙ drop-drop (m - n) n b ∙ (λ i. drop (at i) b)
-
--- the answer to what is asked, of a writer with as many accepted bytes
-answers_same : {W : Type 0} (memory : Bool) (asked : Result (List (List ℕ)) Refusal)
-    (answer : Result (Unit {0}) Error) (a b : WriterState W) → a.data_start ≡ b.data_start
-    → data_length a ≡ data_length b
-    → AcceptAnswer memory asked a answer → AcceptAnswer memory asked b answer
-answers_same memory (Ok list) answer a b start size here =
-    subst (λ n. FitAnswer (nat_le n greatest_u32) memory answer)
-    (λ i. riff_size (start i) (size i + length (concat list))) here
-answers_same memory (Err refusal) answer a b start size here = here
 
 -- all of it
 module _ {W : Type 0} (tells keeps : Bool) (state : W → MediumState) (far : ℕ) (a : WriterState W)
@@ -66,8 +55,7 @@ module _ {W : Type 0} (tells keeps : Bool) (state : W → MediumState) (far : �
       → take reach_out c ≡ take reach_out first
   front_later told whole c same =
       let all = a.data_start + data_length a in
-      sym (take-take reach_out all c (omega arith)) ∙ ap (take reach_out) same
-      ∙ take-take reach_out all then (omega arith) ∙ (out.file told).around.out whole
+      take_front reach_out all then c (omega arith) same ∙ (out.file told).around.out whole
 
   at_each_later : (told : IsTrue tells) → IsTrue keeps → (new : MediumState)
       → AddsAtEach state b new → AddsAtEach state a new
@@ -102,7 +90,8 @@ module _ {W : Type 0} (tells keeps : Bool) (state : W → MediumState) (far : �
       omega (arith, adds.data_start, adds.data_length, length_same) in
       record {
         adds = record {
-          answers = answers_same memory asked answer b a refl length_same adds.answers;
+          answers = accept_as memory memory asked answer b a (λ wants. wants) refl length_same
+              adds.answers;
           refused = not_refused (c ≡ a) answer failed;
           spec_ex = adds.spec_ex;
           data_start = adds.data_start;

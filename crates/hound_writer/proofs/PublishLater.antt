@@ -1,8 +1,8 @@
 -- A call that publishes: what waits goes out before, and the pad byte, and where they don't nothing
 -- is patched.
-use Rattle.std.proofs.Common.{◌≡◌, ℕ, ◌+◌, ◌-◌, ◌≤◌, inl, inr, Bool, true, false, IsTrue, ◌/◌, ◌%◌, Result, Ok, Err, OnOk, List, length, take, drop, refl, sym, ◌∙◌, ap, subst, arith, length-append, length-take}
+use Rattle.std.proofs.Common.{◌≡◌, ℕ, ◌+◌, ◌-◌, ◌≤◌, inl, inr, Bool, true, false, IsTrue, ◌%◌, Result, Err, OnOk, List, length, take, drop, refl, sym, ◌∙◌, ap, subst, arith, length-append, length-take}
 use Rattle.std.proofs.lemmas.Bool.{cases_lt}
-use Rattle.std.proofs.lemmas.List.{get_or_append_left, take-take}
+use Rattle.std.proofs.lemmas.List.{get_or_append_left}
 use Rattle.std.specs.List.{concat}
 use Rattle.std.specs.Io.{StartsWith}
 use Rattle.std.specs.declared.io.Error.{Error as IoFault}
@@ -15,17 +15,17 @@ use Rattle.hound_medium.proofs.Overlays.{front_part}
 use Rattle.hound_medium.proofs.Spans.{join, moment_before, span_weaker}
 use Rattle.hound_medium.proofs.Torn.{number_at_small}
 use Rattle.hound_spec.specs.declared.error.Error.{Error}
-use Rattle.hound_spec.specs.declared.error.Error.TheVariants.{IoError, UnfinishedSample}
-use Rattle.hound_spec.specs.Header.{canonical, header, padded, padding, riff_size}
-use Rattle.hound_spec.proofs.HeaderLemmas.{length-header}
-use Rattle.hound_writer.specs.Answers.{IsPublishing, OnPublished, faults_told}
+use Rattle.hound_spec.specs.declared.error.Error.TheVariants.{IoError}
+use Rattle.hound_spec.specs.Header.{canonical, padded, padding, riff_size}
+use Rattle.hound_writer.specs.Answers.{OnPublished, faults_told}
 use Rattle.hound_writer.specs.Block.{GoesAtEach, GoesOut, StaysAround, after_out}
 use Rattle.hound_writer.specs.Counts.{Counts}
 use Rattle.hound_writer.specs.Publishing.{Checkpoints, Finishes, IsHalfPublished, IsOldOrNew, OncePutBefore, Publishes, PublishesAtEach, ReadsAs, place_of}
 use Rattle.hound_writer.specs.Sizes.{ChangesSizesOnly, field}
-use Rattle.hound_writer.specs.Writer.{WriterState, AreFrames, IsBegun, IsPadded, IsSound, HasHeader, accepted_samples, data_length, padded_end}
-use Rattle.hound_writer.proofs.Answers.{on_published_then}
+use Rattle.hound_writer.specs.Writer.{WriterState, IsBegun, IsPadded, IsSound, HasHeader, accepted_samples, data_length, padded_end}
+use Rattle.hound_writer.proofs.Answers.{on_published_then, publishing_as}
 use Rattle.hound_writer.proofs.Later.{counts_later, goes_further, length_same}
+use Rattle.hound_writer.proofs.Sizes.{header_front, sizes_front, sizes_then, take_front}
 use Rattle.hound_writer.proofs.Standing.{inside}
 
 -- bytes before the data that stay
@@ -39,33 +39,15 @@ module _ {W : Type 0} (state : W → MediumState) (a : WriterState W) (sound : I
   abbrev first : List ℕ
   first = (state a.medium).contents
 
-  front_of : (n : ℕ) (c : List ℕ) → n ≤ start → take start c ≡ take start first
-      → take n c ≡ take n first
-  front_of n c le same =
-      sym (take-take n start c le) ∙ ap (take n) same ∙ take-take n start first le
-
   field_of : (c : List ℕ) → take start c ≡ take start first → field p c ≡ field p first
   field_of c same = ap number (front_part start p 4 c first (omega (arith, sound.after_head)) same)
 
   sizes_of : (c : List ℕ) → take start c ≡ take start first → ChangesSizesOnly start first c
-  sizes_of c same = record {
-    front = front_of 4 c (omega (arith, sound.after_head)) same;
-    middle = ap (drop 8) (front_of p c (omega arith) same);
-  }
-
-  sizes_then : (c d : List ℕ) → take start c ≡ take start first → ChangesSizesOnly start c d
-      → ChangesSizesOnly start first d
-  sizes_then c d same changes = let s = sizes_of c same in
-      record { front = changes.front ∙ s.front; middle = changes.middle ∙ s.middle }
+  sizes_of c same = sizes_front start first c (omega (arith, sound.after_head)) same
 
   header_of : (c : List ℕ) → take start c ≡ take start first → IsBegun state a
       → HasHeader a.spec_ex c
-  header_of c same ((size, len, begins), at) = (
-    size,
-    len,
-    front_of (length (header a.spec_ex size len)) c
-        (omega (arith, length-header a.spec_ex size len, at)) same ∙ begins,
-  )
+  header_of c same (has, at) = header_front a.spec_ex start first c at same has
 
   data_of : (c : List ℕ) → take (start + a.out) c ≡ take (start + a.out) first
       → take a.out (drop start c) ≡ take a.out (drop start first)
@@ -244,10 +226,10 @@ module _ {W : Type 0} (tells keeps : Bool) (state : W → MediumState) (a : Writ
         λ is. (header_of state a sound mid around.front is, is.1) in
         record {
           faults = g.faults ∙ ap (faults_told answer) f.faults;
-          front = sizes_then state a sound mid new around.front g.front;
-          out = λ whole. sym (take-take a.out (data_length a) (drop a.data_start new) (omega arith))
-              ∙ ap (take a.out) (g.out (f.whole whole))
-              ∙ take-take a.out (data_length a) (drop a.data_start mid) (omega arith)
+          front = sizes_then a.data_start old mid new (sizes_of state a sound mid around.front)
+              g.front;
+          out = λ whole. take_front a.out (data_length a) (drop a.data_start mid)
+              (drop a.data_start new) (omega arith) (g.out (f.whole whole))
               ∙ data_of state a sound mid (around.out whole);
           rest = subst
               (λ n. drop (a.data_start + padded n) new ≡ drop
@@ -287,10 +269,10 @@ module _ {W : Type 0} (tells keeps : Bool) (state : W → MediumState) (a : Writ
 
       half_later : (j : ℕ) (c : List ℕ) → IsHalfPublished b mid j c → IsHalfPublished a old j c
       half_later j c half = record {
-        front = sizes_then state a sound mid c (out.file told).around.front half.front;
-        out = λ whole. sym (take-take a.out (data_length a) (drop a.data_start c) (omega arith))
-            ∙ ap (take a.out) (half.out ((out.file told).whole whole))
-            ∙ take-take a.out (data_length a) (drop a.data_start mid) (omega arith)
+        front = sizes_then a.data_start old mid c
+            (sizes_of state a sound mid (out.file told).around.front) half.front;
+        out = λ whole. take_front a.out (data_length a) (drop a.data_start mid)
+            (drop a.data_start c) (omega arith) (half.out ((out.file told).whole whole))
             ∙ data_of state a sound mid ((out.file told).around.out whole);
         length_is = half.length_is ∙ (λ i. mix j (field_same i) (same_length i));
       }
@@ -371,26 +353,10 @@ module _ {W : Type 0} (tells keeps : Bool) (state : W → MediumState) (a : Writ
             padded = padded_later;
           }
 
-    answers_later : IsPublishing answer b → IsPublishing answer a
-    answers_later here = publishing answer here
-      where
-        frames : (AreFrames b → AreFrames a) × (AreFrames a → AreFrames b)
-        frames =
-            let same : (n : ℕ) → Type 0 =
-            λ n. n / a.spec_ex.bytes_per_sample % a.spec_ex.spec.channels ≡ 0 in
-            (subst same same_length, subst same (sym same_length))
-
-        publishing : (answer : Result (Unit {0}) Error) → IsPublishing answer b
-            → IsPublishing answer a
-        publishing (Ok x) here = frames.0 here
-        publishing (Err UnfinishedSample) here = λ are. here (frames.1 are)
-        publishing (Err (IoError e)) here = tt
-        publishing (Err e) here = absurd here
-
     finishes_after : WhereTells tells (AreBytes (state a.medium).contents)
         → Finishes tells keeps state b answer end → Finishes tells keeps state a answer end
     finishes_after small g = record {
-      answers = answers_later g.answers;
+      answers = publishing_as answer b a refl same_length g.answers;
       publishes = λ told. publishes_later told (g.publishes told);
       place = g.place;
       moments = λ told kept. publishes_at_each_later told kept (small told) (g.moments told kept);
@@ -400,7 +366,7 @@ module _ {W : Type 0} (tells keeps : Bool) (state : W → MediumState) (a : Writ
       → WhereTells tells (AreBytes (state a.medium).contents)
       → Checkpoints tells keeps state answer b c → Checkpoints tells keeps state answer a c
   checkpoints_after answer c small g = record {
-    answers = answers_later answer c.medium g.answers;
+    answers = publishing_as answer b a refl same_length g.answers;
     samples =
         record {
           spec_ex = g.samples.spec_ex;

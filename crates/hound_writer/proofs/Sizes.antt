@@ -1,10 +1,44 @@
--- Bytes that are put into the two sizes, all of them or a beginning.
+-- What stays where the two sizes change, and where all before a place does.
 use Rattle.std.proofs.Common.{◌≡◌, ℕ, ◌+◌, ◌-◌, ◌≤◌, List, length, take, drop, refl, sym, ◌∙◌, ap, arith}
+use Rattle.std.proofs.lemmas.List.{take-take}
 use Rattle.std.proofs.lemmas.Slice.{between_is}
 use Rattle.hound_number.specs.Number.{number}
+use Rattle.hound_spec.specs.declared.spec.WavSpecEx.{WavSpecEx}
+use Rattle.hound_spec.specs.Header.{data_start, header}
+use Rattle.hound_spec.proofs.HeaderLemmas.{length-header}
 use Rattle.hound_medium.specs.Bytes.{placed, overlay}
 use Rattle.hound_medium.proofs.Inside.{take_before, drop_behind, same_size}
-use Rattle.hound_writer.specs.Sizes.{field, SameButSizes}
+use Rattle.hound_writer.specs.Sizes.{ChangesSizesOnly, field, SameButSizes}
+use Rattle.hound_writer.specs.Writer.{HasHeader}
+
+-- what stands before a place stays, so what stands before an earlier one does
+pub take_front : (n m : ℕ) (old new : List ℕ) → n ≤ m → take m new ≡ take m old
+    → take n new ≡ take n old
+take_front n m old new le same =
+    sym (take-take n m new le) ∙ ap (take n) same ∙ take-take n m old le
+
+-- so the header does, in a file that was begun with it
+pub header_front : (s : WavSpecEx) (start : ℕ) (old new : List ℕ) → start ≡ data_start s
+    → take start new ≡ take start old → HasHeader s old → HasHeader s new
+header_front s start old new at same (size, len, begins) = (
+  size,
+  len,
+  take_front (length (header s size len)) start old new
+      (omega (arith, length-header s size len, at)) same ∙ begins,
+)
+
+-- and no size has changed
+pub sizes_front : (start : ℕ) (old new : List ℕ) → 4 ≤ start → take start new ≡ take start old
+    → ChangesSizesOnly start old new
+sizes_front start old new behind same = record {
+  front = take_front 4 start old new behind same;
+  middle = ap (drop 8) (take_front (start - 4) start old new (omega arith) same);
+}
+
+pub sizes_then : (start : ℕ) (a b c : List ℕ) → ChangesSizesOnly start a b
+    → ChangesSizesOnly start b c → ChangesSizesOnly start a c
+sizes_then start a b c first then =
+    record { front = then.front ∙ first.front; middle = then.middle ∙ first.middle }
 
 pub same_reflexive : (p : ℕ) (c : List ℕ) → SameButSizes p c c
 same_reflexive p c = record { front = refl; middle = refl; behind = refl; long = refl }

@@ -1,9 +1,8 @@
 use Rattle.std.proofs.Common.{Err, inl, inr, refl, subst, sym}
 use Rattle.hound_session.specs.declared.session.Begin.TheVariants.{New}
 use Rattle.hound_session.specs.Sessions.{AreSessions, RunsOnce}
-use Rattle.hound_session.proofs.Answering.{sessions_answered}
 use Rattle.hound_session.proofs.Chaining.{is_ok}
-use Rattle.hound_session.proofs.WholeSessions.{sessions_canonical, sessions_exact, sessions_stop}
+use Rattle.hound_session.proofs.WholeSessions.{sessions_answered, sessions_canonical, sessions_exact, sessions_stop}
 use Rattle.hound_session.proofs.sessions.run_sessions.Goals as goal
 
 pub returns-in-Err-clause-sessions : goal.returns-in-Err-clause-sessions
