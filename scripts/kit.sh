@@ -1,6 +1,6 @@
 # What `hound` and `test` look at before they start: the Rattle kit, its version, and memory.
 
-PROVED_WITH="rattle-kit-13b logic dac8208d650f15bf"
+PROVED_WITH="rattle-kit-13f logic dac8208d650f15bf"
 LEAST_MEMORY=8 # GB
 
 # Ends with a line where nothing can be proved here.
