@@ -38,7 +38,8 @@ pub enum Case {
     ReadMemory(Kind),
     /// The samples of a file on disk.
     ReadFile(Frames),
-    /// As many seeks in a file in memory, to each thousandth frame in turn, with a sample read there.
+    /// As many seeks in a file in memory, to each thousandth frame in turn, with a sample read
+    /// there.
     SeekMemory,
     /// The same in a file on disk.
     SeekFile,

@@ -21,11 +21,11 @@ struct Request<'a> {
 /// Carries out the words `CASE N FILE`, and answers the status: 0 for success, 1 where it failed, 2
 /// for words that it doesn't know.
 ///
-/// FILE is `-` where the case has no file on disk. The output is one line: the case, the samples, the
-/// bytes that were written or read, the nanoseconds that the workload took, and a sum over what was
-/// read or written. With the word `untimed` behind the others the nanoseconds are left out, so the
-/// line is the same at each run. A failure has one line on `errors`; a fault while that is written
-/// isn't told.
+/// FILE is `-` where the case has no file on disk. The output is one line: the case, the samples,
+/// the bytes that were written or read, the nanoseconds that the workload took, and a sum over what
+/// was read or written. With the word `untimed` behind the others the nanoseconds are left out, so
+/// the line is the same at each run. A failure has one line on `errors`; a fault while that is
+/// written isn't told.
 pub fn run<O: io::Write, E: io::Write>(
     rt: &HostRuntime,
     words: &[&str],

@@ -1,5 +1,5 @@
-// Recordings over a medium that keeps its past, with what it had behind each byte, and where a fault
-// came between. All but one are rows of a table (`RECORDINGS`).
+// Recordings over a medium that keeps its past, with what it had behind each byte, and where a
+// fault came between. All but one are rows of a table (`RECORDINGS`).
 ghost use Rattle.std.specs.Prelude.{◌≡◌, ◌≤◌};
 
 use crate::helpers::{bytes_after, data_length, failing, has_first, has_samples, numbers};
@@ -16,8 +16,8 @@ enum Part {
     Flush,
 }
 
-// What a file has behind so many bytes: the data length that it says, and how many samples are read,
-// the first of them, or none where the length is refused.
+// What a file has behind so many bytes: the data length that it says, and how many samples are
+// read, the first of them, or none where the length is refused.
 type Moment = (usize, usize, Option<usize>);
 
 // A session that begins a file, and what comes of it.
@@ -187,9 +187,9 @@ const RECORDINGS: &[Recording] = &[
     },
 ];
 
-// A run whose second checkpoint a fault cuts, where its length goes from 0x00fe to 0x0102: 298 calls
-// put the header and the samples, 12 publish them and 4 put four more, and the next seven put the
-// RIFF size and the low byte of the length.
+// A run whose second checkpoint a fault cuts, where its length goes from 0x00fe to 0x0102: 298
+// calls put the header and the samples, 12 publish them and 4 put four more, and the next seven put
+// the RIFF size and the low byte of the length.
 const TORN: Recording = Recording {
     name: "a length that a fault has torn is read",
     bits: 8,

@@ -1,5 +1,5 @@
-// Readers that never end, or nearly so: each call on them returns, after as many bytes as the format
-// lets it take. All but one are rows of a table (`READERS`).
+// Readers that never end, or nearly so: each call on them returns, after as many bytes as the
+// format lets it take. All but one are rows of a table (`READERS`).
 use crate::helpers::{ENDED, Fed, INTERRUPTED, Item, Then, read};
 use hound::read_wave_header;
 use std::alloc::{AllocError, Global};

@@ -156,7 +156,8 @@ pub(crate) const INTERRUPTED: &str = "IoError of kind Interrupted";
 // The words of a medium that finds no memory.
 pub(crate) const NO_MEMORY: &str = "IoError of kind OutOfMemory";
 
-// What tells an error from the others: the reason of an ill-formed file, or the name of the variant.
+// What tells an error from the others: the reason of an ill-formed file, or the name of the
+// variant.
 pub(crate) fn words_of(error: &Error) -> &'static str {
     match error {
         Error::FormatError(reason) => *reason,

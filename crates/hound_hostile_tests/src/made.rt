@@ -1,5 +1,5 @@
-// Hostile files, each made from its number alone: fields at their edges, chunks that lie about their
-// length, cut and spliced.
+// Hostile files, each made from its number alone: fields at their edges, chunks that lie about
+// their length, cut and spliced.
 use std::alloc::{AllocError, Global};
 
 // Numbers that look random, and are the same each time.

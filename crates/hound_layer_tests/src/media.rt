@@ -120,8 +120,8 @@ fn was(journal: &Journal, alloc: Global, k: usize, bytes: &[u8]) -> Result<bool,
     Ok(journal.bytes_after(alloc, k)?.as_slice() == bytes)
 }
 
-// Puts bytes by four calls, and flushes behind the first two. What a new journal says, and what each
-// put and a get of the rest answer.
+// Puts bytes by four calls, and flushes behind the first two. What a new journal says, and what
+// each put and a get of the rest answer.
 fn put_and_get(journal: &mut Journal) -> io::Result<[usize; 6]> {
     let begun = [journal.taken(), journal.flushed()];
     journal.go(1)?;

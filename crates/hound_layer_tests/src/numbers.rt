@@ -1,5 +1,5 @@
-// The values of numbers, from their definitions and from files that were written elsewhere, and that
-// reads and writes can succeed and fail.
+// The values of numbers, from their definitions and from files that were written elsewhere, and
+// that reads and writes can succeed and fail.
 ghost use Rattle.std.specs.Prelude.{Some};
 
 use hound_number::{

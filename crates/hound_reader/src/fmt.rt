@@ -207,8 +207,8 @@ fn read_by_tag<R: Input>(
     }
 }
 
-/// Reads what says something in the content of a fmt chunk of this length: of a longer one than forty
-/// bytes the first forty.
+/// Reads what says something in the content of a fmt chunk of this length: of a longer one than
+/// forty bytes the first forty.
 #[tactic(auto, unfolding(crate::specs::Fmt::fmt_said))]
 pub(crate) fn read_fmt_chunk<R: Input>(
     reader: &mut R,

@@ -7,7 +7,8 @@ use std::io;
 
 /// Why an item has no sample.
 ///
-/// An `Error` has 96 bytes, which would be filled with zeros and copied for each item; this has one.
+/// An `Error` has 96 bytes, which would be filled with zeros and copied for each item; this has
+/// one.
 #[derive(Clone, Copy)]
 pub(crate) enum NoSample {
     /// A read failed or the input ended, by a fault that was kept aside.

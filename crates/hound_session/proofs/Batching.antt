@@ -77,16 +77,16 @@ module _ {M : Type 0} (tells keeps : Bool) (state : M → MediumState) (old : Wr
           → AcceptAnswer {T = Unit {0}} memory (Ok (map (signed_bytes_of 2) values)) old (Err e)
           → mark_of {T = Unit {0}} (Err e) ≡ false
           → ((faults : ℕ) → faults ≡ faults_told {T = Unit {0}} (Err e) faults)
-          → Accepts tells keeps state (wants_memory values old) (batch_containers old.spec_ex values)
-          (Err e) old old
+          → Accepts tells keeps state (wants_memory values old)
+          (batch_containers old.spec_ex values) (Err e) old old
       refused e answers mark faults =
           subst (λ a. Accepts tells keeps state memory a (Err e) old old) (sym asked)
           (accepts_refused tells keeps state old memory
           (Ok list) e counts replays mark faults answers)
 
       pub batch_too_long : (HasRoom old (2 * length values) → ⊥)
-          → Accepts tells keeps state (wants_memory values old) (batch_containers old.spec_ex values)
-          (Err TooLong) old old
+          → Accepts tells keeps state (wants_memory values old)
+          (batch_containers old.spec_ex values) (Err TooLong) old old
       batch_too_long none =
           let no : nat_le
           (riff_size old.data_start (data_length old + length (concat list))) greatest_u32
@@ -109,8 +109,8 @@ module _ {M : Type 0} (tells keeps : Bool) (state : M → MediumState) (old : Wr
           → ((HasRoom old (2 * length values) → ⊥) → e ≡ TooLong)
           → (HasRoom old (2 * length values) → (e ≡ OutOfMemory)
           × (length old.buffer < 2 * length values)) → new ≡ old
-          → Accepts tells keeps state (wants_memory values old) (batch_containers old.spec_ex values)
-          (Err e) old new
+          → Accepts tells keeps state (wants_memory values old)
+          (batch_containers old.spec_ex values) (Err e) old new
       batch_not_begun e new long none same =
           subst (λ w. Accepts tells keeps state memory (batch_containers old.spec_ex values)
           (Err e) old w) (sym same)

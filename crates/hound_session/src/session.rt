@@ -5,28 +5,28 @@ use hound_spec::WavSpecEx;
 /// One call of a writer, between its constructor and its end.
 #[derive(Clone, Copy)]
 pub enum Step<'a> {
-    /// Writes an integer, by `write_sample` of an `i32`. One that the bits of the spec can't hold is
-    /// `TooWide`.
+    /// Writes an integer, by `write_sample` of an `i32`. One that the bits of the spec can't hold
+    /// is `TooWide`.
     Whole(i32),
 
-    /// Writes a float by its bits, by `write_sample`. Where samples haven't 32 bits in four bytes, it
-    /// is `Unsupported`.
+    /// Writes a float by its bits, by `write_sample`. Where samples haven't 32 bits in four bytes,
+    /// it is `Unsupported`.
     Bits(FloatBits),
 
     /// Writes a batch of samples of sixteen bits, all of them or none: by `get_i16_writer` and its
     /// `flush`. A writer of other samples is asked nothing, and the step is `Unsupported`.
     Batch(&'a [i16]),
 
-    /// Publishes what was accepted, by `flush`. An unfinished frame is published too, and the answer
-    /// is `UnfinishedSample`.
+    /// Publishes what was accepted, by `flush`. An unfinished frame is published too, and the
+    /// answer is `UnfinishedSample`.
     Flush,
 }
 
 /// How a session begins.
 #[derive(Clone, Copy)]
 pub enum Begin {
-    /// With a new file of this spec, by `try_new`. A spec that can't be written is `Unsupported`, and
-    /// the medium stays as it was.
+    /// With a new file of this spec, by `try_new`. A spec that can't be written is `Unsupported`,
+    /// and the medium stays as it was.
     New(WavSpecEx),
 
     /// Behind the data of the file that is there, by `try_append`, which reads its header first and
@@ -37,8 +37,8 @@ pub enum Begin {
 /// How a session ends.
 #[derive(Clone, Copy)]
 pub enum End {
-    /// By `finalize_into`, whose answer is told: `UnfinishedSample` where the last frame lacks samples,
-    /// which are in the file all the same.
+    /// By `finalize_into`, whose answer is told: `UnfinishedSample` where the last frame lacks
+    /// samples, which are in the file all the same.
     Finalize,
 
     /// By a drop, which publishes too, and whose error goes unseen.

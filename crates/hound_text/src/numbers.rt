@@ -9,8 +9,8 @@ use std::io;
 /// The bytes of input that are read at most, where numbers are read.
 const MOST_BYTES: u64 = 4_294_967_295;
 
-/// Why a text is not taken. It has one byte, where an error that holds an `io::Error` has a hundred,
-/// and it is part of the answer for each number.
+/// Why a text is not taken. It has one byte, where an error that holds an `io::Error` has a
+/// hundred, and it is part of the answer for each number.
 #[derive(Clone, Copy)]
 pub enum Refusal {
     /// A byte stands where no number can have it, or a number is beyond `i32`.

@@ -181,8 +181,8 @@ module _ {W : Type 0} (tells keeps : Bool) (state : W → MediumState) (w : Writ
         front = front_at_each tells keeps state shorter refl sound_shorter stands m w.waiting
             (all_out all) told (puts told) kept (replays told kept);
         behind =
-            puts_from w.data_start end (take (puts told).count w.waiting) old (state m) (omega arith)
-            ((puts told).past kept);
+            puts_from w.data_start end (take (puts told).count w.waiting) old (state m)
+            (omega arith) ((puts told).past kept);
       }
 
       same_out : (told : IsTrue tells) → IsWhole state w
@@ -202,8 +202,8 @@ module _ {W : Type 0} (tells keeps : Bool) (state : W → MediumState) (w : Writ
                 (all_out all) told p;
             front = front tells keeps state shorter refl sound_shorter stands m w.waiting
                 (all_out all) told p;
-            out = λ whole. front_stays tells keeps state shorter refl sound_shorter stands m w.waiting
-                (all_out all) told p end (omega arith) whole;
+            out = λ whole. front_stays tells keeps state shorter refl sound_shorter stands m
+                w.waiting (all_out all) told p end (omega arith) whole;
             rest = subst (λ n. drop n (state m).contents ≡ drop n old.contents) at
                 (rest tells keeps state shorter refl sound_shorter stands m w.waiting
                 (all_out all) told p);

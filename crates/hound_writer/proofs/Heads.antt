@@ -58,7 +58,8 @@ module _ (old : List ℕ) (s : WavSpecEx) (len h : ℕ) (head : Head old s len h
         long,
         ap length split,
         head.four,
-        length-append (riff_tag ++ (head.walk.size ++ (wave_tag ++ (joined head.chunks ++ data_tag))))
+        length-append
+            (riff_tag ++ (head.walk.size ++ (wave_tag ++ (joined head.chunks ++ data_tag))))
             (head.size ++ head.rest),
         length-append head.size head.rest,
       )

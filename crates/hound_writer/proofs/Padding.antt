@@ -93,7 +93,8 @@ module _ {W : Type 0} (tells keeps : Bool) (state : W → MediumState) (w : Writ
               out = λ whole. front_stays tells keeps state w none known.sound known.stands m pad
                   (all_out all) told p end (omega arith) whole;
               rest = subst (λ n. drop n (state m).contents ≡ drop n old.contents) at
-                  (rest tells keeps state w none known.sound known.stands m pad (all_out all) told p);
+                  (rest tells keeps state w none known.sound known.stands m pad (all_out all) told
+                  p);
               grows = longer;
               reach = omega (
                 arith,

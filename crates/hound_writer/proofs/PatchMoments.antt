@@ -243,7 +243,8 @@ publishes_at_each state w none sound stands padded small end patched are_frames 
             start = span.start;
             added = span.added;
             past = span.past;
-            each = λ k from to. counts whole (k - split) (moment (state end).start (state end).past k)
+            each = λ k from to.
+                counts whole (k - split) (moment (state end).start (state end).past k)
                 (span.each k from to);
           };
       split = split;
