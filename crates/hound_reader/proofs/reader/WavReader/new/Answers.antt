@@ -2,6 +2,9 @@ use Rattle.hound_reader.specs.Chunks.{Unreadable}
 use Rattle.hound_reader.proofs.ReaderLemmas.{opens_ok, refusal_told, opens_told, no_fault_ok, fails_told, is_told}
 use Rattle.hound_reader.proofs.reader.WavReader.new.Goals as goal
 
+pub returns-in-Ok-clause-found : goal.returns-in-Ok-clause-found
+returns-in-Ok-clause-found g c = c.in-Ok.ensures.found
+
 pub returns-in-Ok-clause-readable : goal.returns-in-Ok-clause-readable
 returns-in-Ok-clause-readable g c =
     opens_ok _ _ c.in-Ok.spec_ex c.in-Ok.num_samples c.in-Ok.ensures.found
