@@ -1,10 +1,8 @@
-//! The program `hound_tool`: numbers to WAV files.
+//! The program `hound_tool`: numbers to WAV files. What its commands do is in `hound_commands`.
 #![tactic(auto)]
 
-mod failure;
-mod run;
+pub use hound_commands::{run, run_append};
 
-use run::{run, run_append};
 use std::io::{BufWriter, ErrorKind};
 use std::path::Path;
 use std::process::ExitCode;

@@ -1,0 +1,8 @@
+//! The commands of the program `hound_tool`, over any reader and writers: `pack`, `show` and
+//! `append`.
+#![tactic(auto)]
+
+mod commands;
+mod failure;
+
+pub use commands::{run, run_append};
