@@ -1,0 +1,10 @@
+pub mod Stepping
+pub mod Running
+pub mod Leading
+pub mod Moments
+pub mod Whole
+pub mod Answering
+pub mod Batching
+pub mod Chaining
+pub mod WholeSessions
+pub mod OneByOne

@@ -49,8 +49,8 @@ pub use Rattle.hound_writer.specs.Publishing
 pub use Rattle.hound_writer.specs.Room
 pub use Rattle.hound_writer.specs.Sizes
 pub use Rattle.hound_writer.specs.Writer
-pub use Rattle.hound_session.specs.FirstError
-pub use Rattle.hound_session.specs.Headline
-pub use Rattle.hound_session.specs.Run
-pub use Rattle.hound_session.specs.Sessions
-pub use Rattle.hound_session.specs.Steps
+pub mod FirstError
+pub mod Headline
+pub mod Run
+pub mod Sessions
+pub mod Steps

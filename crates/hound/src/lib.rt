@@ -25,6 +25,12 @@
 //! behind it.
 #![tactic(auto)]
 
+mod laws;
+mod runs;
+mod session;
+mod sessions;
+mod steps;
+
 pub use hound_medium::{Journal, Medium, Placed, Source, Tape};
 pub use hound_reader::{
     WavIntoSamples, WavReader, WavSamples, a_reader_stands_as_counted, a_seek_leads_to_its_frame,
@@ -32,8 +38,11 @@ pub use hound_reader::{
     written_is_head, written_is_read,
 };
 pub use hound_sample::{FloatBits, Sample, integers_come_back, short_integers_are_kept};
-pub use hound_session::{Begin, End, Step, a_batch_is_its_values, run_session, run_sessions};
 pub use hound_spec::{
     Error, Result, SampleFormat, WavSpec, WavSpecEx, extensions_come_back, fields_come_back,
 };
 pub use hound_writer::{SampleWriter16, WavWriter, one_append_answer};
+pub use laws::a_batch_is_its_values;
+pub use runs::run_session;
+pub use session::{Begin, End, Step};
+pub use sessions::run_sessions;

@@ -1,0 +1,293 @@
+-- A whole run, from its beginning to its end.
+use Rattle.std.proofs.Common.{◌≡◌, ℕ, zero, suc, ◌+◌, ◌/◌, ◌<◌, ◌≤◌, Bool, List, [], ◌++◌, length, take, drop, map, Result, Ok, Err, OnOk, IsTrue, inl, inr, refl, sym, ◌∙◌, ap, subst, arith, length-append, length-drop}
+use Rattle.std.proofs.lemmas.List.{take_all, length-take-le}
+use Rattle.std.specs.List.{concat}
+use Rattle.std.specs.Io.{StartsWith}
+use Rattle.hound_spec.specs.declared.error.Error.{Error}
+use Rattle.hound_spec.specs.declared.error.Error.TheVariants.{IoError, UnfinishedSample}
+use Rattle.hound_spec.specs.declared.spec.WavSpecEx.{WavSpecEx}
+use Rattle.hound_spec.specs.Header.{header, data_start, canonical}
+use Rattle.hound_spec.proofs.HeaderLemmas.{data_start_least, length-canonical, length-header}
+use Rattle.hound_sample.specs.Container.{containers}
+use Rattle.hound_medium.specs.State.{MediumState, WhereTells, WhereKeeps}
+use Rattle.hound_medium.specs.Bytes.{placed, overlay}
+use Rattle.hound_medium.proofs.Overlays.{overlay_is}
+use Rattle.hound_writer.specs.Answers.{IsPublishing, OnPublished, faults_told, mark_of}
+use Rattle.hound_writer.specs.Counts.{Counts}
+use Rattle.hound_writer.specs.Publishing.{Finishes}
+use Rattle.hound_writer.specs.Sizes.{ChangesSizesOnly}
+use Rattle.hound_writer.specs.Writer.{WriterState, IsSound, IsWhole, IsBegun, accepted_samples, data_length}
+use Rattle.hound_writer.proofs.Accepting.{length_overlay_max}
+use Rattle.hound_writer.proofs.Answers.{on_published_then}
+use Rattle.hound_writer.proofs.Samples.{concat-samples, length_out, samples_out}
+use Rattle.hound_writer.proofs.Sizes.{sizes_then}
+use Rattle.hound.specs.declared.session.Step.{Step}
+use Rattle.hound.specs.declared.session.Begin.{Begin}
+use Rattle.hound.specs.declared.session.Begin.TheVariants.{New, Append}
+use Rattle.hound.specs.declared.session.End.{End}
+use Rattle.hound.specs.declared.session.End.TheVariants.{Finalize, Drop}
+use Rattle.hound.specs.Headline.{CanonicalAtEnd}
+use Rattle.hound.specs.Run.{Begins, Ends, IsNotBegun, Leaves, LeavesAtEach, NoFault, Ran, Runs}
+use Rattle.hound.specs.Steps.{accepted_by_all}
+use Rattle.hound.proofs.Leading.{Leads, leads, grows_told, no_fault_parts, length-concat-append}
+use Rattle.hound.proofs.Moments.{counted, published, span_later}
+
+-- the writer that a run begins with
+first_sound : {M : Type 0} (tells keeps : Bool) (state : M → MediumState) (begin : Begin) (old : M)
+    (w : WriterState M) → Begins tells keeps state begin old w → IsSound w × (w.waiting ≡ [])
+first_sound tells keeps state (New s) old w begins = (begins.begun.sound, begins.begun.none_waits)
+first_sound tells keeps state Append old w begins = (begins.sound, begins.none_waits)
+
+-- its accepted samples, joined, have the length that it counts
+pub sized : {M : Type 0} (state : M → MediumState) (w : WriterState M) → IsSound w → w.waiting ≡ []
+    → IsWhole state w → length (concat (accepted_samples state w)) ≡ data_length w
+sized state w sound none whole =
+    let bytes = drop w.data_start (state w.medium).contents in
+    ap length (concat-samples state w none sound)
+    ∙ length-take-le w.out bytes
+    (omega (arith, whole, length-drop w.data_start (state w.medium).contents))
+    ∙ sym (length_out state w none)
+
+-- a call that publishes and meets no fault has published all
+pub all_published : {P M : Type 0} (answer : Result (Unit {0}) Error) (w : WriterState M) (f : ℕ)
+    → f < 18446744073709551615 → faults_told answer f ≡ f → IsPublishing answer w
+    → OnPublished answer P → P
+all_published (Ok x) w f small same is here = here
+all_published (Err (IoError e)) w f small same is here = absurd (omega (arith, small, same))
+all_published (Err UnfinishedSample) w f small same is here = here
+all_published (Err e) w f small same is here = absurd is
+
+-- a file that wasn't begun is shorter than its header
+pub short_of_header : {M : Type 0} (tells keeps : Bool) (state : M → MediumState) (s : WavSpecEx)
+    (old back : M) (e : Error) → IsTrue tells → (state old).place ≡ 0 → (state old).contents ≡ []
+    → IsNotBegun tells keeps state (New s) old back e
+    → length (state back).contents < data_start s
+short_of_header tells keeps state s old back e told place empty (inl (not, is, same)) =
+    omega (arith, ap (λ m. length (state m).contents) same, ap length empty, data_start_least s)
+short_of_header tells keeps state s old back e told place empty (inr (writable, io, failed)) =
+    let p = failed told in
+    let h = take p.count (header s 0 0) in
+    let put : (state back).contents ≡ overlay [] (placed 0 h) =
+    p.takes.contents ∙ (λ i. overlay (empty i) (placed (place i) h)) in
+    omega (
+      arith,
+      ap length put,
+      length_overlay_max h 0 [],
+      length-take-le p.count (header s 0 0) p.within,
+      p.part,
+      length-header s 0 0,
+    )
+
+-- what an end published, and its answer
+ended : {M : Type 0} (tells keeps : Bool) (state : M → MediumState) (end : End)
+    (last : WriterState M) (answer : Result (Unit {0}) Error) (medium : M)
+    → Ends tells keeps state end last answer medium → (a : Result (Unit {0}) Error)
+    × Finishes tells keeps state last a medium
+ended tells keeps state Finalize last answer medium ends = (answer, ends)
+ended tells keeps state Drop last answer medium (told, a, ends) = (a, ends)
+
+module _ {M : Type 0} (tells keeps : Bool) (state : M → MediumState) (begin : Begin)
+    (steps : List Step) (marks : List Bool) (end : End) (old : M) (answer : Result (Unit {0}) Error)
+    (medium : M) (first last : WriterState M) (answers : List (Result (Unit {0}) Error))
+    (cuts : List ℕ)
+    (begins : Begins tells keeps state begin old first)
+    (runs : Runs tells keeps state steps answers cuts first last)
+    (marked : marks ≡ map mark_of answers)
+    (ends : Ends tells keeps state end last answer medium) where
+  abbrev added : List (List ℕ)
+  added = accepted_by_all first.spec_ex steps marks
+
+  facts : IsSound first × (first.waiting ≡ [])
+  facts = first_sound tells keeps state begin old first begins
+
+  behind : 4 ≤ first.data_start
+  behind = let sound = facts.0 in omega (arith, sound.after_head)
+
+  lead : IsTrue tells → Leads state steps marks first last
+  lead told =
+      subst (λ l. Leads state steps l first last) (sym marked)
+      (leads tells keeps state told steps answers cuts first last behind runs)
+
+  -- what holds of the last writer's file and samples holds of those of the run
+  as_last : IsTrue tells → IsWhole state first → (P : WavSpecEx → ℕ → List (List ℕ) → Type 0)
+      → P last.spec_ex last.data_start (accepted_samples state last)
+      → P first.spec_ex first.data_start
+      (accepted_samples state first ++ accepted_by_all first.spec_ex steps marks)
+  as_last told whole P here =
+      let l = lead told in
+      subst (λ (x : WavSpecEx × (ℕ × List (List ℕ))). P x.0 x.1.0 x.1.1)
+      (λ i. (l.spec_ex i, (l.data_start i, l.accepted whole i))) here
+
+  finalized : (told : IsTrue tells) (end : End) → Ends tells keeps state end last answer medium
+      → IsWhole state first → IsBegun state first
+      → CanonicalAtEnd first.spec_ex (accepted_samples state first) steps marks end answer
+      (state medium)
+  finalized told Finalize ends whole begun =
+      let l = lead told in
+      on_published_then answer
+      (as_last told whole
+      (λ s start list. StartsWith (state medium).contents (canonical s list)))
+      ((ends.publishes told).canonical (l.whole whole) (l.begun begun))
+  finalized told Drop ends whole begun = tt
+
+  leaves : WhereTells tells (Leaves state steps marks end answer first medium)
+  leaves told =
+      let l = lead told in
+      let e = ended tells keeps state end last answer medium ends in
+      let p = e.1.publishes told in
+      record {
+        counts =
+            λ whole. as_last told whole
+            (λ s start list. Counts s start list (state medium).contents)
+            (p.counts (l.whole whole));
+        front = sizes_then first.data_start (state first.medium).contents
+            (state last.medium).contents (state medium).contents l.front
+            (subst (λ n. ChangesSizesOnly n (state last.medium).contents
+            (state medium).contents) l.data_start p.front);
+        file = finalized told end ends;
+        exact = λ whole begun none.
+            let parts =
+            no_fault_parts (state first.medium) (state last.medium) (state medium) l.faults
+            (grows_told e.0 (state last.medium) (state medium) p.faults) none in
+            let file =
+            all_published e.0 last (state last.medium).faults parts.1.1
+            (sym p.faults ∙ parts.1.0) e.1.answers
+            (p.canonical (l.whole whole) (l.begun begun)) in
+            let size : length (concat (accepted_samples state first ++ added)) ≡ data_length last =
+            length-concat-append (accepted_samples state first) added
+            ∙ omega (arith, sized state first facts.0 facts.1 whole, l.size) in (
+              as_last told whole
+                  (λ s start list. StartsWith (state medium).contents (canonical s list)) file,
+              omega (
+                arith,
+                p.reach,
+                l.reach parts.0,
+                length-canonical first.spec_ex (accepted_samples state first ++ added),
+                size,
+                begun.1,
+                l.data_start,
+              ),
+            );
+      }
+
+  moments :
+      ((m : M)
+      → WhereKeeps tells keeps ((state m).contents ≡ overlay (state m).start (state m).past))
+      → WhereKeeps tells keeps (LeavesAtEach state steps marks cuts first medium)
+  moments replays told kept =
+      let l = lead told in
+      let e = ended tells keeps state end last answer medium ends in
+      let span = λ (whole : IsWhole state first). (e.1.moments told kept).counts (l.whole whole) in
+      let later =
+      λ (whole : IsWhole state first).
+      span_later (λ _. Counts last.spec_ex last.data_start (accepted_samples state last)) 0
+      (state last.medium) (state medium) (span whole) in
+      let all : LeavesAtEach state steps (map mark_of answers) cuts first medium = record {
+        counted =
+            λ whole. counted tells keeps state told kept
+            (λ m. replays m told kept) steps answers cuts first last (state medium) runs
+            (later whole) (λ k from to. (span whole).each k from to) whole;
+        published =
+            λ whole. published tells keeps state told kept
+            (λ m. replays m told kept) steps answers cuts first last (state medium) runs
+            (later whole) behind whole (sized state first facts.0 facts.1 whole);
+      } in
+      subst (λ b. LeavesAtEach state steps b cuts first medium) (sym marked) all
+
+  pub ran :
+      ((m : M)
+      → WhereKeeps tells keeps ((state m).contents ≡ overlay (state m).start (state m).past))
+      → Ran tells keeps state begin steps marks end old answer medium
+  ran replays = record {
+    first = first;
+    last = last;
+    answers = answers;
+    cuts = cuts;
+    begins = begins;
+    runs = runs;
+    marked = marked;
+    ends = ends;
+    leaves = leaves;
+    moments = moments replays;
+  }
+
+-- nothing is accepted in a new file
+pub none_accepted : {M : Type 0} (state : M → MediumState) (w : WriterState M) → IsSound w
+    → w.waiting ≡ [] → w.out ≡ 0 → accepted_samples state w ≡ []
+none_accepted state w sound none empty =
+    let bytes = drop w.data_start (state w.medium).contents in
+    samples_out state w none sound
+    ∙ ap (λ n. containers w.spec_ex.bytes_per_sample n bytes)
+    (ap (λ n. n / w.spec_ex.bytes_per_sample) empty ∙ zero_div w.spec_ex.bytes_per_sample)
+  where
+    zero_div : (w : ℕ) → 0 / w ≡ 0
+    zero_div zero = refl
+    zero_div (suc w) = omega arith
+
+-- a run over a new file
+module _ {M : Type 0} (tells keeps : Bool) (state : M → MediumState) (s : WavSpecEx)
+    (steps : List Step) (marks : List Bool) (old : M) (answer : Result (Unit {0}) Error)
+    (medium : M) (told : IsTrue tells) where
+  module _ (end : End) (r : Ran tells keeps state (New s) steps marks end old answer medium) where
+    is_begun : IsBegun state r.first
+    is_begun = let b = r.begins in
+        ((b.file told).header, b.begun.start ∙ ap data_start (sym b.begun.spec))
+
+    file_of : canonical r.first.spec_ex
+        (accepted_samples state r.first ++ accepted_by_all r.first.spec_ex steps marks)
+        ≡ canonical s (accepted_by_all s steps marks)
+    file_of = let b = r.begins.begun in
+        (λ i. canonical (b.spec i)
+        (none_accepted state r.first b.sound b.none_waits b.none_out i ++ accepted_by_all
+        (b.spec i) steps marks))
+
+    pub new_exact : (state old).contents ≡ [] → (state old).place ≡ 0
+        → NoFault (state old) (state medium)
+        → (state medium).contents ≡ canonical s (accepted_by_all s steps marks)
+    new_exact empty start (same, small) =
+        let w = r.first in
+        let file = r.begins.file told in
+        let h = header w.spec_ex 0 0 in
+        let put : (state w.medium).contents ≡ h ++ drop (0 + length h) [] =
+        file.puts.contents
+        ∙ (λ i. overlay (empty i) (placed (start i) (take_all (length h) h (omega arith) i)))
+        ∙ overlay_is [] 0 h (omega arith) in
+        let exact =
+        (r.leaves told).exact file.whole is_begun
+        (same ∙ sym file.faults, omega (arith, file.faults, small)) in
+        let c = canonical s (accepted_by_all s steps marks) in
+        let starts : take (length c) (state medium).contents ≡ c =
+        subst (λ l. StartsWith (state medium).contents l) file_of exact.0 in
+        let first_size : length (state w.medium).contents ≡ data_start s =
+        ap length put ∙ length-append h (drop (0 + length h) [])
+        ∙ omega (
+          arith,
+          length-header w.spec_ex 0 0,
+          length-drop (0 + length h) (the_empty),
+          ap data_start r.begins.begun.spec,
+        ) in
+        sym (take_all (length c) (state medium).contents
+        (omega (
+          arith,
+          exact.1,
+          ap length file_of,
+          first_size,
+          length-canonical s (accepted_by_all s steps marks),
+        ))) ∙ starts
+      where
+        the_empty : List ℕ
+        the_empty = []
+
+  pub new_canonical : Ran tells keeps state (New s) steps marks Finalize old answer medium
+      → OnOk answer
+      (StartsWith (state medium).contents (canonical s (accepted_by_all s steps marks)))
+  new_canonical r =
+      let file = r.begins.file told in
+      go _ answer
+      (on_published_then answer
+      (subst (λ l. StartsWith (state medium).contents l) (file_of Finalize r))
+      ((r.leaves told).file file.whole (is_begun Finalize r)))
+    where
+      go : (P : Type 0) (answer : Result (Unit {0}) Error) → OnPublished answer P → OnOk answer P
+      go P (Ok x) here = here
+      go P (Err e) here = tt

@@ -1,0 +1,75 @@
+-- What sessions answer: the error of the first step or end that isn't Ok, by spec and steps.
+use Rattle.std.specs.Prelude.{◌≡◌, ℕ, ◌<◌, ◌⊎◌, OnOk, max, nat_lt, Bool, true, false, List, [], ◌∷◌, ◌++◌, length, Result, Ok, Err}
+use Rattle.std.specs.Borrow.{Bor}
+use Rattle.std.specs.List.{concat}
+use Rattle.hound_spec.specs.declared.error.Error.{Error}
+use Rattle.hound_spec.specs.declared.error.Error.TheVariants.{Unsupported}
+use Rattle.hound_spec.specs.declared.spec.WavSpecEx.{WavSpecEx}
+use Rattle.hound_spec.specs.Header.{data_start}
+use Rattle.hound_spec.specs.Writable.{IsWritable}
+use Rattle.hound_medium.specs.State.{MediumState, WhereTells}
+use Rattle.hound_writer.specs.Answers.{AcceptAnswer, IsIoError, IsPublishing}
+use Rattle.hound_writer.specs.Writer.{WriterState}
+use Rattle.hound.specs.declared.session.Step.{Step}
+use Rattle.hound.specs.declared.session.Step.TheVariants.{Whole, Bits, Batch, Flush}
+use Rattle.hound.specs.Steps.{accepted_by, containers_of, step_containers}
+
+-- a writer of a file of this spec that has accepted these samples, as far as answers see it
+abbrev pub writer_after : WavSpecEx → List (List ℕ) → WriterState (Unit {0})
+writer_after s list = record {
+  medium = tt;
+  spec_ex = s;
+  data_start = data_start s;
+  out = length (concat list);
+  waiting = [];
+  buffer = [];
+}
+
+-- What such a writer answers to a step, whose longest batch so far had so many values: memory may
+-- be wanted for a longer one only.
+abbrev pub AnswersStep : WavSpecEx → List (List ℕ) → ℕ → Step → Result (Unit {0}) Error → Type 0
+AnswersStep s list longest (Whole value) answer =
+    AcceptAnswer false (step_containers s (Whole value)) (writer_after s list) answer
+AnswersStep s list longest (Bits bits) answer =
+    AcceptAnswer false (step_containers s (Bits bits)) (writer_after s list) answer
+AnswersStep s list longest (Batch values) answer =
+    AcceptAnswer (nat_lt longest (length values.now)) (step_containers s (Batch values))
+    (writer_after s list) answer
+AnswersStep s list longest Flush answer = IsPublishing answer (writer_after s list)
+
+-- the length of the longest batch, with this step
+abbrev pub longest_with : ℕ → Step → ℕ
+longest_with longest (Whole value) = longest
+longest_with longest (Bits bits) = longest
+longest_with longest (Batch values) = max longest (length values.now)
+longest_with longest Flush = longest
+
+-- what a session answers whose writer has accepted these samples: the error of the first step that
+-- isn't Ok, else what its end answers
+abbrev pub AnswersSession : WavSpecEx → List (List ℕ) → ℕ → List Step → Result (Unit {0}) Error →
+    Type 0
+AnswersSession s list longest [] answer = IsPublishing answer (writer_after s list)
+AnswersSession s list longest (step ∷ steps) answer =
+    ((e : Error) × (answer ≡ Err e) × AnswersStep s list longest step (Err e))
+    ⊎ (AnswersStep s list longest step (Ok tt)
+    × AnswersSession s (list ++ accepted_by s step true) (longest_with longest step) steps answer)
+
+-- what sessions answer after a file of these samples: the error of the first that isn't Ok, which
+-- is that of the session or an `IoError` before it began
+abbrev pub AnswersAll : WavSpecEx → List (List ℕ) → List (Bor (List Step)) →
+    Result (Unit {0}) Error → Type 0
+AnswersAll s list [] answer = answer ≡ Ok tt
+AnswersAll s list (session ∷ sessions) answer =
+    ((e : Error) × (answer ≡ Err e) × (IsIoError e ⊎ AnswersSession s list 0 session.now (Err e)))
+    ⊎ (AnswersSession s list 0 session.now (Ok tt)
+    × AnswersAll s (list ++ containers_of s session.now) sessions answer)
+
+-- What the answer of sessions tells: over every medium, that the spec can't be written; else the
+-- first error; and at an Ok, that no call of the medium failed.
+pub record IsAnswered {M : Type 0} (tells : Bool) (state : M → MediumState) (s : WavSpecEx)
+    (sessions : List (Bor (List Step))) (old : M) (answer : Result (Unit {0}) Error)
+    (medium : M) : Type 0 where
+  pub unwritable : 0 < length sessions → (IsWritable s → ⊥) →
+      (answer ≡ Err Unsupported) × (medium ≡ old)
+  pub first_error : WhereTells tells (IsWritable s → AnswersAll s [] sessions answer)
+  pub no_fault : WhereTells tells (OnOk answer ((state medium).faults ≡ (state old).faults))

@@ -1,0 +1,62 @@
+-- The steps of a session, and what each asks a writer to accept.
+use Rattle.std.specs.Prelude.{ℕ, ℤ, ◌*◌, ◌&&◌, ◌==◌, ⊤, nat_lt, Bool, true, false, if◌then◌else◌, List, [], ◌∷◌, ◌++◌, length, map, Result, Ok, Err}
+use Rattle.hound_number.specs.Number.{signed_bytes_of}
+use Rattle.hound_spec.specs.declared.spec.SampleFormat.{SampleFormat}
+use Rattle.hound_spec.specs.declared.spec.SampleFormat.TheVariants.{Int, Float}
+use Rattle.hound_spec.specs.declared.spec.WavSpec.{WavSpec}
+use Rattle.hound_spec.specs.declared.spec.WavSpecEx.{WavSpecEx}
+use Rattle.hound_sample.specs.Container.{Refusal, unsupported, int_container, pattern_container}
+use Rattle.hound_writer.specs.Answers.{if_marked, one}
+use Rattle.hound_writer.specs.Writer.{WriterState}
+use Rattle.hound.specs.declared.session.Step.{Step}
+use Rattle.hound.specs.declared.session.Step.TheVariants.{Whole, Bits, Batch, Flush}
+
+abbrev pub is_int : SampleFormat → Bool
+is_int Int = true
+is_int Float = false
+
+-- whether samples are integers of sixteen bits, which batches are for
+abbrev pub is_sixteen : WavSpec → Bool
+is_sixteen spec = is_int spec.sample_format && spec.bits_per_sample == 16
+
+-- the containers of a batch of these values, or why it has none
+abbrev pub batch_containers : WavSpecEx → List ℤ → Result (List (List ℕ)) Refusal
+batch_containers s values =
+    if is_sixteen s.spec then Ok (map (signed_bytes_of 2) values) else Err unsupported
+
+-- whether a batch of these values wants more memory than the writer keeps, two bytes for each
+abbrev pub wants_memory : {M : Type 0} → List ℤ → WriterState M → Bool
+wants_memory values w = nat_lt (length w.buffer) (2 * length values)
+
+-- the containers that a step asks to be accepted, one for each value of a batch, or why it has none
+abbrev pub step_containers : WavSpecEx → Step → Result (List (List ℕ)) Refusal
+step_containers s (Whole value) =
+    one (int_container value s.spec.bits_per_sample s.bytes_per_sample)
+step_containers s (Bits bits) =
+    one (pattern_container bits.0 s.spec.bits_per_sample s.bytes_per_sample)
+step_containers s (Batch values) = batch_containers s values.now
+step_containers s Flush = Ok []
+
+-- what a step accepted, by its mark
+abbrev pub accepted_by : WavSpecEx → Step → Bool → List (List ℕ)
+accepted_by s step mark = if_marked mark (step_containers s step)
+
+-- what steps accepted, by their marks
+abbrev pub accepted_by_all : WavSpecEx → List Step → List Bool → List (List ℕ)
+accepted_by_all s [] marks = []
+accepted_by_all s (step ∷ steps) [] = []
+accepted_by_all s (step ∷ steps) (mark ∷ marks) =
+    accepted_by s step mark ++ accepted_by_all s steps marks
+
+-- the containers of steps that were all accepted
+abbrev pub containers_of : WavSpecEx → List Step → List (List ℕ)
+containers_of s [] = []
+containers_of s (step ∷ steps) = accepted_by s step true ++ containers_of s steps
+
+-- steps that write samples only: no flush is among them
+abbrev pub HoldsNoFlush : List Step → Type 0
+HoldsNoFlush [] = ⊤
+HoldsNoFlush (Flush ∷ steps) = ⊥
+HoldsNoFlush (Whole value ∷ steps) = HoldsNoFlush steps
+HoldsNoFlush (Bits bits ∷ steps) = HoldsNoFlush steps
+HoldsNoFlush (Batch values ∷ steps) = HoldsNoFlush steps

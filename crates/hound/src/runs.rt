@@ -1,0 +1,124 @@
+// Whole runs.
+ghost use Rattle.std.specs.Prelude.{◌≡◌, ◌≤◌, ℕ, Ok, OnOk, List, Result, [], length, map, MatchResult};
+ghost use Rattle.std.specs.Io.{StartsWith};
+ghost use Rattle.hound_spec.specs.declared.error.Error.{Error};
+ghost use Rattle.hound_spec.specs.declared.spec.WavSpecEx.{WavSpecEx};
+ghost use Rattle.hound_spec.specs.Writable.{IsWritable};
+ghost use Rattle.hound_spec.specs.Header.{canonical, data_start};
+ghost use Rattle.hound_medium.specs.State.{WhereTells};
+ghost use Rattle.hound_writer.specs.Answers.{mark_of};
+ghost use Rattle.hound.specs.declared.session.Begin.TheVariants.{New};
+ghost use Rattle.hound.specs.declared.session.End.TheVariants.{Finalize};
+ghost use Rattle.hound.specs.Run.{Begins, IsNotBegun, Runs, Ran, Ends, IsSession, NoFault};
+ghost use Rattle.hound.specs.Steps.{accepted_by_all};
+
+use crate::session::{Begin, End, Step};
+use crate::steps::take_step;
+use hound_medium::{Medium, Source};
+use hound_spec::{Error, Result};
+use hound_writer::WavWriter;
+use std::alloc::Global;
+use std::result;
+
+// Whether a sample or batch was accepted, or all was published.
+fn is_marked(answer: &Result<()>) -> bool
+    ensures { result ≡ mark_of answer.now }
+{
+    match answer {
+        Ok(()) | Err(Error::UnfinishedSample) => true,
+        Err(_) => false,
+    }
+}
+
+// Begins a new file, or appends to the one that is there.
+pub(crate) fn begin_writer<M: Source + Medium>(
+    medium: M,
+    begin: Begin,
+) -> result::Result<WavWriter<M>, (M, Error)>
+    requires { WhereTells M.tells ((M.state medium).place ≡ 0) }
+    ensures { MatchResult result (Begins M.tells M.keeps M.state begin medium)
+        (λ refused. IsNotBegun M.tells M.keeps M.state begin medium refused.0 refused.1) }
+{
+    match begin {
+        Begin::New(spec_ex) => WavWriter::try_new(medium, spec_ex),
+        Begin::Append => WavWriter::try_append(medium),
+    }
+}
+
+// Takes all steps, whatever earlier ones answered, and marks them.
+fn take_steps<M: Medium>(
+    alloc: Global,
+    writer: &mut WavWriter<M>,
+    steps: &[Step],
+    marks: &mut [bool],
+)
+    requires { length steps.now ≡ length marks.old }
+    ensures size { length marks.new ≡ length marks.old }
+    ensures runs { (answers : List (Result Unit Error)) × (cuts : List ℕ)
+        × (marks.new ≡ map mark_of answers)
+        × Runs M.tells M.keeps M.state steps.now answers cuts writer.old writer.new }
+{
+    for i in 0..steps.len() {
+        let answer = take_step(alloc, writer, steps[i]);
+        marks[i] = is_marked(&answer);
+    }
+}
+
+// Ends a run, and hands the medium back.
+fn end_writer<M: Medium>(writer: WavWriter<M>, end: End) -> (M, Result<()>)
+    ensures { Ends M.tells M.keeps M.state end writer result.1 result.0 }
+{
+    match end {
+        End::Finalize => writer.finalize_into(),
+        End::Drop => (writer.drop_into(), Ok(())),
+    }
+}
+
+/// Runs a whole session of a writer, and hands the medium back.
+///
+/// It begins a file or appends to one, takes every step whatever earlier ones answered, and ends. A
+/// mark is true where a sample or a whole batch was accepted, or a flush published all that was,
+/// with an unfinished frame too. The answer is that of the constructor, where it refuses, and all
+/// marks are false; else that of `finalize_into`, or Ok at a drop.
+///
+/// There are as many marks as steps, which may hold anything before, and the medium stands at 0, as
+/// each new one does; `go(0)` leads there. `alloc` is for batches, two bytes a sample, and a batch
+/// that finds no memory has a false mark.
+pub fn run_session<M: Source + Medium>(
+    alloc: Global,
+    medium: M,
+    begin: Begin,
+    steps: &[Step],
+    marks: &mut [bool],
+    end: End,
+) -> (M, Result<()>)
+    requires place { WhereTells M.tells ((M.state medium).place ≡ 0) }
+    requires size { length steps.now ≡ length marks.old }
+    ensures size { length marks.new ≡ length marks.old }
+    ensures session { IsSession M.tells M.keeps M.state begin steps.now marks.new end medium
+        result.1 result.0 }
+
+    // An empty medium that has a whole header then is a file that was begun.
+    ensures begun { WhereTells M.tells ((spec_ex : WavSpecEx) → begin ≡ New spec_ex
+        → (M.state medium).contents ≡ [] → data_start spec_ex ≤ length (M.state result.0).contents →
+        Ran M.tells M.keeps M.state begin steps.now marks.new end medium result.1 result.0) }
+
+    // A new file that was finalized is the canonical one of what was accepted.
+    ensures canonical { WhereTells M.tells ((spec_ex : WavSpecEx) → begin ≡ New spec_ex
+        → end ≡ Finalize →
+        OnOk result.1 (StartsWith (M.state result.0).contents (canonical spec_ex (accepted_by_all spec_ex steps.now marks.new)))) }
+
+    // Where the medium was empty and no call of it failed, it is exactly that, also at a drop.
+    ensures exact { WhereTells M.tells ((spec_ex : WavSpecEx) → begin ≡ New spec_ex
+        → IsWritable spec_ex → (M.state medium).contents ≡ [] → NoFault (M.state medium) (M.state
+        result.0) →
+        (M.state result.0).contents ≡ canonical spec_ex (accepted_by_all spec_ex steps.now marks.new)) }
+{
+    marks.fill(false);
+    let mut writer = match begin_writer(medium, begin) {
+        Ok(writer) => writer,
+        Err((medium, error)) => return (medium, Err(error)),
+    };
+    take_steps(alloc, &mut writer, steps, marks);
+    end_writer(writer, end)
+}

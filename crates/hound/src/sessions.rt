@@ -1,0 +1,134 @@
+// Sessions one after the other over one medium.
+ghost use Rattle.std.specs.Prelude.{◌≡◌, ◌<◌, [], OnOk, IfErr, length, MatchResult};
+ghost use Rattle.std.specs.Io.{StartsWith};
+ghost use Rattle.hound_spec.specs.Header.{canonical};
+ghost use Rattle.hound_medium.specs.State.{WhereTells};
+ghost use Rattle.hound_spec.specs.Writable.{IsWritable};
+ghost use Rattle.hound.specs.FirstError.{IsAnswered};
+ghost use Rattle.hound.specs.Run.{NoFault};
+ghost use Rattle.hound.specs.Sessions.{AreSessions, RunsOk, RunsOn, RunsOnce, RunsAgain, StopsIn, StopsShort, all_steps};
+ghost use Rattle.hound.specs.Steps.{containers_of};
+
+use crate::runs::begin_writer;
+use crate::session::{Begin, Step};
+use crate::steps::take_step;
+use hound_medium::{Medium, Source};
+use hound_spec::{Error, Result, WavSpecEx};
+use hound_writer::WavWriter;
+use std::alloc::Global;
+
+// Takes steps up to the first that answers an error.
+fn take_until_error<M: Medium>(
+    alloc: Global,
+    writer: &mut WavWriter<M>,
+    steps: &[Step],
+) -> Result<()>
+    ensures { MatchResult result (λ _.
+        RunsOk M.tells M.keeps M.state steps.now writer.old writer.new)
+        (λ e. StopsIn M.tells M.keeps M.state steps.now e writer.old writer.new) }
+{
+    for i in 0..steps.len() {
+        match take_step(alloc, writer, steps[i]) {
+            Ok(()) => {}
+            Err(error) => return Err(error),
+        }
+    }
+    Ok(())
+}
+
+// Runs a session up to the first error, and hands the medium back.
+fn run_until_error<M: Source + Medium>(
+    alloc: Global,
+    medium: M,
+    begin: Begin,
+    steps: &[Step],
+) -> (M, Result<()>)
+    requires { WhereTells M.tells ((M.state medium).place ≡ 0) }
+    ensures { RunsOnce M.tells M.keeps M.state begin steps.now medium result.1 result.0 }
+{
+    let mut writer = match begin_writer(medium, begin) {
+        Ok(writer) => writer,
+        Err((medium, error)) => return (medium, Err(error)),
+    };
+    match take_until_error(alloc, &mut writer, steps) {
+        Ok(()) => writer.finalize_into(),
+        Err(error) => (writer.drop_into(), Err(error)),
+    }
+}
+
+// Appends to the file in a medium by one more session.
+fn append_session<M: Source + Medium>(alloc: Global, medium: M, steps: &[Step]) -> (M, Result<()>)
+    ensures { RunsAgain M.tells M.keeps M.state steps.now medium result.1 result.0 }
+{
+    let mut medium = medium;
+    if let Err(error) = medium.go(0) {
+        return (medium, Err(Error::IoError(error)));
+    }
+    run_until_error(alloc, medium, Begin::Append, steps)
+}
+
+// Appends to the file in a medium by further sessions, up to the first error.
+fn append_sessions<M: Source + Medium>(
+    alloc: Global,
+    medium: M,
+    sessions: &[&[Step<'_>]],
+) -> (M, Result<()>)
+    ensures { RunsOn M.tells M.keeps M.state sessions.now medium result.1 result.0 }
+{
+    let mut medium = medium;
+    for i in 0..sessions.len() {
+        let (back, answer) = append_session(alloc, medium, sessions[i]);
+        medium = back;
+        if let Err(error) = answer {
+            return (medium, Err(error));
+        }
+    }
+    (medium, Ok(()))
+}
+
+/// Runs sessions over one medium: the first begins a file of this spec, each further one appends
+/// to it, and each is finalized.
+///
+/// It ends at the first error of any call, which it answers: `Unsupported`, for a spec that can't
+/// be written or a batch for samples of other than sixteen bits; a refusal of a sample or a batch;
+/// an `UnfinishedSample` of a flush or an end; or an `IoError` of the medium. What was accepted
+/// before is published then, unless the medium failed. No sessions: nothing is done.
+///
+/// The medium is handed back. It stands at 0 before, as each new one does; `go(0)` leads there.
+/// Steps that borrow their batches go to a function that takes `&[Step]`, and gives these as
+/// `&[&steps[..]]`.
+pub fn run_sessions<'a, M: Source + Medium>(
+    alloc: Global,
+    medium: M,
+    spec_ex: WavSpecEx,
+    sessions: &'a [&'a [Step<'a>]],
+) -> (M, Result<()>)
+    requires { WhereTells M.tells ((M.state medium).place ≡ 0) }
+    ensures sessions { AreSessions M.tells M.keeps M.state spec_ex sessions.now medium result.1
+        result.0 }
+
+    // An error is that of the first step or end that isn't Ok, by the spec and the steps.
+    ensures answered { IsAnswered M.tells M.state spec_ex sessions.now medium result.1 result.0 }
+
+    // The bytes of one session over all containers.
+    ensures canonical { WhereTells M.tells (0 < length sessions.now →
+        OnOk result.1 (StartsWith (M.state result.0).contents (canonical spec_ex (containers_of spec_ex (all_steps sessions.now))))) }
+    ensures exact { WhereTells M.tells (0 < length sessions.now → (M.state medium).contents ≡ []
+        → NoFault (M.state medium) (M.state result.0) →
+        OnOk result.1 ((M.state result.0).contents ≡ canonical spec_ex (containers_of spec_ex (all_steps sessions.now)))) }
+
+    // Where no call of the medium failed, an error is that of a step or an end, and those before it
+    // are there.
+    ensures stops { WhereTells M.tells (IsWritable spec_ex
+        → NoFault (M.state medium) (M.state result.0) →
+        IfErr result.1 (λ e. StopsShort spec_ex (all_steps sessions.now) e (M.state result.0).contents)) }
+{
+    let Some((first, others)) = sessions.split_first() else {
+        return (medium, Ok(()));
+    };
+    let (medium, answer) = run_until_error(alloc, medium, Begin::New(spec_ex), first);
+    if let Err(error) = answer {
+        return (medium, Err(error));
+    }
+    append_sessions(alloc, medium, others)
+}

@@ -1,7 +1,0 @@
-use Rattle.hound_session.proofs.OneByOne.{same_samples}
-use Rattle.hound_session.proofs.laws.a_batch_is_its_values.Goals as goal
-
-pub returns : goal.returns
-returns g x tells a b c behind whole batch runs =
-    same_samples g.M.Placed.tells g.M.Placed.keeps g.M.Placed.state tells x.args.values a b c whole
-    behind batch runs
