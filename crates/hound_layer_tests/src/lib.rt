@@ -1,13 +1,11 @@
-//! Tests over the public items of the layers below the reader.
+//! Tests of the layers below the writer: what their rows (`hound_rows`) can't ask.
 #![tactic(auto)]
 
 #[cfg(test)]
-mod headers;
+mod definitions;
+#[cfg(test)]
+mod errors;
+#[cfg(test)]
+mod head;
 #[cfg(test)]
 mod media;
-#[cfg(test)]
-mod numbers;
-#[cfg(test)]
-mod samples;
-#[cfg(test)]
-mod specs;

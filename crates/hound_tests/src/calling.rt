@@ -1,7 +1,7 @@
 // The functions of `callers`, each run once.
+use crate::helpers::{FOUR_SAMPLES, empty_tape, integers, sixteen};
 use hound::{WavReader, WavWriter};
 use hound_callers::{convert, open_written, publish, record_checkpoint};
-use hound_test_helpers::helpers::{FOUR_SAMPLES, empty_tape, integers, sixteen};
 use std::test::Fail;
 
 // Stereo, 44100 Hz, 16 bits: 2, -3, 5, -7.

@@ -1,10 +1,10 @@
 // Files on disk. What is done to a file is a row of a table (`ROWS`).
+use crate::helpers::{
+    FOUR_SAMPLES, NO_SAMPLES, answer_of, read_all, seeks_everywhere, sixteen, write_all,
+};
 use hound::{WavReader, WavWriter};
 use hound_callers::record_and_read;
-use hound_test_helpers::answers::answer_of;
-use hound_test_helpers::helpers::{
-    FOUR_SAMPLES, NO_SAMPLES, read_all, seeks_everywhere, sixteen, write_all,
-};
+use hound_commands::run_append;
 use std::path::{Path, PathBuf};
 use std::test::Fail;
 use std::{env, fs, process};
@@ -23,6 +23,8 @@ enum Deed {
     // The first samples are read at a checkpoint, while the writer stands that goes on with the
     // second.
     Checkpoint(&'static [i16], &'static [i16]),
+    // The program's `append` over this input: its status and its line of errors.
+    AppendText(&'static [u8], u8, &'static [u8]),
     // The README's example adds its samples up to this.
     Example(i64),
     HasBytes(&'static [u8]),
@@ -38,6 +40,13 @@ const SIX_SAMPLES: [u8; 56] = [
     0x02, 0x00, 0x10, 0x00, 0x64, 0x61, 0x74, 0x61, 0x0c, 0x00, 0x00, 0x00, 0x0b, 0x00, 0x0d, 0x00,
     0x11, 0x00, 0x13, 0x00, 0x17, 0x00, 0x1d, 0x00,
 ];
+
+// Mono, 44100 Hz, 16 bits: 11, 13, 17; and 19 and 23 after these.
+const THREE_SAMPLES: &[u8] = b"RIFF\x2a\0\0\0WAVEfmt \x10\0\0\0\x01\0\x01\0\x44\xac\0\0\
+    \x88\x58\x01\0\x02\0\x10\0data\x06\0\0\0\x0b\0\x0d\0\x11\0";
+
+const FIVE_SAMPLES: &[u8] = b"RIFF\x2e\0\0\0WAVEfmt \x10\0\0\0\x01\0\x01\0\x44\xac\0\0\
+    \x88\x58\x01\0\x02\0\x10\0data\x0a\0\0\0\x0b\0\x0d\0\x11\0\x13\0\x17\0";
 
 // The first thirty bytes of a file.
 const BEGUN: [u8; 30] = [
@@ -138,6 +147,32 @@ const ROWS: &[Row] = &[
         ],
         is_left: true,
     },
+    Row {
+        name: "the program appends numbers",
+        deeds: &[
+            (Deed::Put(THREE_SAMPLES), "done"),
+            (Deed::AppendText(b"19 23", 0, b""), "done"),
+            (Deed::HasBytes(FIVE_SAMPLES), "done"),
+        ],
+        is_left: true,
+    },
+    Row {
+        name: "a bad number is refused before the file is opened",
+        deeds: &[
+            (Deed::Put(THREE_SAMPLES), "done"),
+            (Deed::AppendText(b"19 x", 1, b"bad number\n"), "done"),
+            (Deed::HasBytes(THREE_SAMPLES), "done"),
+        ],
+        is_left: true,
+    },
+    Row {
+        name: "the program makes no file to append to",
+        deeds: &[(
+            Deed::AppendText(b"19 23", 1, b"input or output failed\n"),
+            "done",
+        )],
+        is_left: false,
+    },
 ];
 
 fn create(rt: &HostRuntime, path: Path<'_>, channels: u16, samples: &[i16]) -> hound::Result<bool> {
@@ -158,6 +193,13 @@ fn append_one(rt: &HostRuntime, path: Path<'_>, sample: i16) -> hound::Result<bo
     let mut writer = WavWriter::append(rt, rt.alloc(), path)?;
     writer.write_sample(sample)?;
     Ok(true)
+}
+
+fn append_text(rt: &HostRuntime, path: Path<'_>, text: &[u8], status: u8, line: &[u8]) -> bool {
+    let mut input = text;
+    let mut errors = Vec::new(rt.alloc());
+    let answer = run_append(rt, rt.alloc(), path, &mut input, &mut errors);
+    answer == status && errors.as_slice() == line
 }
 
 fn has_samples(rt: &HostRuntime, path: Path<'_>, samples: &[i16]) -> hound::Result<bool> {
@@ -192,6 +234,7 @@ fn does(rt: &HostRuntime, path: Path<'_>, deed: Deed) -> hound::Result<bool> {
         Deed::Append(samples) => append(rt, path, samples),
         Deed::AppendOne(sample) => append_one(rt, path, sample),
         Deed::Checkpoint(first, second) => checkpoint(rt, path, first, second),
+        Deed::AppendText(text, status, line) => Ok(append_text(rt, path, text, status, line)),
         Deed::Example(sum) => Ok(record_and_read(rt, path, sixteen(1))? == sum),
         Deed::HasBytes(bytes) => Ok(fs::read(rt, path)?.as_slice() == bytes),
         Deed::HasSamples(samples) => has_samples(rt, path, samples),

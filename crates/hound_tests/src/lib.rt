@@ -1,23 +1,16 @@
-//! Tests over the public items of `hound` alone, as a user of the library has them.
+//! Tests over the public items of `hound`: what its rows (`hound_rows`) can't ask. Callers that prove
+//! something, files on a disk, memory that is refused, and the words that clauses import.
 #![tactic(auto)]
 
 #[cfg(test)]
-mod appending;
+mod answers;
 #[cfg(test)]
 mod calling;
 #[cfg(test)]
-mod channels;
-#[cfg(test)]
 mod files;
 #[cfg(test)]
-mod reading;
+mod helpers;
 #[cfg(test)]
-mod seeking;
-#[cfg(test)]
-mod unknown_length;
-#[cfg(test)]
-mod widths;
+mod memory;
 #[cfg(test)]
 mod words;
-#[cfg(test)]
-mod writing;

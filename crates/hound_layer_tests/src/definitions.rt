@@ -1,0 +1,211 @@
+// The definitions at files and containers that were written elsewhere, evaluated by the prover.
+ghost use Rattle.std.specs.Prelude.{◌≡◌, ◌∷◌, [], pos, negsuc, take, Ok, map};
+ghost use Rattle.hound_spec.specs.Header.{canonical, header, mask, riff_size};
+ghost use Rattle.hound_sample.specs.Container.{int_container};
+ghost use Rattle.hound_reader.specs.Chunks.{Head, Refused};
+ghost use Rattle.hound_reader.specs.Rows.{four_samples, four_containers, padded_containers, long_fact, empty_fact, odd_junk, long_fmt, past_the_limit, odd_at_the_limit, even_at_the_limit, fmt_at_the_limit, mono_16, mono_float, stereo_24, counted, AreRead};
+ghost use Rattle.hound_reader.specs.Seeking.{way_to, container_at};
+ghost use Rattle.hound_reader.specs.declared.fault.Cause.TheVariants.{Ended, Format};
+ghost use Rattle.hound_reader.specs.declared.fault.Reason.TheVariants.{NoDataChunk};
+
+use hound_spec::{SampleFormat, WavSpec, WavSpecEx};
+
+const MONO_16: WavSpecEx = WavSpecEx {
+    spec: WavSpec {
+        channels: 1,
+        sample_rate: 44100,
+        bits_per_sample: 16,
+        sample_format: SampleFormat::Int,
+    },
+    bytes_per_sample: 2,
+};
+
+const MONO_16_HEADER: [u8; 44] = [
+    0x52, 0x49, 0x46, 0x46, 0x2c, 0x00, 0x00, 0x00, 0x57, 0x41, 0x56, 0x45, 0x66, 0x6d, 0x74, 0x20,
+    0x10, 0x00, 0x00, 0x00, 0x01, 0x00, 0x01, 0x00, 0x44, 0xac, 0x00, 0x00, 0x88, 0x58, 0x01, 0x00,
+    0x02, 0x00, 0x10, 0x00, 0x64, 0x61, 0x74, 0x61, 0x08, 0x00, 0x00, 0x00,
+];
+
+const STEREO_24_IN_4: WavSpecEx = WavSpecEx {
+    spec: WavSpec {
+        channels: 2,
+        sample_rate: 48000,
+        bits_per_sample: 24,
+        sample_format: SampleFormat::Int,
+    },
+    bytes_per_sample: 4,
+};
+
+const STEREO_24_IN_4_HEADER: [u8; 68] = [
+    0x52, 0x49, 0x46, 0x46, 0x4c, 0x00, 0x00, 0x00, 0x57, 0x41, 0x56, 0x45, 0x66, 0x6d, 0x74, 0x20,
+    0x28, 0x00, 0x00, 0x00, 0xfe, 0xff, 0x02, 0x00, 0x80, 0xbb, 0x00, 0x00, 0x00, 0xdc, 0x05, 0x00,
+    0x08, 0x00, 0x20, 0x00, 0x16, 0x00, 0x18, 0x00, 0x03, 0x00, 0x00, 0x00, 0x01, 0x00, 0x00, 0x00,
+    0x00, 0x00, 0x10, 0x00, 0x80, 0x00, 0x00, 0xaa, 0x00, 0x38, 0x9b, 0x71, 0x64, 0x61, 0x74, 0x61,
+    0x10, 0x00, 0x00, 0x00,
+];
+
+const WIDEST: WavSpecEx = WavSpecEx {
+    spec: WavSpec {
+        channels: 65535,
+        sample_rate: 65537,
+        bits_per_sample: 8,
+        sample_format: SampleFormat::Int,
+    },
+    bytes_per_sample: 1,
+};
+
+const WIDEST_HEADER: [u8; 68] = [
+    0x52, 0x49, 0x46, 0x46, 0x3c, 0x00, 0x00, 0x00, 0x57, 0x41, 0x56, 0x45, 0x66, 0x6d, 0x74, 0x20,
+    0x28, 0x00, 0x00, 0x00, 0xfe, 0xff, 0xff, 0xff, 0x01, 0x00, 0x01, 0x00, 0xff, 0xff, 0xff, 0xff,
+    0xff, 0xff, 0x08, 0x00, 0x16, 0x00, 0x08, 0x00, 0xff, 0xff, 0x03, 0x00, 0x01, 0x00, 0x00, 0x00,
+    0x00, 0x00, 0x10, 0x00, 0x80, 0x00, 0x00, 0xaa, 0x00, 0x38, 0x9b, 0x71, 0x64, 0x61, 0x74, 0x61,
+    0x00, 0x00, 0x00, 0x00,
+];
+
+const MONO_FLOAT: WavSpecEx = WavSpecEx {
+    spec: WavSpec {
+        channels: 1,
+        sample_rate: 44100,
+        bits_per_sample: 32,
+        sample_format: SampleFormat::Float,
+    },
+    bytes_per_sample: 4,
+};
+
+const MONO_FLOAT_HEADER: [u8; 68] = [
+    0x52, 0x49, 0x46, 0x46, 0x40, 0x00, 0x00, 0x00, 0x57, 0x41, 0x56, 0x45, 0x66, 0x6d, 0x74, 0x20,
+    0x28, 0x00, 0x00, 0x00, 0xfe, 0xff, 0x01, 0x00, 0x44, 0xac, 0x00, 0x00, 0x10, 0xb1, 0x02, 0x00,
+    0x04, 0x00, 0x20, 0x00, 0x16, 0x00, 0x20, 0x00, 0x01, 0x00, 0x00, 0x00, 0x03, 0x00, 0x00, 0x00,
+    0x00, 0x00, 0x10, 0x00, 0x80, 0x00, 0x00, 0xaa, 0x00, 0x38, 0x9b, 0x71, 0x64, 0x61, 0x74, 0x61,
+    0x04, 0x00, 0x00, 0x00,
+];
+
+// The definition of a header at these specs, by computing.
+#[tactic(auto, unfolding(hound_spec::specs::Header::header, hound_spec::specs::Header::sized_fmt))]
+fn the_definition_gives_the_headers()
+    ensures mono_16 { header MONO_16 44 8 ≡ MONO_16_HEADER }
+    ensures stereo_24_in_4 { header STEREO_24_IN_4 76 16 ≡ STEREO_24_IN_4_HEADER }
+    ensures widest { header WIDEST 60 0 ≡ WIDEST_HEADER }
+    ensures mono_float { header MONO_FLOAT 64 4 ≡ MONO_FLOAT_HEADER }
+{}
+
+const MONO_8: WavSpecEx = WavSpecEx {
+    spec: WavSpec {
+        channels: 1,
+        sample_rate: 8000,
+        bits_per_sample: 8,
+        sample_format: SampleFormat::Int,
+    },
+    bytes_per_sample: 1,
+};
+
+// One sample, and a pad byte behind it.
+const MONO_8_FILE: [u8; 46] = [
+    0x52, 0x49, 0x46, 0x46, 0x26, 0x00, 0x00, 0x00, 0x57, 0x41, 0x56, 0x45, 0x66, 0x6d, 0x74, 0x20,
+    0x10, 0x00, 0x00, 0x00, 0x01, 0x00, 0x01, 0x00, 0x40, 0x1f, 0x00, 0x00, 0x40, 0x1f, 0x00, 0x00,
+    0x01, 0x00, 0x08, 0x00, 0x64, 0x61, 0x74, 0x61, 0x01, 0x00, 0x00, 0x00, 0x80, 0x00,
+];
+
+// Two samples, and nothing behind them.
+const MONO_8_EVEN_FILE: [u8; 46] = [
+    0x52, 0x49, 0x46, 0x46, 0x26, 0x00, 0x00, 0x00, 0x57, 0x41, 0x56, 0x45, 0x66, 0x6d, 0x74, 0x20,
+    0x10, 0x00, 0x00, 0x00, 0x01, 0x00, 0x01, 0x00, 0x40, 0x1f, 0x00, 0x00, 0x40, 0x1f, 0x00, 0x00,
+    0x01, 0x00, 0x08, 0x00, 0x64, 0x61, 0x74, 0x61, 0x02, 0x00, 0x00, 0x00, 0x81, 0x82,
+];
+
+// The definition of a whole file at these samples, and of the greatest sizes, by computing.
+#[tactic(auto, unfolding(hound_spec::specs::Header::header, hound_spec::specs::Header::sized_fmt))]
+fn the_definition_gives_the_files()
+    ensures odd { canonical MONO_8 ((0x80 ∷ []) ∷ []) ≡ MONO_8_FILE }
+    ensures even { canonical MONO_8 ((0x81 ∷ []) ∷ (0x82 ∷ []) ∷ []) ≡ MONO_8_EVEN_FILE }
+    ensures most_behind_44 { riff_size 44 4294967258 ≡ 4294967294 }
+    ensures more_behind_44 { riff_size 44 4294967259 ≡ 4294967296 }
+    ensures most_behind_68 { riff_size 68 4294967234 ≡ 4294967294 }
+    ensures more_behind_68 { riff_size 68 4294967235 ≡ 4294967296 }
+{}
+
+// The definition of a mask at these channels, by computing.
+fn the_definition_gives_the_masks()
+    ensures none { mask 0 ≡ 0 }
+    ensures stereo { mask 2 ≡ 3 }
+    ensures most { mask 18 ≡ 0x3ffff }
+    ensures more { mask 129 ≡ 0x3ffff }
+{}
+
+const NUMBERS_OF_8: [i32; 5] = [19, -53, 89, -127, -128];
+
+const BYTES_OF_8: [[u8; 1]; 5] = [[0x93], [0x4b], [0xd9], [0x01], [0x00]];
+
+const NUMBERS_OF_16: [i32; 4] = [2, -3, 5, -7];
+
+const BYTES_OF_16: [[u8; 2]; 4] = [[0x02, 0x00], [0xfd, 0xff], [0x05, 0x00], [0xf9, 0xff]];
+
+const NUMBERS_OF_24: [i32; 4] = [-17, 4_194_319, -6_291_437, 8_355_817];
+
+const BYTES_OF_24: [[u8; 3]; 4] = [
+    [0xef, 0xff, 0xff],
+    [0x0f, 0x00, 0x40],
+    [0x13, 0x00, 0xa0],
+    [0xe9, 0x7f, 0x7f],
+];
+
+const NUMBERS_OF_24_IN_4: [i32; 4] = [-96, 23052, 8_388_607, -8_360_672];
+
+const BYTES_OF_24_IN_4: [[u8; 4]; 4] = [
+    [0xa0, 0xff, 0xff, 0x00],
+    [0x0c, 0x5a, 0x00, 0x00],
+    [0xff, 0xff, 0x7f, 0x00],
+    [0x20, 0x6d, 0x80, 0x00],
+];
+
+const NUMBERS_OF_32: [i32; 4] = [19, -229_373, 33_587_161, -2_147_483_497];
+
+const BYTES_OF_32: [[u8; 4]; 4] = [
+    [0x13, 0x00, 0x00, 0x00],
+    [0x03, 0x80, 0xfc, 0xff],
+    [0xd9, 0x7f, 0x00, 0x02],
+    [0x97, 0x00, 0x00, 0x80],
+];
+
+// The definition of a container at these numbers, by computing.
+#[tactic(auto, unfolding(hound_sample::specs::Container::int_container))]
+fn the_definition_gives_the_containers()
+    ensures in_8_bits { map (λ x. int_container x 8 1) NUMBERS_OF_8 ≡ map Ok BYTES_OF_8 }
+    ensures in_16_bits { map (λ x. int_container x 16 2) NUMBERS_OF_16 ≡ map Ok BYTES_OF_16 }
+    ensures in_24_bits { map (λ x. int_container x 24 3) NUMBERS_OF_24 ≡ map Ok BYTES_OF_24 }
+    ensures in_24_bits_of_32 { map (λ x. int_container x 24 4) NUMBERS_OF_24_IN_4
+        ≡ map Ok BYTES_OF_24_IN_4 }
+    ensures in_32_bits { map (λ x. int_container x 32 4) NUMBERS_OF_32 ≡ map Ok BYTES_OF_32 }
+{}
+
+// What the definitions say of files and containers that were written elsewhere.
+fn definitions_at_files()
+    ensures four_samples { Head four_samples mono_16 8 44 }
+    ensures cut { Refused (take 30 four_samples) Ended }
+    ensures limit { Refused past_the_limit (Format NoDataChunk) }
+    ensures long_fact { Head long_fact mono_16 8 60 }
+    ensures empty_fact { Head empty_fact mono_16 8 52 }
+    ensures odd_junk { Head odd_junk mono_16 8 56 }
+    ensures long_fmt { Head long_fmt mono_float 4 70 }
+    ensures odd_limit { Refused odd_at_the_limit (Format NoDataChunk) }
+    ensures even_limit { Refused even_at_the_limit Ended }
+    ensures fmt_limit { Refused fmt_at_the_limit (Format NoDataChunk) }
+    ensures one_byte { AreRead 1 8 (0x93 ∷ 0x4b ∷ 0xd9 ∷ 0x01 ∷ 0x00 ∷ []) (pos 19 ∷ negsuc 52 ∷ pos 89 ∷ negsuc 126 ∷ negsuc 127 ∷ []) }
+    ensures two_bytes { AreRead 2 16 four_containers (pos 2 ∷ negsuc 2 ∷ pos 5 ∷ negsuc 6 ∷ []) }
+    ensures three_bytes { AreRead 3 24 (0xef ∷ 0xff ∷ 0xff ∷ 0x0f ∷ 0x00 ∷ 0x40 ∷ 0x13 ∷ 0x00 ∷ 0xa0 ∷ 0xe9 ∷ 0x7f ∷ 0x7f ∷ []) (negsuc 16 ∷ pos 4194319 ∷ negsuc 6291436 ∷ pos 8355817 ∷ []) }
+    ensures three_of_four { AreRead 4 24 padded_containers (negsuc 95 ∷ pos 23052 ∷ pos 8388607 ∷ negsuc 8360671 ∷ []) }
+    ensures four_bytes { AreRead 4 32 (0x13 ∷ 0x00 ∷ 0x00 ∷ 0x00 ∷ 0x03 ∷ 0x80 ∷ 0xfc ∷ 0xff ∷ 0xd9 ∷ 0x7f ∷ 0x00 ∷ 0x02 ∷ 0x97 ∷ 0x00 ∷ 0x00 ∷ 0x80 ∷ []) (pos 19 ∷ negsuc 229372 ∷ pos 33587161 ∷ negsuc 2147483496 ∷ []) }
+    ensures after_a_refusal { way_to 1 (counted stereo_24 1 0) ≡ pos 8 }
+    ensures after_a_sample { way_to 1 (counted stereo_24 1 4) ≡ pos 4 }
+    ensures after_a_torn_one { way_to 0 (counted mono_16 2 3) ≡ negsuc 2 }
+    ensures third { container_at 4 2 padded_containers ≡ 0xff ∷ 0xff ∷ 0x7f ∷ 0x00 ∷ [] }
+{}
+
+#[test]
+fn definitions_give_what_files_have(_rt: HostRuntime) {
+    the_definition_gives_the_headers();
+    the_definition_gives_the_files();
+    the_definition_gives_the_masks();
+    the_definition_gives_the_containers();
+    definitions_at_files();
+}

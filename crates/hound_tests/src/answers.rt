@@ -1,0 +1,31 @@
+// Answers that the definition of a run's answer excludes, which the prover shows.
+ghost use Rattle.std.specs.Borrow.{Bor};
+ghost use Rattle.std.specs.Prelude.{◌≡◌, ◌≤◌, ℤ, List, [], ◌∷◌, length, pos, Ok, Err};
+ghost use Rattle.hound.specs.FirstError.{AnswersAll, AnswersSession, AnswersStep};
+ghost use Rattle.hound.specs.declared.Error.TheVariants.{OutOfMemory, TooLong, UnfinishedSample};
+ghost use Rattle.hound.specs.declared.Step.{Step};
+ghost use Rattle.hound.specs.declared.Step.TheVariants.{Whole, Batch, Flush};
+ghost use Rattle.hound_tests.specs.Rows.{mono, stereo};
+
+// A sample that is too wide is passed over; the error of a later step is returned; a fault is
+// reported as another error; an unfinished frame is ignored at a flush or at an end; there is no
+// memory for a batch no longer than one before it.
+fn wrong_answers()
+    ensures passed_over { (first second third : Bor (List Step))
+        → second.now ≡ Whole (pos 40000) ∷ [] →
+        AnswersAll mono [] (first ∷ second ∷ third ∷ []) (Ok tt) → ⊥ }
+    ensures later_error { AnswersSession stereo [] 0
+        (Whole (pos 40000) ∷ Whole (pos 11) ∷ Flush ∷ []) (Err UnfinishedSample) → ⊥ }
+    ensures fault_as_too_long { AnswersSession mono [] 0 (Whole (pos 11) ∷ []) (Err TooLong) → ⊥ }
+    ensures unfinished_flush { AnswersSession stereo [] 0
+        (Whole (pos 11) ∷ Flush ∷ Whole (pos 13) ∷ []) (Ok tt) → ⊥ }
+    ensures unfinished_end { AnswersSession stereo [] 0 (Whole (pos 11) ∷ []) (Ok tt) → ⊥ }
+    ensures smaller_batch { (first second : Bor (List ℤ)) → length second.now ≤ length first.now →
+        AnswersSession mono [] 0 (Batch first ∷ Batch second ∷ []) (Err OutOfMemory) →
+        AnswersStep mono [] 0 (Batch first) (Err OutOfMemory) }
+{}
+
+#[test]
+fn definitions_leave_wrong_answers_out(_rt: HostRuntime) {
+    wrong_answers();
+}

@@ -1,0 +1,187 @@
+// What the modules of tests share: specs, files in memory, and the names of answers.
+ghost use Rattle.std.specs.Prelude.{◌≡◌, IfOk};
+ghost use Rattle.hound.specs.Room.{IsSixteen};
+ghost use Rattle.hound.specs.State.{MediumState};
+ghost use Rattle.hound.specs.declared.SampleFormat.TheVariants.{Int};
+
+use hound::{
+    Error, Medium, Placed, Sample, SampleFormat, Source, Tape, WavReader, WavSpec, WavSpecEx,
+    WavWriter,
+};
+use std::alloc::Global;
+use std::io;
+use std::test::Fail;
+
+// Integers, so many bits of a sample in so many bytes.
+pub(crate) fn integers(
+    channels: u16,
+    sample_rate: u32,
+    bits: u16,
+    bytes_per_sample: u16,
+) -> WavSpecEx {
+    WavSpecEx {
+        spec: WavSpec {
+            channels,
+            sample_rate,
+            bits_per_sample: bits,
+            sample_format: SampleFormat::Int,
+        },
+        bytes_per_sample,
+    }
+}
+
+// Integers of 16 bits at 44100 Hz.
+pub(crate) fn sixteen(channels: u16) -> WavSpec
+    ensures { (result.sample_format ≡ Int) × (result.bits_per_sample ≡ 16) }
+{
+    WavSpec {
+        channels,
+        sample_rate: 44100,
+        bits_per_sample: 16,
+        sample_format: SampleFormat::Int,
+    }
+}
+
+// Mono, 44100 Hz, 16 bits: 2, -3, 5, -7.
+pub(crate) const FOUR_SAMPLES: [u8; 52] = [
+    0x52, 0x49, 0x46, 0x46, 0x2c, 0x00, 0x00, 0x00, 0x57, 0x41, 0x56, 0x45, 0x66, 0x6d, 0x74, 0x20,
+    0x10, 0x00, 0x00, 0x00, 0x01, 0x00, 0x01, 0x00, 0x44, 0xac, 0x00, 0x00, 0x88, 0x58, 0x01, 0x00,
+    0x02, 0x00, 0x10, 0x00, 0x64, 0x61, 0x74, 0x61, 0x08, 0x00, 0x00, 0x00, 0x02, 0x00, 0xfd, 0xff,
+    0x05, 0x00, 0xf9, 0xff,
+];
+
+// The same without samples.
+pub(crate) const NO_SAMPLES: [u8; 44] = [
+    0x52, 0x49, 0x46, 0x46, 0x24, 0x00, 0x00, 0x00, 0x57, 0x41, 0x56, 0x45, 0x66, 0x6d, 0x74, 0x20,
+    0x10, 0x00, 0x00, 0x00, 0x01, 0x00, 0x01, 0x00, 0x44, 0xac, 0x00, 0x00, 0x88, 0x58, 0x01, 0x00,
+    0x02, 0x00, 0x10, 0x00, 0x64, 0x61, 0x74, 0x61, 0x00, 0x00, 0x00, 0x00,
+];
+
+// A tape without bytes.
+pub(crate) fn empty_tape(alloc: Global) -> Tape
+    ensures { (⟦<Tape as Placed>⟧.state result).place ≡ 0 }
+{
+    Tape::new(Vec::new(alloc))
+}
+
+// A tape of these bytes, which stands before the first.
+pub(crate) fn tape_of(alloc: Global, bytes: &[u8]) -> Result<Tape, Fail>
+    ensures { IfOk result (λ t. (⟦<Tape as Placed>⟧.state t).place ≡ 0) }
+{
+    Ok(Tape::new(bytes.to_vec(alloc)?))
+}
+
+// Writes these samples, up to the first that is refused.
+pub(crate) fn write_all<S: Sample + Copy, W: Medium>(
+    writer: &mut WavWriter<W>,
+    samples: &[S],
+) -> hound::Result<()> {
+    for sample in samples {
+        writer.write_sample(*sample)?;
+    }
+    Ok(())
+}
+
+// Writes as many samples by one batch, which count up from the first.
+pub(crate) fn write_up<W: Medium>(
+    writer: &mut WavWriter<W>,
+    alloc: Global,
+    first: i16,
+    count: u32,
+) -> hound::Result<()>
+    requires { IsSixteen writer.old.spec_ex }
+    ensures { writer.new.spec_ex ≡ writer.old.spec_ex }
+{
+    let mut batch = writer.get_i16_writer(alloc, count)?;
+    let mut sample = first;
+    for _ in 0..count {
+        if batch.remaining() >= 1 {
+            batch.write_sample(sample);
+            sample = sample.wrapping_add(1);
+        }
+    }
+    if batch.remaining() != 0 {
+        return Err(Error::UnfinishedSample);
+    }
+    batch.flush()
+}
+
+// The samples that a reader gives, up to the first that is refused.
+pub(crate) fn read_all<S: Sample, R: io::Read + Drop>(
+    alloc: Global,
+    reader: WavReader<R>,
+) -> hound::Result<Vec<S>> {
+    let mut samples = Vec::new(alloc);
+    for sample in reader.into_samples::<S>() {
+        let sample = sample?;
+        samples.push(sample).map_err(|_| Error::OutOfMemory)?;
+    }
+    Ok(samples)
+}
+
+// Whether the next item is this number.
+pub(crate) fn gives<S: Sample + PartialEq, R: io::Read + Drop>(
+    reader: &mut WavReader<R>,
+    number: S,
+) -> bool {
+    match reader.samples::<S>().next() {
+        Some(Ok(value)) => value == number,
+        _ => false,
+    }
+}
+
+// Whether the first item of this frame is the number at its place.
+fn seeks_to<R: Source>(
+    reader: &mut WavReader<R>,
+    time: u32,
+    numbers: &[i32],
+) -> hound::Result<bool> {
+    let channels = reader.spec().channels as usize;
+    reader.seek(time)?;
+    match numbers.get((time as usize).saturating_mul(channels)) {
+        Some(number) => Ok(gives(reader, *number)),
+        None => Ok(false),
+    }
+}
+
+// From each frame to each other one, and back to the first.
+pub(crate) fn seeks_everywhere<R: Source>(
+    reader: WavReader<R>,
+    numbers: &[i32],
+) -> hound::Result<bool> {
+    let mut reader = reader;
+    for from in 0..reader.duration() {
+        for to in 0..reader.duration() {
+            if !seeks_to(&mut reader, from, numbers)? || !seeks_to(&mut reader, to, numbers)? {
+                return Ok(false);
+            }
+        }
+        if !seeks_to(&mut reader, 0, numbers)? {
+            return Ok(false);
+        }
+    }
+    Ok(true)
+}
+
+// The name of an error, or of an ill-formed file the reason.
+pub(crate) fn name_of(error: Error) -> &'static str {
+    match error {
+        Error::IoError(_) => "IoError",
+        Error::FormatError(reason) => reason,
+        Error::TooWide => "TooWide",
+        Error::UnfinishedSample => "UnfinishedSample",
+        Error::Unsupported => "Unsupported",
+        Error::InvalidSampleFormat => "InvalidSampleFormat",
+        Error::TooLong => "TooLong",
+        Error::OutOfMemory => "OutOfMemory",
+    }
+}
+
+// "done" where a call did what was asked, "not so" where it found something else.
+pub(crate) fn answer_of(returned: hound::Result<bool>) -> &'static str {
+    match returned {
+        Ok(true) => "done",
+        Ok(false) => "not so",
+        Err(error) => name_of(error),
+    }
+}

@@ -1,0 +1,477 @@
+// Calls whose requests for memory are refused, each in turn: all of it is taken by blocks that
+// nothing touches, but for one block, and given back before anything is compared.
+use crate::helpers::{FOUR_SAMPLES, empty_tape, integers, sixteen, tape_of, write_up};
+use hound::{
+    Begin, End, Error, Journal, Medium, Placed, SampleFormat, Step, Tape, WavReader, WavWriter,
+    run_session,
+};
+use std::alloc::Global;
+use std::io::ErrorKind;
+use std::path::{Path, PathBuf};
+use std::test::Fail;
+use std::{env, fs, io, process};
+
+// The words of a medium that finds no memory.
+const NO_MEMORY: &str = "IoError of kind OutOfMemory";
+
+// The words of an error: the reason of an ill-formed file, or the name of the variant.
+fn words_of(error: &Error) -> &'static str {
+    match error {
+        Error::IoError(fault) if fault.kind() == ErrorKind::OutOfMemory => NO_MEMORY,
+        Error::Unsupported => "Unsupported",
+        Error::InvalidSampleFormat => "InvalidSampleFormat",
+        Error::UnfinishedSample => "UnfinishedSample",
+        Error::TooLong => "TooLong",
+        Error::OutOfMemory => "OutOfMemory",
+        _ => "another error",
+    }
+}
+
+// Takes what memory there is in blocks of at most so many bytes, and in ever smaller ones down to
+// the least.
+fn take_blocks(alloc: Global, most: usize, least: usize) -> Result<Vec<Vec<u8>>, Fail> {
+    let mut blocks = Vec::with_capacity(alloc, 200_000)?;
+    let mut size = most;
+    for _ in 0..64 {
+        for _ in 0..200_000 {
+            let Ok(block) = Vec::with_capacity(alloc, size) else {
+                break;
+            };
+            blocks.push(block)?;
+        }
+        if size <= least {
+            break;
+        }
+        size /= 2;
+    }
+    Ok(blocks)
+}
+
+// Takes most memory, and leaves so much that `take_all_but` is quick.
+fn take_most(alloc: Global) -> Result<Vec<Vec<u8>>, Fail> {
+    take_blocks(alloc, 1 << 34, 1 << 26)
+}
+
+// Takes all memory but one block of so many bytes.
+fn take_all_but(alloc: Global, room: usize) -> Result<Vec<Vec<u8>>, Fail> {
+    let kept: Vec<u8> = Vec::with_capacity(alloc, room)?;
+    let blocks = take_blocks(alloc, 1 << 34, 1)?;
+    drop(kept);
+    Ok(blocks)
+}
+
+// What is told of a refusal, and no words where it is none.
+fn told<T>(answer: &hound::Result<T>) -> &'static str {
+    match answer {
+        Ok(_) => "",
+        Err(error) => words_of(error),
+    }
+}
+
+// The header of a file of unknown length, where all memory but so much is taken.
+fn header_without(
+    alloc: Global,
+    channels: u16,
+    room: usize,
+) -> Result<hound::Result<Vec<u8>>, Fail> {
+    let spec = integers(channels, 16000, 16, 2).spec;
+    let blocks = take_all_but(alloc, room)?;
+    let header = spec.into_header_for_infinite_file(alloc);
+    drop(blocks);
+    Ok(header)
+}
+
+// Whether a header is refused by these words, or is the one that is made with all memory.
+fn header_is_told(alloc: Global, channels: u16, room: usize, words: &str) -> Result<bool, Fail> {
+    match header_without(alloc, channels, room)? {
+        Ok(header) => {
+            let whole = header_without(alloc, channels, PLENTY)??;
+            Ok(words.is_empty() && header.as_slice() == whole.as_slice())
+        }
+        Err(error) => Ok(words_of(&error) == words),
+    }
+}
+
+#[test]
+fn a_header_of_unknown_length(rt: HostRuntime) -> Result<(), Fail> {
+    for (channels, room, words) in [(10, 0, "OutOfMemory"), (0, 0, "Unsupported"), (10, 68, "")] {
+        let is_told = header_is_told(rt.alloc(), channels, room, words)?;
+        assert!(rt; is_told, "{channels} channels with {room}");
+    }
+    Ok(())
+}
+
+// So much memory that a test needs no more.
+const PLENTY: usize = 1 << 30;
+
+// A call of a writer.
+#[derive(Clone, Copy)]
+enum Act {
+    // A batch of so many samples is begun, and let go.
+    Begin(u32),
+    // A batch of so many samples that count up from 2.
+    Batch(u32),
+    Sample(i16),
+    Flush,
+}
+
+// What a writer is called for, each with so much memory, what it answers and how many samples it
+// has then accepted.
+struct Script {
+    name: &'static str,
+    acts: &'static [(usize, Act, &'static str, u32)],
+    file: &'static [u8],
+}
+
+const SCRIPTS: [Script; 3] = [
+    // A batch that is too long for a file is refused before memory, and the one of 1000 takes the
+    // 2000 bytes that there are.
+    Script {
+        name: "the first batch",
+        acts: &[
+            (0, Act::Begin(1), "OutOfMemory", 0),
+            (0, Act::Begin(0), "", 0),
+            (0, Act::Begin(2_147_483_630), "TooLong", 0),
+            (2000, Act::Begin(1000), "", 0),
+            (0, Act::Begin(2000), "OutOfMemory", 0),
+            (PLENTY, Act::Sample(2), "", 1),
+            (PLENTY, Act::Sample(-3), "", 2),
+            (PLENTY, Act::Sample(5), "", 3),
+            (PLENTY, Act::Sample(-7), "", 4),
+        ],
+        file: &FOUR_SAMPLES,
+    },
+    Script {
+        name: "a batch uses memory that is kept",
+        acts: &[
+            (PLENTY, Act::Batch(4), "", 4),
+            (0, Act::Begin(2), "", 4),
+            (0, Act::Begin(100_000), "OutOfMemory", 4),
+        ],
+        file: b"RIFF\x2c\0\0\0WAVEfmt \x10\0\0\0\x01\0\x01\0\x44\xac\0\0\x88\x58\x01\0\x02\0\x10\0\
+            data\x08\0\0\0\x02\0\x03\0\x04\0\x05\0",
+    },
+    // The samples wait, and go out once there is memory.
+    Script {
+        name: "a writer over a tape that can't grow keeps its samples",
+        acts: &[
+            (0, Act::Sample(2), "", 1),
+            (0, Act::Sample(-3), "", 2),
+            (0, Act::Sample(5), "", 3),
+            (0, Act::Sample(-7), "", 4),
+            (0, Act::Flush, NO_MEMORY, 4),
+            (PLENTY, Act::Flush, "", 4),
+        ],
+        file: &FOUR_SAMPLES,
+    },
+];
+
+fn take(writer: &mut WavWriter<Tape>, alloc: Global, act: Act) -> hound::Result<()> {
+    let spec = writer.spec();
+    if spec.sample_format != SampleFormat::Int || spec.bits_per_sample != 16 {
+        return Err(Error::InvalidSampleFormat);
+    }
+    match act {
+        Act::Begin(count) => match writer.get_i16_writer(alloc, count)?.remaining() == count {
+            true => Ok(()),
+            false => Err(Error::UnfinishedSample),
+        },
+        Act::Batch(count) => write_up(writer, alloc, 2, count),
+        Act::Sample(sample) => writer.write_sample(sample),
+        Act::Flush => writer.flush(),
+    }
+}
+
+fn take_without(
+    writer: &mut WavWriter<Tape>,
+    alloc: Global,
+    act: Act,
+    room: usize,
+) -> Result<hound::Result<()>, Fail> {
+    let blocks = take_all_but(alloc, room)?;
+    let answer = take(writer, alloc, act);
+    drop(blocks);
+    Ok(answer)
+}
+
+impl Script {
+    // Whether all comes of it that it says.
+    fn holds(&self, alloc: Global) -> Result<bool, Fail> {
+        let mut writer = WavWriter::new(empty_tape(alloc), sixteen(1))?;
+        for (room, next, words, len) in self.acts {
+            let answer = take_without(&mut writer, alloc, *next, *room)?;
+            if told(&answer) != *words || writer.len() != *len {
+                return Ok(false);
+            }
+        }
+        Ok(writer.drop_into().bytes() == self.file)
+    }
+}
+
+#[test]
+fn a_writer_without_memory(rt: HostRuntime) -> Result<(), Fail> {
+    for script in &SCRIPTS {
+        assert!(rt; script.holds(rt.alloc())?, "{}", script.name);
+    }
+    Ok(())
+}
+
+#[test]
+fn a_writer_begins_over_a_tape_that_cannot_grow(rt: HostRuntime) -> Result<(), Fail> {
+    let blocks = take_all_but(rt.alloc(), 0)?;
+    let refused = WavWriter::new(empty_tape(rt.alloc()), sixteen(1));
+    drop(blocks);
+    assert!(rt; told(&refused) == NO_MEMORY);
+    Ok(())
+}
+
+fn is_out_of_memory<T>(answer: &io::Result<T>) -> bool {
+    matches!(answer, Err(e) if e.kind() == ErrorKind::OutOfMemory)
+}
+
+// What 3000 bytes more are answered, where all memory but so much is taken.
+fn put_without<M: Medium>(
+    medium: &mut M,
+    alloc: Global,
+    room: usize,
+) -> Result<io::Result<usize>, Fail> {
+    let blocks = take_all_but(alloc, room)?;
+    let answer = medium.put(&[7; 3000]);
+    drop(blocks);
+    Ok(answer)
+}
+
+// Whether a tape that can't grow stays, and stands where it stood.
+fn tape_grows(alloc: Global, place: u32) -> Result<bool, Fail> {
+    let mut tape = tape_of(alloc, &FOUR_SAMPLES)?;
+    tape.go(place as u64)?;
+    let answer = put_without(&mut tape, alloc, 0)?;
+    let stays = tape.bytes() == FOUR_SAMPLES.as_slice();
+    let count = tape.put(&[7; 3000])?;
+    Ok(
+        is_out_of_memory(&answer)
+            && stays
+            && count == 3000
+            && tape.bytes().len() == place as usize + 3000,
+    )
+}
+
+// At its end and behind a gap.
+#[test]
+fn a_tape_that_grows(rt: HostRuntime) -> Result<(), Fail> {
+    for place in [52, 60] {
+        assert!(rt; tape_grows(rt.alloc(), place)?, "{place}");
+    }
+    Ok(())
+}
+
+// All bytes of a journal.
+fn bytes_of_now(journal: &Journal, alloc: Global) -> hound::Result<Vec<u8>> {
+    journal.bytes_after(alloc, journal.taken())
+}
+
+// A journal of these bytes, where all memory but so much is taken.
+fn journal_without(
+    alloc: Global,
+    bytes: &[u8],
+    room: usize,
+) -> Result<hound::Result<Journal>, Fail> {
+    let bytes = bytes.to_vec(alloc)?;
+    let blocks = take_all_but(alloc, room)?;
+    let journal = Journal::new(alloc, bytes);
+    drop(blocks);
+    Ok(journal)
+}
+
+// Whether a journal of the four samples is refused, and one of no bytes is still there. Both
+// while the same blocks are taken: with further blocks taken in between, 52 bytes are at times not
+// enough for the four samples.
+fn begins_without(alloc: Global) -> Result<bool, Fail> {
+    let bytes = FOUR_SAMPLES.to_vec(alloc)?;
+    let blocks = take_all_but(alloc, 0)?;
+    let refused = Journal::new(alloc, bytes);
+    let empty = Journal::new(alloc, Vec::new(alloc));
+    drop(blocks);
+    Ok(matches!(refused, Err(Error::OutOfMemory)) && empty.is_ok())
+}
+
+#[test]
+fn a_journal_that_begins(rt: HostRuntime) -> Result<(), Fail> {
+    assert!(rt; begins_without(rt.alloc())?);
+    let journal = journal_without(rt.alloc(), &FOUR_SAMPLES, 52)??;
+    let bytes = bytes_of_now(&journal, rt.alloc())?;
+    assert!(rt; bytes.as_slice() == FOUR_SAMPLES.as_slice());
+    Ok(())
+}
+
+// Whether a journal of the four samples takes 3000 bytes more, if not with so much memory then with
+// all; counts the refusals.
+fn journal_grows(alloc: Global, room: usize, refusals: &mut u32) -> Result<bool, Fail> {
+    let mut journal = Journal::new(alloc, FOUR_SAMPLES.to_vec(alloc)?)?;
+    journal.go(52)?;
+    let answer = put_without(&mut journal, alloc, room)?;
+    if answer.is_err() {
+        *refusals = refusals.saturating_add(1);
+        let stays = bytes_of_now(&journal, alloc)?.as_slice() == FOUR_SAMPLES.as_slice();
+        if !is_out_of_memory(&answer) || journal.taken() != 0 || !stays {
+            return Ok(false);
+        }
+        journal.put(&[7; 3000])?;
+    }
+    Ok(journal.taken() == 3000 && bytes_of_now(&journal, alloc)?.len() == 3052)
+}
+
+// A journal's list of what was put grows first, and then its contents.
+#[test]
+fn a_journal_that_grows(rt: HostRuntime) -> Result<(), Fail> {
+    let _taken = take_most(rt.alloc())?;
+    let mut refusals = 0u32;
+    for room in [0, 16384, 32768, 49152, 50176, 65536] {
+        let grows = journal_grows(rt.alloc(), room, &mut refusals)?;
+        assert!(rt; grows, "room {room}");
+    }
+    assert!(rt; refusals == 5);
+    Ok(())
+}
+
+// The beginning of a journal, which then takes 10000 bytes.
+const BEGINNING: [u8; 2000] = [1; 2000];
+
+// All bytes of a journal, where all memory but so much is taken.
+fn moment_without(
+    journal: &Journal,
+    alloc: Global,
+    room: usize,
+) -> Result<hound::Result<Vec<u8>>, Fail> {
+    let blocks = take_all_but(alloc, room)?;
+    let answer = bytes_of_now(journal, alloc);
+    drop(blocks);
+    Ok(answer)
+}
+
+// How often a moment of the journal is whole, is refused for memory, and is something else, each
+// time with a kibibyte more.
+fn moments_of(journal: &Journal, alloc: Global) -> Result<[u32; 3], Fail> {
+    let whole = bytes_of_now(journal, alloc)?;
+    let mut counts = [0u32; 3];
+    for kibibytes in 0..48 {
+        let at = match moment_without(journal, alloc, kibibytes * 1024)? {
+            Ok(bytes) => if bytes == whole { 0 } else { 2 },
+            Err(Error::OutOfMemory) => 1,
+            Err(_) => 2,
+        };
+        counts[at] = counts[at].saturating_add(1);
+    }
+    Ok(counts)
+}
+
+// The bytes of a moment are those of the beginning, of which the list grows several times.
+#[test]
+fn a_moment_of_a_journal(rt: HostRuntime) -> Result<(), Fail> {
+    let mut journal = journal_without(rt.alloc(), &BEGINNING, PLENTY)??;
+    journal.go(2000)?;
+    journal.put(&[7; 10_000])?;
+    let _taken = take_most(rt.alloc())?;
+    let counts = moments_of(&journal, rt.alloc())?;
+    // Less than the 12000 bytes can't be enough, and four times as much is.
+    assert!(rt;
+        1 <= counts[0] && 12 <= counts[1] && counts[2] == 0,
+        "{counts:?}"
+    );
+    Ok(())
+}
+
+// The four samples whose first two are those behind them.
+const OVERWRITTEN: &[u8] =
+    b"RIFF\x28\0\0\0WAVEfmt \x10\0\0\0\x01\0\x01\0\x44\xac\0\0\x88\x58\x01\0\x02\0\x10\0\
+        data\x04\0\0\0\x05\0\xf9\xff\x05\0\xf9\xff";
+
+// A batch that finds no memory isn't done; the steps behind it are. The last four bytes are those
+// of the file that was there.
+#[test]
+fn a_batch_of_a_session(rt: HostRuntime) -> Result<(), Fail> {
+    let alloc = rt.alloc();
+    let steps = [Step::Batch(&[2, -3]), Step::Whole(5), Step::Whole(-7)];
+    let mut marks = [true, false, false];
+    let begin = Begin::New(integers(1, 44100, 16, 2));
+    let tape = tape_of(alloc, &FOUR_SAMPLES)?;
+    let blocks = take_all_but(alloc, 0)?;
+    let (tape, answer) = run_session(alloc, tape, begin, &steps, &mut marks, End::Finalize);
+    drop(blocks);
+    let stands = answer.is_ok() && marks == [false, true, true] && tape.bytes() == OVERWRITTEN;
+    assert!(rt; stands, "{marks:?}");
+    Ok(())
+}
+
+// A file that no other test names.
+fn path_of(rt: &HostRuntime, name: &str) -> Result<PathBuf, Fail> {
+    let id = process::id(rt.process());
+    let name = format!(in rt.alloc(); "hound_tests_memory_{id}_{name}.wav")?;
+    Ok(env::temp_dir(rt)?.join(rt.alloc(), name.as_str())?)
+}
+
+// A call that opens a file.
+#[derive(Clone, Copy)]
+enum Opening {
+    Open,
+    Create,
+    Append,
+}
+
+// What the call is refused for where all memory but so much is taken.
+fn open_without(
+    rt: &HostRuntime,
+    path: Path<'_>,
+    opening: Opening,
+    room: usize,
+) -> Result<&'static str, Fail> {
+    let alloc = rt.alloc();
+    let blocks = take_all_but(alloc, room)?;
+    let words = match opening {
+        Opening::Open => told(&WavReader::open(rt, alloc, path)),
+        Opening::Create => told(&WavWriter::create(rt, alloc, path, sixteen(1))),
+        Opening::Append => told(&WavWriter::append(rt, alloc, path)),
+    };
+    drop(blocks);
+    Ok(words)
+}
+
+// Whether the call over the four samples is refused for memory, and the file stays or is empty if
+// it was to be made; with this buffer, whether it is done.
+fn opens_as_said(
+    rt: &HostRuntime,
+    path: Path<'_>,
+    opening: Opening,
+    room: usize,
+    buffer: usize,
+) -> Result<bool, Fail> {
+    fs::write(rt, path, FOUR_SAMPLES.as_slice())?;
+    let words = open_without(rt, path, opening, room)?;
+    let bytes = fs::read(rt, path)?;
+    if room == buffer {
+        return Ok(words.is_empty());
+    }
+    let stays = bytes.as_slice() == FOUR_SAMPLES.as_slice();
+    let is_refused = words == "OutOfMemory" || words == NO_MEMORY;
+    let is_made = matches!(opening, Opening::Create);
+    Ok(is_refused && (stays || is_made && bytes.is_empty()))
+}
+
+// The buffer is all that is asked for.
+#[test]
+fn files_that_are_opened(rt: HostRuntime) -> Result<(), Fail> {
+    let _taken = take_most(rt.alloc())?;
+    let path = path_of(&rt, "opened")?;
+    for (name, opening, buffer) in [
+        ("open", Opening::Open, 8192),
+        ("create", Opening::Create, 65536),
+        ("append", Opening::Append, 65536),
+    ] {
+        for room in [0, 16, 1024, buffer - 64, buffer] {
+            let is_as_said = opens_as_said(&rt, path.as_path(), opening, room, buffer)?;
+            assert!(rt; is_as_said, "{name} with {room}");
+        }
+    }
+    fs::remove_file(&rt, path.as_path())?;
+    Ok(())
+}
