@@ -661,7 +661,7 @@ class Writer:
 
     def batch(self, values):
         self.look_at_room(2 * len(values))
-        data = b"".join(struct.pack("<h", value) for value in values)
+        data = b"".join(struct.pack("<H", value % 65536) for value in values)
         if len(self.block) + len(data) > 4096:
             self.put_block()
         if len(data) <= 4096:
@@ -727,12 +727,12 @@ def row_at(kind, word, at):
 
 
 def row_fill(word, *options):
-    fed = Fed(bytes_of(word), options_of(options, "cut"))
+    fed = Fed(bytes_of(word), options_of(options, *Fed.OPTIONS))
     try:
         answer = ["ok", fed.take(4).hex()]
     except Refused:
-        answer = ["ended"]
-    return [*answer, "left", str(len(fed.data) - fed.took)]
+        answer = ["failed" if fed.then == "fails" else "ended"]
+    return [*answer, "left", str(max(len(fed.data) - fed.took, 0))]
 
 
 class Sink:
@@ -887,30 +887,14 @@ def row_medium(kind, word, *calls):
 
 
 def values_of(kind, word):
-    """The values of `VALUE`, `VALUE*N`, `VALUE+N` or `VALUE,VALUE`."""
+    """The values of `VALUE`, `VALUE*N`, `VALUE+N` or `VALUE,VALUE`, none of many made beforehand."""
     match = re.fullmatch(r"([0-9a-f]{8}|-?[0-9]+)([*+])([0-9]+)", word)
     if not match:
         return [value_of(kind, each) for each in word.split(",")]
     first, count = value_of(kind, match[1]), number(match[3], 0, GREATEST)
-    if match[2] == "*":
-        return Counted(first, 0, kind, count)
-    need(kind != "f")
-    return Counted(first, 1, kind, count)
-
-
-class Counted:
-    """So many values that are the same or count up, none of which is made before it is asked for."""
-
-    def __init__(self, first, step, kind, count):
-        self.first, self.step, self.kind, self.count = first, step, kind, count
-
-    def __len__(self):
-        return self.count
-
-    def __iter__(self):
-        for at in range(self.count):
-            value = self.first + self.step * at
-            yield value if self.kind == "f" else signed(value, BITS_OF[self.kind])
+    need(match[2] == "*" or kind != "f")
+    # Numbers past the type's greatest one begin again at its least one, where they are taken.
+    return [first] * count if match[2] == "*" else range(first, first + count)
 
 
 def medium_of(options, has_moments=False):
@@ -936,7 +920,7 @@ def act(writer, word):
     else:
         need(kind in READS and "," not in value)
         for sample in values_of(kind, value):
-            writer.write(kind, sample)
+            writer.write(kind, sample if kind == "f" else signed(sample, BITS_OF[kind]))
 
 
 def row_write(how, word, *words):
@@ -967,7 +951,7 @@ def steps_of(words):
     """The steps of a session, each as the words of an act."""
     for word in words:
         if re.fullmatch("-?[0-9].*", word):
-            yield from (f"i32={value}" for value in values_of("i32", word))
+            yield from (f"i32={signed(value, 32)}" for value in values_of("i32", word))
         else:
             need(word == "flush" or re.fullmatch("(f=[0-9a-f]{8}|batch=.+)", word))
             yield word
@@ -1005,7 +989,7 @@ def reading_of(data):
             found = str(error)
             if found in (LENGTH_IS_TORN, FRAME_IS_TORN):
                 found = f"{int.from_bytes(data[fed.took - 4 : fed.took], 'little')}/{found}"
-        READINGS[data] = found, len(data) + 1 if "IoError" in found else fed.took
+        READINGS[data] = found, 2**64 if "IoError" in found else fed.took
     return READINGS[data]
 
 
