@@ -1,6 +1,6 @@
 #!/usr/bin/env python3
 """What hound_rows answers: a model that is made from the public format and from what the crate
-promises, and not from its code.
+promises, and not from its code. It stops at a row that it can't read.
 
 usage: python3 expected.py < stdin > stdout
 
@@ -19,7 +19,6 @@ GREATEST = 4294967295
 PCM = bytes.fromhex("0100000000001000800000aa00389b71")
 FLOAT = bytes.fromhex("0300000000001000800000aa00389b71")
 ENDED = "IoError(Other)"
-KINDS = ("Other", "Interrupted", "InvalidData", "WriteZero", "OutOfMemory", "InvalidInput")
 LENGTH_IS_TORN = "FormatError(data chunk length is not a multiple of sample size)"
 FRAME_IS_TORN = "FormatError(invalid data chunk length)"
 TEXTS = {
@@ -34,10 +33,6 @@ TEXTS = {
 USAGE = b"usage: hound_tool pack CHANNELS RATE BITS | show | append FILE\n"
 
 
-class NotARow(Exception):
-    """The row can't be read."""
-
-
 class Refused(Exception):
     """An error of the library, in the words of a row."""
 
@@ -49,16 +44,8 @@ def ill_formed(reason):
 # Words of rows.
 
 
-def need(holds):
-    if not holds:
-        raise NotARow
-
-
-def number(word, least=0, most=2**64 - 1):
-    need(re.fullmatch("max|-?[0-9]+", word))
-    found = 2**64 - 1 if word == "max" else int(word)
-    need(least <= found <= most)
-    return found
+def number(word):
+    return 2**64 - 1 if word == "max" else int(word)
 
 
 NAMED = {}
@@ -70,15 +57,9 @@ CHANGE = re.compile(
 
 def term_of(match):
     if match["text"] is not None:
-        text = match["text"].replace("_", " ")
-        for letter, char in (("n", "\n"), ("t", "\t"), ("r", "\r")):
-            text = text.replace("\\" + letter, char)
-        need("\\" not in text)
-        return text.encode("ascii")
-    if match["name"]:
-        need(match["name"] in NAMED)
-        return NAMED[match["name"]]
-    return bytes.fromhex(match["hex"] or "")
+        text = match["text"].replace("_", " ").replace("\\n", "\n")
+        return text.replace("\\t", "\t").replace("\\r", "\r").encode()
+    return NAMED[match["name"]] if match["name"] else bytes.fromhex(match["hex"] or "")
 
 
 def changed(data, match):
@@ -93,29 +74,22 @@ def changed(data, match):
 def bytes_of(word):
     """The bytes that a word of terms says."""
     found, at = b"", 0
-    while True:
+    while at < len(word):
         match = TERM.match(word, at)
-        need(match)
         data = term_of(match)
         while (change := CHANGE.match(word, match.end())) is not None:
             data, match = changed(data, change), change
+        # There is a plus between terms.
         found, at = found + data, match.end() + 1
-        if at > len(word):
-            return found
-        need(word[at - 1] == "+")
-
-
-def options_of(words, *known):
-    """What stands behind `=` in words of these names; a word without it says itself."""
-    found = {}
-    for word in words:
-        name, _, value = word.partition("=")
-        need(name in known and name not in found)
-        found[name] = value
     return found
 
 
-def parts_of(words, count):
+def options_of(words):
+    """What comes after `=` in each word, by what comes before it."""
+    return {word.partition("=")[0]: word.partition("=")[2] for word in words}
+
+
+def parts_of(words):
     """The words between colons."""
     parts = [[]]
     for word in words:
@@ -123,7 +97,6 @@ def parts_of(words, count):
             parts.append([])
         else:
             parts[-1].append(word)
-    need(len(parts) == count)
     return parts
 
 
@@ -154,12 +127,7 @@ PAIRS = ((8, 1), (16, 2), (24, 3), (24, 4), (32, 4))
 
 
 def value_of(kind, word):
-    if kind == "f":
-        need(re.fullmatch("[0-9a-f]{8}", word))
-        return int(word, 16)
-    need(kind in BITS_OF)
-    half = 1 << (BITS_OF[kind] - 1)
-    return number(word, -half, half - 1)
+    return int(word, 16) if kind == "f" else number(word)
 
 
 def shown(kind, value):
@@ -250,9 +218,7 @@ class Spec(namedtuple("Spec", "channels rate bits width is_float")):
 
 def spec_of(word):
     match = re.fullmatch("([0-9]+),([0-9]+),(f?)([0-9]+)/([0-9]+)", word)
-    need(match)
-    channels, bits, width = (number(match[at], 0, 65535) for at in (1, 4, 5))
-    return Spec(channels, number(match[2], 0, GREATEST), bits, width, match[3] == "f")
+    return Spec(int(match[1]), int(match[2]), int(match[4]), int(match[5]), match[3] == "f")
 
 
 # Readers of bytes. `take` gives so many bytes or fails, `took` counts those that came.
@@ -261,28 +227,18 @@ def spec_of(word):
 class Fed:
     """A reader of bytes, then of zeros, then of further bytes, and then as it is asked."""
 
-    OPTIONS = ("cut", "zeros", "behind", "then", "stumble")
-
     def __init__(self, data, options={}):
-        self.data, self.took, self.fault, self.stumble = data, 0, ENDED, None
-        # How the bytes are cut changes no answer.
-        number(options.get("cut", "1"), 1)
-        self.zeros = number(options.get("zeros", "0"))
-        self.behind = bytes_of(options.get("behind", "-"))
-        self.front = len(data) + self.zeros
+        # How the bytes are cut (`cut`) changes no answer.
+        self.data, self.took, self.stumble = data, 0, None
+        self.front = len(data) + number(options.get("zeros", "0"))
+        self.behind = bytes_of(options.get("behind", ""))
         self.then, _, detail = options.get("then", "ends").partition(":")
-        need(self.then in ("ends", "fails", "gives", "repeats", "boasts"))
-        if self.then == "fails":
-            need(detail in KINDS)
-            self.fault = f"IoError({detail})"
+        self.fault = f"IoError({detail})" if self.then == "fails" else ENDED
         self.byte = int(detail, 16) if self.then == "gives" else 0
-        if self.then == "repeats" and not self.behind:
-            self.then = "ends"
         is_endless = self.then not in ("ends", "fails")
         self.length = None if is_endless else self.front + len(self.behind)
         if "stumble" in options:
             at, _, kind = options["stumble"].partition(":")
-            need(kind in KINDS + ("none",))
             self.stumble = number(at), ENDED if kind == "none" else f"IoError({kind})"
 
     def skip(self, count):
@@ -372,11 +328,9 @@ class Journal(Tape):
         self.ask(options)
 
     def ask(self, options):
-        if "most" in options:
-            self.most = number(options["most"], 1)
+        self.most = number(options.get("most", str(self.most)))
         if "fail" in options:
-            first, dots, last = options["fail"].partition("..")
-            need(dots)
+            first, _, last = options["fail"].partition("..")
             self.fails = number(first), number(last)
 
     def heal(self):
@@ -421,10 +375,12 @@ class Journal(Tape):
             tape.put(bytes([byte]))
         return tape.bytes
 
+    def counts(self):
+        return ["taken", str(len(self.past)), "flushed", str(self.flushed)]
+
     def words(self):
         calls = self.calls if len(self.calls) <= 40 else []
-        counts = ["taken", str(len(self.past)), "flushed", str(self.flushed)]
-        return ["calls", str(len(self.calls)), *calls, *counts, contents(self.bytes)]
+        return ["calls", str(len(self.calls)), *calls, *self.counts(), contents(self.bytes)]
 
 
 def put_all(medium, data):
@@ -698,7 +654,7 @@ class Writer:
         answer_of(self.publish)
 
 
-# Rows, in the order of the language.
+# Rows, in the order of the language: each is answered by a list of words.
 
 
 def row_let(name, word):
@@ -708,42 +664,34 @@ def row_let(name, word):
 
 def row_le(kind, word):
     bits = int(kind[1:])
-    need(kind in ("u16", "i16", "u32", "i32"))
-    half = 1 << (bits - 1)
-    value = number(word, -half, half - 1) if kind[0] == "i" else number(word, 0, 2 * half - 1)
-    return [(value % (1 << bits)).to_bytes(bits // 8, "little").hex()]
+    return [(number(word) % (1 << bits)).to_bytes(bits // 8, "little").hex()]
 
 
 def row_from(kind, word):
-    need(kind in ("i16", "i24", "i32") and len(bytes_of(word)) == int(kind[1:]) // 8)
     return [str(int.from_bytes(bytes_of(word), "little", signed=True))]
 
 
 def row_at(kind, word, at):
-    need(kind in ("u16", "u32"))
-    found = bytes_of(word)[number(at) :][: int(kind[1:]) // 8]
-    need(len(found) == int(kind[1:]) // 8)
-    return [str(int.from_bytes(found, "little"))]
+    at = int(at)
+    return [str(int.from_bytes(bytes_of(word)[at : at + int(kind[1:]) // 8], "little"))]
 
 
 def row_fill(word, *options):
-    fed = Fed(bytes_of(word), options_of(options, *Fed.OPTIONS))
+    fed = Fed(bytes_of(word), options_of(options))
     try:
         answer = ["ok", fed.take(4).hex()]
     except Refused:
         answer = ["failed" if fed.then == "fails" else "ended"]
-    return [*answer, "left", str(max(len(fed.data) - fed.took, 0))]
+    return [*answer, "left", str(len(fed.data) - fed.took)]
 
 
 class Sink:
     """What bytes are written to: it takes some a call, up to so many."""
 
     def __init__(self, options):
-        options = options_of(options, "takes", "room", "fault")
-        self.takes, self.room = number(options.get("takes", "max"), 1), number(options.get("room", "max"))
-        self.fault = f"IoError({options.get('fault', 'WriteZero')})"
-        need(options.get("fault", "Other") in KINDS)
-        self.bytes = b""
+        options = options_of(options)
+        self.takes, self.room = number(options.get("takes", "max")), number(options.get("room", "max"))
+        self.fault, self.bytes = f"IoError({options.get('fault', 'WriteZero')})", b""
 
     def put(self, data):
         if len(self.bytes) >= self.room:
@@ -758,24 +706,17 @@ def row_write_bytes(word, *options):
 
 
 def row_encode(kind, word, bits, width):
-    data = container(kind, value_of(kind, word), number(bits, 0, 65535), number(width, 0, 65535))
-    return [data.ljust(4, b"\0").hex()]
+    return [container(kind, value_of(kind, word), int(bits), int(width)).ljust(4, b"\0").hex()]
 
 
 def row_write_padded(kind, word, bits, width, *options):
     sink, value = Sink(options), value_of(kind, word)
-    bits, width = number(bits, 0, 65535), number(width, 0, 65535)
-    return [answer_of(lambda: put_all(sink, container(kind, value, bits, width))), contents(sink.bytes)]
-
-
-def row_write_sample(kind, word, bits, *options):
-    return row_write_padded(kind, word, bits, str(number(bits, 0, 65535) // 8), *options)
+    written = answer_of(lambda: put_all(sink, container(kind, value, int(bits), int(width))))
+    return [written, contents(sink.bytes)]
 
 
 def row_decode(kind, form, width, bits, word):
-    need(kind in READS and form in ("int", "float"))
-    spec = Spec(1, 1, number(bits, 0, 65535), number(width, 0, 65535), form == "float")
-    fed = Fed(bytes_of(word))
+    spec, fed = Spec(1, 1, int(bits), int(width), form == "float"), Fed(bytes_of(word))
     try:
         look_at_type(kind, spec)
         answer = shown(kind, meaning(kind, fed.take(spec.width), spec.bits))
@@ -785,67 +726,55 @@ def row_decode(kind, form, width, bits, word):
 
 
 def row_short(kind, word):
-    return [str(0 if kind == "f" else signed(value_of(kind, word), 16))]
+    return ["0" if kind == "f" else str(signed(int(word), 16))]
 
 
 def row_header(word, size, length):
-    spec, size, length = spec_of(word), number(size, 0, GREATEST), number(length, 0, GREATEST)
-    return [spec.header(size, length).hex() if spec.is_writable() else "no"]
+    spec = spec_of(word)
+    return [spec.header(int(size), int(length)).hex() if spec.is_writable() else "no"]
+
+
+def with_default_width(spec):
+    return spec._replace(width=(spec.bits + 7) // 8)
 
 
 def row_infinite(word):
-    spec = spec_of(word)
-    spec = spec._replace(width=(spec.bits + 7) // 8)
+    spec = with_default_width(spec_of(word))
     return [spec.header(GREATEST, GREATEST).hex() if spec.is_writable() else "Unsupported"]
 
 
 def asked(reader, ask):
     """The words of what a reader is asked."""
-    kind, star, count = ask.partition("*")
-    if ask.startswith("into:"):
-        kind = kind[5:]
-        need(star and not count)
     if ask.startswith("hint="):
-        need(ask[5:] in READS)
-        return [f"{reader.left()}..{reader.left()}/{reader.left()}"]
+        return ["{0}..{0}/{0}".format(reader.left())]
     if ask.startswith("seek="):
-        need(isinstance(reader.source, Source))
-        return [answer_of(lambda: reader.seek(number(ask[5:], 0, GREATEST)))]
+        return [answer_of(lambda: reader.seek(int(ask[5:])))]
     if ask.endswith("#"):
-        need(ask[:-1] in READS)
         count, total, error = reader.sum(ask[:-1])
         return [":".join([f"#{count}", str(total), *error])]
-    need(kind in READS)
-    if star and not count:
-        return [reader.item(kind) for _ in range(reader.left() + 1)]
-    return [reader.item(kind) for _ in range(number(count) if star else 1)]
+    kind, star, count = ask.removeprefix("into:").partition("*")
+    count = int(count) if count else reader.left() + 1 if star else 1
+    return [reader.item(kind) for _ in range(count)]
 
 
 def row_read(*words):
-    (word, *options), asks = parts_of(words, 2)
-    options = options_of(options, *Fed.OPTIONS, "over", "fail", "most")
-    if "over" in options:
-        need(options["over"] in ("tape", "journal"))
-        medium = Journal(bytes_of(word), options) if options["over"] == "journal" else Tape(bytes_of(word))
-        source = Source(medium)
-    else:
-        need("fail" not in options and "most" not in options)
-        source = Fed(bytes_of(word), options)
+    (word, *options), asks = parts_of(words)
+    options, data = options_of(options), bytes_of(word)
+    is_medium = "over" in options
+    medium = Journal(data, options) if options.get("over") == "journal" else Tape(data)
+    source = Source(medium) if is_medium else Fed(data, options)
     try:
         reader = Reader(source)
     except Refused as error:
-        return [str(error)] if "over" in options else [str(error), ":", "took", str(source.took)]
+        return [str(error)] if is_medium else [str(error), ":", "took", str(source.took)]
     items = [item for ask in asks for item in asked(reader, ask)]
-    if "over" in options:
-        medium.heal()
-        end = ["left", str(len(medium.get(len(medium.bytes))))]
-    else:
-        end = ["took", str(source.took)]
+    medium.heal()
+    end = ["left", str(len(medium.get(len(data))))] if is_medium else ["took", str(source.took)]
     return [*reader.words(), ":", *items, ":", *end]
 
 
 def row_riff(word, *options):
-    fed = Fed(bytes_of(word), options_of(options, *Fed.OPTIONS))
+    fed = Fed(bytes_of(word), options_of(options))
     try:
         answer = str(front_of(fed))
     except Refused as error:
@@ -859,49 +788,47 @@ def called(medium, name, value):
         return [f"put:{medium.put(bytes_of(value))}"]
     if name in ("get", "read"):
         return [f"got:{medium.get(number(value)).hex() or '-'}"]
-    if name in ("go", "shift", "flush"):
-        getattr(medium, name)(*([number(value, -(2**63))] if value else []))
-        return ["ok"]
-    need(isinstance(medium, Journal))
     if name in ("fail", "most"):
         medium.ask({name: value})
         return []
     if name == "after":
-        count = number(value)
-        return [contents(medium.after(count)) if count <= len(medium.past) else "past"]
-    need(name == "counts")
-    return [f"{len(medium.past)}/{medium.flushed}"]
+        return [contents(medium.after(int(value))) if int(value) <= len(medium.past) else "past"]
+    if name == "counts":
+        return [f"{len(medium.past)}/{medium.flushed}"]
+    if name == "flush":
+        medium.flush()
+    elif name == "go":
+        medium.go(number(value))
+    else:
+        medium.shift(number(value))
+    return ["ok"]
 
 
-def row_medium(kind, word, *calls):
-    medium = {"tape": Tape, "journal": Journal}[kind](bytes_of(word))
+def row_medium(medium, *calls):
     answers = []
-    for call in calls[calls[:1] == ("lent",) :]:
+    for call in calls:
         name, _, value = call.partition("=")
         try:
-            answers += called(medium, name, value)
+            answers += called(medium, name, value) if name != "lent" else []
         except Refused as error:
             answers.append(str(error))
-    counts = medium.words()[-5:-1] if kind == "journal" else []
+    counts = medium.counts() if isinstance(medium, Journal) else []
     return [*answers, ":", contents(medium.bytes), *counts]
 
 
 def values_of(kind, word):
-    """The values of `VALUE`, `VALUE*N`, `VALUE+N` or `VALUE,VALUE`, none of many made beforehand."""
-    match = re.fullmatch(r"([0-9a-f]{8}|-?[0-9]+)([*+])([0-9]+)", word)
+    """The values of `VALUE`, `VALUE*N`, `VALUE+N` or `VALUE,VALUE`, of which a long run isn't made."""
+    match = re.fullmatch(r"(.+)([*+])([0-9]+)", word)
     if not match:
         return [value_of(kind, each) for each in word.split(",")]
-    first, count = value_of(kind, match[1]), number(match[3], 0, GREATEST)
-    need(match[2] == "*" or kind != "f")
-    # Numbers past the type's greatest one begin again at its least one, where they are taken.
+    first, count = value_of(kind, match[1]), int(match[3])
+    # Those past the greatest one begin again at the least one, where they are written.
     return [first] * count if match[2] == "*" else range(first, first + count)
 
 
-def medium_of(options, has_moments=False):
-    if "tape" in options:
-        need(not has_moments and "fail" not in options and "most" not in options)
-        return Tape(bytes_of(options.get("over", "-")))
-    return Journal(bytes_of(options.get("over", "-")), options)
+def medium_of(options):
+    data = bytes_of(options.get("over", ""))
+    return Tape(data) if "tape" in options else Journal(data, options)
 
 
 def act(writer, word):
@@ -913,47 +840,42 @@ def act(writer, word):
         if kind == "batch":
             writer.batch(values_of("i16", value))
         else:
-            count = number(value.rpartition("/")[2], 0, GREATEST)
-            writer.look_at_room(2 * count)
+            writer.look_at_room(2 * int(value.rpartition("/")[2]))
     elif word == "flush":
         writer.flush()
     else:
-        need(kind in READS and "," not in value)
         for sample in values_of(kind, value):
             writer.write(kind, sample if kind == "f" else signed(sample, BITS_OF[kind]))
 
 
 def row_write(how, word, *words):
     if how in READS:
-        return row_write_sample(how, word, *words)
-    options, acts, end = parts_of(words, 3)
-    options = options_of(options, "over", "most", "fail", "tape", "lent")
-    need(how in ("new", "ex", "try", "append", "try_append") and end in (["finalize"], ["drop"]))
+        bits, *options = words
+        return row_write_padded(how, word, bits, int(bits) // 8, *options)
+    options, acts, (end,) = parts_of(words)
+    options = options_of(options)
     medium = medium_of(options)
     try:
         if "append" in how:
-            need(word == "-")
             writer = Writer.append(medium)
         else:
             spec = spec_of(word)
-            writer = Writer.begin(medium, spec._replace(width=(spec.bits + 7) // 8) if how == "new" else spec)
+            writer = Writer.begin(medium, with_default_width(spec) if how == "new" else spec)
     except Refused as error:
         is_in_reach = "try" in how or "lent" in options
         return [str(error), ":", *medium.words()] if is_in_reach else [str(error)]
     answers = [f"{answer_of(lambda: act(writer, word))}:{writer.len()}" for word in acts]
-    frames = writer.len() // writer.spec.channels
-    ended = answer_of(writer.finalize) if end == ["finalize"] else writer.drop() or "dropped"
-    spec = [*writer.spec.words(), "duration", str(frames)]
+    spec = [*writer.spec.words(), "duration", str(writer.len() // writer.spec.channels)]
+    ended = answer_of(writer.finalize) if end == "finalize" else writer.drop() or "dropped"
     return [*answers, ":", *spec, ":", ended, ":", *medium.words()]
 
 
 def steps_of(words):
-    """The steps of a session, each as the words of an act."""
+    """The steps of a session, each as the word of an act."""
     for word in words:
-        if re.fullmatch("-?[0-9].*", word):
+        if re.match("-?[0-9]", word):
             yield from (f"i32={signed(value, 32)}" for value in values_of("i32", word))
         else:
-            need(word == "flush" or re.fullmatch("(f=[0-9a-f]{8}|batch=.+)", word))
             yield word
 
 
@@ -966,30 +888,26 @@ def run_session(medium, word, steps, end):
         return marks, str(error)
     for at, step in enumerate(steps):
         marks[at] = answer_of(lambda: act(writer, step)) in ("ok", "UnfinishedSample")
-    need(end in (["finalize"], ["drop"]))
-    if end == ["finalize"]:
-        return marks, answer_of(writer.finalize)
-    writer.drop()
-    return marks, "ok"
+    return marks, answer_of(writer.finalize) if end == ["finalize"] else writer.drop() or "ok"
 
 
 READINGS = {}
 
 
 def reading_of(data):
-    """What a file in memory gives, and how many bytes that depends on."""
+    """What a file in memory gives, and how many of its bytes that depends on."""
     if data not in READINGS:
         fed = Fed(data)
         try:
-            reader = Reader(fed)
-            field = int.from_bytes(data[fed.took - 4 : fed.took], "little")
+            reader, field = Reader(fed), data[fed.took - 4 : fed.took]
             count, total, error = reader.sum("f" if reader.spec.is_float else "i32")
-            found = "/".join([str(field), str(count), str(total), *error])
+            words = [str(count), str(total), *error]
         except Refused as error:
-            found = str(error)
-            if found in (LENGTH_IS_TORN, FRAME_IS_TORN):
-                found = f"{int.from_bytes(data[fed.took - 4 : fed.took], 'little')}/{found}"
-        READINGS[data] = found, 2**64 if "IoError" in found else fed.took
+            words, field = [str(error)], data[fed.took - 4 : fed.took]
+        if len(words) > 1 or words[0] in (LENGTH_IS_TORN, FRAME_IS_TORN):
+            words.insert(0, str(int.from_bytes(field, "little")))
+        # Where it ends early, each byte that is put later may be read.
+        READINGS[data] = "/".join(words), 2**64 if ENDED in words else fed.took
     return READINGS[data]
 
 
@@ -1012,29 +930,26 @@ def moments_of(journal, first):
 
 def session(word, options, steps, end):
     """The words of a session, and its medium."""
-    medium = medium_of(options, "moments" in options)
+    medium = medium_of(options)
     marks, answer = run_session(medium, word, steps, end)
     unmarked = [str(at) for at, mark in enumerate(marks) if not mark]
-    unmarked = ["not", *unmarked[:20], *([".."] if len(unmarked) > 20 else [])] if unmarked else []
-    words = ["marks", str(len(marks)), *unmarked, ":", answer, ":", *medium.words()]
+    listed = ["not", *unmarked[:20], *([".."] if len(unmarked) > 20 else [])] if unmarked else []
+    words = ["marks", str(len(marks)), *listed, ":", answer, ":", *medium.words()]
     if "moments" in options:
         first = 0 if word == "append" else len(spec_of(word).header(0, 0))
         words += [":", *moments_of(medium, first)]
     return words, medium
 
 
-SESSION_OPTIONS = ("over", "most", "fail", "tape", "moments")
-
-
 def row_session(word, *words):
-    options, steps, end = parts_of(words, 3)
-    return session(word, options_of(options, *SESSION_OPTIONS), list(steps_of(steps)), end)[0]
+    options, steps, end = parts_of(words)
+    return session(word, options_of(options), list(steps_of(steps)), end)[0]
 
 
 def row_sweep(word, *words):
-    options, steps, end = parts_of(words, 3)
-    options, steps = options_of(options, "most", "calls"), list(steps_of(steps))
-    calls, runs, begun, crc = number(options.pop("calls")), 0, 0, 0
+    options, steps, end = parts_of(words)
+    options, steps = options_of(options), list(steps_of(steps))
+    calls, runs, begun, crc = int(options["calls"]), 0, 0, 0
     for first in range(1, calls + 1):
         for last in range(first, calls + 1):
             faults = {**options, "fail": f"{first}..{last}", "moments": ""}
@@ -1060,9 +975,8 @@ def run_sessions(medium, spec, sessions):
 
 
 def row_sessions(word, *words):
-    options, said = parts_of(words, 2)
-    medium = medium_of(options_of(options, "over", "most", "fail", "tape"))
-    sessions = [[]] if said else []
+    options, said = parts_of(words)
+    medium, sessions = medium_of(options_of(options)), [[]] if said else []
     for step in said:
         if step == "|":
             sessions.append([])
@@ -1076,34 +990,28 @@ def row_sessions(word, *words):
 
 
 def numbers_of(fed):
-    """The numbers of a text; a fault is met where it stands among its bytes."""
-    is_endless = fed.length is None
-    length = fed.front + len(fed.behind) + 64 if is_endless else fed.length
-    text = fed.take(length).decode("latin-1")
-    words, numbers = re.split("[ \t\r\n]+", text), []
-    for at, word in enumerate(words):
-        is_cut = at == len(words) - 1 and (is_endless or fed.then == "fails")
-        if is_cut and re.fullmatch("-?0*[0-9]{0,9}", word):
-            break
+    """The numbers of a text; a fault comes where its bytes end."""
+    is_cut = fed.then != "ends"
+    # Of a text without an end so much is looked at that a fault of its numbers is seen.
+    text = fed.take(fed.front + 64 if fed.length is None else fed.length).decode("latin-1")
+    *words, last = re.split("[ \t\r\n]+", text)
+    for word in words if is_cut and re.fullmatch("-?0*[0-9]{0,9}", last) else [*words, last]:
         if word and not (re.fullmatch("-?[0-9]+", word) and -(2**31) <= int(word) < 2**31):
             raise Refused("bad number")
-        numbers += [int(word)] if word else []
-    if is_endless or fed.then == "fails":
+    if is_cut:
         raise Refused("IoError(Other)")
-    return numbers
+    return [int(word) for word in [*words, last] if word]
 
 
-def pack(words, fed):
-    numbers = numbers_of(fed)
-    channels, rate, bits = words
+def pack(fields, fed):
     medium = Tape(b"")
-    spec = Spec(channels, rate, bits, (bits + 7) // 8, False)
-    run_sessions(medium, spec, [[f"i32={value}" for value in numbers]])
-    return [bytes(medium.bytes)]
+    steps = [f"i32={value}" for value in numbers_of(fed)]
+    run_sessions(medium, with_default_width(Spec(*fields, 0, False)), [steps])
+    yield bytes(medium.bytes)
 
 
 def show(fed):
-    """The lines, and then the error that ends them."""
+    """The lines, up to the first error."""
     reader = Reader(fed)
     channels, rate, bits, form = reader.spec.words()
     yield f"channels {channels} rate {rate} bits {bits} format {form} samples {reader.len}\n".encode()
@@ -1112,31 +1020,29 @@ def show(fed):
         yield shown(kind, value).encode() + b"\n"
 
 
+def line_of(error):
+    """The line that the program has for an error."""
+    if error.startswith("FormatError"):
+        return "Ill-formed WAVE file: " + error[12:-1]
+    return "input or output failed" if error.startswith("IoError") else TEXTS.get(error, error)
+
+
 def row_tool(*words):
-    words, (word, *options) = parts_of(words, 2)
-    options = options_of(options, *Fed.OPTIONS, "room")
-    room, output, line = number(options.pop("room", "max")), b"", b""
-    fed = Fed(bytes_of(word), options)
-    words = ["" if word == "''" else word for word in words]
-    limits = (65535, GREATEST, 65535)
-    if words[:1] == ["pack"] and len(words) == 4 and all(re.fullmatch("[0-9]+", w) for w in words[1:]):
-        fields = [int(word) for word in words[1:]]
-        known = all(field <= limit for field, limit in zip(fields, limits))
-    else:
-        known = words == ["show"]
-    if not known:
+    words, (word, *options) = parts_of(words)
+    options = options_of(options)
+    fed, room = Fed(bytes_of(word), options), number(options.get("room", "max"))
+    name, fields = (words + [""])[0], [word for word in words[1:] if re.fullmatch("[0-9]+", word)]
+    fields = [int(word) for word, most in zip(fields, (65535, GREATEST, 65535)) if int(word) <= most]
+    if words != ["show"] and not (name == "pack" and len(words) == 4 and len(fields) == 3):
         return ["2", ":", "''", ":", text_of(USAGE)]
+    output, line = b"", b""
     try:
-        for piece in show(fed) if words == ["show"] else pack(fields, fed):
+        for piece in pack(fields, fed) if name == "pack" else show(fed):
             output += piece
             if len(output) > room:
                 raise Refused("IoError(Other)")
     except Refused as error:
-        name = str(error)
-        line = TEXTS.get(name, name)
-        if name.startswith("FormatError"):
-            line = "Ill-formed WAVE file: " + name[12:-1]
-        line = ("input or output failed" if name.startswith("IoError") else line).encode() + b"\n"
+        line = line_of(str(error)).encode() + b"\n"
     return [str(int(line != b"")), ":", text_of(output[:room]), ":", text_of(line)]
 
 
@@ -1145,8 +1051,8 @@ ROWS = {
     "le": row_le,
     "from": row_from,
     "at": row_at,
-    "signed": lambda word: [str(number(word, 0, 255) - 128)],
-    "unsigned": lambda word: [str(number(word, -128, 127) + 128)],
+    "signed": lambda word: [str(int(word) - 128)],
+    "unsigned": lambda word: [str(int(word) + 128)],
     "fill": row_fill,
     "write_bytes": row_write_bytes,
     "encode": row_encode,
@@ -1157,12 +1063,12 @@ ROWS = {
     "writable": lambda word: ["yes" if spec_of(word).is_writable() else "no"],
     "header": row_header,
     "infinite": row_infinite,
-    "width": lambda word: [str((number(word, 0, 65535) + 7) // 8)],
+    "width": lambda word: [str((int(word) + 7) // 8)],
     "text": lambda name: [TEXTS[name]],
     "read": row_read,
     "riff": row_riff,
-    "tape": lambda *words: row_medium("tape", *words),
-    "journal": lambda *words: row_medium("journal", *words),
+    "tape": lambda word, *calls: row_medium(Tape(bytes_of(word)), *calls),
+    "journal": lambda word, *calls: row_medium(Journal(bytes_of(word)), *calls),
     "session": row_session,
     "sweep": row_sweep,
     "sessions": row_sessions,
@@ -1175,12 +1081,9 @@ def answer(line):
         return line
     name, *words = line.split(" ")
     try:
-        need(name in ROWS and "" not in words)
         return " ".join(ROWS[name](*words))
     except Refused as error:
         return str(error)
-    except (NotARow, KeyError, ValueError, TypeError):
-        return "not a row"
 
 
 def main():
