@@ -113,9 +113,10 @@ def text_of(data):
 
 
 def answer_of(call):
+    """What a call gives, "ok" where that is nothing, or its error."""
     try:
-        call()
-        return "ok"
+        found = call()
+        return "ok" if found is None else str(found)
     except Refused as error:
         return str(error)
 
@@ -186,6 +187,9 @@ def meaning(kind, data, bits):
 
 class Spec(namedtuple("Spec", "channels rate bits width is_float")):
     """Channels, frames a second, bits and bytes of a sample, and whether it is a float."""
+
+    def with_default_width(self):
+        return self._replace(width=(self.bits + 7) // 8)
 
     def format(self):
         return "float" if self.is_float else "int"
@@ -311,8 +315,8 @@ class Tape:
     def flush(self):
         pass
 
-    def heal(self):
-        """No further call fails."""
+    def ask(self, options):
+        """A tape takes all bytes of a call and never fails."""
 
     def words(self):
         return ["tape", contents(self.bytes)]
@@ -332,9 +336,6 @@ class Journal(Tape):
         if "fail" in options:
             first, _, last = options["fail"].partition("..")
             self.fails = number(first), number(last)
-
-    def heal(self):
-        self.fails, self.most = (1, 0), 2**64
 
     def call(self, name=None):
         if name:
@@ -520,12 +521,9 @@ class Reader:
         finally:
             self.moved += self.source.took - start
 
-    def item(self, kind):
-        try:
-            value = self.next(kind)
-            return "None" if value is None else shown(kind, value)
-        except Refused as error:
-            return str(error)
+    def shown(self, kind):
+        value = self.next(kind)
+        return "None" if value is None else shown(kind, value)
 
     def sum(self, kind):
         """How many samples come up to the end or an error, their sum, and that error."""
@@ -662,18 +660,12 @@ def row_let(name, word):
     return [f"{len(NAMED[name])} bytes"]
 
 
-def row_le(kind, word):
-    bits = int(kind[1:])
-    return [(number(word) % (1 << bits)).to_bytes(bits // 8, "little").hex()]
+def le_of(value, bits):
+    return (value % (1 << bits)).to_bytes(bits // 8, "little").hex()
 
 
-def row_from(kind, word):
-    return [str(int.from_bytes(bytes_of(word), "little", signed=True))]
-
-
-def row_at(kind, word, at):
-    at = int(at)
-    return [str(int.from_bytes(bytes_of(word)[at : at + int(kind[1:]) // 8], "little"))]
+def number_at(data, at, count):
+    return int.from_bytes(data[at : at + count], "little")
 
 
 def row_fill(word, *options):
@@ -705,42 +697,31 @@ def row_write_bytes(word, *options):
     return [answer_of(lambda: put_all(sink, bytes_of(word))), contents(sink.bytes)]
 
 
-def row_encode(kind, word, bits, width):
-    return [container(kind, value_of(kind, word), int(bits), int(width)).ljust(4, b"\0").hex()]
+def sample_of(kind, word, bits, width):
+    return container(kind, value_of(kind, word), int(bits), int(width))
 
 
-def row_write_padded(kind, word, bits, width, *options):
-    sink, value = Sink(options), value_of(kind, word)
-    written = answer_of(lambda: put_all(sink, container(kind, value, int(bits), int(width))))
-    return [written, contents(sink.bytes)]
+def row_write_padded(*words):
+    sink = Sink(words[4:])
+    return [answer_of(lambda: put_all(sink, sample_of(*words[:4]))), contents(sink.bytes)]
 
 
 def row_decode(kind, form, width, bits, word):
     spec, fed = Spec(1, 1, int(bits), int(width), form == "float"), Fed(bytes_of(word))
-    try:
+
+    def decoded():
         look_at_type(kind, spec)
-        answer = shown(kind, meaning(kind, fed.take(spec.width), spec.bits))
-    except Refused as error:
-        answer = str(error)
-    return [answer, "left", str(len(fed.data) - fed.took)]
+        return shown(kind, meaning(kind, fed.take(spec.width), spec.bits))
+
+    return [answer_of(decoded), "left", str(len(fed.data) - fed.took)]
 
 
-def row_short(kind, word):
-    return ["0" if kind == "f" else str(signed(int(word), 16))]
+def header(spec, size, length):
+    return spec.header(int(size), int(length)).hex() if spec.is_writable() else None
 
 
-def row_header(word, size, length):
-    spec = spec_of(word)
-    return [spec.header(int(size), int(length)).hex() if spec.is_writable() else "no"]
-
-
-def with_default_width(spec):
-    return spec._replace(width=(spec.bits + 7) // 8)
-
-
-def row_infinite(word):
-    spec = with_default_width(spec_of(word))
-    return [spec.header(GREATEST, GREATEST).hex() if spec.is_writable() else "Unsupported"]
+def infinite(spec):
+    return header(spec, GREATEST, GREATEST) or "Unsupported"
 
 
 def asked(reader, ask):
@@ -754,7 +735,7 @@ def asked(reader, ask):
         return [":".join([f"#{count}", str(total), *error])]
     kind, star, count = ask.removeprefix("into:").partition("*")
     count = int(count) if count else reader.left() + 1 if star else 1
-    return [reader.item(kind) for _ in range(count)]
+    return [answer_of(lambda: reader.shown(kind)) for _ in range(count)]
 
 
 def row_read(*words):
@@ -768,52 +749,36 @@ def row_read(*words):
     except Refused as error:
         return [str(error)] if is_medium else [str(error), ":", "took", str(source.took)]
     items = [item for ask in asks for item in asked(reader, ask)]
-    medium.heal()
+    medium.ask({"fail": "1..0", "most": "max"})
     end = ["left", str(len(medium.get(len(data))))] if is_medium else ["took", str(source.took)]
     return [*reader.words(), ":", *items, ":", *end]
 
 
 def row_riff(word, *options):
     fed = Fed(bytes_of(word), options_of(options))
-    try:
-        answer = str(front_of(fed))
-    except Refused as error:
-        answer = str(error)
-    return [answer, "took", str(fed.took)]
+    return [answer_of(lambda: front_of(fed)), "took", str(fed.took)]
 
 
-def called(medium, name, value):
-    """The words of a call of a medium."""
+def called(medium, word):
+    """What a call of a medium answers; no word for what isn't one."""
+    name, _, value = word.partition("=")
     if name == "put":
-        return [f"put:{medium.put(bytes_of(value))}"]
+        return f"put:{medium.put(bytes_of(value))}"
     if name in ("get", "read"):
-        return [f"got:{medium.get(number(value)).hex() or '-'}"]
-    if name in ("fail", "most"):
-        medium.ask({name: value})
-        return []
+        return f"got:{medium.get(number(value)).hex() or '-'}"
     if name == "after":
-        return [contents(medium.after(int(value))) if int(value) <= len(medium.past) else "past"]
+        return contents(medium.after(int(value))) if int(value) <= len(medium.past) else "past"
     if name == "counts":
-        return [f"{len(medium.past)}/{medium.flushed}"]
-    if name == "flush":
-        medium.flush()
-    elif name == "go":
-        medium.go(number(value))
-    else:
-        medium.shift(number(value))
-    return ["ok"]
+        return f"{len(medium.past)}/{medium.flushed}"
+    if name in ("fail", "most", "lent"):
+        return medium.ask({name: value}) or ""
+    return getattr(medium, name)(*[number(value)] if value else [])
 
 
 def row_medium(medium, *calls):
-    answers = []
-    for call in calls:
-        name, _, value = call.partition("=")
-        try:
-            answers += called(medium, name, value) if name != "lent" else []
-        except Refused as error:
-            answers.append(str(error))
+    answers = [answer_of(lambda: called(medium, call)) for call in calls]
     counts = medium.counts() if isinstance(medium, Journal) else []
-    return [*answers, ":", contents(medium.bytes), *counts]
+    return [*filter(None, answers), ":", contents(medium.bytes), *counts]
 
 
 def values_of(kind, word):
@@ -860,7 +825,7 @@ def row_write(how, word, *words):
             writer = Writer.append(medium)
         else:
             spec = spec_of(word)
-            writer = Writer.begin(medium, with_default_width(spec) if how == "new" else spec)
+            writer = Writer.begin(medium, spec.with_default_width() if how == "new" else spec)
     except Refused as error:
         is_in_reach = "try" in how or "lent" in options
         return [str(error), ":", *medium.words()] if is_in_reach else [str(error)]
@@ -1006,7 +971,7 @@ def numbers_of(fed):
 def pack(fields, fed):
     medium = Tape(b"")
     steps = [f"i32={value}" for value in numbers_of(fed)]
-    run_sessions(medium, with_default_width(Spec(*fields, 0, False)), [steps])
+    run_sessions(medium, Spec(*fields, 0, False).with_default_width(), [steps])
     yield bytes(medium.bytes)
 
 
@@ -1048,21 +1013,21 @@ def row_tool(*words):
 
 ROWS = {
     "let": row_let,
-    "le": row_le,
-    "from": row_from,
-    "at": row_at,
+    "le": lambda kind, word: [le_of(number(word), int(kind[1:]))],
+    "from": lambda kind, word: [str(int.from_bytes(bytes_of(word), "little", signed=True))],
+    "at": lambda kind, word, at: [str(number_at(bytes_of(word), int(at), int(kind[1:]) // 8))],
     "signed": lambda word: [str(int(word) - 128)],
     "unsigned": lambda word: [str(int(word) + 128)],
     "fill": row_fill,
     "write_bytes": row_write_bytes,
-    "encode": row_encode,
+    "encode": lambda *words: [sample_of(*words).ljust(4, b"\0").hex()],
     "write": row_write,
     "write_padded": row_write_padded,
     "decode": row_decode,
-    "short": row_short,
+    "short": lambda kind, word: ["0" if kind == "f" else str(signed(int(word), 16))],
     "writable": lambda word: ["yes" if spec_of(word).is_writable() else "no"],
-    "header": row_header,
-    "infinite": row_infinite,
+    "header": lambda word, *sizes: [header(spec_of(word), *sizes) or "no"],
+    "infinite": lambda word: [infinite(spec_of(word).with_default_width())],
     "width": lambda word: [str((int(word) + 7) // 8)],
     "text": lambda name: [TEXTS[name]],
     "read": row_read,
