@@ -76,7 +76,9 @@ impl Batch {
     pub fn get(&self, index: u32) -> i16 {
         match self.listed.get(index as usize) {
             Some(value) => *value,
-            None => self.first.wrapping_add((index & 0xffff) as u16 as i16),
+            None => self
+                .first
+                .wrapping_add(((index & 0xffff) as u16).cast_signed()),
         }
     }
 }

@@ -104,9 +104,10 @@ impl Line {
         } else if bytes.len() <= MOST_BYTES {
             self.hex(bytes);
         } else {
+            let first = bytes.get(..FIRST_BYTES).unwrap_or(bytes);
             self.number(bytes.len());
             self.put(":");
-            self.hex(&bytes[..FIRST_BYTES]);
+            self.hex(first);
             self.put(":");
             self.hex(&Crc::of(bytes).value().to_be_bytes());
         }

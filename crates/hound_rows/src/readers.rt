@@ -67,8 +67,8 @@ impl Origin for Journal {
     }
 }
 
-// How many bytes a source has from where it is.
-fn left<S: Source>(source: &mut S) -> u64 {
+/// How many bytes a source has from where it is.
+pub fn left<S: Source>(source: &mut S) -> u64 {
     let mut left = 0u64;
     let mut bytes = [0; 4096];
     for _ in 0..u64::MAX {

@@ -243,11 +243,10 @@ pub fn sessions(row: &mut Row, spec: &str, words: &[&str]) {
     let spec_ex = row.spec(spec);
     let batches = batches_of(row, words);
     let steps = all_steps_of(row, words, &batches);
-    let sessions = slices_of(row, &steps);
     if options.is_tape {
-        run_all(row, spec_ex, &sessions, Tape::new(options.over));
+        run_all(row, spec_ex, &steps, Tape::new(options.over));
     } else if let Some(recorded) = recorded(row, options.over, options.faults) {
-        run_all(row, spec_ex, &sessions, recorded);
+        run_all(row, spec_ex, &steps, recorded);
     }
 }
 
@@ -267,22 +266,13 @@ fn all_steps_of<'a>(row: &mut Row, words: &[&str], batches: &'a [Vec<i16>]) -> V
     sessions
 }
 
-fn slices_of<'a>(row: &mut Row, sessions: &'a [Vec<Step<'a>>]) -> Vec<&'a [Step<'a>]> {
-    let mut slices = Vec::new(row.alloc);
-    for steps in sessions {
-        row.push(&mut slices, steps.as_slice());
-    }
-    slices
-}
-
-fn run_all<'a, M: Kept>(
-    row: &mut Row,
-    spec_ex: WavSpecEx,
-    sessions: &'a [&'a [Step<'a>]],
-    medium: M,
-)
+fn run_all<M: Kept>(row: &mut Row, spec_ex: WavSpecEx, steps: &[Vec<Step<'_>>], medium: M)
     requires { WhereTells M.tells ((M.state medium).place ≡ 0) }
 {
-    let (medium, answer) = run_sessions(row.alloc, medium, spec_ex, sessions);
+    let mut sessions = Vec::new(row.alloc);
+    for steps in steps {
+        row.push(&mut sessions, steps.as_slice());
+    }
+    let (medium, answer) = run_sessions(row.alloc, medium, spec_ex, &sessions);
     show_end(row, &medium, answer);
 }
