@@ -1,0 +1,172 @@
+// What rows read from.
+use crate::row::{Row, name_and_value};
+use std::io;
+use std::io::ErrorKind;
+
+// What a feed does when all of its bytes are given.
+#[derive(Clone, Copy)]
+enum Then {
+    Ends,
+    // Each read fails.
+    Fails(ErrorKind),
+    // This byte for ever.
+    Gives(u8),
+    // The bytes after the zeros again and again.
+    Repeats,
+    // It says that it filled the buffer, and leaves it as it was.
+    Boasts,
+}
+
+// What one read does in place of giving bytes.
+#[derive(Clone, Copy)]
+enum Stumble {
+    GivesNone,
+    Fails(ErrorKind),
+}
+
+/// A reader of bytes in memory, then of zeros, and then of further bytes, which counts what it gave.
+#[derive(Drop)]
+pub struct Feed {
+    bytes: Vec<u8>,
+    zeros: u64,
+    further: Vec<u8>,
+    then: Then,
+    // How many bytes it gives at most a read.
+    most: usize,
+    // The first read after so many bytes does this.
+    stumbles: Option<(u64, Stumble)>,
+    // How many bytes it gave.
+    taken: u64,
+}
+
+// Copies as much as both have.
+fn copy(from: &[u8], to: &mut [u8]) -> usize {
+    let count = from.len().min(to.len());
+    to[..count].copy_from_slice(&from[..count]);
+    count
+}
+
+// What is left of these bytes after so many.
+fn rest(bytes: &[u8], at: u64) -> &[u8] {
+    bytes.get(at as usize..).unwrap_or(&[])
+}
+
+// `fails:KIND`, `gives:HH`, `repeats` or `boasts`
+fn then_of(row: &mut Row, word: &str) -> Then {
+    match word.split_once(":").unwrap_or((word, "")) {
+        ("fails", kind) => Then::Fails(row.kind(kind)),
+        ("gives", byte) => match row.bytes(byte).as_slice() {
+            [byte] => Then::Gives(*byte),
+            _ => {
+                row.refuse();
+                Then::Ends
+            }
+        },
+        ("repeats", "") => Then::Repeats,
+        ("boasts", "") => Then::Boasts,
+        _ => {
+            row.refuse();
+            Then::Ends
+        }
+    }
+}
+
+// `AT:none` or `AT:KIND`
+fn stumble_of(row: &mut Row, word: &str) -> Option<(u64, Stumble)> {
+    let (at, how) = row.split(word, ":");
+    let stumble = match how {
+        "none" => Stumble::GivesNone,
+        kind => Stumble::Fails(row.kind(kind)),
+    };
+    Some((row.number(at), stumble))
+}
+
+impl Feed {
+    /// Of these bytes, by the options `cut=N`, `zeros=N`, `behind=BYTES`, `then=..` and
+    /// `stumble=..`.
+    pub fn of(row: &mut Row, bytes: &str, options: &[&str]) -> Feed {
+        let mut feed = Feed {
+            bytes: row.bytes(bytes),
+            zeros: 0,
+            further: Vec::new(row.alloc),
+            then: Then::Ends,
+            most: usize::MAX,
+            stumbles: None,
+            taken: 0,
+        };
+        for option in options {
+            let (name, value) = name_and_value(option);
+            match name {
+                "cut" => feed.most = row.number(value),
+                "zeros" => feed.zeros = row.number(value),
+                "behind" => feed.further = row.bytes(value),
+                "then" => feed.then = then_of(row, value),
+                "stumble" => feed.stumbles = stumble_of(row, value),
+                _ => row.refuse(),
+            }
+        }
+        feed
+    }
+
+    /// How many bytes it gave.
+    pub fn taken(&self) -> u64 {
+        self.taken
+    }
+
+    /// How many of its first bytes it didn't give.
+    pub fn left(&self) -> usize {
+        rest(&self.bytes, self.taken).len()
+    }
+
+    // What it gives into a buffer.
+    fn give(&self, buf: &mut [u8]) -> io::Result<usize> {
+        let first = rest(&self.bytes, self.taken);
+        if !first.is_empty() {
+            return Ok(copy(first, buf));
+        }
+        let past = self.taken.saturating_sub(self.bytes.len() as u64);
+        if past < self.zeros {
+            let count = buf.len().min((self.zeros - past) as usize);
+            buf[..count].fill(0);
+            return Ok(count);
+        }
+        let past = past - self.zeros;
+        let last = rest(&self.further, past);
+        if !last.is_empty() {
+            return Ok(copy(last, buf));
+        }
+        match self.then {
+            Then::Ends => Ok(0),
+            Then::Fails(kind) => Err(io::Error::from(kind)),
+            Then::Gives(byte) => {
+                buf.fill(byte);
+                Ok(buf.len())
+            }
+            Then::Repeats => {
+                let turn = (self.further.len() as u64).max(1);
+                Ok(copy(rest(&self.further, past % turn), buf))
+            }
+            Then::Boasts => Ok(buf.len()),
+        }
+    }
+}
+
+impl io::Read for Feed {
+    fn read(&mut self, buf: &mut [u8]) -> io::Result<usize> {
+        if let Some((at, stumble)) = self.stumbles
+            && at == self.taken
+        {
+            self.stumbles = None;
+            return match stumble {
+                Stumble::GivesNone => Ok(0),
+                Stumble::Fails(kind) => Err(io::Error::from(kind)),
+            };
+        }
+        let room = buf.len().min(self.most);
+        let count = self.give(&mut buf[..room])?;
+        // No reader can say more than it was asked for.
+        let count = count.min(room);
+        self.taken = self.taken.saturating_add(count as u64);
+        Ok(count)
+    }
+}

@@ -1,0 +1,61 @@
+// What rows write into.
+ghost use Rattle.std.specs.Prelude.{◌≡◌};
+
+use crate::row::{Row, name_and_value};
+use std::io;
+use std::io::{Error, ErrorKind};
+
+/// A writer that takes at most so many bytes a call, and none once it has so many as there is room
+/// for: then it has a fault, or says that it takes none.
+#[derive(Drop)]
+pub struct Sink {
+    taken: Vec<u8>,
+    most: usize,
+    room: usize,
+    fault: Option<ErrorKind>,
+}
+
+impl Sink {
+    /// By the options `takes=N`, `room=N` and `fault=KIND`.
+    pub fn of(row: &mut Row, options: &[&str]) -> Sink {
+        let mut sink = Sink {
+            taken: Vec::new(row.alloc),
+            most: usize::MAX,
+            room: usize::MAX,
+            fault: None,
+        };
+        for option in options {
+            let (name, value) = name_and_value(option);
+            match name {
+                "takes" => sink.most = row.number(value),
+                "room" => sink.room = row.number(value),
+                "fault" => sink.fault = Some(row.kind(value)),
+                _ => row.refuse(),
+            }
+        }
+        sink
+    }
+
+    /// What it took.
+    pub fn taken(&self) -> &[u8] {
+        self.taken.as_slice()
+    }
+}
+
+impl io::Write for Sink {
+    fn write(&mut self, buf: &[u8]) -> io::Result<usize> {
+        if self.taken.len() >= self.room {
+            return match self.fault {
+                Some(kind) => Err(Error::from(kind)),
+                None => Ok(0),
+            };
+        }
+        let count = buf.len().min(self.most);
+        self.taken.extend_from_slice(&buf[..count])?;
+        Ok(count)
+    }
+
+    fn flush(&mut self) -> io::Result<()> {
+        Ok(())
+    }
+}
