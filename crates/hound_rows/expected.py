@@ -235,12 +235,12 @@ class Fed:
         # How the bytes are cut (`cut`) changes no answer.
         self.data, self.took, self.stumble = data, 0, None
         self.front = len(data) + number(options.get("zeros", "0"))
-        self.behind = bytes_of(options.get("behind", ""))
+        self.more = bytes_of(options.get("more", ""))
         self.then, _, detail = options.get("then", "ends").partition(":")
         self.fault = f"IoError({detail})" if self.then == "fails" else ENDED
         self.byte = int(detail, 16) if self.then == "gives" else 0
         is_endless = self.then not in ("ends", "fails")
-        self.length = None if is_endless else self.front + len(self.behind)
+        self.length = None if is_endless else self.front + len(self.more)
         if "stumble" in options:
             at, _, kind = options["stumble"].partition(":")
             self.stumble = number(at), ENDED if kind == "none" else f"IoError({kind})"
@@ -271,16 +271,16 @@ class Fed:
             return 0
         place -= self.front
         if self.then == "repeats":
-            return self.behind[place % len(self.behind)]
-        return self.behind[place] if place < len(self.behind) else self.byte
+            return self.more[place % len(self.more)]
+        return self.more[place] if place < len(self.more) else self.byte
 
     def turn(self):
         """Where it is in what it gives again and again, if it is there."""
         if self.length is not None or self.took < self.front:
             return None
         if self.then == "repeats":
-            return (self.took - self.front) % len(self.behind)
-        return 0 if self.took >= self.front + len(self.behind) else None
+            return (self.took - self.front) % len(self.more)
+        return 0 if self.took >= self.front + len(self.more) else None
 
 
 class Tape:
@@ -466,7 +466,7 @@ def fmt_of(source, length):
 
 
 def head_of(source):
-    """The spec and the data length; the source then stands at the data."""
+    """The spec and the data length; the source is then at the data."""
     front_of(source)
     start, spec, seen = source.took, None, {}
     while True:

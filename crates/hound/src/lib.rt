@@ -12,6 +12,46 @@
 //! To read one: [`WavReader`] (`open`, or `new` over any reader), `samples` or `into_samples`,
 //! `seek`; [`read_wave_header`] for the first twelve bytes alone.
 //!
+//! A recorder that has to know which samples came through gives a whole run as one call:
+//!
+//! ```
+//! use hound::{Begin, End, Step, Tape, run_session, run_sessions};
+//! use std::alloc::Global;
+//!
+//! fn record(alloc: Global) -> hound::Result<([bool; 4], Vec<u8>)> {
+//!     let steps = [
+//!         Step::Whole(2),
+//!         Step::Whole(40_000),
+//!         Step::Batch(&[5, -7]),
+//!         Step::Flush,
+//!     ];
+//!     let mut marks = [false; 4];
+//!     let tape = Tape::new(Vec::new(alloc));
+//!     let begin = Begin::New(SPEC);
+//!     let (tape, answer) = run_session(alloc, tape, begin, &steps, &mut marks, End::Finalize);
+//!     answer?;
+//!     Ok((marks, tape.into_bytes()))
+//! }
+//! ```
+//!
+//! Where `SPEC` is mono, with 16 bits in two bytes, the marks are true, false, true and true, since
+//! 40000 is too wide, and the bytes are the file of 2, 5 and -7.
+//!
+//! A converter that has no use for half of a file takes [`run_sessions`], which ends at the first
+//! error:
+//!
+//! ```
+//! fn record_twice(alloc: Global, steps: &[Step]) -> hound::Result<Vec<u8>> {
+//!     let tape = Tape::new(Vec::new(alloc));
+//!     let (tape, answer) = run_sessions(alloc, tape, SPEC, &[&steps[..], &steps[..]]);
+//!     answer?;
+//!     Ok(tape.into_bytes())
+//! }
+//! ```
+//!
+//! The steps 2 and a batch of 5 and -7 give the file of 2, 5, -7, 2, 5 and -7; with 40000 among
+//! them the answer is `TooWide`.
+//!
 //! What a file is: [`WavSpec`], [`WavSpecEx`], [`SampleFormat`]; what a sample is: [`Sample`], for
 //! `i8`, `i16`, `i32`, [`FloatBits`] and types of your own; why a call failed: [`Error`]. What
 //! takes memory takes an `alloc`, which is `rt.alloc()`, and what opens a file takes `rt`, which

@@ -26,9 +26,9 @@ const USAGE: &str = "usage: hound_tool pack CHANNELS RATE BITS | show | append F
 ///
 /// `pack CHANNELS RATE BITS` reads numbers from the input and writes a WAV file of them to the
 /// output, which stays empty where it fails. `show` reads a WAV file from the input and writes its
-/// spec and its samples, a line each; what was written before it fails stands. A failure has one
-/// line on `errors`; a fault while that is written isn't told. Words of `append` get the usage line
-/// here: they are for [`run_append`].
+/// spec and its samples, a line each; what was written before it fails stays. A failure has one
+/// line on `errors`; a fault while that is written isn't reported. `append` gets the usage line
+/// here: [`run_append`] carries it out.
 pub fn run<R: io::Read, O: io::Write, E: io::Write>(
     alloc: Global,
     words: &[&str],
@@ -51,9 +51,9 @@ pub fn run<R: io::Read, O: io::Write, E: io::Write>(
 
 /// Carries out `append FILE`, and answers the status: 0 for success, 1 where it failed.
 ///
-/// Reads numbers from the input, all of them before the file is opened, and puts them as samples
-/// behind those of a WAV file that is there. The first that is refused ends it: those before it are
-/// kept. A failure has one line on `errors`; a fault while that is written isn't told.
+/// Reads numbers from the input, all of them before the file is opened, and appends them as
+/// samples to a WAV file that is there. The first that is refused ends it: those before it are
+/// kept. A failure has one line on `errors`; a fault while that is written isn't reported.
 pub fn run_append<R: io::Read, E: io::Write>(
     rt: &impl Files<File = fs::File>,
     alloc: Global,

@@ -99,14 +99,14 @@ const MONO_8: WavSpecEx = WavSpecEx {
     bytes_per_sample: 1,
 };
 
-// One sample, and a pad byte behind it.
+// One sample, and a pad byte after it.
 const MONO_8_FILE: [u8; 46] = [
     0x52, 0x49, 0x46, 0x46, 0x26, 0x00, 0x00, 0x00, 0x57, 0x41, 0x56, 0x45, 0x66, 0x6d, 0x74, 0x20,
     0x10, 0x00, 0x00, 0x00, 0x01, 0x00, 0x01, 0x00, 0x40, 0x1f, 0x00, 0x00, 0x40, 0x1f, 0x00, 0x00,
     0x01, 0x00, 0x08, 0x00, 0x64, 0x61, 0x74, 0x61, 0x01, 0x00, 0x00, 0x00, 0x80, 0x00,
 ];
 
-// Two samples, and nothing behind them.
+// Two samples, and nothing after them.
 const MONO_8_EVEN_FILE: [u8; 46] = [
     0x52, 0x49, 0x46, 0x46, 0x26, 0x00, 0x00, 0x00, 0x57, 0x41, 0x56, 0x45, 0x66, 0x6d, 0x74, 0x20,
     0x10, 0x00, 0x00, 0x00, 0x01, 0x00, 0x01, 0x00, 0x40, 0x1f, 0x00, 0x00, 0x40, 0x1f, 0x00, 0x00,
@@ -118,10 +118,10 @@ const MONO_8_EVEN_FILE: [u8; 46] = [
 fn the_definition_gives_the_files()
     ensures odd { canonical MONO_8 ((0x80 ∷ []) ∷ []) ≡ MONO_8_FILE }
     ensures even { canonical MONO_8 ((0x81 ∷ []) ∷ (0x82 ∷ []) ∷ []) ≡ MONO_8_EVEN_FILE }
-    ensures most_behind_44 { riff_size 44 4294967258 ≡ 4294967294 }
-    ensures more_behind_44 { riff_size 44 4294967259 ≡ 4294967296 }
-    ensures most_behind_68 { riff_size 68 4294967234 ≡ 4294967294 }
-    ensures more_behind_68 { riff_size 68 4294967235 ≡ 4294967296 }
+    ensures most_after_44 { riff_size 44 4294967258 ≡ 4294967294 }
+    ensures more_after_44 { riff_size 44 4294967259 ≡ 4294967296 }
+    ensures most_after_68 { riff_size 68 4294967234 ≡ 4294967294 }
+    ensures more_after_68 { riff_size 68 4294967235 ≡ 4294967296 }
 {}
 
 // The definition of a mask at these channels, by computing.

@@ -16,7 +16,7 @@ fn put_letters<M: Medium>(mut medium: M, to: u64) -> io::Result<M> {
     Ok(medium)
 }
 
-// The two bytes behind the next one, as far as they are there.
+// The two bytes after the next one, as far as they are there.
 fn skip_and_get<S: Source>(mut source: S) -> io::Result<([u8; 2], usize)> {
     let mut two = [0; 2];
     source.shift(1)?;
@@ -116,7 +116,7 @@ fn open(rt: &HostRuntime, path: Path<'_>) -> io::Result<BufReader<fs::File>> {
     BufReader::new(rt.alloc(), fs::File::open(rt, path)?)
 }
 
-// The bytes that another handle finds behind each of two flushes, while the writer stands.
+// The bytes that another handle finds after each of two flushes, while the writer lives.
 fn flushed_twice(rt: &HostRuntime, path: Path<'_>) -> io::Result<(Vec<u8>, Vec<u8>)> {
     let mut writer = make(rt, path)?;
     put_all(&mut writer, b"wave")?;
@@ -139,7 +139,7 @@ fn a_flush_of_a_file_hands_its_bytes_on(rt: HostRuntime) -> Result<(), Fail> {
     Ok(())
 }
 
-// Where a shift leads to, told by the letter that is put there, and whether one below 0 is refused.
+// Where a shift leads to, shown by the letter that is put there, and whether one below 0 is refused.
 fn put_at_shifts(rt: &HostRuntime, path: Path<'_>) -> io::Result<(Vec<u8>, bool)> {
     let mut writer = make(rt, path)?;
     put_all(&mut writer, b"waveform")?;
@@ -154,7 +154,7 @@ fn put_at_shifts(rt: &HostRuntime, path: Path<'_>) -> io::Result<(Vec<u8>, bool)
     Ok((fs::read(rt, path)?, below))
 }
 
-// Where a shift leads to, told by the byte that is got there: some within the bytes that are read
+// Where a shift leads to, shown by the byte that is read there: some within the bytes that are read
 // ahead, some beyond. Each step is a shift and the byte that it leads to, if there is one.
 fn gets_at_shifts(source: BufReader<fs::File>) -> io::Result<bool> {
     let mut source = source;

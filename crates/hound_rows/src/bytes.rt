@@ -1,66 +1,82 @@
 // The bytes that a word stands for: terms, joined by `+`.
 use crate::row::Row;
 
-/// What is left of a word.
-#[derive(Drop)]
-pub struct Cursor<'a> {
-    rest: &'a [u8],
-}
-
-// The value of a hex digit.
-fn digit_of(byte: u8) -> Option<u8> {
-    match byte {
-        b'0'..=b'9' => Some(byte - b'0'),
-        b'a'..=b'f' => Some(byte - b'a' + 10),
-        _ => None,
+impl Row {
+    /// The bytes of a word.
+    pub fn bytes(&mut self, word: &str) -> Vec<u8> {
+        let mut bytes = Vec::new(self.alloc);
+        let mut cursor = Cursor {
+            rest: word.as_bytes(),
+        };
+        cursor.terms(self, &mut bytes);
+        bytes
     }
 }
 
-// What a byte between quotes stands for, and behind a backslash.
-fn meant(byte: u8, is_escaped: bool) -> u8 {
-    match (byte, is_escaped) {
-        (b'_', false) => b' ',
-        (b'n', true) => b'\n',
-        (b't', true) => b'\t',
-        (b'r', true) => b'\r',
-        _ => byte,
+// What is left of a word.
+#[derive(Drop)]
+struct Cursor<'a> {
+    rest: &'a [u8],
+}
+
+// The value of a hex digit; of any other byte more than that of all digits.
+fn digit_of(byte: u8) -> u8 {
+    match byte {
+        b'0'..=b'9' => byte - b'0',
+        b'a'..=b'f' => byte - b'a' + 10,
+        _ => u8::MAX,
     }
 }
 
 impl<'a> Cursor<'a> {
-    /// All of a word.
-    pub fn new(word: &'a str) -> Cursor<'a> {
-        Cursor {
-            rest: word.as_bytes(),
-        }
+    // Takes a byte, if there is one.
+    fn next(&mut self) -> Option<u8> {
+        let (first, rest) = self.rest.split_first()?;
+        self.rest = rest;
+        Some(*first)
     }
 
     // Takes this byte, if it is the next.
     fn takes(&mut self, byte: u8) -> bool {
-        match self.rest.split_first() {
-            Some((first, rest)) if *first == byte => {
-                self.rest = rest;
-                true
-            }
-            _ => false,
+        if self.rest.first() != Some(&byte) {
+            return false;
         }
+        self.next();
+        true
     }
 
-    // Takes the bytes before the first that isn't of this sort.
-    fn take_while<F: Fn(u8) -> bool + Drop>(&mut self, is_taken: F) -> &'a [u8]
-        requires { F.IsAlwaysCallable is_taken }
-    {
-        let rest = self.rest;
-        let count = rest
-            .iter()
-            .position(|byte| !is_taken(*byte))
-            .unwrap_or(rest.len());
-        let (taken, rest) = (
-            rest.get(..count).unwrap_or(&[]),
-            rest.get(count..).unwrap_or(&[]),
-        );
-        self.rest = rest;
-        taken
+    // Takes a digit, if one is the next.
+    fn digit(&mut self, base: u8) -> Option<u8> {
+        let digit = digit_of(*self.rest.first()?);
+        if digit >= base {
+            return None;
+        }
+        self.next();
+        Some(digit)
+    }
+
+    // Takes a number, if one is the next.
+    fn number(&mut self) -> Option<usize> {
+        let mut number = self.digit(10)? as usize;
+        for _ in 0..self.rest.len() {
+            match self.digit(10) {
+                Some(digit) => number = number.saturating_mul(10).saturating_add(digit as usize),
+                None => break,
+            }
+        }
+        Some(number)
+    }
+
+    // Takes two hex digits, if any are next.
+    fn hex(&mut self, row: &mut Row) -> Option<u8> {
+        let high = self.digit(16)?;
+        match self.digit(16) {
+            Some(low) => Some(high.wrapping_mul(16).wrapping_add(low)),
+            None => {
+                row.refuse();
+                None
+            }
+        }
     }
 
     // Takes this byte, which has to be the next.
@@ -70,137 +86,144 @@ impl<'a> Cursor<'a> {
         }
     }
 
-    // Takes a number, if one is the next.
-    fn number(&mut self) -> Option<usize> {
-        let digits = self.take_while(|byte| byte.is_ascii_digit());
-        let mut number = 0usize;
-        for digit in digits {
-            number = number
-                .saturating_mul(10)
-                .saturating_add(digit.saturating_sub(b'0') as usize);
+    // All terms, and nothing else.
+    fn terms(&mut self, row: &mut Row, bytes: &mut Vec<u8>) {
+        self.term(row, bytes);
+        for _ in 0..self.rest.len() {
+            if !self.takes(b'+') {
+                break;
+            }
+            self.term(row, bytes);
         }
-        if digits.is_empty() {
-            None
-        } else {
-            Some(number)
-        }
-    }
-
-    // Takes hex digits, two for each byte.
-    fn hex(&mut self, row: &mut Row) -> Vec<u8> {
-        let mut bytes = Vec::new(row.alloc);
-        let digits = self.take_while(|byte| digit_of(byte).is_some());
-        if digits.is_empty() {
+        if !self.rest.is_empty() {
             row.refuse();
         }
-        for pair in digits.chunks(2) {
-            match pair {
-                [high, low] => {
-                    let high = digit_of(*high).unwrap_or(0);
-                    let low = digit_of(*low).unwrap_or(0);
-                    row.push(&mut bytes, high.wrapping_mul(16).wrapping_add(low));
-                }
-                _ => row.refuse(),
-            }
-        }
-        bytes
     }
 
-    // Takes text up to its quote.
-    fn text(&mut self, row: &mut Row) -> Vec<u8> {
-        let mut bytes = Vec::new(row.alloc);
-        for byte in self.take_while(|byte| byte != b'\'') {
-            let is_escaped = bytes.last() == Some(&b'\\');
-            if is_escaped {
-                bytes.pop();
+    // A term, with what is done to it.
+    fn term(&mut self, row: &mut Row, bytes: &mut Vec<u8>) {
+        let start = bytes.len();
+        self.stem(row, bytes);
+        for _ in 0..self.rest.len() {
+            match self.rest.first() {
+                Some(b'[') => self.cut(row, bytes, start),
+                Some(b'*') => self.repeat(row, bytes, start),
+                Some(b'@') => self.overwrite(row, bytes, start),
+                _ => break,
             }
-            row.push(&mut bytes, meant(*byte, is_escaped));
         }
-        self.expect(b'\'', row);
-        bytes
     }
 
-    // Takes what a term begins with.
-    fn stem(&mut self, row: &mut Row) -> Vec<u8> {
-        if self.takes(b'-') {
-            return Vec::new(row.alloc);
+    // What a term begins with.
+    fn stem(&mut self, row: &mut Row, bytes: &mut Vec<u8>) {
+        match self.rest.first() {
+            Some(b'-') => {
+                self.next();
+            }
+            Some(b'\'') => self.text(row, bytes),
+            Some(b'$') => {
+                let name = self.name();
+                row.push_named(bytes, name);
+            }
+            _ => self.digits(row, bytes),
         }
-        if self.takes(b'\'') {
-            return self.text(row);
+    }
+
+    // `'..'`
+    fn text(&mut self, row: &mut Row, bytes: &mut Vec<u8>) {
+        self.next();
+        for _ in 0..self.rest.len() {
+            match self.next() {
+                Some(b'\'') => return,
+                Some(b'_') => row.push(bytes, b' '),
+                Some(b'\\') => match self.next() {
+                    Some(b'n') => row.push(bytes, b'\n'),
+                    Some(b't') => row.push(bytes, b'\t'),
+                    Some(b'r') => row.push(bytes, b'\r'),
+                    _ => row.refuse(),
+                },
+                Some(byte) => row.push(bytes, byte),
+                None => break,
+            }
         }
-        if self.takes(b'$') {
-            let mut bytes = Vec::new(row.alloc);
-            let name = self.take_while(|byte| byte.is_ascii_alphanumeric() || byte == b'_');
-            row.extend_named(&mut bytes, name);
-            return bytes;
+        row.refuse();
+    }
+
+    // `$NAME`
+    fn name(&mut self) -> &'a [u8] {
+        self.next();
+        let rest = self.rest;
+        let mut count = 0usize;
+        for byte in rest {
+            if !byte.is_ascii_alphanumeric() && *byte != b'_' {
+                break;
+            }
+            count = count.saturating_add(1);
         }
-        self.hex(row)
+        self.rest = rest.get(count..).unwrap_or(&[]);
+        rest.get(..count).unwrap_or(&[])
+    }
+
+    // Hex digits, two for each byte.
+    fn digits(&mut self, row: &mut Row, bytes: &mut Vec<u8>) {
+        let start = bytes.len();
+        for _ in 0..self.rest.len() {
+            match self.hex(row) {
+                Some(byte) => row.push(bytes, byte),
+                None => break,
+            }
+        }
+        if bytes.len() <= start {
+            row.refuse();
+        }
     }
 
     // `[A..B]`: the bytes from A to before B.
-    fn cut(&mut self, bytes: &mut Vec<u8>, row: &mut Row) {
+    fn cut(&mut self, row: &mut Row, bytes: &mut Vec<u8>, start: usize) {
+        self.next();
         let from = self.number().unwrap_or(0);
         self.expect(b'.', row);
         self.expect(b'.', row);
         let to = self.number().unwrap_or(usize::MAX);
         self.expect(b']', row);
-        bytes.truncate(to);
-        let from = from.min(bytes.len());
-        bytes.drain(..from);
+        bytes.truncate(start.saturating_add(to));
+        let end = start.saturating_add(from).min(bytes.len());
+        if start < end {
+            bytes.drain(start..end);
+        }
     }
 
     // `*N`: so many times.
-    fn repeat(&mut self, bytes: &mut Vec<u8>, row: &mut Row) {
-        let Some(count) = self.number() else {
-            return row.refuse();
-        };
-        let mut all = Vec::new(row.alloc);
-        for _ in 0..count {
-            row.extend(&mut all, bytes.as_slice());
+    fn repeat(&mut self, row: &mut Row, bytes: &mut Vec<u8>, start: usize) {
+        self.next();
+        let count = self.number().unwrap_or(0);
+        let end = bytes.len();
+        for _ in 1..count {
+            for at in start..end {
+                if let Some(byte) = bytes.get(at) {
+                    let byte = *byte;
+                    row.push(bytes, byte);
+                }
+            }
         }
-        *bytes = all;
+        if count == 0 {
+            bytes.truncate(start);
+        }
     }
 
     // `@AT=HEX`: overwritten from a place on.
-    fn overwrite(&mut self, bytes: &mut Vec<u8>, row: &mut Row) {
-        let at = self.number();
+    fn overwrite(&mut self, row: &mut Row, bytes: &mut Vec<u8>, start: usize) {
+        self.next();
+        let mut at = start.saturating_add(self.number().unwrap_or(usize::MAX));
         self.expect(b'=', row);
-        let new = self.hex(row);
-        if at.is_none() {
-            row.refuse();
-        }
-        for (byte, new) in bytes.iter_mut().skip(at.unwrap_or(0)).zip(&new) {
-            *byte = *new;
-        }
-    }
-
-    // A term with what is done to it.
-    fn term(&mut self, row: &mut Row) -> Vec<u8> {
-        let mut bytes = self.stem(row);
         for _ in 0..self.rest.len() {
-            if self.takes(b'[') {
-                self.cut(&mut bytes, row);
-            } else if self.takes(b'*') {
-                self.repeat(&mut bytes, row);
-            } else if self.takes(b'@') {
-                self.overwrite(&mut bytes, row);
+            let Some(new) = self.hex(row) else {
+                break;
+            };
+            if let Some(byte) = bytes.get_mut(at) {
+                *byte = new;
             }
+            at = at.saturating_add(1);
         }
-        bytes
-    }
-
-    /// All terms of the word, and nothing else.
-    pub fn bytes(&mut self, row: &mut Row) -> Vec<u8> {
-        let mut bytes = self.term(row);
-        for _ in 0..self.rest.len() {
-            if self.takes(b'+') {
-                let more = self.term(row);
-                row.extend(&mut bytes, more.as_slice());
-            }
-        }
-        if !self.rest.is_empty() {
-            row.refuse();
-        }
-        bytes
     }
 }

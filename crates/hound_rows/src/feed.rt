@@ -1,5 +1,10 @@
 // What rows read from.
-use crate::row::{Row, name_and_value};
+ghost use Rattle.std.specs.Prelude.{◌≡◌, false};
+ghost use Rattle.std.proofs.lemmas.Bool.{false≢true};
+ghost use Rattle.hound.specs.State.{unknown};
+
+use crate::row::{Row, find};
+use hound::{Placed, Source};
 use std::io;
 use std::io::ErrorKind;
 
@@ -53,17 +58,12 @@ fn rest(bytes: &[u8], at: u64) -> &[u8] {
 
 // `fails:KIND`, `gives:HH`, `repeats` or `boasts`
 fn then_of(row: &mut Row, word: &str) -> Then {
-    match word.split_once(":").unwrap_or((word, "")) {
-        ("fails", kind) => Then::Fails(row.kind(kind)),
-        ("gives", byte) => match row.bytes(byte).as_slice() {
-            [byte] => Then::Gives(*byte),
-            _ => {
-                row.refuse();
-                Then::Ends
-            }
-        },
-        ("repeats", "") => Then::Repeats,
-        ("boasts", "") => Then::Boasts,
+    let (name, value) = word.split_once(":").unwrap_or((word, ""));
+    match name {
+        "fails" => Then::Fails(row.kind(value)),
+        "gives" => Then::Gives((row.hex(value, 1) & 0xff) as u8),
+        "repeats" => Then::Repeats,
+        "boasts" => Then::Boasts,
         _ => {
             row.refuse();
             Then::Ends
@@ -72,40 +72,37 @@ fn then_of(row: &mut Row, word: &str) -> Then {
 }
 
 // `AT:none` or `AT:KIND`
-fn stumble_of(row: &mut Row, word: &str) -> Option<(u64, Stumble)> {
+fn stumble_of(row: &mut Row, word: &str) -> (u64, Stumble) {
     let (at, how) = row.split(word, ":");
     let stumble = match how {
         "none" => Stumble::GivesNone,
         kind => Stumble::Fails(row.kind(kind)),
     };
-    Some((row.number(at), stumble))
+    (row.number(at), stumble)
 }
 
 impl Feed {
-    /// Of these bytes, by the options `cut=N`, `zeros=N`, `behind=BYTES`, `then=..` and
+    /// Of these bytes, by the options `cut=N`, `zeros=N`, `more=BYTES`, `then=..` and
     /// `stumble=..`.
     pub fn of(row: &mut Row, bytes: &str, options: &[&str]) -> Feed {
-        let mut feed = Feed {
-            bytes: row.bytes(bytes),
-            zeros: 0,
-            further: Vec::new(row.alloc),
-            then: Then::Ends,
-            most: usize::MAX,
-            stumbles: None,
-            taken: 0,
+        row.allow(options, &["cut", "zeros", "more", "then", "stumble"]);
+        let then = match find(options, "then") {
+            Some(word) => then_of(row, word),
+            None => Then::Ends,
         };
-        for option in options {
-            let (name, value) = name_and_value(option);
-            match name {
-                "cut" => feed.most = row.number(value),
-                "zeros" => feed.zeros = row.number(value),
-                "behind" => feed.further = row.bytes(value),
-                "then" => feed.then = then_of(row, value),
-                "stumble" => feed.stumbles = stumble_of(row, value),
-                _ => row.refuse(),
-            }
+        let stumbles = match find(options, "stumble") {
+            Some(word) => Some(stumble_of(row, word)),
+            None => None,
+        };
+        Feed {
+            bytes: row.bytes(bytes),
+            zeros: row.option(options, "zeros", 0),
+            further: row.bytes_option(options, "more"),
+            then,
+            most: row.option(options, "cut", usize::MAX),
+            stumbles,
+            taken: 0,
         }
-        feed
     }
 
     /// How many bytes it gave.
@@ -168,5 +165,30 @@ impl io::Read for Feed {
         let count = count.min(room);
         self.taken = self.taken.saturating_add(count as u64);
         Ok(count)
+    }
+}
+
+// It has no places: it can't be moved.
+impl Placed for Feed {
+    ghost tells = { false };
+
+    ghost state = { λ _. unknown };
+
+    ghost bytes = { λ _ tells. Prim.absurd (false≢true tells) };
+
+    fn go(&mut self, _to: u64) -> io::Result<()> {
+        Err(io::Error::from(ErrorKind::InvalidInput))
+    }
+
+    fn shift(&mut self, _by: i64) -> io::Result<()> {
+        Err(io::Error::from(ErrorKind::InvalidInput))
+    }
+}
+
+impl Source for Feed {
+    ghost left = { λ _ tells. Prim.absurd (false≢true tells) };
+
+    fn get(&mut self, buf: &mut [u8]) -> io::Result<usize> {
+        io::Read::read(self, buf)
     }
 }

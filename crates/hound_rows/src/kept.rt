@@ -1,85 +1,22 @@
-// The media that rows of writers and sessions write into, and what they say of them.
-ghost use Rattle.std.specs.Prelude.{◌≡◌, ◌≤◌, IfOk, IfSome};
-ghost use Rattle.hound.specs.State.{WhereTells};
+// The media that rows of writers and sessions write into, and what is said of them.
+ghost use Rattle.std.specs.Prelude.{◌≡◌, ◌≤◌};
 
-use crate::media::{Faults, bytes_after};
+use crate::media::{set_faults, show_contents, show_counts};
 use crate::moments::show_moments;
-use crate::row::{Row, name_and_value};
-use hound::{Medium, Source, Tape};
-use hound_test_helpers::recorded::{Call, Recorded};
+use crate::recorded::{Call, Recorded};
+use crate::row::Row;
+use hound::{Medium, Placed, Source, Tape};
 
 // Of more calls only the number is shown.
 const MOST_CALLS: usize = 40;
-
-/// What a row says of its medium.
-#[derive(Drop)]
-pub struct Options {
-    /// What it holds at first.
-    pub over: Vec<u8>,
-    pub faults: Faults,
-    pub is_tape: bool,
-    /// The writer is over a `&mut` of it.
-    pub is_lent: bool,
-    /// What each moment of its past held is shown.
-    pub has_moments: bool,
-    /// How many calls are let fail in turn.
-    pub calls: u64,
-}
-
-impl Options {
-    /// By the words of a row.
-    pub fn of(row: &mut Row, words: &[&str]) -> Options {
-        let mut options = Options {
-            over: Vec::new(row.alloc),
-            faults: Faults::none(),
-            is_tape: false,
-            is_lent: false,
-            has_moments: false,
-            calls: 0,
-        };
-        for word in words {
-            let (name, value) = name_and_value(word);
-            match name {
-                "over" => options.over = row.bytes(value),
-                "tape" => options.is_tape = true,
-                "lent" => options.is_lent = true,
-                "moments" => options.has_moments = true,
-                "calls" => options.calls = row.number(value),
-                _ => {
-                    if !options.faults.takes(row, name, value) {
-                        row.refuse();
-                    }
-                }
-            }
-        }
-        options
-    }
-}
-
-/// A journal that keeps its calls, over these bytes.
-pub fn recorded(row: &mut Row, over: Vec<u8>, faults: Faults) -> Option<Recorded> {
-    match Recorded::over(row.alloc, over, 1, 0) {
-        Ok(mut recorded) => {
-            faults.set(&mut recorded.journal);
-            Some(recorded)
-        }
-        Err(_) => {
-            row.line.fail();
-            None
-        }
-    }
-}
 
 /// A medium of a row.
 pub trait Kept: Source + Medium {
     /// Shows it as it is.
     fn show(&self, row: &mut Row);
 
-    /// How many bytes were put.
-    fn taken(&self) -> usize;
-
     /// Shows what it held after each of its bytes from this one on.
-    fn show_moments(&self, row: &mut Row, from: usize);
+    fn show_past(&self, row: &mut Row, from: usize);
 }
 
 impl Kept for Tape {
@@ -88,11 +25,8 @@ impl Kept for Tape {
         row.line.contents(Tape::bytes(self));
     }
 
-    fn taken(&self) -> usize {
-        Tape::bytes(self).len()
-    }
-
-    fn show_moments(&self, row: &mut Row, _from: usize) {
+    // A tape keeps no past.
+    fn show_past(&self, row: &mut Row, _from: usize) {
         row.refuse();
     }
 }
@@ -105,18 +39,11 @@ impl Kept for Recorded {
                 show_call(row, *call);
             }
         }
-        let taken = self.journal.taken();
-        row.line.count("taken", taken);
-        row.line.count("flushed", self.journal.flushed());
-        let bytes = bytes_after(row, &self.journal, taken);
-        row.line.contents(bytes.as_slice());
+        show_counts(row, &self.journal);
+        show_contents(row, &self.journal, self.journal.taken());
     }
 
-    fn taken(&self) -> usize {
-        self.journal.taken()
-    }
-
-    fn show_moments(&self, row: &mut Row, from: usize) {
+    fn show_past(&self, row: &mut Row, from: usize) {
         show_moments(row, &self.journal, from);
     }
 }
@@ -125,12 +52,34 @@ fn show_call(row: &mut Row, call: Call) {
     match call {
         Call::Put(count) => {
             row.line.word("put");
-            row.line.number(count);
+            row.line.put_shown(count);
         }
         Call::Go(to) => {
             row.line.word("go");
-            row.line.number(to);
+            row.line.put_shown(to);
         }
         Call::Flush => row.line.word("flush"),
+    }
+}
+
+/// A tape, by the option `over=BYTES`.
+pub fn tape_of(row: &mut Row, options: &[&str]) -> Tape
+    ensures { (⟦<Tape as Placed>⟧.state result).place ≡ 0 }
+{
+    Tape::new(row.bytes_option(options, "over"))
+}
+
+/// A journal that keeps its calls, by the options `over=BYTES`, `most=N` and `fail=A..B`.
+pub fn recorded_of(row: &mut Row, options: &[&str]) -> Option<Recorded> {
+    let over = row.bytes_option(options, "over");
+    match Recorded::over(row.alloc, over) {
+        Ok(mut recorded) => {
+            set_faults(row, &mut recorded.journal, options);
+            Some(recorded)
+        }
+        Err(_) => {
+            row.line.fail();
+            None
+        }
     }
 }

@@ -6,17 +6,18 @@ use std::fmt::Display;
 use std::io;
 use std::io::{ErrorKind, Write};
 
-// Contents of more bytes are shortened, to so many.
+// Contents of more bytes are shortened to so many.
 const MOST_BYTES: usize = 160;
 
 const FIRST_BYTES: usize = 80;
 
-// Text of more bytes is shown as contents.
+// Longer text is shown as contents.
 const MOST_TEXT: usize = 400;
 
 const DIGITS: [u8; 16] = *b"0123456789abcdef";
 
-/// A line that is put together, word by word. Where memory fails it keeps that in mind.
+/// A line that is put together word by word. What begins with `put` adds to the last word, all else
+/// begins a word of its own. Where memory fails the line keeps that in mind.
 #[derive(Drop)]
 pub struct Line {
     bytes: Vec<u8>,
@@ -52,27 +53,24 @@ impl Line {
         self.bytes.clear();
     }
 
-    /// Adds bytes to the last word.
     pub fn put_bytes(&mut self, bytes: &[u8]) {
         if self.bytes.extend_from_slice(bytes).is_err() {
             self.has_failed = true;
         }
     }
 
-    /// Adds text to the last word.
     pub fn put(&mut self, text: &str) {
         self.put_bytes(text.as_bytes());
     }
 
-    /// Adds a number to the last word.
-    pub fn number<N: Display + Drop>(&mut self, number: N) {
-        if write!(self.bytes, "{number}").is_err() {
+    pub fn put_shown<T: Display + Drop>(&mut self, value: T) {
+        if write!(self.bytes, "{value}").is_err() {
             self.has_failed = true;
         }
     }
 
-    /// Adds two hex digits for each byte to the last word.
-    pub fn hex(&mut self, bytes: &[u8]) {
+    /// Two hex digits for each byte.
+    pub fn put_hex(&mut self, bytes: &[u8]) {
         for byte in bytes {
             let high = DIGITS[(*byte / 16) as usize];
             let low = DIGITS[(*byte % 16) as usize];
@@ -80,7 +78,29 @@ impl Line {
         }
     }
 
-    /// Begins a word.
+    pub fn put_error(&mut self, error: Error) {
+        let name = match error {
+            Error::IoError(fault) => {
+                self.put("IoError(");
+                self.put(name_of(fault.kind()));
+                ")"
+            }
+            Error::FormatError(reason) => {
+                self.put("FormatError(");
+                self.put(reason);
+                ")"
+            }
+            Error::TooWide => "TooWide",
+            Error::UnfinishedSample => "UnfinishedSample",
+            Error::Unsupported => "Unsupported",
+            Error::InvalidSampleFormat => "InvalidSampleFormat",
+            Error::TooLong => "TooLong",
+            Error::OutOfMemory => "OutOfMemory",
+        };
+        self.put(name);
+    }
+
+    /// This word.
     pub fn word(&mut self, text: &str) {
         if !self.bytes.is_empty() {
             self.put(" ");
@@ -88,66 +108,80 @@ impl Line {
         self.put(text);
     }
 
-    /// A word and a number.
-    pub fn count<N: Display + Drop>(&mut self, name: &str, number: N) {
-        self.word(name);
+    /// A number, or what else has a text.
+    pub fn shown<T: Display + Drop>(&mut self, value: T) {
         self.word("");
-        self.number(number);
+        self.put_shown(value);
     }
 
-    /// Contents of a file, as a word: hex digits, of long ones the first, with the length and a
-    /// checksum.
-    pub fn contents(&mut self, bytes: &[u8]) {
+    pub fn hex(&mut self, bytes: &[u8]) {
         self.word("");
+        self.put_hex(bytes);
+    }
+
+    /// A word, and a number after it.
+    pub fn count<N: Display + Drop>(&mut self, name: &str, number: N) {
+        self.word(name);
+        self.shown(number);
+    }
+
+    /// Contents of a file: hex digits, of long ones the first, with the length and a checksum.
+    pub fn contents(&mut self, bytes: &[u8]) {
         if bytes.is_empty() {
-            self.put("-");
+            self.word("-");
         } else if bytes.len() <= MOST_BYTES {
             self.hex(bytes);
         } else {
             let first = bytes.get(..FIRST_BYTES).unwrap_or(bytes);
-            self.number(bytes.len());
+            self.shown(bytes.len());
             self.put(":");
-            self.hex(first);
+            self.put_hex(first);
             self.put(":");
-            self.hex(&Crc::of(bytes).value().to_be_bytes());
+            self.put_hex(&Crc::of(bytes).value().to_be_bytes());
         }
     }
 
-    /// What an error is called, added to the last word.
+    /// Text: in quotes where it is plain and short, else as contents.
+    pub fn text(&mut self, bytes: &[u8]) {
+        if bytes.len() > MOST_TEXT || !bytes.iter().all(|byte| is_plain(*byte)) {
+            return self.contents(bytes);
+        }
+        self.word("'");
+        for byte in bytes {
+            if *byte == b'\n' {
+                self.put("\\n");
+            } else {
+                self.put_bytes(&[*byte]);
+            }
+        }
+        self.put("'");
+    }
+
     pub fn error(&mut self, error: Error) {
-        match error {
-            Error::IoError(fault) => {
-                self.put("IoError(");
-                self.put(name_of(fault.kind()));
-                self.put(")");
-            }
-            Error::FormatError(reason) => {
-                self.put("FormatError(");
-                self.put(reason);
-                self.put(")");
-            }
-            Error::TooWide => self.put("TooWide"),
-            Error::UnfinishedSample => self.put("UnfinishedSample"),
-            Error::Unsupported => self.put("Unsupported"),
-            Error::InvalidSampleFormat => self.put("InvalidSampleFormat"),
-            Error::TooLong => self.put("TooLong"),
-            Error::OutOfMemory => self.put("OutOfMemory"),
-        }
+        self.word("");
+        self.put_error(error);
     }
 
-    /// The answer of a call, as a word.
+    /// The answer of a call.
     pub fn answer(&mut self, answer: hound::Result<()>) {
-        self.word("");
         match answer {
-            Ok(()) => self.put("ok"),
+            Ok(()) => self.word("ok"),
             Err(error) => self.error(error),
         }
     }
 
-    /// The answer of a call of a medium, as a word.
+    /// The answer of a call of a medium.
     pub fn io_answer(&mut self, answer: io::Result<()>) {
-        self.answer(answer.map_err(Error::IoError));
+        match answer {
+            Ok(()) => self.word("ok"),
+            Err(fault) => self.error(Error::IoError(fault)),
+        }
     }
+}
+
+// Printable ASCII, or the end of a line.
+fn is_plain(byte: u8) -> bool {
+    byte == b'\n' || byte == b' ' || byte.is_ascii_graphic()
 }
 
 fn name_of(kind: ErrorKind) -> &'static str {

@@ -12,87 +12,85 @@ mod media;
 mod moments;
 mod numbers;
 mod readers;
+mod recorded;
 mod row;
 mod samples;
 mod sessions;
 mod sink;
 mod specs;
+mod tool;
 mod values;
 mod writers;
 
-use hound::FloatBits;
-use hound_callers::Twelve;
-use row::{Row, parts};
-use samples::{decode, encode, short, write_padded, write_sample};
+use row::Row;
 use std::io;
 use std::io::{BufWriter, ErrorKind, Write};
 use std::process::ExitCode;
-use values::at_type;
+use values::Kind;
 
-// Answers a row by its words.
-fn answer(row: &mut Row, words: &[&str]) {
-    match words {
-        ["let", name, bytes] => row.define(name, bytes),
-        ["read", bytes, words @ ..] => {
-            let (options, asks) = parts(words);
-            readers::read(row, bytes, options, asks);
-        }
-        ["riff", bytes, options @ ..] => readers::riff(row, bytes, options),
-        ["session", spec, words @ ..] => sessions::session(row, spec, words),
-        ["sessions", spec, words @ ..] => sessions::sessions(row, spec, words),
-        ["sweep", spec, words @ ..] => sessions::sweep(row, spec, words),
-        ["tape", bytes, calls @ ..] => media::tape(row, bytes, calls),
-        ["journal", bytes, calls @ ..] => media::journal(row, bytes, calls),
-        ["write", first, second, words @ ..] => write(row, first, second, words),
-        _ => answer_small(row, words),
+// Answers a row: the first word says what is asked.
+fn answer(row: &mut Row, name: &str, words: &[&str]) {
+    match name {
+        // let NAME BYTES
+        "let" => row.define(words),
+        // riff BYTES OPTION..
+        "riff" => readers::riff(row, words),
+        // read BYTES OPTION.. : ASK..
+        "read" => readers::read(row, words),
+        // tape BYTES CALL..
+        "tape" => media::tape(row, words),
+        // journal BYTES CALL..
+        "journal" => media::journal(row, words),
+        // write HOW SPEC OPTION.. : ACT.. : END
+        "write" if is_of_writer(words) => writers::write(row, words),
+        // session SPEC OPTION.. : STEP.. : END
+        "session" | "sweep" => sessions::session(row, words),
+        // sessions SPEC OPTION.. : STEP.. | STEP.. | ..
+        "sessions" => sessions::sessions(row, words),
+        // tool WORD.. : BYTES OPTION..
+        "tool" => tool::tool(row, words),
+        _ => answer_small(row, name, words),
     }
 }
 
-// Answers a row of a number, a sample or a spec.
-fn answer_small(row: &mut Row, words: &[&str]) {
-    match words {
-        ["le", kind, value] => numbers::le(row, kind, value),
-        ["from", kind, hex] => numbers::from(row, kind, hex),
-        ["at", kind, bytes, at] => numbers::at(row, kind, bytes, at),
-        ["signed", byte] => numbers::signed(row, byte),
-        ["unsigned", number] => numbers::unsigned(row, number),
-        ["fill", bytes, options @ ..] => numbers::fill(row, bytes, options),
-        ["write_bytes", bytes, sink @ ..] => numbers::write(row, bytes, sink),
-        ["writable", spec] => specs::writable(row, spec),
-        ["header", spec, riff_size, data_length] => {
-            specs::header(row, spec, riff_size, data_length);
+// Answers a row of a number, a spec or a sample.
+fn answer_small(row: &mut Row, name: &str, words: &[&str]) {
+    match name {
+        // le TYPE VALUE
+        "le" => numbers::le(row, words),
+        // from TYPE HEX
+        "from" => numbers::from(row, words),
+        // at TYPE BYTES AT
+        "at" => numbers::at(row, words),
+        // signed BYTE, unsigned NUMBER
+        "signed" | "unsigned" => numbers::sign(row, name, words),
+        // fill BYTES OPTION..
+        "fill" => numbers::fill(row, words),
+        // write_bytes BYTES SINK
+        "write_bytes" => numbers::write(row, words),
+        // writable SPEC
+        "writable" => specs::writable(row, words),
+        // header SPEC RIFF_SIZE DATA_LENGTH
+        "header" => specs::header(row, words),
+        // infinite SPEC
+        "infinite" => specs::infinite(row, words),
+        // width BITS
+        "width" => specs::width(row, words),
+        // text NAME
+        "text" => specs::text(row, words),
+        // encode, write, write_padded, decode and short, of a TYPE
+        "encode" | "write" | "write_padded" | "decode" | "short" => {
+            samples::answer(row, name, words);
         }
-        ["infinite", spec] => specs::infinite(row, spec),
-        ["width", bits] => specs::width(row, bits),
-        ["text", name] => specs::text(row, name),
-        _ => answer_sample(row, words),
-    }
-}
-
-// Answers a row of a single sample.
-fn answer_sample(row: &mut Row, words: &[&str]) {
-    match words {
-        ["encode", kind, value, bits, width] => {
-            at_type!(row, *kind, encode(row, value, bits, width));
-        }
-        ["write_padded", kind, value, bits, width, sink @ ..] => {
-            at_type!(row, *kind, write_padded(row, value, bits, width, sink));
-        }
-        ["decode", kind, format, width, bits, bytes] => {
-            at_type!(row, *kind, decode(row, format, width, bits, bytes));
-        }
-        ["short", kind, value] => at_type!(row, *kind, short(row, value)),
         _ => row.refuse(),
     }
 }
 
-// A single sample where the first word after `write` is a type, and else a writer.
-fn write(row: &mut Row, first: &str, second: &str, words: &[&str]) {
-    match (first, words) {
-        ("i8" | "i16" | "i32" | "f" | "own", [bits, sink @ ..]) => {
-            at_type!(row, first, write_sample(row, second, bits, sink));
-        }
-        _ => writers::write(row, first, second, words),
+// Whether no type of samples comes after `write`.
+fn is_of_writer(words: &[&str]) -> bool {
+    match words.first() {
+        Some(first) => Kind::of(first).is_none(),
+        None => false,
     }
 }
 
@@ -102,9 +100,15 @@ fn answer_line(row: &mut Row, text: &str) {
     if text.is_empty() || text.starts_with('#') {
         return row.line.put(text);
     }
-    match text.split(' ').collect::<Vec<&str>>(row.alloc) {
-        Ok(words) => answer(row, &words),
-        Err(_) => row.line.fail(),
+    let Ok(words) = text.split(' ').collect::<Vec<&str>>(row.alloc) else {
+        return row.line.fail();
+    };
+    if let Some((name, words)) = words.as_slice().split_first() {
+        answer(row, name, words);
+    }
+    if row.is_refused() {
+        row.line.clear();
+        row.line.put("not a row");
     }
 }
 
@@ -116,15 +120,13 @@ fn main(rt: HostRuntime) -> io::Result<ExitCode> {
     let mut status = ExitCode::SUCCESS;
     for line in text.lines() {
         answer_line(&mut row, line);
+        row.line.put("\n");
+        if row.is_refused() {
+            status = ExitCode::FAILURE;
+        }
         if row.line.has_failed() {
             return Err(io::Error::from(ErrorKind::OutOfMemory));
         }
-        if row.is_refused() {
-            status = ExitCode::FAILURE;
-            row.line.clear();
-            row.line.put("not a row");
-        }
-        row.line.put("\n");
         output.write_all(row.line.bytes())?;
     }
     output.flush()?;

@@ -1,82 +1,30 @@
 // Rows of media, and what rows say of them.
 ghost use Rattle.std.specs.Prelude.{◌≡◌, ◌≤◌};
 
-use crate::row::{Row, name_and_value};
+use crate::row::{Row, find, name_and_value};
 use hound::{Error, Journal, Medium, Source, Tape};
 use std::io;
 
-/// How many bytes a journal takes and gives a call, and which of its calls fail.
-#[derive(Clone, Copy)]
-pub struct Faults {
-    most: usize,
-    from: u64,
-    to: u64,
-}
+// How many bytes a row reads at once at most.
+const MOST_READ: usize = 65536;
 
-impl Faults {
-    /// None.
-    pub fn none() -> Faults {
-        Faults {
-            most: usize::MAX,
-            from: 1,
-            to: 0,
+/// Lets a journal take and give few bytes a call, and fail, by the options `most=N` and
+/// `fail=A..B`.
+pub fn set_faults(row: &mut Row, journal: &mut Journal, options: &[&str]) {
+    if let Some(most) = find(options, "most") {
+        let most = row.number(most);
+        if most == 0 {
+            return row.refuse();
         }
+        journal.most(most);
     }
-
-    /// By the options `most=N` and `fail=A..B`.
-    pub fn of(row: &mut Row, options: &[&str]) -> Faults {
-        let mut faults = Faults::none();
-        for option in options {
-            let (name, value) = name_and_value(option);
-            if name != "over" && !faults.takes(row, name, value) {
-                row.refuse();
-            }
-        }
-        faults
-    }
-
-    /// Takes an option, if it is one of these.
-    pub fn takes(&mut self, row: &mut Row, name: &str, value: &str) -> bool {
-        match name {
-            "most" => {
-                self.most = row.number(value);
-                if self.most == 0 {
-                    row.refuse();
-                }
-            }
-            "fail" => {
-                let (from, to) = row.split(value, "..");
-                self.from = row.number(from);
-                self.to = row.number(to);
-            }
-            _ => return false,
-        }
-        true
-    }
-
-    /// Lets calls with these numbers fail in place of those that it has.
-    pub fn failing(self, from: u64, to: u64) -> Faults {
-        Faults { from, to, ..self }
-    }
-
-    /// Sets a journal so.
-    pub fn set(self, journal: &mut Journal) {
-        journal.most(self.most.max(1));
-        journal.fail(self.from, self.to);
+    if let Some(calls) = find(options, "fail") {
+        let (from, to) = row.split(calls, "..");
+        journal.fail(row.number(from), row.number(to));
     }
 }
 
-/// What the option `over=..` says; no text where there is none.
-pub fn over<'a>(options: &[&'a str]) -> &'a str {
-    for option in options {
-        if let Some(over) = option.strip_prefix("over=") {
-            return over;
-        }
-    }
-    ""
-}
-
-// A call that each medium has, and its answer; false where there is no such call.
+// A call of a medium, and its answer; false where there is none of this name.
 fn call<M: Source + Medium>(row: &mut Row, medium: &mut M, name: &str, value: &str) -> bool {
     match name {
         "go" => {
@@ -103,48 +51,41 @@ fn put<M: Medium>(row: &mut Row, medium: &mut M, bytes: &str) {
     match medium.put(bytes.as_slice()) {
         Ok(count) => {
             row.line.word("put:");
-            row.line.number(count);
+            row.line.put_shown(count);
         }
-        Err(fault) => row.line.io_answer(Err(fault)),
+        Err(fault) => row.line.error(Error::IoError(fault)),
     }
 }
 
 // By `get` or by `read`.
 fn get<S: Source>(row: &mut Row, source: &mut S, size: &str, is_read: bool) {
-    let size = row.number(size);
-    let Ok(mut bytes) = vec![in row.alloc; 0; size] else {
-        return row.line.fail();
-    };
+    let size: usize = row.number(size);
+    let mut bytes = [0; MOST_READ];
+    if size > MOST_READ {
+        return row.refuse();
+    }
     let answer = if is_read {
-        io::Read::read(source, bytes.as_mut_slice())
+        io::Read::read(source, &mut bytes[..size])
     } else {
-        source.get(bytes.as_mut_slice())
+        source.get(&mut bytes[..size])
     };
     match answer {
+        Ok(0) => row.line.word("got:-"),
         Ok(count) => {
             row.line.word("got:");
-            let got = bytes.as_slice().get(..count).unwrap_or(&[]);
-            if got.is_empty() {
-                row.line.put("-");
-            }
-            row.line.hex(got);
+            row.line.put_hex(bytes.get(..count).unwrap_or(&[]));
         }
-        Err(fault) => row.line.io_answer(Err(fault)),
+        Err(fault) => row.line.error(Error::IoError(fault)),
     }
 }
 
-// Whether calls are made of a `&mut` of the medium, and the calls.
-fn lent<'a>(calls: &'a [&'a str]) -> (bool, &'a [&'a str]) {
-    match calls {
-        ["lent", calls @ ..] => (true, calls),
-        _ => (false, calls),
-    }
-}
-
-/// `tape BYTES CALL..`
-pub fn tape(row: &mut Row, bytes: &str, calls: &[&str]) {
-    let (is_lent, calls) = lent(calls);
+/// `tape BYTES CALL..`; after the word `lent` calls are made of a `&mut` of the tape.
+pub fn tape(row: &mut Row, words: &[&str]) {
+    let [bytes, calls @ ..] = words else {
+        return row.refuse();
+    };
     let mut tape = Tape::new(row.bytes(bytes));
+    let is_lent = calls.first() == Some(&"lent");
     for word in calls {
         let (name, value) = name_and_value(word);
         let is_call = if is_lent {
@@ -152,7 +93,7 @@ pub fn tape(row: &mut Row, bytes: &str, calls: &[&str]) {
         } else {
             call(row, &mut tape, name, value)
         };
-        if !is_call {
+        if !is_call && name != "lent" {
             row.refuse();
         }
     }
@@ -160,14 +101,16 @@ pub fn tape(row: &mut Row, bytes: &str, calls: &[&str]) {
     row.line.contents(Tape::bytes(&tape));
 }
 
-/// `journal BYTES CALL..`
-pub fn journal(row: &mut Row, bytes: &str, calls: &[&str]) {
-    let (is_lent, calls) = lent(calls);
+/// `journal BYTES CALL..`, likewise.
+pub fn journal(row: &mut Row, words: &[&str]) {
+    let [bytes, calls @ ..] = words else {
+        return row.refuse();
+    };
     let bytes = row.bytes(bytes);
     let Ok(mut journal) = Journal::new(row.alloc, bytes) else {
         return row.line.fail();
     };
-    let mut faults = Faults::none();
+    let is_lent = calls.first() == Some(&"lent");
     for word in calls {
         let (name, value) = name_and_value(word);
         let is_call = if is_lent {
@@ -175,55 +118,56 @@ pub fn journal(row: &mut Row, bytes: &str, calls: &[&str]) {
         } else {
             call(row, &mut journal, name, value)
         };
-        if faults.takes(row, name, value) {
-            faults.set(&mut journal);
-        } else if !is_call {
-            look(row, &journal, name, value);
+        if !is_call {
+            call_journal(row, &mut journal, word);
         }
     }
     row.line.word(":");
-    show_journal(row, &journal);
+    show_contents(row, &journal, journal.taken());
+    show_counts(row, &journal);
 }
 
-// `after=K` or `counts`
-fn look(row: &mut Row, journal: &Journal, name: &str, value: &str) {
+// A call that only a journal has.
+fn call_journal(row: &mut Row, journal: &mut Journal, word: &str) {
+    let (name, value) = name_and_value(word);
     match name {
+        "most" | "fail" => set_faults(row, journal, &[word]),
         "after" => {
-            let k: usize = row.number(value);
-            if k > journal.taken() {
-                return row.line.word("past");
-            }
-            show_moment(row, journal, k);
+            let k = row.number(value);
+            show_contents(row, journal, k);
         }
         "counts" => {
-            row.line.word("");
-            row.line.number(journal.taken());
+            row.line.shown(journal.taken());
             row.line.put("/");
-            row.line.number(journal.flushed());
+            row.line.put_shown(journal.flushed());
         }
+        "lent" => {}
         _ => row.refuse(),
     }
 }
 
-/// The bytes after the first k of those that were put; none where there were fewer.
-pub fn bytes_after(row: &mut Row, journal: &Journal, k: usize) -> Vec<u8> {
-    if k <= journal.taken()
-        && let Ok(bytes) = journal.bytes_after(row.alloc, k)
-    {
-        return bytes;
-    }
-    row.line.fail();
-    Vec::new(row.alloc)
-}
-
-fn show_moment(row: &mut Row, journal: &Journal, k: usize) {
-    let bytes = bytes_after(row, journal, k);
-    row.line.contents(bytes.as_slice());
-}
-
-// What a journal holds and counts.
-fn show_journal(row: &mut Row, journal: &Journal) {
-    show_moment(row, journal, journal.taken());
+/// How many bytes a journal took, and took before its last flush.
+pub fn show_counts(row: &mut Row, journal: &Journal) {
     row.line.count("taken", journal.taken());
     row.line.count("flushed", journal.flushed());
+}
+
+/// What a journal held after so many bytes.
+pub fn show_contents(row: &mut Row, journal: &Journal, k: usize) {
+    match bytes_after(row, journal, k) {
+        Some(bytes) => row.line.contents(bytes.as_slice()),
+        None => row.line.word("past"),
+    }
+}
+
+/// The bytes of a journal after so many were put, if there were so many.
+pub fn bytes_after(row: &mut Row, journal: &Journal, k: usize) -> Option<Vec<u8>> {
+    if k > journal.taken() {
+        return None;
+    }
+    let bytes = journal.bytes_after(row.alloc, k);
+    if bytes.is_err() {
+        row.line.fail();
+    }
+    bytes.ok()
 }

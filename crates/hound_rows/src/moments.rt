@@ -10,11 +10,13 @@ use hound::{Error, FloatBits, Journal, SampleFormat, Tape, WavReader};
 pub fn show_moments(row: &mut Row, journal: &Journal, from: usize) {
     let mut before = Line::new(row.alloc);
     for k in from..journal.taken().saturating_add(1) {
-        let bytes = bytes_after(row, journal, k);
-        let moment = moment_of(row, bytes);
+        let Some(bytes) = bytes_after(row, journal, k) else {
+            return;
+        };
+        let mut moment = Line::new(row.alloc);
+        put_moment(&mut moment, bytes);
         if moment.bytes() != before.bytes() {
-            row.line.word("");
-            row.line.number(k);
+            row.line.shown(k);
             row.line.put("=");
             row.line.put_bytes(moment.bytes());
         }
@@ -22,9 +24,8 @@ pub fn show_moments(row: &mut Row, journal: &Journal, from: usize) {
     }
 }
 
-// What a file of these bytes is.
-fn moment_of(row: &mut Row, bytes: Vec<u8>) -> Line {
-    let mut line = Line::new(row.alloc);
+// What a file of these bytes is: `FIELD/COUNT/SUM`, `FIELD/ERR` or `ERR`.
+fn put_moment(line: &mut Line, bytes: Vec<u8>) {
     let mut file = Tape::new(bytes);
     let refusal = match WavReader::new(&mut file) {
         Ok(_) => None,
@@ -34,17 +35,16 @@ fn moment_of(row: &mut Row, bytes: Vec<u8>) -> Line {
     let bytes = Tape::bytes(&file);
     match refusal {
         None => {
-            show_field(&mut line, bytes, left);
-            show_sum(&mut line, bytes);
+            put_field(line, bytes, left);
+            put_sum(line, bytes);
         }
         Some(error) => {
             if is_of_length(&error) {
-                show_field(&mut line, bytes, left);
+                put_field(line, bytes, left);
             }
-            line.error(error);
+            line.put_error(error);
         }
     }
-    line
 }
 
 // Whether a file is refused for its data length.
@@ -58,23 +58,23 @@ fn is_of_length(error: &Error) -> bool {
     }
 }
 
-// The data length in the field before the data, of which so many bytes are left.
-fn show_field(line: &mut Line, bytes: &[u8], left: u64) {
+// The data length in the field before the data, from which on so many bytes are left.
+fn put_field(line: &mut Line, bytes: &[u8], left: u64) {
     let start = bytes.len().saturating_sub(left as usize);
     if let Some([a, b, c, d]) = bytes.get(start.saturating_sub(4)..start) {
-        line.number(u32::from_le_bytes([*a, *b, *c, *d]));
+        line.put_shown(u32::from_le_bytes([*a, *b, *c, *d]));
     }
     line.put("/");
 }
 
 // How many samples are read, and their sum.
-fn show_sum(line: &mut Line, bytes: &[u8]) {
+fn put_sum(line: &mut Line, bytes: &[u8]) {
     let Ok(mut reader) = WavReader::new(bytes) else {
         return;
     };
     let sum = match reader.spec().sample_format {
-        SampleFormat::Int => Sum::of::<i32, _>(&mut reader),
-        SampleFormat::Float => Sum::of::<FloatBits, _>(&mut reader),
+        SampleFormat::Int => Sum::of::<i32>(&mut reader),
+        SampleFormat::Float => Sum::of::<FloatBits>(&mut reader),
     };
-    sum.show(line, "/");
+    sum.put(line, "/");
 }

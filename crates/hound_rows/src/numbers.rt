@@ -10,76 +10,85 @@ use hound_number::{
 };
 
 /// `le TYPE VALUE`
-pub fn le(row: &mut Row, kind: &str, value: &str) {
+pub fn le(row: &mut Row, words: &[&str]) {
+    let [kind, value] = words else {
+        return row.refuse();
+    };
     row.line.word("");
-    match kind {
+    match *kind {
         "u16" => {
             let bytes = le_u16(row.number(value));
-            row.line.hex(&bytes);
+            row.line.put_hex(&bytes);
         }
         "u32" => {
             let bytes = le_u32(row.number(value));
-            row.line.hex(&bytes);
+            row.line.put_hex(&bytes);
         }
         "i16" => {
             let bytes = le_i16(row.number(value));
-            row.line.hex(&bytes);
+            row.line.put_hex(&bytes);
         }
         "i32" => {
             let bytes = le_i32(row.number(value));
-            row.line.hex(&bytes);
+            row.line.put_hex(&bytes);
         }
         _ => row.refuse(),
     }
 }
 
 /// `from TYPE HEX`
-pub fn from(row: &mut Row, kind: &str, hex: &str) {
-    let bytes = row.bytes(hex);
-    row.line.word("");
-    match (kind, bytes.as_slice()) {
-        ("i16", [a, b]) => row.line.number(i16_from_le([*a, *b])),
-        ("i24", [a, b, c]) => row.line.number(i24_from_le([*a, *b, *c])),
-        ("i32", [a, b, c, d]) => row.line.number(i32_from_le([*a, *b, *c, *d])),
+pub fn from(row: &mut Row, words: &[&str]) {
+    let [kind, hex] = words else {
+        return row.refuse();
+    };
+    let [a, b, c, d] = row.hex(hex, hex.len() / 2).to_be_bytes();
+    match (*kind, hex.len()) {
+        ("i16", 4) => row.line.shown(i16_from_le([c, d])),
+        ("i24", 6) => row.line.shown(i24_from_le([b, c, d])),
+        ("i32", 8) => row.line.shown(i32_from_le([a, b, c, d])),
         _ => row.refuse(),
     }
 }
 
 /// `at TYPE BYTES AT`
-pub fn at(row: &mut Row, kind: &str, bytes: &str, at: &str) {
+pub fn at(row: &mut Row, words: &[&str]) {
+    let [kind, bytes, at] = words else {
+        return row.refuse();
+    };
     let bytes = row.bytes(bytes);
     let at: usize = row.number(at);
     let left = bytes.len().saturating_sub(at);
-    row.line.word("");
-    match kind {
-        "u16" if left >= 2 => row.line.number(u16_at(bytes.as_slice(), at)),
-        "u32" if left >= 4 => row.line.number(u32_at(bytes.as_slice(), at)),
+    match *kind {
+        "u16" if left >= 2 => row.line.shown(u16_at(bytes.as_slice(), at)),
+        "u32" if left >= 4 => row.line.shown(u32_at(bytes.as_slice(), at)),
         _ => row.refuse(),
     }
 }
 
-/// `signed BYTE`
-pub fn signed(row: &mut Row, byte: &str) {
-    let number = signed_from_u8(row.number(byte));
-    row.line.word("");
-    row.line.number(number);
-}
-
-/// `unsigned NUMBER`
-pub fn unsigned(row: &mut Row, number: &str) {
-    let byte = u8_from_signed(row.number(number));
-    row.line.word("");
-    row.line.number(byte);
+/// `signed BYTE` and `unsigned NUMBER`
+pub fn sign(row: &mut Row, name: &str, words: &[&str]) {
+    let [number] = words else {
+        return row.refuse();
+    };
+    if name == "signed" {
+        let byte = row.number(number);
+        row.line.shown(signed_from_u8(byte));
+    } else {
+        let number = row.number(number);
+        row.line.shown(u8_from_signed(number));
+    }
 }
 
 /// `fill BYTES OPTION..`: four bytes of a reader.
-pub fn fill(row: &mut Row, bytes: &str, options: &[&str]) {
+pub fn fill(row: &mut Row, words: &[&str]) {
+    let [bytes, options @ ..] = words else {
+        return row.refuse();
+    };
     let mut feed = Feed::of(row, bytes, options);
     let mut four = [0; 4];
     match read_into(&mut feed, &mut four) {
         Ok(()) => {
             row.line.word("ok");
-            row.line.word("");
             row.line.hex(&four);
         }
         Err(ReadError::Ended) => row.line.word("ended"),
@@ -89,10 +98,12 @@ pub fn fill(row: &mut Row, bytes: &str, options: &[&str]) {
 }
 
 /// `write_bytes BYTES SINK`
-pub fn write(row: &mut Row, bytes: &str, options: &[&str]) {
+pub fn write(row: &mut Row, words: &[&str]) {
+    let [bytes, options @ ..] = words else {
+        return row.refuse();
+    };
     let bytes = row.bytes(bytes);
     let mut sink = Sink::of(row, options);
-    let answer = write_bytes(&mut sink, bytes.as_slice());
-    row.line.io_answer(answer);
+    row.line.io_answer(write_bytes(&mut sink, bytes.as_slice()));
     row.line.contents(sink.taken());
 }

@@ -3,68 +3,67 @@ ghost use Rattle.std.specs.Prelude.{◌≡◌, ◌≤◌};
 
 use crate::feed::Feed;
 use crate::line::Line;
-use crate::media::{Faults, over};
-use crate::row::{Row, name_and_value};
-use crate::samples::show;
-use crate::values::{Value, at_type};
+use crate::media::set_faults;
+use crate::row::{Row, find, parts};
+use crate::values::{Kind, Value, at_type, show};
 use hound::{Error, FloatBits, Journal, Source, Tape, WavReader, read_wave_header};
 use hound_callers::Twelve;
 use std::io;
 
-/// What a row reads from, which says in the end how far it was read.
-trait Origin: io::Read + Drop {
-    /// Seeks, where it can.
-    fn seek(row: &mut Row, reader: &mut WavReader<&mut Self>, time: u32);
-
-    /// Says how far it was read.
-    fn close(&mut self, row: &mut Row);
-
-    /// Whether it says so also of a file that is refused.
-    fn counts(&self) -> bool;
+/// `riff BYTES OPTION..`
+pub fn riff(row: &mut Row, words: &[&str]) {
+    let [bytes, options @ ..] = words else {
+        return row.refuse();
+    };
+    let mut feed = Feed::of(row, bytes, options);
+    match read_wave_header(&mut feed) {
+        Ok(size) => row.line.shown(size),
+        Err(error) => row.line.error(error),
+    }
+    row.line.count("took", feed.taken());
 }
 
-impl Origin for Feed {
-    fn seek(row: &mut Row, _reader: &mut WavReader<&mut Feed>, _time: u32) {
-        row.refuse();
-    }
-
-    fn close(&mut self, row: &mut Row) {
-        row.line.count("took", self.taken());
-    }
-
-    fn counts(&self) -> bool {
-        true
-    }
-}
-
-impl Origin for Tape {
-    fn seek(row: &mut Row, reader: &mut WavReader<&mut Tape>, time: u32) {
-        row.line.io_answer(reader.seek(time));
-    }
-
-    fn close(&mut self, row: &mut Row) {
-        row.line.count("left", left(self));
-    }
-
-    fn counts(&self) -> bool {
-        false
+/// `read BYTES OPTION.. : ASK..`
+pub fn read(row: &mut Row, words: &[&str]) {
+    let (words, asks) = parts(words);
+    let [bytes, options @ ..] = words else {
+        return row.refuse();
+    };
+    match find(options, "over") {
+        None => {
+            let mut feed = Feed::of(row, bytes, options);
+            ask_all(row, &mut feed, asks);
+            row.line.word(":");
+            row.line.count("took", feed.taken());
+        }
+        Some("tape") => {
+            let mut tape = Tape::new(row.bytes(bytes));
+            if ask_all(row, &mut tape, asks) {
+                show_left(row, &mut tape);
+            }
+        }
+        _ => read_journal(row, bytes, options, asks),
     }
 }
 
-impl Origin for Journal {
-    fn seek(row: &mut Row, reader: &mut WavReader<&mut Journal>, time: u32) {
-        row.line.io_answer(reader.seek(time));
+fn read_journal(row: &mut Row, bytes: &str, options: &[&str], asks: &[&str]) {
+    row.allow(options, &["over", "most", "fail"]);
+    let bytes = row.bytes(bytes);
+    let Ok(mut journal) = Journal::new(row.alloc, bytes) else {
+        return row.line.fail();
+    };
+    set_faults(row, &mut journal, options);
+    if ask_all(row, &mut journal, asks) {
+        journal.fail(1, 0);
+        journal.most(usize::MAX);
+        show_left(row, &mut journal);
     }
+}
 
-    fn close(&mut self, row: &mut Row) {
-        self.fail(1, 0);
-        self.most(usize::MAX);
-        row.line.count("left", left(self));
-    }
-
-    fn counts(&self) -> bool {
-        false
-    }
+// How far a source was read, by what is left.
+fn show_left<S: Source>(row: &mut Row, source: &mut S) {
+    row.line.word(":");
+    row.line.count("left", left(source));
 }
 
 /// How many bytes a source has from where it is.
@@ -80,77 +79,47 @@ pub fn left<S: Source>(source: &mut S) -> u64 {
     left
 }
 
-/// `riff BYTES OPTION..`
-pub fn riff(row: &mut Row, bytes: &str, options: &[&str]) {
-    let mut feed = Feed::of(row, bytes, options);
-    row.line.word("");
-    match read_wave_header(&mut feed) {
-        Ok(size) => row.line.number(size),
-        Err(error) => row.line.error(error),
-    }
-    row.line.count("took", feed.taken());
-}
-
-/// `read BYTES OPTION.. : ASK..`
-pub fn read(row: &mut Row, bytes: &str, options: &[&str], asks: &[&str]) {
-    match over(options) {
-        "" => {
-            let mut feed = Feed::of(row, bytes, options);
-            read_from(row, &mut feed, asks);
-        }
-        "tape" => {
-            let mut tape = Tape::new(row.bytes(bytes));
-            read_from(row, &mut tape, asks);
-        }
-        "journal" => read_journal(row, bytes, options, asks),
-        _ => row.refuse(),
-    }
-}
-
-fn read_journal(row: &mut Row, bytes: &str, options: &[&str], asks: &[&str]) {
-    let faults = Faults::of(row, options);
-    let bytes = row.bytes(bytes);
-    let Ok(mut journal) = Journal::new(row.alloc, bytes) else {
-        return row.line.fail();
-    };
-    faults.set(&mut journal);
-    read_from(row, &mut journal, asks);
-}
-
-fn read_from<O: Origin>(row: &mut Row, origin: &mut O, asks: &[&str]) {
-    match WavReader::new(&mut *origin) {
-        Ok(reader) => ask_all(row, reader, asks),
+// Makes a reader and asks it; whether there is one.
+fn ask_all<S: Source>(row: &mut Row, source: &mut S, asks: &[&str]) -> bool {
+    let mut reader = match WavReader::new(&mut *source) {
+        Ok(reader) => reader,
         Err(error) => {
-            row.line.word("");
             row.line.error(error);
-            if !origin.counts() {
-                return;
-            }
+            return false;
         }
-    }
-    row.line.word(":");
-    origin.close(row);
-}
-
-fn ask_all<O: Origin>(row: &mut Row, mut reader: WavReader<&mut O>, asks: &[&str]) {
+    };
     row.show_spec(reader.spec());
     row.line.count("len", reader.len());
     row.line.count("duration", reader.duration());
     row.line.word(":");
     for ask in asks {
-        if let Some(asked) = ask.strip_prefix("into:") {
-            return ask_into(row, reader, asked);
+        if let Some(ask) = ask.strip_prefix("into:") {
+            ask_into(row, reader, ask);
+            return true;
         }
         ask_one(row, &mut reader, ask);
+    }
+    true
+}
+
+// `seek=TIME`, `hint=TYPE`, `TYPE#`, `TYPE*`, `TYPE*N` or `TYPE`
+fn ask_one<S: Source>(row: &mut Row, reader: &mut WavReader<&mut S>, ask: &str) {
+    if let Some(time) = ask.strip_prefix("seek=") {
+        let time = row.number(time);
+        return row.line.io_answer(reader.seek(time));
+    }
+    let (kind, extent) = asked(row, ask);
+    match Kind::of(kind) {
+        Some(kind) => at_type!(kind, take(row, reader, extent)),
+        None => row.refuse(),
     }
 }
 
 // How much is asked of samples.
 #[derive(Clone, Copy)]
 enum Extent {
-    // So many items.
+    // So many items, or as many as there are with the None after them.
     Items(u64),
-    // All items, with the None after them.
     All,
     // How many there are, up to the first error, and a sum of them.
     Sum,
@@ -173,70 +142,55 @@ fn asked<'a>(row: &mut Row, ask: &'a str) -> (&'a str, Extent) {
     }
 }
 
-fn ask_one<O: Origin>(row: &mut Row, reader: &mut WavReader<&mut O>, ask: &str) {
-    if let ("seek", time) = name_and_value(ask) {
-        let time = row.number(time);
-        return O::seek(row, reader, time);
-    }
-    let (kind, extent) = asked(row, ask);
-    match kind {
-        "i8" => take::<i8, _>(row, reader, extent),
-        "i16" => take::<i16, _>(row, reader, extent),
-        "i32" => take::<i32, _>(row, reader, extent),
-        "f" => take::<FloatBits, _>(row, reader, extent),
-        "own" => take::<Twelve, _>(row, reader, extent),
-        _ => row.refuse(),
-    }
-}
-
-fn take<T: Value, R: io::Read + Drop>(row: &mut Row, reader: &mut WavReader<R>, extent: Extent) {
+fn take<T: Value>(row: &mut Row, reader: &mut WavReader<impl io::Read + Drop>, extent: Extent) {
     match extent {
-        Extent::Items(count) => {
-            let mut samples = reader.samples::<T>();
-            for _ in 0..count {
-                match samples.next() {
-                    Some(item) => show(row, item),
-                    None => row.line.word("None"),
-                }
-            }
-        }
+        Extent::Items(count) => take_items::<T>(&mut row.line, reader, count),
         Extent::All => {
             for item in reader.samples::<T>() {
-                show(row, item);
+                show(&mut row.line, item);
             }
             row.line.word("None");
         }
         Extent::Sum => {
             row.line.word("#");
-            Sum::of::<T, R>(reader).show(&mut row.line, ":");
+            Sum::of::<T>(reader).put(&mut row.line, ":");
         }
-        Extent::Hint => {
-            let samples = reader.samples::<T>();
-            let (low, high) = samples.size_hint();
-            row.line.word("");
-            row.line.number(low);
-            row.line.put("..");
-            row.line.number(high.unwrap_or(usize::MAX));
-            row.line.put("/");
-            row.line.number(samples.len());
+        Extent::Hint => show_hint::<T>(&mut row.line, reader),
+    }
+}
+
+fn take_items<T: Value>(line: &mut Line, reader: &mut WavReader<impl io::Read + Drop>, count: u64) {
+    let mut samples = reader.samples::<T>();
+    for _ in 0..count {
+        match samples.next() {
+            Some(item) => show(line, item),
+            None => line.word("None"),
         }
     }
 }
 
-fn ask_into<R: io::Read + Drop>(row: &mut Row, reader: WavReader<R>, asked: &str) {
-    match asked {
-        "i8*" => take_into::<i8, _>(row, reader),
-        "i16*" => take_into::<i16, _>(row, reader),
-        "i32*" => take_into::<i32, _>(row, reader),
-        "f*" => take_into::<FloatBits, _>(row, reader),
-        "own*" => take_into::<Twelve, _>(row, reader),
+fn show_hint<T: Value>(line: &mut Line, reader: &mut WavReader<impl io::Read + Drop>) {
+    let samples = reader.samples::<T>();
+    let (low, high) = samples.size_hint();
+    line.shown(low);
+    line.put("..");
+    line.put_shown(high.unwrap_or(usize::MAX));
+    line.put("/");
+    line.put_shown(samples.len());
+}
+
+// `TYPE*` by an iterator that keeps the reader.
+fn ask_into(row: &mut Row, reader: WavReader<impl io::Read + Drop>, ask: &str) {
+    let (kind, all) = row.split(ask, "*");
+    match Kind::of(kind) {
+        Some(kind) if all.is_empty() => at_type!(kind, take_into(row, reader)),
         _ => row.refuse(),
     }
 }
 
-fn take_into<T: Value, R: io::Read + Drop>(row: &mut Row, reader: WavReader<R>) {
+fn take_into<T: Value>(row: &mut Row, reader: WavReader<impl io::Read + Drop>) {
     for item in reader.into_samples::<T>() {
-        show(row, item);
+        show(&mut row.line, item);
     }
     row.line.word("None");
 }
@@ -251,7 +205,7 @@ pub struct Sum {
 
 impl Sum {
     /// Of the samples that a reader has left.
-    pub fn of<T: Value, R: io::Read + Drop>(reader: &mut WavReader<R>) -> Sum {
+    pub fn of<T: Value>(reader: &mut WavReader<impl io::Read + Drop>) -> Sum {
         let mut sum = Sum {
             count: 0,
             sum: 0,
@@ -276,14 +230,14 @@ impl Sum {
     }
 
     /// Adds it to the last word, with this between its parts.
-    pub fn show(self, line: &mut Line, between: &str) {
+    pub fn put(self, line: &mut Line, between: &str) {
         let Sum { count, sum, error } = self;
-        line.number(count);
+        line.put_shown(count);
         line.put(between);
-        line.number(sum);
+        line.put_shown(sum);
         if let Some(error) = error {
             line.put(between);
-            line.error(error);
+            line.put_error(error);
         }
     }
 }

@@ -1,29 +1,26 @@
 // A row that is read, and answered.
-use crate::bytes::Cursor;
 use crate::line::Line;
 use hound::{SampleFormat, WavSpec, WavSpecEx};
 use std::alloc::Global;
 use std::io::ErrorKind;
 use std::str::FromStr;
 
-/// Bytes that a row before has named.
+// Bytes that a row before has named.
 #[derive(Drop)]
 struct Named {
     name: Vec<u8>,
     bytes: Vec<u8>,
 }
 
-/// The row that is read: its words are looked at in turn, and each that isn't as it should be
-/// makes it none.
+/// The row that is read. Its words are looked at in turn, and one that isn't as it should be has
+/// the row refused; what is answered by then doesn't count.
 #[derive(Drop)]
 pub struct Row {
     /// For what takes memory.
     pub alloc: Global,
 
-    /// What it is answered.
+    /// The answer.
     pub line: Line,
-
-    /// Whether a word was not as it should be.
     is_refused: bool,
     names: Vec<Named>,
 }
@@ -62,60 +59,48 @@ impl Row {
         }
     }
 
-    /// Adds bytes to others.
-    pub fn extend(&mut self, bytes: &mut Vec<u8>, more: &[u8]) {
-        if bytes.extend_from_slice(more).is_err() {
-            self.line.fail();
-        }
-    }
-
     /// `let NAME BYTES`
-    pub fn define(&mut self, name: &str, bytes: &str) {
+    pub fn define(&mut self, words: &[&str]) {
+        let [name, bytes] = words else {
+            return self.refuse();
+        };
         let bytes = self.bytes(bytes);
-        let mut owned = Vec::new(self.alloc);
-        self.extend(&mut owned, name.as_bytes());
-        self.line.word("");
-        self.line.number(bytes.len());
+        self.line.shown(bytes.len());
         self.line.word("bytes");
-        let named = Named { name: owned, bytes };
-        if self.names.push(named).is_err() {
-            self.line.fail();
+        match name.as_bytes().to_vec(self.alloc) {
+            Ok(name) => {
+                if self.names.push(Named { name, bytes }).is_err() {
+                    self.line.fail();
+                }
+            }
+            Err(_) => self.line.fail(),
         }
     }
 
     /// Adds the bytes of this name to others.
-    pub fn extend_named(&mut self, bytes: &mut Vec<u8>, name: &[u8]) {
-        let found = self
-            .names
-            .iter()
-            .rev()
-            .find(|named| named.name.as_slice() == name);
-        match found {
-            Some(named) => {
+    pub fn push_named(&mut self, bytes: &mut Vec<u8>, name: &[u8]) {
+        for named in self.names.iter().rev() {
+            if named.name.as_slice() == name {
                 if bytes.extend_from_slice(named.bytes.as_slice()).is_err() {
                     self.line.fail();
                 }
+                return;
             }
-            None => self.is_refused = true,
         }
+        self.is_refused = true;
     }
 
-    /// The bytes of a word.
-    pub fn bytes(&mut self, word: &str) -> Vec<u8> {
-        Cursor::new(word).bytes(self)
-    }
-
-    /// A number.
+    /// A number; `max` is the greatest of 64 bits.
     pub fn number<N: FromStr + Default + Drop>(&mut self, word: &str) -> N
     where
         N::Err: Drop,
     {
-        let word = if word == "max" {
+        let digits = if word == "max" {
             "18446744073709551615"
         } else {
             word
         };
-        match word.parse::<N>() {
+        match digits.parse::<N>() {
             Ok(number) if !word.starts_with('+') => number,
             _ => {
                 self.is_refused = true;
@@ -124,11 +109,10 @@ impl Row {
         }
     }
 
-    /// A number of eight hex digits.
-    pub fn pattern(&mut self, word: &str) -> u32 {
-        let bytes = self.bytes(word);
-        match bytes.as_slice() {
-            [a, b, c, d] => u32::from_be_bytes([*a, *b, *c, *d]),
+    /// So many bytes in hex digits, at most four, as a number that begins with the first.
+    pub fn hex(&mut self, word: &str, count: usize) -> u32 {
+        match u32::from_str_radix(word, 16) {
+            Ok(number) if word.len() / 2 == count && word.len() % 2 == 0 => number,
             _ => {
                 self.is_refused = true;
                 0
@@ -143,18 +127,6 @@ impl Row {
             None => {
                 self.is_refused = true;
                 ("", "")
-            }
-        }
-    }
-
-    /// `int` or `float`
-    pub fn format(&mut self, word: &str) -> SampleFormat {
-        match word {
-            "int" => SampleFormat::Int,
-            "float" => SampleFormat::Float,
-            _ => {
-                self.is_refused = true;
-                SampleFormat::Int
             }
         }
     }
@@ -195,14 +167,43 @@ impl Row {
         }
     }
 
-    /// Writes the properties that readers and writers tell.
+    /// Refuses the row where a word isn't one of these, or one with what follows its `=`.
+    pub fn allow(&mut self, options: &[&str], names: &[&str]) {
+        for option in options {
+            let (name, _) = name_and_value(option);
+            if !(&*names).contains(&name) {
+                self.is_refused = true;
+            }
+        }
+    }
+
+    /// The number that an option has, or this one.
+    pub fn option<N: FromStr + Default + Drop>(
+        &mut self,
+        options: &[&str],
+        name: &str,
+        default: N,
+    ) -> N
+    where
+        N::Err: Drop,
+    {
+        match find(options, name) {
+            Some(word) => self.number(word),
+            None => default,
+        }
+    }
+
+    /// The bytes that an option has, or none.
+    pub fn bytes_option(&mut self, options: &[&str], name: &str) -> Vec<u8> {
+        let word = find(options, name).unwrap_or("-");
+        self.bytes(word)
+    }
+
+    /// The properties that readers and writers tell.
     pub fn show_spec(&mut self, spec: WavSpec) {
-        self.line.word("");
-        self.line.number(spec.channels);
-        self.line.word("");
-        self.line.number(spec.sample_rate);
-        self.line.word("");
-        self.line.number(spec.bits_per_sample);
+        self.line.shown(spec.channels);
+        self.line.shown(spec.sample_rate);
+        self.line.shown(spec.bits_per_sample);
         self.line.word(match spec.sample_format {
             SampleFormat::Int => "int",
             SampleFormat::Float => "float",
@@ -215,13 +216,27 @@ pub fn name_and_value(word: &str) -> (&str, &str) {
     word.split_once("=").unwrap_or((word, ""))
 }
 
+/// The value of the option of this name, if there is one.
+pub fn find<'a>(options: &[&'a str], wanted: &str) -> Option<&'a str> {
+    for option in options {
+        let (name, value) = name_and_value(option);
+        if name == wanted {
+            return Some(value);
+        }
+    }
+    None
+}
+
 /// The words before the first `:`, and those after it.
 pub fn parts<'a>(words: &'a [&'a str]) -> (&'a [&'a str], &'a [&'a str]) {
-    match words.iter().position(|word| *word == ":") {
-        Some(at) => (
-            &words[..at],
-            words.get(at.saturating_add(1)..).unwrap_or(&[]),
-        ),
-        None => (words, &[]),
+    let mut count = 0usize;
+    for word in words {
+        if *word == ":" {
+            break;
+        }
+        count = count.saturating_add(1);
     }
+    let before = words.get(..count).unwrap_or(words);
+    let after = words.get(count.saturating_add(1)..).unwrap_or(&[]);
+    (before, after)
 }

@@ -1,69 +1,87 @@
 // Rows of single samples.
 use crate::row::Row;
 use crate::sink::Sink;
-use crate::values::Value;
-use hound::Sample;
+use crate::values::{Kind, Value, at_type, show};
+use hound::{FloatBits, Sample, SampleFormat};
+use hound_callers::Twelve;
 
-/// `encode TYPE VALUE BITS WIDTH`
-pub fn encode<T: Value>(row: &mut Row, value: &str, bits: &str, width: &str) {
+/// `encode TYPE VALUE BITS WIDTH`, `write TYPE VALUE BITS SINK`, `write_padded TYPE VALUE BITS
+/// WIDTH SINK`, `decode TYPE FORMAT WIDTH BITS BYTES` and `short TYPE VALUE`
+pub fn answer(row: &mut Row, name: &str, words: &[&str]) {
+    let [kind, words @ ..] = words else {
+        return row.refuse();
+    };
+    let Some(kind) = Kind::of(kind) else {
+        return row.refuse();
+    };
+    match name {
+        "encode" => at_type!(kind, encode(row, words)),
+        "decode" => at_type!(kind, decode(row, words)),
+        "short" => short(row, kind, words),
+        _ => at_type!(kind, write(row, name, words)),
+    }
+}
+
+fn encode<T: Value>(row: &mut Row, words: &[&str]) {
+    let [value, bits, width] = words else {
+        return row.refuse();
+    };
     let value = T::of(row, value);
     let (bits, width) = (row.number(bits), row.number(width));
-    row.line.word("");
     match value.encode(bits, width) {
         Ok(bytes) => row.line.hex(&bytes),
         Err(error) => row.line.error(error),
     }
 }
 
-/// `write TYPE VALUE BITS SINK`
-pub fn write_sample<T: Value>(row: &mut Row, value: &str, bits: &str, options: &[&str]) {
+// A width is there where the container is padded.
+fn write<T: Value>(row: &mut Row, name: &str, words: &[&str]) {
+    let [value, bits, words @ ..] = words else {
+        return row.refuse();
+    };
     let value = T::of(row, value);
     let bits = row.number(bits);
+    if name == "write" {
+        let mut sink = Sink::of(row, words);
+        row.line.answer(value.write(&mut sink, bits));
+        return row.line.contents(sink.taken());
+    }
+    let [width, options @ ..] = words else {
+        return row.refuse();
+    };
+    let width = row.number(width);
     let mut sink = Sink::of(row, options);
-    let answer = value.write(&mut sink, bits);
-    row.line.answer(answer);
+    row.line.answer(value.write_padded(&mut sink, bits, width));
     row.line.contents(sink.taken());
 }
 
-/// `write_padded TYPE VALUE BITS WIDTH SINK`
-pub fn write_padded<T: Value>(
-    row: &mut Row,
-    value: &str,
-    bits: &str,
-    width: &str,
-    options: &[&str],
-) {
-    let value = T::of(row, value);
-    let (bits, width) = (row.number(bits), row.number(width));
-    let mut sink = Sink::of(row, options);
-    let answer = value.write_padded(&mut sink, bits, width);
-    row.line.answer(answer);
-    row.line.contents(sink.taken());
-}
-
-/// `decode TYPE FORMAT WIDTH BITS BYTES`
-pub fn decode<T: Value>(row: &mut Row, format: &str, width: &str, bits: &str, bytes: &str) {
-    let format = row.format(format);
+fn decode<T: Value>(row: &mut Row, words: &[&str]) {
+    let [format, width, bits, bytes] = words else {
+        return row.refuse();
+    };
+    let format = match *format {
+        "int" => SampleFormat::Int,
+        "float" => SampleFormat::Float,
+        _ => return row.refuse(),
+    };
     let (width, bits) = (row.number(width), row.number(bits));
     let bytes = row.bytes(bytes);
     let mut rest = bytes.as_slice();
     let item = <T as Sample>::read(&mut rest, format, width, bits);
-    show(row, item);
+    show(&mut row.line, item);
     row.line.count("left", rest.len());
 }
 
-/// `short TYPE VALUE`
-pub fn short<T: Value>(row: &mut Row, value: &str) {
-    let value = T::of(row, value);
-    row.line.word("");
-    row.line.number(value.short());
-}
-
-/// A value, or why there is none, as a word.
-pub fn show<T: Value>(row: &mut Row, item: hound::Result<T>) {
-    row.line.word("");
-    match item {
-        Ok(value) => value.show(&mut row.line),
-        Err(error) => row.line.error(error),
-    }
+fn short(row: &mut Row, kind: Kind, words: &[&str]) {
+    let [value] = words else {
+        return row.refuse();
+    };
+    let short = match kind {
+        Kind::Byte => i8::of(row, value).as_i16(),
+        Kind::Short => i16::of(row, value).as_i16(),
+        Kind::Long => i32::of(row, value).as_i16(),
+        Kind::Pattern => FloatBits::of(row, value).as_i16(),
+        Kind::Own => Twelve::of(row, value).as_i16(),
+    };
+    row.line.shown(short);
 }

@@ -2,103 +2,85 @@
 ghost use Rattle.std.specs.Prelude.{◌≡◌, ◌≤◌, length};
 ghost use Rattle.hound.specs.State.{WhereTells};
 
-use crate::counting::{Batch, Counted};
+use crate::counting::Counted;
 use crate::crc::Crc;
-use crate::kept::{Kept, Options, recorded};
-use crate::media::Faults;
-use crate::row::{Row, name_and_value, parts};
+use crate::kept::{Kept, recorded_of, tape_of};
+use crate::row::{Row, find, name_and_value, parts};
 use crate::values::Value;
 use crate::writers::is_finalized;
-use hound::{Begin, End, FloatBits, Result, Step, Tape, WavSpecEx, run_session, run_sessions};
+use hound::{Begin, End, FloatBits, Result, Step, WavSpecEx, run_session, run_sessions};
 use hound_spec::header_of;
 
 // How many of the steps that aren't marked are listed.
 const MOST_LISTED: usize = 20;
 
-// A session, with steps whose batches lie elsewhere.
+// What a row says of a session.
 #[derive(Clone, Copy)]
-struct Run<'a> {
+struct Script<'a> {
     begin: Begin,
     steps: &'a [Step<'a>],
     end: End,
-    has_moments: bool,
+    options: &'a [&'a str],
 }
 
-/// `session SPEC OPTION.. : STEP.. : END`
-pub fn session(row: &mut Row, spec: &str, words: &[&str]) {
-    let (options, words) = parts(words);
-    let (words, end) = parts(words);
-    let options = Options::of(row, options);
-    let batches = batches_of(row, words);
-    let steps = steps_of(row, words, &batches);
-    let session = Run {
-        begin: begin_of(row, spec),
-        steps: &steps,
-        end: end_of(row, end),
-        has_moments: options.has_moments,
+/// `session SPEC OPTION.. : STEP.. : END`, or with the option `calls=N` a sweep of such sessions,
+/// in which each range of so many calls fails in turn.
+pub fn session(row: &mut Row, words: &[&str]) {
+    let (words, others) = parts(words);
+    let (steps, end) = parts(others);
+    let [spec, options @ ..] = words else {
+        return row.refuse();
     };
-    if options.is_tape {
-        run_over(row, session, Tape::new(options.over));
-    } else if let Some(recorded) = recorded(row, options.over, options.faults) {
-        run_over(row, session, recorded);
+    row.allow(
+        options,
+        &["over", "most", "fail", "tape", "moments", "calls"],
+    );
+    let batches = batches_of(row, steps);
+    let sessions = steps_of(row, steps, &batches);
+    let Some(steps) = sessions.first() else {
+        return row.line.fail();
+    };
+    let script = Script {
+        begin: begin_of(row, spec),
+        steps: steps.as_slice(),
+        end: end_of(row, end),
+        options,
+    };
+    if find(options, "calls").is_some() {
+        sweep(row, script);
+    } else if find(options, "tape").is_some() {
+        let tape = tape_of(row, options);
+        run_over(row, script, tape);
+    } else if let Some(recorded) = recorded_of(row, options) {
+        run_over(row, script, recorded);
     }
 }
 
-/// `sweep SPEC OPTION.. calls=N : STEP.. : END`
-pub fn sweep(row: &mut Row, spec: &str, words: &[&str]) {
-    let (options, words) = parts(words);
-    let (words, end) = parts(words);
-    let options = Options::of(row, options);
-    let batches = batches_of(row, words);
-    let steps = steps_of(row, words, &batches);
-    let session = Run {
-        begin: begin_of(row, spec),
-        steps: &steps,
-        end: end_of(row, end),
-        has_moments: true,
-    };
-    let mut sweep = Totals {
-        runs: 0,
-        begun: 0,
-        crc: Crc::new(),
-    };
-    for from in 1..options.calls.saturating_add(1) {
-        for to in from..options.calls.saturating_add(1) {
-            sweep.add(row, session, options.faults.failing(from, to));
+// Runs a session while each range of its calls fails, and says how many runs there were, in how
+// many the whole header was taken, and the checksum of what each answered.
+fn sweep(row: &mut Row, script: Script<'_>) {
+    let calls = row.option(script.options, "calls", 0u64);
+    let (mut runs, mut begun, mut crc) = (0u64, 0u64, Crc::new());
+    for from in 1..calls.saturating_add(1) {
+        for to in from..calls.saturating_add(1) {
+            let Some(mut recorded) = recorded_of(row, script.options) else {
+                return;
+            };
+            recorded.journal.fail(from, to);
+            let recorded = run_over(row, script, recorded);
+            runs = runs.saturating_add(1);
+            if recorded.journal.taken() >= first_moment(script.begin) {
+                begun = begun.saturating_add(1);
+            }
+            row.line.put("\n");
+            crc.add(row.line.bytes());
+            row.line.clear();
         }
     }
-    row.line.count("runs", sweep.runs);
-    row.line.count("begun", sweep.begun);
+    row.line.count("runs", runs);
+    row.line.count("begun", begun);
     row.line.word("crc");
-    row.line.word("");
-    row.line.hex(&sweep.crc.value().to_be_bytes());
-}
-
-// The runs of a session over empty journals.
-#[derive(Drop)]
-struct Totals {
-    runs: u64,
-    // In so many of them the whole header was taken.
-    begun: u64,
-    // That of all their answers, each with its line feed.
-    crc: Crc,
-}
-
-impl Totals {
-    fn add(&mut self, row: &mut Row, session: Run<'_>, faults: Faults) {
-        let empty = Vec::new(row.alloc);
-        let Some(recorded) = recorded(row, empty, faults) else {
-            return;
-        };
-        let taken = run_over(row, session, recorded);
-        self.runs = self.runs.wrapping_add(1);
-        if taken >= first_moment(session.begin) {
-            self.begun = self.begun.wrapping_add(1);
-        }
-        self.crc.add(row.line.bytes());
-        self.crc.add(b"\n");
-        row.line.clear();
-    }
+    row.line.hex(&crc.value().to_be_bytes());
 }
 
 // A new file of this spec, or `append`.
@@ -117,49 +99,80 @@ fn end_of(row: &mut Row, end: &[&str]) -> End {
     }
 }
 
+// Whether each moment of a session is shown; in a sweep it always is.
+fn has_moments(options: &[&str]) -> bool {
+    find(options, "moments").is_some() || find(options, "calls").is_some()
+}
+
+// How many bytes were put when a file has its whole header.
+fn first_moment(begin: Begin) -> usize {
+    match begin {
+        Begin::New(spec_ex) if spec_ex.is_writable() => {
+            header_of(spec_ex, 0, 0).as_slice().len()
+        }
+        Begin::New(_) => 44,
+        Begin::Append => 0,
+    }
+}
+
 // For each word the samples of its batch; none where it is another step.
 fn batches_of(row: &mut Row, words: &[&str]) -> Vec<Vec<i16>> {
     let mut batches = Vec::new(row.alloc);
     for word in words {
-        let samples = match name_and_value(word) {
-            ("batch", values) => samples_of(row, values),
-            _ => Vec::new(row.alloc),
-        };
+        let mut samples = Vec::new(row.alloc);
+        if let ("batch", values) = name_and_value(word) {
+            push_samples(row, &mut samples, values);
+        }
         row.push(&mut batches, samples);
     }
     batches
 }
 
-fn samples_of(row: &mut Row, values: &str) -> Vec<i16> {
-    let batch = Batch::of(row, values);
-    let mut samples = Vec::new(row.alloc);
-    for index in 0..batch.len() {
-        row.push(&mut samples, batch.get(index));
-    }
-    samples
-}
-
-// The steps of these words.
-fn steps_of<'a>(row: &mut Row, words: &[&str], batches: &'a [Vec<i16>]) -> Vec<Step<'a>> {
-    let mut steps = Vec::new(row.alloc);
-    for (word, batch) in words.iter().zip(batches) {
-        match name_and_value(word) {
-            ("flush", "") => row.push(&mut steps, Step::Flush),
-            ("batch", _) => row.push(&mut steps, Step::Batch(batch.as_slice())),
-            ("f", bits) => {
-                let bits = FloatBits::of(row, bits);
-                row.push(&mut steps, Step::Bits(bits));
-            }
-            _ => push_whole(row, &mut steps, word),
+// `V,V,..` or `V+N`
+fn push_samples(row: &mut Row, samples: &mut Vec<i16>, values: &str) {
+    for word in values.split(',') {
+        let values = Counted::of(row, word);
+        let mut value = i16::of(row, values.first);
+        for _ in 0..values.count {
+            row.push(samples, value);
+            value = value.wrapping_add(1);
         }
     }
-    steps
+}
+
+// The steps of sessions, between which there is a `|`.
+fn steps_of<'a>(row: &mut Row, words: &[&str], batches: &'a [Vec<i16>]) -> Vec<Vec<Step<'a>>> {
+    let mut sessions = Vec::new(row.alloc);
+    let mut steps = Vec::new(row.alloc);
+    for (word, batch) in words.iter().zip(batches) {
+        if *word == "|" {
+            row.push(&mut sessions, steps);
+            steps = Vec::new(row.alloc);
+        } else {
+            push_step(row, &mut steps, word, batch.as_slice());
+        }
+    }
+    row.push(&mut sessions, steps);
+    sessions
+}
+
+fn push_step<'a>(row: &mut Row, steps: &mut Vec<Step<'a>>, word: &str, batch: &'a [i16]) {
+    let (name, value) = name_and_value(word);
+    match name {
+        "flush" => row.push(steps, Step::Flush),
+        "batch" => row.push(steps, Step::Batch(batch)),
+        "f" => {
+            let bits = FloatBits::of(row, value);
+            row.push(steps, Step::Bits(bits));
+        }
+        _ => push_whole(row, steps, word),
+    }
 }
 
 // `V`, `V*N` or `V+N`
 fn push_whole(row: &mut Row, steps: &mut Vec<Step<'_>>, word: &str) {
     let values = Counted::of(row, word);
-    let mut value: i32 = row.number(values.first);
+    let mut value = i32::of(row, values.first);
     for _ in 0..values.count {
         row.push(steps, Step::Whole(value));
         if values.counts_up {
@@ -168,45 +181,30 @@ fn push_whole(row: &mut Row, steps: &mut Vec<Step<'_>>, word: &str) {
     }
 }
 
-// How many bytes a file takes that has its whole header.
-fn first_moment(begin: Begin) -> usize {
-    match begin {
-        Begin::Append => 0,
-        Begin::New(spec_ex) => header_length(spec_ex),
-    }
-}
-
-fn header_length(spec_ex: WavSpecEx) -> usize {
-    if !spec_ex.is_writable() {
-        return 44;
-    }
-    header_of(spec_ex, 0, 0).as_slice().len()
-}
-
-// Runs a session, and says what came of it.
-fn run_over<M: Kept>(row: &mut Row, session: Run<'_>, medium: M) -> usize
+// Runs a session, says what came of it, and hands the medium back.
+fn run_over<M: Kept>(row: &mut Row, script: Script<'_>, medium: M) -> M
     requires { WhereTells M.tells ((M.state medium).place ≡ 0) }
 {
-    let Ok(mut marks) = vec![in row.alloc; false; session.steps.len()] else {
+    let Ok(mut marks) = vec![in row.alloc; false; script.steps.len()] else {
         row.line.fail();
-        return 0;
+        return medium;
     };
     let (medium, answer) = run_session(
         row.alloc,
         medium,
-        session.begin,
-        session.steps,
+        script.begin,
+        script.steps,
         &mut marks,
-        session.end,
+        script.end,
     );
     show_marks(row, &marks);
     row.line.word(":");
     show_end(row, &medium, answer);
-    if session.has_moments {
+    if has_moments(script.options) {
         row.line.word(":");
-        medium.show_moments(row, first_moment(session.begin));
+        medium.show_past(row, first_moment(script.begin));
     }
-    medium.taken()
+    medium
 }
 
 fn show_end<M: Kept>(row: &mut Row, medium: &M, answer: Result<()>) {
@@ -225,8 +223,7 @@ fn show_marks(row: &mut Row, marks: &[bool]) {
                 row.line.word("not");
             }
             if unmarked < MOST_LISTED {
-                row.line.word("");
-                row.line.number(index);
+                row.line.shown(index);
             }
             unmarked = unmarked.saturating_add(1);
         }
@@ -237,42 +234,33 @@ fn show_marks(row: &mut Row, marks: &[bool]) {
 }
 
 /// `sessions SPEC OPTION.. : STEP.. | STEP.. | ..`
-pub fn sessions(row: &mut Row, spec: &str, words: &[&str]) {
-    let (options, words) = parts(words);
-    let options = Options::of(row, options);
+pub fn sessions(row: &mut Row, words: &[&str]) {
+    let (words, steps) = parts(&*words);
+    let [spec, options @ ..] = words else {
+        return row.refuse();
+    };
+    row.allow(options, &["over", "most", "fail", "tape"]);
     let spec_ex = row.spec(spec);
-    let batches = batches_of(row, words);
-    let steps = all_steps_of(row, words, &batches);
-    if options.is_tape {
-        run_all(row, spec_ex, &steps, Tape::new(options.over));
-    } else if let Some(recorded) = recorded(row, options.over, options.faults) {
-        run_all(row, spec_ex, &steps, recorded);
+    let batches = batches_of(row, steps);
+    let mut sessions = steps_of(row, steps, &batches);
+    if steps.is_empty() {
+        sessions.clear();
+    }
+    if find(options, "tape").is_some() {
+        let tape = tape_of(row, options);
+        run_all(row, spec_ex, &sessions, tape);
+    } else if let Some(recorded) = recorded_of(row, options) {
+        run_all(row, spec_ex, &sessions, recorded);
     }
 }
 
-// The steps of each session; no words are no sessions.
-fn all_steps_of<'a>(row: &mut Row, words: &[&str], batches: &'a [Vec<i16>]) -> Vec<Vec<Step<'a>>> {
-    let mut sessions = Vec::new(row.alloc);
-    let mut at = 0usize;
-    if words.is_empty() {
-        return sessions;
-    }
-    for part in words.split(|word| *word == "|") {
-        let batches = batches.get(at..).unwrap_or(&[]);
-        let steps = steps_of(row, part, batches);
-        row.push(&mut sessions, steps);
-        at = at.saturating_add(part.len()).saturating_add(1);
-    }
-    sessions
-}
-
-fn run_all<M: Kept>(row: &mut Row, spec_ex: WavSpecEx, steps: &[Vec<Step<'_>>], medium: M)
+fn run_all<M: Kept>(row: &mut Row, spec_ex: WavSpecEx, sessions: &[Vec<Step<'_>>], medium: M)
     requires { WhereTells M.tells ((M.state medium).place ≡ 0) }
 {
-    let mut sessions = Vec::new(row.alloc);
-    for steps in steps {
-        row.push(&mut sessions, steps.as_slice());
+    let mut slices = Vec::new(row.alloc);
+    for steps in sessions {
+        row.push(&mut slices, steps.as_slice());
     }
-    let (medium, answer) = run_sessions(row.alloc, medium, spec_ex, &sessions);
+    let (medium, answer) = run_sessions(row.alloc, medium, spec_ex, &slices);
     show_end(row, &medium, answer);
 }

@@ -1,7 +1,7 @@
 // What rows write into.
 ghost use Rattle.std.specs.Prelude.{◌≡◌};
 
-use crate::row::{Row, name_and_value};
+use crate::row::{Row, find};
 use std::io;
 use std::io::{Error, ErrorKind};
 
@@ -18,22 +18,17 @@ pub struct Sink {
 impl Sink {
     /// By the options `takes=N`, `room=N` and `fault=KIND`.
     pub fn of(row: &mut Row, options: &[&str]) -> Sink {
-        let mut sink = Sink {
-            taken: Vec::new(row.alloc),
-            most: usize::MAX,
-            room: usize::MAX,
-            fault: None,
+        row.allow(options, &["takes", "room", "fault"]);
+        let fault = match find(options, "fault") {
+            Some(kind) => Some(row.kind(kind)),
+            None => None,
         };
-        for option in options {
-            let (name, value) = name_and_value(option);
-            match name {
-                "takes" => sink.most = row.number(value),
-                "room" => sink.room = row.number(value),
-                "fault" => sink.fault = Some(row.kind(value)),
-                _ => row.refuse(),
-            }
+        Sink {
+            taken: Vec::new(row.alloc),
+            most: row.option(options, "takes", usize::MAX),
+            room: row.option(options, "room", usize::MAX),
+            fault,
         }
-        sink
     }
 
     /// What it took.

@@ -6,28 +6,35 @@ use hound::{Error, SampleFormat, WavSpec};
 use hound_spec::{header_of, with_default_width};
 
 /// `writable SPEC`
-pub fn writable(row: &mut Row, spec: &str) {
+pub fn writable(row: &mut Row, words: &[&str]) {
+    let [spec] = words else {
+        return row.refuse();
+    };
     let spec_ex = row.spec(spec);
     row.line
         .word(if spec_ex.is_writable() { "yes" } else { "no" });
 }
 
 /// `header SPEC RIFF_SIZE DATA_LENGTH`
-pub fn header(row: &mut Row, spec: &str, riff_size: &str, data_length: &str) {
+pub fn header(row: &mut Row, words: &[&str]) {
+    let [spec, riff_size, data_length] = words else {
+        return row.refuse();
+    };
     let spec_ex = row.spec(spec);
     let (riff_size, data_length) = (row.number(riff_size), row.number(data_length));
     if !spec_ex.is_writable() {
         return row.line.word("no");
     }
     let header = header_of(spec_ex, riff_size, data_length);
-    row.line.word("");
     row.line.hex(header.as_slice());
 }
 
 /// `infinite SPEC`
-pub fn infinite(row: &mut Row, spec: &str) {
+pub fn infinite(row: &mut Row, words: &[&str]) {
+    let [spec] = words else {
+        return row.refuse();
+    };
     let spec = row.spec(spec).spec;
-    row.line.word("");
     match spec.into_header_for_infinite_file(row.alloc) {
         Ok(header) => row.line.hex(header.as_slice()),
         Err(error) => row.line.error(error),
@@ -35,20 +42,25 @@ pub fn infinite(row: &mut Row, spec: &str) {
 }
 
 /// `width BITS`
-pub fn width(row: &mut Row, bits: &str) {
+pub fn width(row: &mut Row, words: &[&str]) {
+    let [bits] = words else {
+        return row.refuse();
+    };
     let spec_ex = with_default_width(WavSpec {
         channels: 1,
         sample_rate: 44100,
         bits_per_sample: row.number(bits),
         sample_format: SampleFormat::Int,
     });
-    row.line.word("");
-    row.line.number(spec_ex.bytes_per_sample);
+    row.line.shown(spec_ex.bytes_per_sample);
 }
 
 /// `text NAME`
-pub fn text(row: &mut Row, name: &str) {
-    let error = match name {
+pub fn text(row: &mut Row, words: &[&str]) {
+    let [name] = words else {
+        return row.refuse();
+    };
+    let error = match *name {
         "FormatError" => Error::FormatError("no RIFF tag found"),
         "TooWide" => Error::TooWide,
         "UnfinishedSample" => Error::UnfinishedSample,
@@ -58,6 +70,5 @@ pub fn text(row: &mut Row, name: &str) {
         "OutOfMemory" => Error::OutOfMemory,
         _ => return row.refuse(),
     };
-    row.line.word("");
-    row.line.number(error);
+    row.line.shown(error);
 }

@@ -4,27 +4,24 @@ use crate::row::Row;
 use hound::{FloatBits, Sample};
 use hound_callers::Twelve;
 
-/// A type of samples, by its name in a row: `i8`, `i16`, `i32`, `f` and `own`.
+/// A type of samples.
 pub trait Value: Sample + Copy {
-    /// The value that a word stands for.
+    /// Whether values are written as patterns, in eight hex digits.
+    const IS_PATTERN: bool;
+
+    /// The value of a word.
     fn of(row: &mut Row, word: &str) -> Self;
 
     /// The value as a number; of a float that of its pattern.
     fn number(self) -> i64;
 
-    /// The value that counts up by one, from the end of the type to its beginning.
+    /// The value after this one; after the last of the type comes its first.
     fn next(self) -> Self;
-
-    /// The value cast to sixteen bits.
-    fn short(self) -> i16;
-
-    /// Adds the value to the last word of a line.
-    fn show(self, line: &mut Line) {
-        line.number(self.number());
-    }
 }
 
 impl Value for i8 {
+    const IS_PATTERN: bool = false;
+
     fn of(row: &mut Row, word: &str) -> i8 {
         row.number(word)
     }
@@ -36,13 +33,11 @@ impl Value for i8 {
     fn next(self) -> i8 {
         self.wrapping_add(1)
     }
-
-    fn short(self) -> i16 {
-        self.as_i16()
-    }
 }
 
 impl Value for i16 {
+    const IS_PATTERN: bool = false;
+
     fn of(row: &mut Row, word: &str) -> i16 {
         row.number(word)
     }
@@ -54,13 +49,11 @@ impl Value for i16 {
     fn next(self) -> i16 {
         self.wrapping_add(1)
     }
-
-    fn short(self) -> i16 {
-        self.as_i16()
-    }
 }
 
 impl Value for i32 {
+    const IS_PATTERN: bool = false;
+
     fn of(row: &mut Row, word: &str) -> i32 {
         row.number(word)
     }
@@ -72,16 +65,13 @@ impl Value for i32 {
     fn next(self) -> i32 {
         self.wrapping_add(1)
     }
-
-    fn short(self) -> i16 {
-        self.as_i16()
-    }
 }
 
-// A float is written as its pattern, in eight hex digits.
 impl Value for FloatBits {
+    const IS_PATTERN: bool = true;
+
     fn of(row: &mut Row, word: &str) -> FloatBits {
-        FloatBits(row.pattern(word))
+        FloatBits(row.hex(word, 4))
     }
 
     fn number(self) -> i64 {
@@ -91,17 +81,11 @@ impl Value for FloatBits {
     fn next(self) -> FloatBits {
         FloatBits(self.0.wrapping_add(1))
     }
-
-    fn short(self) -> i16 {
-        self.as_i16()
-    }
-
-    fn show(self, line: &mut Line) {
-        line.hex(&self.0.to_be_bytes());
-    }
 }
 
 impl Value for Twelve {
+    const IS_PATTERN: bool = false;
+
     fn of(row: &mut Row, word: &str) -> Twelve {
         Twelve(row.number(word))
     }
@@ -113,22 +97,57 @@ impl Value for Twelve {
     fn next(self) -> Twelve {
         Twelve(self.0.wrapping_add(1))
     }
+}
 
-    fn short(self) -> i16 {
-        self.as_i16()
+/// A value, or why there is none, as a word.
+pub fn show<T: Value>(line: &mut Line, item: hound::Result<T>) {
+    match item {
+        Ok(value) => {
+            let number = value.number();
+            if T::IS_PATTERN {
+                let [_, _, _, _, a, b, c, d] = number.to_be_bytes();
+                line.hex(&[a, b, c, d]);
+            } else {
+                line.shown(number);
+            }
+        }
+        Err(error) => line.error(error),
     }
 }
 
-/// Calls a function at the type of this name, or refuses the row.
+/// The types by their names.
+#[derive(Clone, Copy)]
+pub enum Kind {
+    Byte,
+    Short,
+    Long,
+    Pattern,
+    Own,
+}
+
+impl Kind {
+    /// The type of this name, if there is one.
+    pub fn of(name: &str) -> Option<Kind> {
+        match name {
+            "i8" => Some(Kind::Byte),
+            "i16" => Some(Kind::Short),
+            "i32" => Some(Kind::Long),
+            "f" => Some(Kind::Pattern),
+            "own" => Some(Kind::Own),
+            _ => None,
+        }
+    }
+}
+
+/// Calls a function at a type.
 macro_rules! at_type {
-    ($row:ident, $name:expr, $function:ident($($argument:expr),*)) => {
-        match $name {
-            "i8" => $function::<i8>($($argument),*),
-            "i16" => $function::<i16>($($argument),*),
-            "i32" => $function::<i32>($($argument),*),
-            "f" => $function::<FloatBits>($($argument),*),
-            "own" => $function::<Twelve>($($argument),*),
-            _ => $row.refuse(),
+    ($kind:expr, $function:ident($($argument:expr),*)) => {
+        match $kind {
+            Kind::Byte => $function::<i8>($($argument),*),
+            Kind::Short => $function::<i16>($($argument),*),
+            Kind::Long => $function::<i32>($($argument),*),
+            Kind::Pattern => $function::<FloatBits>($($argument),*),
+            Kind::Own => $function::<Twelve>($($argument),*),
         }
     };
 }

@@ -2,63 +2,46 @@
 ghost use Rattle.std.specs.Prelude.{◌≡◌, ◌≤◌};
 ghost use Rattle.hound.specs.State.{WhereTells};
 
-use crate::counting::{Batch, Counted};
-use crate::kept::{Kept, Options, recorded};
-use crate::row::{Row, name_and_value, parts};
-use crate::values::Value;
-use hound::{Error, FloatBits, Medium, Result, SampleFormat, Source, Tape, WavSpecEx, WavWriter};
+use crate::counting::Counted;
+use crate::kept::{Kept, recorded_of, tape_of};
+use crate::row::{Row, find, name_and_value, parts};
+use crate::values::{Kind, Value, at_type};
+use hound::{Error, FloatBits, Medium, Result, SampleFormat, SampleWriter16, Source, WavWriter};
 use hound_callers::Twelve;
 use std::result;
-
-// The constructor of a writer.
-#[derive(Clone, Copy)]
-enum Constructor {
-    New(WavSpecEx),
-    Ex(WavSpecEx),
-    Try(WavSpecEx),
-    Append,
-    TryAppend,
-}
 
 // What is asked of a writer.
 #[derive(Clone, Copy)]
 struct Script<'a> {
-    begin: Constructor,
+    constructor: &'a str,
+    spec: &'a str,
     acts: &'a [&'a str],
     // It ends by `finalize` and not by a drop.
     is_finalized: bool,
+    // It is over a `&mut` of its medium.
     is_lent: bool,
 }
 
 /// `write HOW SPEC OPTION.. : ACT.. : END`
-pub fn write(row: &mut Row, how: &str, spec: &str, words: &[&str]) {
-    let (options, words) = parts(words);
-    let (acts, end) = parts(words);
-    let options = Options::of(row, options);
+pub fn write(row: &mut Row, words: &[&str]) {
+    let (words, others) = parts(words);
+    let (acts, end) = parts(others);
+    let [constructor, spec, options @ ..] = words else {
+        return row.refuse();
+    };
+    row.allow(options, &["over", "most", "fail", "tape", "lent"]);
     let script = Script {
-        begin: begin_of(row, how, spec),
+        constructor,
+        spec,
         acts,
         is_finalized: is_finalized(row, end),
-        is_lent: options.is_lent,
+        is_lent: find(options, "lent").is_some(),
     };
-    if options.is_tape {
-        write_over(row, script, Tape::new(options.over));
-    } else if let Some(recorded) = recorded(row, options.over, options.faults) {
+    if find(options, "tape").is_some() {
+        let tape = tape_of(row, options);
+        write_over(row, script, tape);
+    } else if let Some(recorded) = recorded_of(row, options) {
         write_over(row, script, recorded);
-    }
-}
-
-fn begin_of(row: &mut Row, how: &str, spec: &str) -> Constructor {
-    match how {
-        "new" => Constructor::New(row.spec(spec)),
-        "ex" => Constructor::Ex(row.spec(spec)),
-        "try" => Constructor::Try(row.spec(spec)),
-        "append" if spec == "-" => Constructor::Append,
-        "try_append" if spec == "-" => Constructor::TryAppend,
-        _ => {
-            row.refuse();
-            Constructor::Append
-        }
     }
 }
 
@@ -95,10 +78,9 @@ fn show<M: Kept>(row: &mut Row, medium: &M) {
 fn run<M: Source + Medium>(row: &mut Row, script: Script<'_>, medium: M) -> Option<M>
     requires { WhereTells M.tells ((M.state medium).place ≡ 0) }
 {
-    let mut writer = match begin(script.begin, medium) {
+    let mut writer = match begin(row, script, medium) {
         Ok(writer) => writer,
         Err((medium, error)) => {
-            row.line.word("");
             row.line.error(error);
             return medium;
         }
@@ -113,23 +95,24 @@ fn run<M: Source + Medium>(row: &mut Row, script: Script<'_>, medium: M) -> Opti
     end(row, script, writer)
 }
 
+// A constructor that refuses drops its medium or hands it back.
 fn begin<M: Source + Medium>(
-    begin: Constructor,
+    row: &mut Row,
+    script: Script<'_>,
     medium: M,
 ) -> result::Result<WavWriter<M>, (Option<M>, Error)>
     requires { WhereTells M.tells ((M.state medium).place ≡ 0) }
 {
-    match begin {
-        Constructor::New(spec_ex) => out_of_reach(WavWriter::new(medium, spec_ex.spec)),
-        Constructor::Ex(spec_ex) => out_of_reach(WavWriter::new_with_spec_ex(medium, spec_ex)),
-        Constructor::Append => out_of_reach(WavWriter::new_append(medium)),
-        Constructor::Try(spec_ex) => in_reach(WavWriter::try_new(medium, spec_ex)),
-        Constructor::TryAppend => in_reach(WavWriter::try_append(medium)),
+    match script.constructor {
+        "new" => dropping(WavWriter::new(medium, row.spec(script.spec).spec)),
+        "ex" => dropping(WavWriter::new_with_spec_ex(medium, row.spec(script.spec))),
+        "try" => handing_back(WavWriter::try_new(medium, row.spec(script.spec))),
+        "append" => dropping(WavWriter::new_append(medium)),
+        _ => handing_back(WavWriter::try_append(medium)),
     }
 }
 
-// A constructor has dropped its medium where it refused.
-fn out_of_reach<M: Medium>(
+fn dropping<M: Medium>(
     writer: Result<WavWriter<M>>,
 ) -> result::Result<WavWriter<M>, (Option<M>, Error)> {
     match writer {
@@ -138,8 +121,7 @@ fn out_of_reach<M: Medium>(
     }
 }
 
-// A constructor has handed its medium back where it refused.
-fn in_reach<M: Medium>(
+fn handing_back<M: Medium>(
     writer: result::Result<WavWriter<M>, (M, Error)>,
 ) -> result::Result<WavWriter<M>, (Option<M>, Error)> {
     match writer {
@@ -174,24 +156,19 @@ fn end_lent<M: Medium>(row: &mut Row, script: Script<'_>, writer: WavWriter<M>) 
 // An act, its answer and the writer's length then.
 fn take<M: Medium>(row: &mut Row, writer: &mut WavWriter<M>, act: &str) {
     let (name, value) = name_and_value(act);
-    let answer = match name {
-        "i8" => write_values::<i8, M>(row, writer, value),
-        "i16" => write_values::<i16, M>(row, writer, value),
-        "i32" => write_values::<i32, M>(row, writer, value),
-        "f" => write_values::<FloatBits, M>(row, writer, value),
-        "own" => write_values::<Twelve, M>(row, writer, value),
-        "flush" => writer.flush(),
-        _ => take_batch(row, writer, name, value),
+    let answer = match Kind::of(name) {
+        Some(kind) => at_type!(kind, write_values(row, writer, value)),
+        None => take_other(row, writer, name, value),
     };
     row.line.answer(answer);
     row.line.put(":");
-    row.line.number(writer.len());
+    row.line.put_shown(writer.len());
 }
 
-// Up to the first that is refused.
-fn write_values<T: Value, M: Medium>(
+// `TYPE=VALUE`, `TYPE=VALUE*N` or `TYPE=VALUE+N`, up to the first that is refused.
+fn write_values<T: Value>(
     row: &mut Row,
-    writer: &mut WavWriter<M>,
+    writer: &mut WavWriter<impl Medium>,
     values: &str,
 ) -> Result<()> {
     let values = Counted::of(row, values);
@@ -205,38 +182,50 @@ fn write_values<T: Value, M: Medium>(
     Ok(())
 }
 
-fn take_batch<M: Medium>(
+fn take_other<M: Medium>(
     row: &mut Row,
     writer: &mut WavWriter<M>,
     name: &str,
     value: &str,
 ) -> Result<()> {
-    let (batch, count, is_flushed) = match name {
+    match name {
+        "flush" => writer.flush(),
         "batch" => {
-            let batch = Batch::of(row, value);
-            let count = batch.len();
-            (batch, count, true)
+            let count = count_of(row, value);
+            write_batch(row, writer, count, value, true)
         }
         "dropped" => {
             let (values, count) = row.split(value, "/");
-            (Batch::of(row, values), row.number(count), false)
+            let count = row.number(count);
+            write_batch(row, writer, count, values, false)
         }
-        "begin" => (Batch::none(row), row.number(value), false),
+        "begin" => {
+            let count = row.number(value);
+            write_batch(row, writer, count, "", false)
+        }
         _ => {
             row.refuse();
-            return Ok(());
+            Ok(())
         }
-    };
-    write_batch(row, writer, &batch, count, is_flushed)
+    }
 }
 
-// Begins a batch for so many samples, writes these, and flushes or drops it. Files of other samples
-// have no batches.
+// How many samples `V,V,..` or `V+N` are.
+fn count_of(row: &mut Row, values: &str) -> u32 {
+    let mut count = 0u32;
+    for word in values.split(',') {
+        count = count.saturating_add(Counted::of(row, word).count);
+    }
+    count
+}
+
+// Begins a batch for so many samples, writes these, if any, and flushes or drops it. Files of other
+// samples than integers of 16 bits have no batches.
 fn write_batch<M: Medium>(
-    row: &Row,
+    row: &mut Row,
     writer: &mut WavWriter<M>,
-    values: &Batch,
     count: u32,
+    values: &str,
     is_flushed: bool,
 ) -> Result<()> {
     let spec = writer.spec();
@@ -244,17 +233,30 @@ fn write_batch<M: Medium>(
         return Err(Error::Unsupported);
     }
     let mut batch = writer.get_i16_writer(row.alloc, count)?;
-    for index in 0..values.len() {
-        if batch.remaining() >= 1 {
-            batch.write_sample(values.get(index));
-        }
+    if !values.is_empty() {
+        fill(row, &mut batch, values);
+    } else if batch.remaining() != count {
+        return Err(Error::UnfinishedSample);
     }
-    let remaining = batch.remaining();
-    if is_flushed && remaining == 0 {
-        return batch.flush();
-    }
-    if remaining == count.saturating_sub(values.len()) {
+    if !is_flushed {
         return Ok(());
     }
-    Err(Error::UnfinishedSample)
+    if batch.remaining() != 0 {
+        return Err(Error::UnfinishedSample);
+    }
+    batch.flush()
+}
+
+// Writes samples while there is room for them.
+fn fill<M: Medium>(row: &mut Row, batch: &mut SampleWriter16<'_, M>, values: &str) {
+    for word in values.split(',') {
+        let values = Counted::of(row, word);
+        let mut value = i16::of(row, values.first);
+        for _ in 0..values.count {
+            if batch.remaining() >= 1 {
+                batch.write_sample(value);
+            }
+            value = value.wrapping_add(1);
+        }
+    }
 }

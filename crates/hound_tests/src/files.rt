@@ -14,14 +14,13 @@ use std::{env, fs, process};
 enum Deed {
     // It has these bytes from now on.
     Put(&'static [u8]),
-    // A writer makes it, with so many channels, and is finalized behind these samples.
+    // A writer makes it, with so many channels, and is finalized after these samples.
     Create(u16, &'static [i16]),
-    // A writer goes on with it, and is finalized behind these samples.
+    // A writer appends these samples and is finalized.
     Append(&'static [i16]),
-    // A writer goes on with it, and is dropped behind this sample.
+    // A writer appends this sample and is dropped.
     AppendOne(i16),
-    // The first samples are read at a checkpoint, while the writer stands that goes on with the
-    // second.
+    // The first samples are read at a checkpoint, before the same writer appends the second.
     Checkpoint(&'static [i16], &'static [i16]),
     // The program's `append` over this input: its status and its line of errors.
     AppendText(&'static [u8], u8, &'static [u8]),
@@ -71,7 +70,7 @@ struct Row {
 
 const ROWS: &[Row] = &[
     Row {
-        name: "a file is made, gone on with and read",
+        name: "a file is made, appended to and read",
         deeds: &[
             (Deed::Create(1, &[11, 13, 17]), "done"),
             (Deed::Append(&[19, 23]), "done"),
@@ -88,7 +87,7 @@ const ROWS: &[Row] = &[
         is_left: true,
     },
     Row {
-        name: "a checkpoint is read while the writer stands",
+        name: "a checkpoint is read while the writer lives",
         deeds: &[
             (Deed::Checkpoint(&[11, 13, 17], &[19, 23]), "done"),
             (Deed::HasSamples(&[11, 13, 17, 19, 23]), "done"),
@@ -245,7 +244,7 @@ fn does(rt: &HostRuntime, path: Path<'_>, deed: Deed) -> hound::Result<bool> {
 }
 
 impl Row {
-    // Whether each deed is answered as said; the file is removed behind them.
+    // Whether each deed is answered as said; the file is removed after them.
     fn holds(&self, rt: &HostRuntime, path: Path<'_>) -> bool {
         let mut holds = true;
         for (deed, answer) in self.deeds {

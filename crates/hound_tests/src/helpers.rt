@@ -64,7 +64,7 @@ pub(crate) fn empty_tape(alloc: Global) -> Tape
     Tape::new(Vec::new(alloc))
 }
 
-// A tape of these bytes, which stands before the first.
+// A tape of these bytes, at the first of them.
 pub(crate) fn tape_of(alloc: Global, bytes: &[u8]) -> Result<Tape, Fail>
     ensures { IfOk result (λ t. (⟦<Tape as Placed>⟧.state t).place ≡ 0) }
 {

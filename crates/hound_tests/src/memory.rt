@@ -60,8 +60,8 @@ fn take_all_but(alloc: Global, room: usize) -> Result<Vec<Vec<u8>>, Fail> {
     Ok(blocks)
 }
 
-// What is told of a refusal, and no words where it is none.
-fn told<T>(answer: &hound::Result<T>) -> &'static str {
+// The words of an error, and none where the answer is Ok.
+fn words_of_answer<T>(answer: &hound::Result<T>) -> &'static str {
     match answer {
         Ok(_) => "",
         Err(error) => words_of(error),
@@ -82,7 +82,7 @@ fn header_without(
 }
 
 // Whether a header is refused by these words, or is the one that is made with all memory.
-fn header_is_told(alloc: Global, channels: u16, room: usize, words: &str) -> Result<bool, Fail> {
+fn header_has_words(alloc: Global, channels: u16, room: usize, words: &str) -> Result<bool, Fail> {
     match header_without(alloc, channels, room)? {
         Ok(header) => {
             let whole = header_without(alloc, channels, PLENTY)??;
@@ -95,8 +95,8 @@ fn header_is_told(alloc: Global, channels: u16, room: usize, words: &str) -> Res
 #[test]
 fn a_header_of_unknown_length(rt: HostRuntime) -> Result<(), Fail> {
     for (channels, room, words) in [(10, 0, "OutOfMemory"), (0, 0, "Unsupported"), (10, 68, "")] {
-        let is_told = header_is_told(rt.alloc(), channels, room, words)?;
-        assert!(rt; is_told, "{channels} channels with {room}");
+        let has_words = header_has_words(rt.alloc(), channels, room, words)?;
+        assert!(rt; has_words, "{channels} channels with {room}");
     }
     Ok(())
 }
@@ -200,7 +200,7 @@ impl Script {
         let mut writer = WavWriter::new(empty_tape(alloc), sixteen(1))?;
         for (room, next, words, len) in self.acts {
             let answer = take_without(&mut writer, alloc, *next, *room)?;
-            if told(&answer) != *words || writer.len() != *len {
+            if words_of_answer(&answer) != *words || writer.len() != *len {
                 return Ok(false);
             }
         }
@@ -221,7 +221,7 @@ fn a_writer_begins_over_a_tape_that_cannot_grow(rt: HostRuntime) -> Result<(), F
     let blocks = take_all_but(rt.alloc(), 0)?;
     let refused = WavWriter::new(empty_tape(rt.alloc()), sixteen(1));
     drop(blocks);
-    assert!(rt; told(&refused) == NO_MEMORY);
+    assert!(rt; words_of_answer(&refused) == NO_MEMORY);
     Ok(())
 }
 
@@ -241,7 +241,7 @@ fn put_without<M: Medium>(
     Ok(answer)
 }
 
-// Whether a tape that can't grow stays, and stands where it stood.
+// Whether a tape that can't grow stays as it was, at its place.
 fn tape_grows(alloc: Global, place: u32) -> Result<bool, Fail> {
     let mut tape = tape_of(alloc, &FOUR_SAMPLES)?;
     tape.go(place as u64)?;
@@ -256,7 +256,7 @@ fn tape_grows(alloc: Global, place: u32) -> Result<bool, Fail> {
     )
 }
 
-// At its end and behind a gap.
+// At its end and after a gap.
 #[test]
 fn a_tape_that_grows(rt: HostRuntime) -> Result<(), Fail> {
     for place in [52, 60] {
@@ -381,12 +381,12 @@ fn a_moment_of_a_journal(rt: HostRuntime) -> Result<(), Fail> {
     Ok(())
 }
 
-// The four samples whose first two are those behind them.
+// The four samples whose first two are those after them.
 const OVERWRITTEN: &[u8] =
     b"RIFF\x28\0\0\0WAVEfmt \x10\0\0\0\x01\0\x01\0\x44\xac\0\0\x88\x58\x01\0\x02\0\x10\0\
         data\x04\0\0\0\x05\0\xf9\xff\x05\0\xf9\xff";
 
-// A batch that finds no memory isn't done; the steps behind it are. The last four bytes are those
+// A batch that finds no memory isn't done; the steps after it are. The last four bytes are those
 // of the file that was there.
 #[test]
 fn a_batch_of_a_session(rt: HostRuntime) -> Result<(), Fail> {
@@ -398,8 +398,8 @@ fn a_batch_of_a_session(rt: HostRuntime) -> Result<(), Fail> {
     let blocks = take_all_but(alloc, 0)?;
     let (tape, answer) = run_session(alloc, tape, begin, &steps, &mut marks, End::Finalize);
     drop(blocks);
-    let stands = answer.is_ok() && marks == [false, true, true] && tape.bytes() == OVERWRITTEN;
-    assert!(rt; stands, "{marks:?}");
+    let is_so = answer.is_ok() && marks == [false, true, true] && tape.bytes() == OVERWRITTEN;
+    assert!(rt; is_so, "{marks:?}");
     Ok(())
 }
 
@@ -428,9 +428,9 @@ fn open_without(
     let alloc = rt.alloc();
     let blocks = take_all_but(alloc, room)?;
     let words = match opening {
-        Opening::Open => told(&WavReader::open(rt, alloc, path)),
-        Opening::Create => told(&WavWriter::create(rt, alloc, path, sixteen(1))),
-        Opening::Append => told(&WavWriter::append(rt, alloc, path)),
+        Opening::Open => words_of_answer(&WavReader::open(rt, alloc, path)),
+        Opening::Create => words_of_answer(&WavWriter::create(rt, alloc, path, sixteen(1))),
+        Opening::Append => words_of_answer(&WavWriter::append(rt, alloc, path)),
     };
     drop(blocks);
     Ok(words)
