@@ -903,12 +903,42 @@ def session(word, options, steps, end):
     if "moments" in options:
         first = 0 if word == "append" else len(spec_of(word).header(0, 0))
         words += [":", *moments_of(medium, first)]
-    return words, medium
+    return words, medium, marks, answer
 
 
 def row_session(word, *words):
     options, steps, end = parts_of(words)
     return session(word, options_of(options), list(steps_of(steps)), end)[0]
+
+
+def accepted_by(spec, steps, marks):
+    """The containers of the steps that are marked, one after the other."""
+    found = b""
+    for step, mark in zip(steps, marks):
+        kind, _, values = step.partition("=")
+        if mark and kind != "flush":
+            kind = "i16" if kind == "batch" else kind
+            found += b"".join(container(kind, value, spec.bits, spec.width) for value in values_of(kind, values))
+    return found
+
+
+def look_at_promises(journal, spec, data, is_canonical):
+    """Stops where a run over an empty journal, of fewer than 256 bytes of samples, breaks a promise:
+    from the header's end on the length counts accepted bytes that are there, after each byte that
+    is put, and no fewer than before; an Ok of `finalize` leaves the canonical file."""
+    start, before = len(spec.header(0, 0)), 0
+    tape = Tape(b"")
+    for count, (tape.place, byte) in enumerate(journal.past, 1):
+        tape.put(bytes([byte]))
+        if count >= start:
+            length = int.from_bytes(tape.bytes[start - 4 : start], "little")
+            assert before <= length <= len(data) < 256
+            assert tape.bytes[start : start + length] == data[:length]
+            before = length
+    if is_canonical:
+        pad = bytes(len(data) % 2)
+        size = start - 8 + len(data) + len(pad)
+        assert tape.bytes == spec.header(size, len(data)) + data + pad
 
 
 def row_sweep(word, *words):
@@ -918,10 +948,13 @@ def row_sweep(word, *words):
     for first in range(1, calls + 1):
         for last in range(first, calls + 1):
             faults = {**options, "fail": f"{first}..{last}", "moments": ""}
-            answer, medium = session(word, faults, steps, end)
+            words, medium, marks, answer = session(word, faults, steps, end)
+            spec = spec_of(word)
+            is_canonical = answer == "ok" and end == ["finalize"]
+            look_at_promises(medium, spec, accepted_by(spec, steps, marks), is_canonical)
             runs += 1
-            begun += len(medium.past) >= len(spec_of(word).header(0, 0))
-            crc = zlib.crc32(" ".join(answer).encode() + b"\n", crc)
+            begun += len(medium.past) >= len(spec.header(0, 0))
+            crc = zlib.crc32(" ".join(words).encode() + b"\n", crc)
     return ["runs", str(runs), "begun", str(begun), "crc", f"{crc:08x}"]
 
 

@@ -8,8 +8,11 @@ ghost use Rattle.std.specs.Prelude.{◌≡◌};
 END
 # A struct for the definitions of each crate, and one for its variants.
 for crate in number spec sample medium reader writer session; do
+    prefix="Rattle.hound_$crate.specs." files="../hound/src/*.rt ../hound_[a-su-z]*/src/*.rt"
+    # Those on whole runs are of the root crate.
+    [ $crate != session ] || prefix="Rattle.hound.specs." files="../hound/src/*.rt"
     for kind in words variants; do
-        cat ../hound_[a-su-z]*/src/*.rt | awk -v crate=$crate -v kind=$kind '
+        cat $files | awk -v prefix=$prefix -v kind=$kind '
             # The types that the root of `hound` gives, from its `pub use` items.
             BEGIN {
                 while ((getline line < "../hound/src/lib.rt") > 0) root = root " " line
@@ -17,8 +20,8 @@ for crate in number spec sample medium reader writer session; do
                 gsub(/::/, " ", root)
                 root = root " "
             }
-            index($0, "ghost use Rattle.hound_" crate ".specs.") {
-                sub(/^ *ghost use Rattle\.hound_[a-z]*\.specs\./, "")
+            index($0, "ghost use " prefix) {
+                sub(/^ *ghost use Rattle\.hound(_[a-z]*)?\.specs\./, "")
                 at = index($0, ".{")
                 path = substr($0, 1, at - 1)
                 words = substr($0, at + 2)
