@@ -2,7 +2,6 @@
 #![tactic(auto)]
 
 pub use hound_commands::{run, run_append};
-
 use std::io::{BufWriter, ErrorKind};
 use std::path::Path;
 use std::process::ExitCode;
