@@ -631,11 +631,11 @@ module _ {M : Type 0} (tells keeps : Bool) (state : M → MediumState) (told : I
   pub sessions_exact : (s : WavSpecEx) (sessions : List (Bor (List Step))) (old : M)
       (answer : Result (Unit {0}) Error) (medium : M) → (state old).place ≡ 0
       → AreSessions tells keeps state s sessions old answer medium → 0 < length sessions
-      → (state old).contents ≡ [] → NoFault (state old) (state medium)
+      → (state old).contents ≡ []
       → OnOk answer
       ((state medium).contents ≡ canonical s (containers_of s (all_steps sessions)))
-  sessions_exact s sessions old (Err e) medium place are some empty clean = tt
-  sessions_exact s sessions old (Ok x) medium place are some empty clean =
+  sessions_exact s sessions old (Err e) medium place are some empty = tt
+  sessions_exact s sessions old (Ok x) medium place are some empty =
       let file = all_done s sessions old medium place are some in
       let c = canonical s (containers_of s (all_steps sessions)) in
       let short : length (state medium).contents ≤ length c =
