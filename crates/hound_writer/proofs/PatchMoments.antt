@@ -23,7 +23,7 @@ use Rattle.hound_writer.specs.Answers.{IsPublishing}
 use Rattle.hound_writer.specs.Publishing.{Checkpoints, Finishes, Publishes, IsHalfPublished, IsOldOrNew, PublishesAtEach, PutsLast, place_of}
 use Rattle.hound_writer.specs.Sizes.{field}
 use Rattle.hound_writer.specs.Writer.{WriterState, AreFrames, IsPadded, IsSound, IsWhole, accepted_samples, data_length, data_end, sample_count}
-use Rattle.hound_writer.proofs.Answers.{published}
+use Rattle.hound_writer.proofs.Answers.{on_published_then, published}
 use Rattle.hound_writer.proofs.Later.{drop_later}
 use Rattle.hound_writer.proofs.Publishing.{publishes}
 use Rattle.hound_writer.proofs.Samples.{counts_at, length_out, whole_out}
@@ -317,8 +317,9 @@ module _ {W : Type 0} (tells keeps : Bool) (state : W → MediumState) (w : Writ
       (before known) end patched are_frames told is (moments known kept)
 
   -- `flush`
-  pub checkpoints : Checkpoints tells keeps state told w new
-  checkpoints = subst (Checkpoints tells keeps state told w) (sym same) record {
+  pub checkpoints : WhereTells tells (OnOk patched ((state end).place ≡ w.data_start + w.out))
+      → Checkpoints tells keeps state told w new
+  checkpoints place = subst (Checkpoints tells keeps state told w) (sym same) record {
     answers = answers;
     samples = record { spec_ex = refl; data_start = refl; data_length = refl; buffer = refl };
     publishes = published_all;
@@ -327,6 +328,11 @@ module _ {W : Type 0} (tells keeps : Bool) (state : W → MediumState) (w : Writ
         λ known whole.
         ap (λ bytes. containers w.spec_ex.bytes_per_sample (sample_count w) (bytes ++ w.waiting))
         ((published_all known).out whole);
+    place = λ known. on_published_then told
+        (λ at. at ∙ (let all : w.data_start + w.out ≡ data_end w = omega (arith, ap length none) in
+        all))
+        (published ((state end).place ≡ w.data_start + w.out) patched are_frames told is
+        (place known));
     moments = at_each;
   }
 

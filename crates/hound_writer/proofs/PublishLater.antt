@@ -156,6 +156,7 @@ module _ {W : Type 0} (tells keeps : Bool) (state : W → MediumState) (a : Writ
     publishes = publishes_cut;
     whole = λ told. (out.file told).whole;
     accepted = λ told. (out.file told).accepted;
+    place = λ _. tt;
     moments = λ told kept. publishes_at_each_cut told kept (small told);
   }
 
@@ -379,6 +380,7 @@ module _ {W : Type 0} (tells keeps : Bool) (state : W → MediumState) (a : Writ
     accepted =
         λ told whole. g.accepted told ((out.file told).whole whole)
         ∙ (out.file told).accepted whole;
+    place = g.place;
     moments =
         λ told kept. publishes_at_each_later answer c.medium told kept (small told)
         (g.moments told kept);

@@ -14,7 +14,7 @@ use Rattle.hound_reader.specs.Chunks.{Readable}
 use Rattle.hound_writer.specs.Answers.{IsPublishing, OnPublished, faults_told}
 use Rattle.hound_writer.specs.Counts.{Counts}
 use Rattle.hound_writer.specs.Sizes.{ChangesSizesOnly, field}
-use Rattle.hound_writer.specs.Writer.{WriterState, KeepsSamples, IsWhole, IsBegun, IsPadded, HasHeader, accepted_samples, data_length, padded_end}
+use Rattle.hound_writer.specs.Writer.{WriterState, KeepsSamples, IsWhole, IsBegun, IsPadded, HasHeader, accepted_samples, data_end, data_length, padded_end}
 
 -- The contents are read as exactly these samples, with this spec, from this place on.
 pub record ReadsAs (s : WavSpecEx) (start : ℕ) (samples : List (List ℕ))
@@ -130,6 +130,7 @@ pub record PublishesAtEach {W : Type 0} (state : W → MediumState) (w : WriterS
   pub padded : OncePutBefore w.data_start (IsPadded w) (state w.medium) (state end)
 
 -- What `flush` does, by its answer: it publishes, and the writer goes on with the same samples.
+-- Where all was published the medium is at the end of the accepted data.
 pub record Checkpoints {W : Type 0} (tells keeps : Bool) (state : W → MediumState)
     (answer : Result (Unit {0}) Error)
     (old new : WriterState W) : Type 0 where
@@ -139,6 +140,7 @@ pub record Checkpoints {W : Type 0} (tells keeps : Bool) (state : W → MediumSt
   pub whole : WhereTells tells (IsWhole state old → IsWhole state new)
   pub accepted : WhereTells tells
       (IsWhole state old → accepted_samples state new ≡ accepted_samples state old)
+  pub place : WhereTells tells (OnPublished answer ((state new.medium).place ≡ data_end new))
   pub moments : WhereKeeps tells keeps (PublishesAtEach state old answer new.medium)
 
 -- What the end of a writer does, by its answer: it publishes, and leaves the medium where the data
