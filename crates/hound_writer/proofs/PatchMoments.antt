@@ -4,6 +4,7 @@ use Rattle.std.proofs.lemmas.Bool.{cases_lt, false≢true}
 use Rattle.std.proofs.lemmas.List.{take-take, length-take-le, get_or_at}
 use Rattle.std.proofs.lemmas.Result.{on_ok_weaker}
 use Rattle.std.specs.Io.{StartsWith}
+use Rattle.std.specs.List.{concat}
 use Rattle.std.specs.declared.io.Error.{Error as IoFault}
 use Rattle.hound_number.specs.Number.{bytes_of, mix, AreBytes}
 use Rattle.hound_number.proofs.Mixing.{mix_none, mix_all}
@@ -26,7 +27,8 @@ use Rattle.hound_writer.specs.Writer.{WriterState, AreFrames, IsPadded, IsSound,
 use Rattle.hound_writer.proofs.Answers.{on_published_then, published}
 use Rattle.hound_writer.proofs.Later.{drop_later}
 use Rattle.hound_writer.proofs.Publishing.{publishes}
-use Rattle.hound_writer.proofs.Samples.{counts_at, length_out, whole_out}
+use Rattle.hound_writer.proofs.Storing.{stored_same}
+use Rattle.hound_writer.proofs.Samples.{concat-samples, counts_at, length_out, whole_out}
 use Rattle.hound_writer.proofs.Sizes.{same_reflexive, same_transitive, same_riff, field_riff, same_length}
 use Rattle.hound_writer.proofs.Standing.{inside, stands_patched}
 
@@ -265,6 +267,16 @@ publishes_at_each state w none sound stands padded small end patched are_frames 
           moment (state end).start (state end).past k in
           subst (λ l. StartsWith l (padding (data_length w)))
           (sym (behind c (span.each k (omega (arith, from, later)) to).same.behind)) padded;
+      stored =
+          λ whole. stored_same w.data_start w.out (concat (accepted_samples state w)) old
+          (state w.medium) (state end)
+          (omega (
+            arith,
+            ap length (concat-samples state w none sound),
+            length-take w.out (drop w.data_start old),
+          ))
+          (λ k from to. samples (moment (state end).start (state end).past k)
+          (span.each k from to).same.behind);
     }
 
 pub patches_at_each_seen : {W : Type 0} (state : W → MediumState) (a b : WriterState W)
