@@ -6,6 +6,6 @@ mod callers;
 mod example;
 mod twelve;
 
-pub use callers::{convert, open_written, publish, record_checkpoint};
+pub use callers::{convert, give_up_batch, open_written, publish, record_checkpoint};
 pub use example::record_and_read;
 pub use twelve::Twelve;
