@@ -1,5 +1,5 @@
 //! What a user builds over the public items of `hound` alone: functions that prove something of
-//! their own from its contracts, and a sample type.
+//! their own from its contracts, and two sample types.
 #![tactic(auto)]
 
 mod callers;
