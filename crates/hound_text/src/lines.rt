@@ -1,11 +1,12 @@
-// Lines of numbers that wait for the output.
-ghost use Rattle.std.specs.Prelude.{◌≡◌, ◌+◌, ◌≤◌, IsTrue};
+// Lines of numbers, buffered for the output.
+ghost use Rattle.std.specs.Prelude.{◌≡◌, ◌+◌, ◌≤◌, IsTrue, [], ◌++◌, length, OnOk};
+ghost use Rattle.std.specs.Io.KnownBytes.{Appends};
 
 use crate::eight::{decimal_text, hexadecimal_text};
 use std::io;
 use std::marker::Model;
 
-/// Lines that were made and not yet written. Contracts see how many bytes they have.
+/// Lines that were made and not yet written. Contracts see the list of their bytes.
 #[derive(Drop)]
 pub struct Lines {
     // Their bytes; what comes after these means nothing. They are more than a `BufWriter` keeps, so
@@ -15,11 +16,11 @@ pub struct Lines {
 }
 
 impl Model for Lines {
-    ghost use Rattle.std.specs.Prelude.{ℕ, ◌≤◌};
+    ghost use Rattle.std.specs.Prelude.{ℕ, ◌≤◌, List, take};
 
-    ghost Value = { ℕ };
+    ghost Value = { List ℕ };
 
-    ghost view = { λ lines. lines.length };
+    ghost view = { λ lines. take lines.length lines.bytes };
 
     ghost invariant = { λ lines. lines.length ≤ 16384 };
 }
@@ -27,7 +28,7 @@ impl Model for Lines {
 impl Lines {
     /// No lines.
     pub fn new() -> Lines
-        ensures { result ≡ 0 }
+        ensures { result ≡ [] }
     {
         Lines {
             bytes: [0; 16384],
@@ -38,15 +39,15 @@ impl Lines {
     /// Whether there is room for a line more.
     #[inline(always)]
     pub fn has_room(&self) -> bool
-        ensures { IsTrue result → self.now + 24 ≤ 16384 }
+        ensures { IsTrue result → length self.now + 24 ≤ 16384 }
     {
         self.length <= 16384 - 24
     }
 
-    /// Puts a line with an integer behind the others.
+    /// Appends a line with an integer.
     #[inline(always)]
     pub fn push_integer(&mut self, number: i32)
-        requires { self.old + 24 ≤ 16384 }
+        requires { length self.old + 24 ≤ 16384 }
     {
         let start = self.length;
         self.bytes[start] = b'-';
@@ -65,19 +66,20 @@ impl Lines {
         self.length = end + 1;
     }
 
-    /// Puts a line with a pattern of bits in base 16 behind the others.
+    /// Appends a line with a pattern of bits: eight digits in base 16.
     #[inline(always)]
     pub fn push_pattern(&mut self, pattern: u32)
-        requires { self.old + 24 ≤ 16384 }
+        requires { length self.old + 24 ≤ 16384 }
     {
         let end = self.put_text(self.length, hexadecimal_text(pattern), 0);
         self.bytes[end] = b'\n';
         self.length = end + 1;
     }
 
-    /// Writes the lines. There are none then, whatever is answered.
+    /// Writes the lines. There are none after it, whatever it returns.
     pub fn write_to<O: io::Write>(&mut self, output: &mut O) -> io::Result<()>
-        ensures { self.new ≡ 0 }
+        ensures emptied { self.new ≡ [] }
+        ensures written { OnOk result (Appends (O.contents output.old) (O.contents output.new) self.old) }
     {
         let length = self.length;
         self.length = 0;

@@ -1,6 +1,9 @@
 // Numbers as text.
-ghost use Rattle.std.specs.Prelude.{◌<◌, ◌≤◌, IfOk, IfSome, length};
+ghost use Rattle.std.specs.Prelude.{◌≡◌, ◌<◌, ◌≤◌, Err, IfOk, IfSome, OnOk, SomeIff, length};
+ghost use Rattle.std.specs.Io.KnownBytes.{IsAtEnd};
+ghost use Rattle.std.specs.Str.Parse.{IsNumeral, digits_value};
 ghost use Rattle.hound_text.specs.Text.{IsFront};
+ghost use Rattle.hound_text.specs.declared.numbers.Refusal.TheVariants.{InputOrOutput, OutOfMemory};
 
 use crate::eight::leading_digits;
 use std::alloc::{AllocFailed, Global};
@@ -16,20 +19,27 @@ pub enum Refusal {
     /// A byte stands where no number can have it, or a number is beyond `i32`.
     BadNumber,
 
-    /// The input failed, or has more than 4294967295 bytes.
+    /// The input failed.
     InputOrOutput,
+
+    /// The input has more than 4294967295 bytes.
+    TooLong,
 
     /// There is no memory for the numbers.
     OutOfMemory,
 }
 
 impl From<io::Error> for Refusal {
+    ghost from_gives = { λ _ refusal. refusal ≡ InputOrOutput };
+
     fn from(_: io::Error) -> Refusal {
         Refusal::InputOrOutput
     }
 }
 
 impl From<AllocFailed<i32>> for Refusal {
+    ghost from_gives = { λ _ refusal. refusal ≡ OutOfMemory };
+
     fn from(_: AllocFailed<i32>) -> Refusal {
         Refusal::OutOfMemory
     }
@@ -54,7 +64,9 @@ fn signed(negative: bool, magnitude: u32) -> Option<i32> {
 }
 
 // The magnitude with one digit more, at most 2 ^ 31, which only a negative number may have.
-fn with_digit(magnitude: u32, digit: u8) -> Result<u32, Refusal> {
+fn with_digit(magnitude: u32, digit: u8) -> Result<u32, Refusal>
+    ensures { result ≡ Err Refusal.TooLong → ⊥ }
+{
     let longer = magnitude as u64 * 10 + (digit % 10) as u64;
     if longer > 2_147_483_648 {
         return Err(Refusal::BadNumber);
@@ -68,7 +80,9 @@ fn is_separator(byte: u8) -> bool {
 }
 
 // Takes one byte of the text. A number that it ends goes behind the others.
-fn take_byte(place: Place, byte: u8, numbers: &mut Vec<i32>) -> Result<Place, Refusal> {
+fn take_byte(place: Place, byte: u8, numbers: &mut Vec<i32>) -> Result<Place, Refusal>
+    ensures { result ≡ Err Refusal.TooLong → ⊥ }
+{
     if is_separator(byte) {
         end_of_word(place, numbers)?;
         return Ok(Place::Between);
@@ -98,7 +112,9 @@ fn take_byte(place: Place, byte: u8, numbers: &mut Vec<i32>) -> Result<Place, Re
 }
 
 // The end of a word, or of the text.
-fn end_of_word(place: Place, numbers: &mut Vec<i32>) -> Result<(), Refusal> {
+fn end_of_word(place: Place, numbers: &mut Vec<i32>) -> Result<(), Refusal>
+    ensures { result ≡ Err Refusal.TooLong → ⊥ }
+{
     match place {
         Place::Between => Ok(()),
         Place::BehindMinus => Err(Refusal::BadNumber),
@@ -166,7 +182,8 @@ fn whole_number(text: &[u8]) -> Option<(i32, usize)>
 
 // Takes numbers from the front of a text, as long as one is whole, and gives the text behind them.
 fn take_whole<'a>(text: &'a [u8], numbers: &mut Vec<i32>) -> Result<&'a [u8], Refusal>
-    ensures { IfOk result (λ rest. length rest.now ≤ length text.now) }
+    ensures shorter { IfOk result (λ rest. length rest.now ≤ length text.now) }
+    ensures in_time { result ≡ Err Refusal.TooLong → ⊥ }
 {
     let mut rest = text;
     while let Some((number, taken)) = whole_number(rest) {
@@ -188,7 +205,9 @@ fn behind_separators(text: &[u8]) -> &[u8]
 }
 
 // Takes bytes of the text, in order: whole numbers where it can, and else one byte.
-fn take_bytes(place: Place, bytes: &[u8], numbers: &mut Vec<i32>) -> Result<Place, Refusal> {
+fn take_bytes(place: Place, bytes: &[u8], numbers: &mut Vec<i32>) -> Result<Place, Refusal>
+    ensures { result ≡ Err Refusal.TooLong → ⊥ }
+{
     let mut place = place;
     let mut rest = bytes;
     loop {
@@ -206,9 +225,13 @@ fn take_bytes(place: Place, bytes: &[u8], numbers: &mut Vec<i32>) -> Result<Plac
 /// Reads numbers to the end of the input.
 ///
 /// They are separated by spaces, tabs, carriage returns and line feeds: an optional `-`, and then
-/// digits, within `i32`. The first byte that breaks this is `BadNumber`. A fault of the input, or
-/// more than 4294967295 bytes of it, is `InputOrOutput`.
-pub fn read_numbers<R: io::Read>(alloc: Global, input: &mut R) -> Result<Vec<i32>, Refusal> {
+/// digits, within `i32`. The first byte that breaks this is `BadNumber`. A fault of the input is
+/// `InputOrOutput`, and more than 4294967295 bytes of it are `TooLong`.
+pub fn read_numbers<R: io::Read>(alloc: Global, input: &mut R) -> Result<Vec<i32>, Refusal>
+    ensures end { OnOk result (IsAtEnd (R.remaining input.new)) }
+    ensures long { result ≡ Err Refusal.TooLong →
+        IfSome (R.remaining input.old) (λ text. 4294967295 < length text) }
+{
     let mut numbers = Vec::new(alloc);
     let mut place = Place::Between;
     let mut buffer = [0; 16384];
@@ -221,7 +244,7 @@ pub fn read_numbers<R: io::Read>(alloc: Global, input: &mut R) -> Result<Vec<i32
         }
         if count as u64 > room {
             take_bytes(place, &buffer[..room as usize], &mut numbers)?;
-            return Err(Refusal::InputOrOutput);
+            return Err(Refusal::TooLong);
         }
         place = take_bytes(place, &buffer[..count], &mut numbers)?;
         room -= count as u64;
@@ -229,8 +252,10 @@ pub fn read_numbers<R: io::Read>(alloc: Global, input: &mut R) -> Result<Vec<i32
 }
 
 /// A number without a sign, in digits alone, of at most this size.
+#[tactic(auto, using(crate::proofs::Growing::too_long))]
 pub fn digits(word: &str, most: u32) -> Option<u32>
-    ensures { IfSome result (λ n. n ≤ most) }
+    ensures { SomeIff result (IsNumeral 10 word.now × (digits_value 10 word.now ≤ most))
+        (digits_value 10 word.now) }
 {
     if word.is_empty() {
         return None;
