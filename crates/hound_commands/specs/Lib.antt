@@ -1,0 +1,3 @@
+pub mod Failing
+pub mod Packing
+pub mod Session

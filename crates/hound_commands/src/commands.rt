@@ -2,19 +2,15 @@
 ghost use Rattle.std.specs.Prelude.{◌≡◌, ◌≤◌};
 
 use crate::failure::Failure;
-use hound::{
-    FloatBits, SampleFormat, Step, Tape, WavReader, WavSpec, WavSpecEx, WavWriter, run_sessions,
-};
+use crate::packing::file_of;
+use hound::{FloatBits, SampleFormat, Tape, WavReader, WavSpec, WavWriter};
 use hound_text::{Ahead, Lines, digits, read_numbers};
-use std::alloc::{AllocError, Global};
+use std::alloc::Global;
 use std::fmt::Display;
 use std::io::Write;
 use std::path::Path;
 use std::rt::Files;
 use std::{fs, io};
-
-// The values of a batch.
-const BATCH_LENGTH: usize = 4096;
 
 // More bytes than a line on standard error has.
 const LINE_LENGTH: usize = 256;
@@ -212,50 +208,4 @@ fn show_spec<O: io::Write>(spec: WavSpec, samples: u32, output: &mut O) -> io::R
         output,
         "channels {channels} rate {rate} bits {bits} format {format} samples {samples}"
     )
-}
-
-// The whole file of these samples. Where all have sixteen bits they go in batches, which take less
-// time and memory than a step for each; the first that is too wide is refused as such a step.
-fn file_of(alloc: Global, spec: WavSpec, numbers: Vec<i32>) -> Result<Tape, Failure> {
-    if spec.bits_per_sample == 16 {
-        if let Some(values) = sixteen_bits(alloc, &numbers)? {
-            drop(numbers);
-            return file_of_batches(alloc, spec, &values);
-        }
-    }
-    let steps: Vec<Step> = numbers
-        .iter()
-        .map(|number| Step::Whole(*number))
-        .collect(alloc)?;
-    drop(numbers);
-    file_of_steps(alloc, spec, &steps)
-}
-
-// The numbers as values of sixteen bits, if all of them fit.
-fn sixteen_bits(alloc: Global, numbers: &[i32]) -> Result<Option<Vec<i16>>, AllocError> {
-    let mut values = Vec::with_capacity(alloc, numbers.len())?;
-    for number in numbers {
-        match i16::try_from(*number) {
-            Ok(value) => values.push(value)?,
-            Err(_) => return Ok(None),
-        }
-    }
-    Ok(Some(values))
-}
-
-// The file of values of sixteen bits, in batches.
-fn file_of_batches(alloc: Global, spec: WavSpec, values: &[i16]) -> Result<Tape, Failure> {
-    let steps: Vec<Step> = values.chunks(BATCH_LENGTH).map(Step::Batch).collect(alloc)?;
-    file_of_steps(alloc, spec, &steps)
-}
-
-// The file that one session over a new tape makes.
-fn file_of_steps(alloc: Global, spec: WavSpec, steps: &[Step]) -> Result<Tape, Failure> {
-    let spec_ex = WavSpecEx {
-        spec,
-        bytes_per_sample: spec.bits_per_sample.div_ceil(8),
-    };
-    let (file, result) = run_sessions(alloc, Tape::new(Vec::new(alloc)), spec_ex, &[&steps[..]]);
-    result?;
-    Ok(file)
 }
