@@ -17,14 +17,16 @@ use Rattle.hound_writer.specs.Answers.{mark_of}
 use Rattle.hound_writer.specs.Counts.{Counts}
 use Rattle.hound_writer.specs.Publishing.{Checkpoints}
 use Rattle.hound_writer.specs.Sizes.{field}
+use Rattle.hound_writer.specs.Storing.{IsStored, KeepsStored}
+use Rattle.hound_writer.proofs.Storing.{stored_fewer, stored_join}
 use Rattle.hound_writer.specs.Writer.{WriterState, IsWhole, accepted_samples, data_length}
 use Rattle.hound.specs.declared.session.Step.{Step}
 use Rattle.hound.specs.declared.session.Step.TheVariants.{Whole, Bits, Batch, Flush}
-use Rattle.hound.specs.Headline.{CountedAtEach, PublishedByFlushes, accepted_after, cut_point}
+use Rattle.hound.specs.Headline.{CountedAtEach, PublishedByFlushes, StoredAtEach, accepted_after, cut_point}
 use Rattle.hound.specs.Run.{Takes, Runs}
 use Rattle.hound.specs.Steps.{accepted_by, accepted_by_all, HoldsNoFlush}
-use Rattle.hound.proofs.Leading.{length-concat-append}
-use Rattle.hound.proofs.Stepping.{did, step_span}
+use Rattle.hound.proofs.Leading.{concat-append, length-concat-append}
+use Rattle.hound.proofs.Stepping.{did, step_span, step_stored}
 
 -- from one state of a medium to a later one bytes were put after the past
 pub record Later (old new : MediumState) : Type 0 where
@@ -150,6 +152,104 @@ module _ {M : Type 0} (tells keeps : Bool) (state : M → MediumState) (told : I
       subst (λ (x : WavSpecEx × (ℕ × List (List ℕ))).
       Counts x.0 x.1.0 x.1.1 (moment end.start end.past k))
       (λ j. (t.spec_ex j, (t.data_start j, same j))) rest
+
+  -- what the last writer keeps stored up to the end, the first one does of its samples
+  kept_stored : (steps : List Step) (answers : List (Result (Unit {0}) Error)) (cuts : List ℕ)
+      (old new : WriterState M) (end : MediumState)
+      → Runs tells keeps state steps answers cuts old new → Later (state new.medium) end
+      → KeepsStored new.data_start (concat (accepted_samples state new)) (state new.medium) end
+      → IsWhole state old
+      → KeepsStored old.data_start (concat (accepted_samples state old)) (state old.medium) end
+  kept_stored [] [] cuts old new end (same, cut) later tail whole =
+      subst (λ (w : WriterState M).
+      KeepsStored w.data_start (concat (accepted_samples state w)) (state w.medium) end) same tail
+  kept_stored [] (answer ∷ answers) cuts old new end runs later tail whole = absurd runs
+  kept_stored (step ∷ steps) [] cuts old new end runs later tail whole = absurd runs
+  kept_stored (step ∷ steps) (answer ∷ answers) [] old new end runs later tail whole = absurd runs
+  kept_stored (step ∷ steps) (answer ∷ answers) (cut ∷ cuts) old new end
+      (mid, at, takes, runs) later tail whole =
+      let t = did tells keeps state told step answer old mid takes in
+      let list = accepted_samples state old in
+      let more = accepted_by old.spec_ex step (mark_of answer) in
+      let first =
+      span_later (λ _. Counts old.spec_ex old.data_start list) 0 (state old.medium)
+      (state mid.medium) (step_span tells keeps state told kept step answer old mid takes whole) in
+      let then =
+      later_then (state mid.medium) (state new.medium) end
+      (run_later steps answers cuts mid new runs (t.whole whole)) later in
+      let rest = kept_stored steps answers cuts mid new end runs later tail (t.whole whole) in
+      let bytes : concat (accepted_samples state mid) ≡ concat list ++ concat more =
+      ap concat (t.accepted whole) ∙ concat-append list more in
+      stored_join old.data_start (concat list) (state old.medium) (state mid.medium) end first.added
+      then.added first.past then.start then.past
+      (step_stored tells keeps state told kept step answer old mid takes whole)
+      (stored_fewer old.data_start (concat list) (concat more) (state mid.medium) end
+      (subst (λ (x : ℕ × List ℕ). KeepsStored x.0 x.1 (state mid.medium) end)
+      (λ j. (t.data_start j, bytes j)) rest))
+
+  stored_first : (steps : List Step) (answers : List (Result (Unit {0}) Error)) (cuts : List ℕ)
+      (old new : WriterState M) (end : MediumState)
+      → Runs tells keeps state steps answers cuts old new → Later (state new.medium) end
+      → KeepsStored new.data_start (concat (accepted_samples state new)) (state new.medium) end
+      → IsWhole state old → (a len k m : ℕ) → cut_point cuts end 0 ≤ k → k ≤ m
+      → m ≤ length end.past → a + len ≤ length (concat (accepted_samples state old ++ []))
+      → IsStored old.data_start (concat (accepted_samples state old ++ [])) a len
+      (moment end.start end.past k)
+      → IsStored old.data_start (concat (accepted_samples state old ++ [])) a len
+      (moment end.start end.past m)
+  stored_first steps answers cuts old new end runs later tail whole a len k m from le to within
+      here =
+      let found = accepted_samples state old in
+      let same : found ++ [] ≡ found = append-nil found in
+      let at = first_cut steps answers cuts old new end runs in
+      subst (λ l. IsStored old.data_start (concat l) a len (moment end.start end.past m)) (sym same)
+      (kept_stored steps answers cuts old new end runs later tail whole a len
+      (omega (arith, within, ap (λ l. length (concat l)) same)) k m
+      (omega (arith, from, at)) le to
+      (subst (λ l. IsStored old.data_start (concat l) a len (moment end.start end.past k)) same
+      here))
+
+  -- and so do the samples of the first steps, from their return on
+  pub stored : (steps : List Step) (answers : List (Result (Unit {0}) Error)) (cuts : List ℕ)
+      (old new : WriterState M) (end : MediumState)
+      → Runs tells keeps state steps answers cuts old new → Later (state new.medium) end
+      → KeepsStored new.data_start (concat (accepted_samples state new)) (state new.medium) end
+      → IsWhole state old
+      → StoredAtEach old.spec_ex old.data_start (accepted_samples state old) steps
+      (map mark_of answers) cuts end
+  stored [] [] cuts old new end (same, cut) later tail whole zero a len k m inside from le to within
+      here =
+      stored_first [] [] cuts old new end
+      (same, cut) later tail whole a len k m from le to within here
+  stored [] [] cuts old new end (same, cut) later tail whole (suc i) a len k m inside from le to
+      within here = absurd (omega (arith, inside))
+  stored [] (answer ∷ answers) cuts old new end runs later tail whole i a len k m inside from le to
+      within here = absurd runs
+  stored (step ∷ steps) [] cuts old new end runs later tail whole i a len k m inside from le to
+      within here = absurd runs
+  stored (step ∷ steps) (answer ∷ answers) [] old new end runs later tail whole i a len k m inside
+      from le to within here = absurd runs
+  stored (step ∷ steps) (answer ∷ answers) (cut ∷ cuts) old new end
+      (mid, at, takes, runs) later tail whole zero a len k m inside from le to within here =
+      stored_first (step ∷ steps) (answer ∷ answers) (cut ∷ cuts) old new end
+      (mid, at, takes, runs) later tail whole a len k m from le to within here
+  stored (step ∷ steps) (answer ∷ answers) (cut ∷ cuts) old new end
+      (mid, at, takes, runs) later tail whole (suc i) a len k m inside from le to within here =
+      let t = did tells keeps state told step answer old mid takes in
+      let s = old.spec_ex in
+      let marks = map mark_of answers in
+      let same : accepted_after mid.spec_ex
+      (accepted_samples state mid) steps marks i ≡ accepted_after s (accepted_samples state old)
+      (step ∷ steps) (mark_of answer ∷ marks) (suc i) =
+      (λ j. t.accepted whole j ++ accepted_by_all (t.spec_ex j) (take i steps) (take i marks))
+      ∙ append_assoc (accepted_samples state old) (accepted_by s step (mark_of answer))
+      (accepted_by_all s (take i steps) (take i marks)) in
+      subst (λ (x : ℕ × List (List ℕ)). a + len ≤ length (concat x.1)
+      → IsStored x.0 (concat x.1) a len (moment end.start end.past k)
+      → IsStored x.0 (concat x.1) a len (moment end.start end.past m))
+      (λ j. (t.data_start j, same j))
+      (stored steps answers cuts mid new end runs later tail (t.whole whole) i a len k m
+      (omega (arith, inside)) from le to) within here
 
   -- a step that writes samples leaves the data length, at each of its moments and when it has
   -- returned

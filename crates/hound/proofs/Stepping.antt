@@ -12,6 +12,7 @@ use Rattle.hound_writer.specs.Answers.{UnlessFailed, faults_told, if_marked, mar
 use Rattle.hound_writer.specs.Counts.{Counts}
 use Rattle.hound_writer.specs.Publishing.{Checkpoints}
 use Rattle.hound_writer.specs.Sizes.{ChangesSizesOnly}
+use Rattle.hound_writer.specs.Storing.{KeepsStored}
 use Rattle.hound_writer.specs.Writer.{WriterState, HasHeader, IsWhole, IsBegun, IsCounted, accepted_samples, data_length, padded_end}
 use Rattle.hound_writer.proofs.Answers.{unless_failed, unless_then}
 use Rattle.hound_writer.proofs.Sizes.{header_front, sizes_front}
@@ -140,3 +141,14 @@ module _ {M : Type 0} (tells keeps : Bool) (state : M → MediumState) (told : I
   step_span kept (Bits bits) answer old new t whole = (t.moments told kept).counts whole
   step_span kept (Batch values) answer old new t whole = (t.0.moments told kept).counts whole
   step_span kept Flush answer old new t whole = (t.moments told kept).counts whole
+
+  -- what stays stored of the samples that were accepted before it
+  pub step_stored : IsTrue keeps
+      → (step : Step) (answer : Result (Unit {0}) Error) (old new : WriterState M)
+      → Takes tells keeps state step answer old new → IsWhole state old
+      → KeepsStored old.data_start (concat (accepted_samples state old)) (state old.medium)
+      (state new.medium)
+  step_stored kept (Whole value) answer old new t whole = (t.moments told kept).stored whole
+  step_stored kept (Bits bits) answer old new t whole = (t.moments told kept).stored whole
+  step_stored kept (Batch values) answer old new t whole = (t.0.moments told kept).stored whole
+  step_stored kept Flush answer old new t whole = (t.moments told kept).stored whole

@@ -30,7 +30,7 @@ use Rattle.hound.specs.Headline.{CanonicalAtEnd}
 use Rattle.hound.specs.Run.{Begins, Ends, IsNotBegun, Leaves, LeavesAtEach, NoFault, Ran, Runs}
 use Rattle.hound.specs.Steps.{accepted_by_all}
 use Rattle.hound.proofs.Leading.{Leads, leads, grows_told, no_fault_parts, length-concat-append}
-use Rattle.hound.proofs.Moments.{counted, published, span_later}
+use Rattle.hound.proofs.Moments.{counted, published, span_later, stored}
 
 -- the writer that a run begins with
 first_sound : {M : Type 0} (tells keeps : Bool) (state : M → MediumState) (begin : Begin) (old : M)
@@ -191,6 +191,10 @@ module _ {M : Type 0} (tells keeps : Bool) (state : M → MediumState) (begin : 
             λ whole. published tells keeps state told kept
             (λ m. replays m told kept) steps answers cuts first last (state medium) runs
             (later whole) behind whole (sized state first facts.0 facts.1 whole);
+        stored =
+            λ whole. stored tells keeps state told kept
+            (λ m. replays m told kept) steps answers cuts first last (state medium) runs
+            (later whole) ((e.1.moments told kept).stored (l.whole whole)) whole;
       } in
       subst (λ b. LeavesAtEach state steps b cuts first medium) (sym marked) all
 

@@ -31,7 +31,7 @@ use Rattle.hound.specs.declared.session.Step.{Step}
 use Rattle.hound.specs.declared.session.Step.TheVariants.{Whole, Bits, Batch, Flush}
 use Rattle.hound.specs.declared.session.Begin.{Begin}
 use Rattle.hound.specs.declared.session.Begin.TheVariants.{New, Append}
-use Rattle.hound.specs.FirstError.{AnswersAll, AnswersSession, IsAnswered, longest_with}
+use Rattle.hound.specs.FirstError.{AnswersAll, AnswersSession, AnswersStep, IsAnswered, longest_with}
 use Rattle.hound.specs.Run.{Begins, IsNotBegun, NoFault, Runs, Takes}
 use Rattle.hound.specs.Sessions.{AreSessions, IsStopped, RunsAgain, RunsOn, RunsOnce, StopsShort, all_steps}
 use Rattle.hound.specs.Steps.{accepted_by, containers_of, step_containers}
@@ -420,7 +420,7 @@ module _ {M : Type 0} (tells keeps : Bool) (state : M → MediumState) (told : I
       s list (list ++ containers_of s stops.before) start 0 stops.before then (Err st.error)
       stops.runs.0 st.first stops.last refl (ready.begun st.first st.begins) (omega arith)
       stops.runs.1 (λ most on room. (
-        record { done = tt; stopped = λ clean. stop st on clean },
+        record { done = tt; stopped = λ clean. stop st on most room clean },
         inl (
           st.error,
           refl,
@@ -435,9 +435,9 @@ module _ {M : Type 0} (tells keeps : Bool) (state : M → MediumState) (told : I
     where
       stop : (st : IsStopped tells keeps state begin steps old answer medium)
           → OnFile s (containers_of s behind ++ containers_of s st.stops.before) start st.stops.last
-          → NoFault start (state medium)
+          → (most : ℕ) → 2 * most ≤ length st.stops.last.buffer → NoFault start (state medium)
           → StopsShort s (behind ++ (steps ++ rest)) st.error (state medium).contents
-      stop st on (clean, few) =
+      stop st on most room (clean, few) =
           let stops = st.stops in
           let list = containers_of s behind ++ containers_of s stops.before in
           let then = stops.step ∷ stops.after in
@@ -463,6 +463,16 @@ module _ {M : Type 0} (tells keeps : Bool) (state : M → MediumState) (told : I
                 (t.spec_ex ∙ on.after.spec)
                 (t.accepted on.whole ∙ ap (λ l. accepted_samples state stops.last ++ l) none
                 ∙ append-nil (accepted_samples state stops.last) ∙ on.holds) parts.1 st.ends);
+            why = inr (
+              stops.step,
+              stops.after ++ rest,
+              most,
+              refl,
+              subst (λ l. AnswersStep s l most stops.step (Err st.error))
+                  (sym (containers_of-append s behind stops.before))
+                  (step_answers tells keeps state s list most stops.step (Err st.error)
+                  stops.last st.last on.after room stops.takes),
+            );
           }
   once begin s behind steps rest start old answer medium ready (inr (inr f)) =
       let list = containers_of s behind in
@@ -500,6 +510,9 @@ module _ {M : Type 0} (tells keeps : Bool) (state : M → MediumState) (told : I
               whole = sym (append_assoc behind steps rest);
               file = file_there s (containers_of s (behind ++ steps)) last medium (Err e) on.whole
                   on.begun on.after.spec on.holds same ends;
+              why = inl
+                  (publishing_after s (containers_of s (behind ++ steps)) last (Err e) on.after
+                  ends.answers);
             };
       }
 
@@ -631,11 +644,11 @@ module _ {M : Type 0} (tells keeps : Bool) (state : M → MediumState) (told : I
   pub sessions_exact : (s : WavSpecEx) (sessions : List (Bor (List Step))) (old : M)
       (answer : Result (Unit {0}) Error) (medium : M) → (state old).place ≡ 0
       → AreSessions tells keeps state s sessions old answer medium → 0 < length sessions
-      → (state old).contents ≡ [] → NoFault (state old) (state medium)
+      → (state old).contents ≡ []
       → OnOk answer
       ((state medium).contents ≡ canonical s (containers_of s (all_steps sessions)))
-  sessions_exact s sessions old (Err e) medium place are some empty clean = tt
-  sessions_exact s sessions old (Ok x) medium place are some empty clean =
+  sessions_exact s sessions old (Err e) medium place are some empty = tt
+  sessions_exact s sessions old (Ok x) medium place are some empty =
       let file = all_done s sessions old medium place are some in
       let c = canonical s (containers_of s (all_steps sessions)) in
       let short : length (state medium).contents ≤ length c =

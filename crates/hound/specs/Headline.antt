@@ -1,6 +1,6 @@
 -- What a run of a writer promises, whatever failed: counted at each moment, published at a flush,
 -- canonical at the end.
-use Rattle.std.specs.Prelude.{◌≡◌, ℕ, suc, ◌-◌, ◌<◌, ◌≤◌, ⊤, Bool, true, false, List, ◌++◌, length, take, drop, slice_index_or, Result}
+use Rattle.std.specs.Prelude.{◌≡◌, ℕ, suc, ◌+◌, ◌-◌, ◌<◌, ◌≤◌, ⊤, Bool, true, false, List, ◌++◌, length, take, drop, slice_index_or, Result}
 use Rattle.std.specs.List.{concat}
 use Rattle.std.specs.Io.{StartsWith}
 use Rattle.hound_spec.specs.declared.error.Error.{Error}
@@ -11,6 +11,7 @@ use Rattle.hound_medium.specs.State.{MediumState}
 use Rattle.hound_writer.specs.Answers.{OnPublished}
 use Rattle.hound_writer.specs.Counts.{Counts}
 use Rattle.hound_writer.specs.Sizes.{field}
+use Rattle.hound_writer.specs.Storing.{IsStored}
 use Rattle.hound.specs.declared.session.Step.{Step}
 use Rattle.hound.specs.declared.session.Step.TheVariants.{Flush}
 use Rattle.hound.specs.declared.session.End.{End}
@@ -47,6 +48,19 @@ PublishedByFlushes s start found steps marks cuts medium = (i m k : ℕ) → i <
     cut_point (drop (suc i) cuts) medium 0 ≤ k → k ≤ cut_point (drop (suc i) cuts) medium m →
     field (start - 4) (moment medium.start medium.past k)
     ≡ length (concat (accepted_after s found steps marks i))
+
+-- What is stored of the accepted samples stays stored: from the return of the first i steps on, each
+-- part of the samples that were accepted by then that is stored at its place at a moment is stored
+-- there at each later one, to the end.
+abbrev pub StoredAtEach : WavSpecEx → ℕ → List (List ℕ) → List Step → List Bool → List ℕ →
+    MediumState → Type 0
+StoredAtEach s start found steps marks cuts medium = (i a len k m : ℕ) → i ≤ length steps →
+    cut_point cuts medium i ≤ k → k ≤ m → m ≤ length medium.past →
+    a + len ≤ length (concat (accepted_after s found steps marks i)) →
+    IsStored start (concat (accepted_after s found steps marks i)) a len
+    (moment medium.start medium.past k) →
+    IsStored start (concat (accepted_after s found steps marks i)) a len
+    (moment medium.start medium.past m)
 
 -- P, where all was published at the end of a run, as its answer tells
 abbrev pub OnFinalized : End → Result (Unit {0}) Error → Type 0 → Type 0

@@ -48,6 +48,7 @@ pub use Rattle.hound_writer.specs.Parts
 pub use Rattle.hound_writer.specs.Publishing
 pub use Rattle.hound_writer.specs.Room
 pub use Rattle.hound_writer.specs.Sizes
+pub use Rattle.hound_writer.specs.Storing
 pub use Rattle.hound_writer.specs.Writer
 pub mod FirstError
 pub mod Headline

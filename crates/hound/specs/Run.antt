@@ -1,5 +1,5 @@
 -- A run of a writer: how it begins, its steps, and how it ends.
-use Rattle.std.specs.Prelude.{◌≡◌, ℕ, ◌*◌, ◌<◌, ◌≤◌, ◌⊎◌, OnOk, max, replicate, Bool, false, List, [], ◌∷◌, ◌++◌, length, map, Result, Ok, Err}
+use Rattle.std.specs.Prelude.{◌≡◌, ℕ, ◌*◌, ◌<◌, ◌≤◌, ◌⊎◌, max, replicate, Bool, false, List, [], ◌∷◌, ◌++◌, length, map, Result, Ok, Err}
 use Rattle.std.specs.Io.{StartsWith}
 use Rattle.hound_spec.specs.declared.error.Error.{Error}
 use Rattle.hound_spec.specs.Header.{canonical}
@@ -18,11 +18,11 @@ use Rattle.hound.specs.declared.session.Begin.{Begin}
 use Rattle.hound.specs.declared.session.Begin.TheVariants.{New, Append}
 use Rattle.hound.specs.declared.session.End.{End}
 use Rattle.hound.specs.declared.session.End.TheVariants.{Finalize, Drop}
-use Rattle.hound.specs.Headline.{CanonicalAtEnd, CountedAtEach, PublishedByFlushes}
-use Rattle.hound.specs.Steps.{accepted_by_all, step_containers, wants_memory}
+use Rattle.hound.specs.Headline.{CanonicalAtEnd, CountedAtEach, PublishedByFlushes, StoredAtEach}
+use Rattle.hound.specs.Steps.{OnBatched, accepted_by_all, step_containers, wants_memory}
 
 -- What a step does to its writer, by its answer: a flush publishes, and any other step is asked to
--- accept its containers; the memory of a batch that was accepted is kept.
+-- accept its containers; the memory that a batch had is kept, also where the medium then failed.
 abbrev pub Takes : {M : Type 0} → Bool → Bool → (M → MediumState) → Step → Result (Unit {0}) Error →
     WriterState M → WriterState M → Type 0
 Takes tells keeps state (Whole value) answer old new =
@@ -32,7 +32,7 @@ Takes tells keeps state (Bits bits) answer old new =
 Takes tells keeps state (Batch values) answer old new =
     Accepts tells keeps state (wants_memory values.now old)
     (step_containers old.spec_ex (Batch values)) answer old new
-    × OnOk answer (2 * length values.now ≤ length new.buffer)
+    × OnBatched answer (2 * length values.now ≤ length new.buffer)
 Takes tells keeps state Flush answer old new = Checkpoints tells keeps state answer old new
 
 -- Steps in their order, each from where the one before it left off, with their answers. The cut
@@ -108,6 +108,9 @@ pub record LeavesAtEach {M : Type 0} (state : M → MediumState) (steps : List S
   pub published : IsWhole state first →
       PublishedByFlushes first.spec_ex first.data_start
       (accepted_samples state first) steps marks cuts (state medium)
+  pub stored : IsWhole state first →
+      StoredAtEach first.spec_ex first.data_start (accepted_samples state first) steps marks cuts
+      (state medium)
 
 -- A run that began, took every step and ended.
 pub record Ran {M : Type 0} (tells keeps : Bool) (state : M → MediumState) (begin : Begin)

@@ -9,12 +9,13 @@ use Rattle.hound_spec.specs.declared.error.Error.TheVariants.{IoError}
 use Rattle.hound_spec.specs.declared.spec.WavSpecEx.{WavSpecEx}
 use Rattle.hound_spec.specs.Header.{canonical}
 use Rattle.hound_medium.specs.State.{MediumState, Goes, WhereTells}
-use Rattle.hound_writer.specs.Answers.{IsIoError}
+use Rattle.hound_writer.specs.Answers.{IsIoError, IsPublishing}
 use Rattle.hound_writer.specs.Publishing.{Finishes}
 use Rattle.hound_writer.specs.Writer.{WriterState}
 use Rattle.hound.specs.declared.session.Step.{Step}
 use Rattle.hound.specs.declared.session.Begin.{Begin}
 use Rattle.hound.specs.declared.session.Begin.TheVariants.{New, Append}
+use Rattle.hound.specs.FirstError.{AnswersStep, writer_after}
 use Rattle.hound.specs.Run.{Begins, IsNotBegun, Runs, Takes}
 use Rattle.hound.specs.Steps.{containers_of}
 
@@ -102,8 +103,16 @@ AreSessions {M} tells keeps state s (session ∷ sessions) old answer medium =
 abbrev pub all_steps : List (Bor (List Step)) → List Step
 all_steps sessions = flat_map (λ session. session.now) sessions
 
--- Sessions that stopped with an error though no call of the medium failed: it is no `IoError`, and
--- the canonical file of the first steps is there.
+-- The error of a session whose steps `before` were accepted: its end gave it, or the next step did.
+abbrev pub StopsAt : WavSpecEx → List Step → List Step → Error → Type 0
+StopsAt s before after e =
+    IsPublishing {T = Unit {0}} (Err e) (writer_after s (containers_of s before))
+    ⊎ ((step : Step) × (rest : List Step) × (longest : ℕ) × (after ≡ step ∷ rest)
+    × AnswersStep s (containers_of s before) longest step (Err e))
+
+-- Sessions that stopped with an error though no call of the medium failed: it is no `IoError`, the
+-- steps before it were accepted and their canonical file is there, and an end or the next step gave
+-- it.
 pub record StopsShort (s : WavSpecEx) (steps : List Step) (e : Error)
     (contents : List ℕ) : Type 0 where
   pub no_fault : IsIoError e → ⊥
@@ -111,3 +120,4 @@ pub record StopsShort (s : WavSpecEx) (steps : List Step) (e : Error)
   pub after : List Step
   pub whole : steps ≡ before ++ after
   pub file : StartsWith contents (canonical s (containers_of s before))
+  pub why : StopsAt s before after e

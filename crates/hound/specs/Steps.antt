@@ -1,6 +1,8 @@
 -- The steps of a session, and what each asks a writer to accept.
 use Rattle.std.specs.Prelude.{ℕ, ℤ, ◌*◌, ◌&&◌, ◌==◌, ⊤, nat_lt, Bool, true, false, if◌then◌else◌, List, [], ◌∷◌, ◌++◌, length, map, Result, Ok, Err}
 use Rattle.hound_number.specs.Number.{signed_bytes_of}
+use Rattle.hound_spec.specs.declared.error.Error.{Error}
+use Rattle.hound_spec.specs.declared.error.Error.TheVariants.{IoError}
 use Rattle.hound_spec.specs.declared.spec.SampleFormat.{SampleFormat}
 use Rattle.hound_spec.specs.declared.spec.SampleFormat.TheVariants.{Int, Float}
 use Rattle.hound_spec.specs.declared.spec.WavSpec.{WavSpec}
@@ -27,6 +29,12 @@ batch_containers s values =
 -- whether a batch of these values wants more memory than the writer keeps, two bytes for each
 abbrev pub wants_memory : {M : Type 0} → List ℤ → WriterState M → Bool
 wants_memory values w = nat_lt (length w.buffer) (2 * length values)
+
+-- P of a batch that had its memory: for an Ok and for an `IoError`
+abbrev pub OnBatched : {T : Type 0} → Result T Error → Type 0 → Type 0
+OnBatched (Ok x) P = P
+OnBatched (Err (IoError e)) P = P
+OnBatched (Err _) P = ⊤
 
 -- the containers that a step asks to be accepted, one for each value of a batch, or why it has none
 abbrev pub step_containers : WavSpecEx → Step → Result (List (List ℕ)) Refusal

@@ -82,7 +82,7 @@ pub use hound_spec::{
     Error, Result, SampleFormat, WavSpec, WavSpecEx, extensions_come_back, fields_come_back,
 };
 pub use hound_writer::{SampleWriter16, WavWriter, one_append_answer};
-pub use laws::a_batch_is_its_values;
+pub use laws::{a_batch_is_its_values, sessions_leave_one_file};
 pub use runs::run_session;
 pub use session::{Begin, End, Step};
 pub use sessions::run_sessions;

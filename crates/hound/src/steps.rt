@@ -1,8 +1,8 @@
 // Steps taken with a writer.
-ghost use Rattle.std.specs.Prelude.{◌≡◌, ◌*◌, ◌≤◌, OnOk, length};
+ghost use Rattle.std.specs.Prelude.{◌≡◌, ◌*◌, ◌≤◌, length};
 ghost use Rattle.hound_writer.specs.Accepting.{Accepts};
 ghost use Rattle.hound.specs.Run.{Takes};
-ghost use Rattle.hound.specs.Steps.{is_sixteen, batch_containers, wants_memory};
+ghost use Rattle.hound.specs.Steps.{OnBatched, is_sixteen, batch_containers, wants_memory};
 
 use crate::session::Step;
 use hound_medium::Medium;
@@ -21,7 +21,7 @@ fn is_sixteen(spec: WavSpec) -> bool
 fn write_batch<M: Medium>(alloc: Global, writer: &mut WavWriter<M>, values: &[i16]) -> Result<()>
     ensures accepts { Accepts M.tells M.keeps M.state (wants_memory values.now writer.old)
         (batch_containers writer.old.spec_ex values.now) result writer.old writer.new }
-    ensures memory { OnOk result (2 * length values.now ≤ length writer.new.buffer) }
+    ensures memory { OnBatched result (2 * length values.now ≤ length writer.new.buffer) }
 {
     if !is_sixteen(writer.spec()) {
         return Err(Error::Unsupported);

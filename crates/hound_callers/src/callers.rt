@@ -1,17 +1,20 @@
 // Functions of a user of the library, whose contracts follow from its public ones.
 ghost use Rattle.std.specs.Prelude.{◌≡◌, ℕ, ◌+◌, ◌++◌, List, length, [], ◌∷◌, Ok, OnOk};
+ghost use Rattle.hound.specs.Batch.{IsSameFile};
 ghost use Rattle.hound.specs.Container.{containers};
 ghost use Rattle.hound.specs.Containers.{AreContainers};
 ghost use Rattle.hound.specs.Header.{canonical};
 ghost use Rattle.hound.specs.Publishing.{ReadsAs};
 ghost use Rattle.hound.specs.Reader.{samples_left};
 ghost use Rattle.hound.specs.Refusals.{OpensAs};
+ghost use Rattle.hound.specs.Room.{IsSixteen};
 ghost use Rattle.hound.specs.State.{WhereTells};
 ghost use Rattle.hound.specs.Writable.{IsWritable};
 ghost use Rattle.hound.specs.Writer.{IsWhole, accepted_samples, sample_count};
 ghost use Rattle.hound.specs.declared.WavSpecEx.{WavSpecEx};
 
 use hound::{Medium, Sample, WavReader, WavWriter, one_answer, written_is_read};
+use std::alloc::Global;
 use std::io;
 
 /// Publishes what was accepted so far, and says how many samples these are.
@@ -59,4 +62,18 @@ pub fn open_written(bytes: &[u8]) -> hound::Result<WavReader<&[u8]>>
     written_is_read();
     one_answer();
     WavReader::new(bytes)
+}
+
+/// Begins a batch, writes a sample to it and gives it up: nothing was accepted.
+pub fn give_up_batch<M: Medium>(
+    alloc: Global,
+    writer: &mut WavWriter<M>,
+    value: i16,
+) -> hound::Result<()>
+    requires { IsSixteen writer.old.spec_ex }
+    ensures { IsSameFile writer.old writer.new }
+{
+    let mut batch = writer.get_i16_writer(alloc, 1)?;
+    batch.write_sample(value);
+    Ok(())
 }

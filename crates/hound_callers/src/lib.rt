@@ -1,11 +1,13 @@
 //! What a user builds over the public items of `hound` alone: functions that prove something of
-//! their own from its contracts, and a sample type.
+//! their own from its contracts, and two sample types.
 #![tactic(auto)]
 
 mod callers;
+mod either;
 mod example;
 mod twelve;
 
-pub use callers::{convert, open_written, publish, record_checkpoint};
+pub use callers::{convert, give_up_batch, open_written, publish, record_checkpoint};
+pub use either::EitherSample;
 pub use example::record_and_read;
 pub use twelve::Twelve;

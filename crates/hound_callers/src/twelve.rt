@@ -28,7 +28,7 @@ impl Sample for Twelve {
 
     ghost refusal = { twelve_refusal };
 
-    ghost meaning = { λ width bits container. record { 0 = twelve_meaning container } };
+    ghost meaning = { λ format width bits container. record { 0 = twelve_meaning container } };
 
     ghost can_cast = { λ _. ⊤ };
 

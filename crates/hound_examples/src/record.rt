@@ -1,7 +1,7 @@
 // A recorder with checkpoints: `record FILE LOT`, with the samples as numbers on standard input.
 //
-// Behind each lot of LOT samples comes a `flush`. Whenever the program is killed, the file can be
-// read, and has all samples of the lots whose `flush` was Ok.
+// A `flush` follows the header, and each lot of LOT samples. Whenever the program is killed after the
+// first one, the file can be read, and has all samples of the lots whose `flush` was Ok.
 use crate::failure::Failure;
 use hound::{SampleFormat, WavSpec, WavWriter};
 use std::io;
@@ -25,6 +25,7 @@ pub fn record<I: io::Read>(
         sample_format: SampleFormat::Int,
     };
     let mut writer = WavWriter::create(rt, rt.alloc(), path, spec)?;
+    writer.flush()?; // The header leaves the buffer.
     for line in BufReader::new(rt.alloc(), input)?.lines(rt.alloc()) {
         for word in line?.split_whitespace() {
             let Ok(sample) = word.parse::<i16>() else {

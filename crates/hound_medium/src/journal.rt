@@ -1,5 +1,7 @@
 // Bytes in memory as a medium and a source that keeps its past and fails on request.
-ghost use Rattle.std.specs.Prelude.{◌≡◌, ◌<◌, ◌≤◌, ◌↔◌, true, Some, [], length, drop, refl, IsErr, IfOk, IfErr};
+ghost use Rattle.std.specs.Prelude.{◌≡◌, ℕ, ◌-◌, ◌^◌, ◌<◌, ◌≤◌, ◌↔◌, ◌+ℤ◌, pos, min, true, Some, [], length, drop, refl, IsErr, IfOk, IfErr};
+ghost use Rattle.std.specs.Int.{FitsUnsigned, w64};
+ghost use Rattle.std.specs.IoError.{error_kind};
 ghost use Rattle.std.specs.Io.{ReadsAtMost};
 ghost use Rattle.std.specs.Io.KnownBytes.{ReadConsumes};
 ghost use Rattle.hound_number.specs.Number.{AreBytes};
@@ -43,6 +45,8 @@ pub struct Journal {
 }
 
 impl Journal {
+    ghost use Rattle.hound_medium.specs.Journal.{FailsAt, calls, greatest_count};
+
     /// A journal of these bytes, at place 0, with nothing taken yet. It keeps a copy of them to
     /// begin with, so it is `OutOfMemory` where there is none for that.
     pub fn new(alloc: Global, bytes: Vec<u8>) -> Result<Journal>
@@ -53,6 +57,9 @@ impl Journal {
         ensures start { IfOk result (λ j. (⟦<Journal as Placed>⟧.state j).start ≡ bytes.items) }
         ensures past { IfOk result (λ j. (⟦<Journal as Placed>⟧.state j).past ≡ []) }
         ensures flushed { IfOk result (λ j. (⟦<Journal as Placed>⟧.state j).flushed ≡ 0) }
+        ensures calls { IfOk result (λ j. calls j ≡ 0) }
+        ensures none_fails { IfOk result (λ j. (number : ℕ) → FailsAt j number → ⊥) }
+        ensures no_limit { IfOk result (λ j. greatest_count j ≡ 2 ^ 64 - 1) }
         ensures err { IfErr result (λ e. e ≡ Error.OutOfMemory) }
     {
         let Ok(start) = bytes.to_vec(alloc) else {
@@ -76,7 +83,10 @@ impl Journal {
     /// least 1. A new journal has no such limit; a later one replaces an earlier one.
     pub fn most(&mut self, n: usize)
         requires { 1 ≤ n }
-        ensures { ⟦<Journal as Placed>⟧.state self.new ≡ ⟦<Journal as Placed>⟧.state self.old }
+        ensures state { ⟦<Journal as Placed>⟧.state self.new ≡ ⟦<Journal as Placed>⟧.state self.old }
+        ensures most { greatest_count self.new ≡ n }
+        ensures calls { calls self.new ≡ calls self.old }
+        ensures fails { (number : ℕ) → FailsAt self.new number ↔ FailsAt self.old number }
     {
         self.most = n;
     }
@@ -88,7 +98,11 @@ impl Journal {
     /// call that fails is an `Err` of kind `Other`, takes and gives nothing and doesn't move, and
     /// counts a fault. No call of a new journal fails so; a later `fail` replaces an earlier one.
     pub fn fail(&mut self, from: u64, to: u64)
-        ensures { ⟦<Journal as Placed>⟧.state self.new ≡ ⟦<Journal as Placed>⟧.state self.old }
+        ensures state { ⟦<Journal as Placed>⟧.state self.new ≡ ⟦<Journal as Placed>⟧.state self.old }
+        ensures fails { (number : ℕ) → FailsAt self.new number
+            ↔ (from ≤ number) × (number ≤ to) }
+        ensures calls { calls self.new ≡ calls self.old }
+        ensures most { greatest_count self.new ≡ greatest_count self.old }
     {
         self.fail_from = from;
         self.fail_to = to;
@@ -146,6 +160,8 @@ impl Journal {
 }
 
 impl Placed for Journal {
+    ghost use Rattle.hound_medium.specs.Journal.{FailsAt, IsNumbered, calls};
+
     ghost tells = { true };
 
     ghost keeps = { true };
@@ -164,6 +180,8 @@ impl Placed for Journal {
     fn go(&mut self, to: u64) -> io::Result<()>
         ensures goes { let state = ⟦<Journal as Placed>⟧.state in
             Goes to result (state self.old) (state self.new) }
+        ensures fails { IsErr result ↔ FailsAt self.old (calls self.new) }
+        ensures numbered { IsNumbered self.old self.new }
     {
         self.call()?;
         self.place = to;
@@ -173,6 +191,10 @@ impl Placed for Journal {
     fn shift(&mut self, by: i64) -> io::Result<()>
         ensures shifts { let state = ⟦<Journal as Placed>⟧.state in
             Shifts by result (state self.old) (state self.new) }
+        ensures fails { FailsAt self.old (calls self.new) → IsErr result }
+        ensures moves { (FailsAt self.old (calls self.new) → ⊥) → (IsErr result → ⊥)
+            ↔ FitsUnsigned w64 (pos (⟦<Journal as Placed>⟧.state self.old).place +ℤ by) }
+        ensures numbered { IsNumbered self.old self.new }
     {
         self.call()?;
         match self.place.checked_add_signed(by) {
@@ -189,6 +211,8 @@ impl Placed for Journal {
 }
 
 impl Medium for Journal {
+    ghost use Rattle.hound_medium.specs.Journal.{FailsAt, IsNumbered, calls, greatest_count};
+
     ghost replays = { λ j _ _. j.replays };
 
     #[inline]
@@ -197,6 +221,11 @@ impl Medium for Journal {
         ensures bound { IfOk result (λ n. (1 ≤ n) × (n ≤ length bytes.now)) }
         ensures puts { let state = ⟦<Journal as Placed>⟧.state in
             Puts true bytes.now result (state self.old) (state self.new) }
+        ensures fails { FailsAt self.old (calls self.new) → IsErr result }
+        ensures memory { (FailsAt self.old (calls self.new) → ⊥) →
+            IfErr result (λ e. error_kind e ≡ ErrorKind.OutOfMemory) }
+        ensures most { IfOk result (λ n. n ≡ min (length bytes.now) (greatest_count self.old)) }
+        ensures numbered { IsNumbered self.old self.new }
     {
         self.call()?;
         let n = bytes.len().min(self.most);
@@ -215,6 +244,8 @@ impl Medium for Journal {
     fn flush(&mut self) -> io::Result<()>
         ensures flushes { let state = ⟦<Journal as Placed>⟧.state in
             Flushes result (state self.old) (state self.new) }
+        ensures fails { IsErr result ↔ FailsAt self.old (calls self.new) }
+        ensures numbered { IsNumbered self.old self.new }
     {
         self.call()?;
         self.flushed = self.taken();
@@ -223,6 +254,8 @@ impl Medium for Journal {
 }
 
 impl io::Read for Journal {
+    ghost use Rattle.hound_medium.specs.Journal.{FailsAt, IsNumbered, calls, greatest_count};
+
     ghost remaining = { λ j. Some (drop j.place j.bytes.items) };
 
     #[inline]
@@ -232,12 +265,19 @@ impl io::Read for Journal {
             (⟦<Journal as io::Read>⟧.remaining self.new) result buf.new }
         ensures gets { let state = ⟦<Journal as Placed>⟧.state in
             Gets buf.new result (state self.old) (state self.new) }
+        ensures fails { IsErr result ↔ FailsAt self.old (calls self.new) }
+        ensures most { let state = ⟦<Journal as Placed>⟧.state self.old in
+            IfOk result (λ n. n ≡ min (length (drop state.place state.contents))
+            (min (length buf.old) (greatest_count self.old))) }
+        ensures numbered { IsNumbered self.old self.new }
     {
         self.get(buf)
     }
 }
 
 impl Source for Journal {
+    ghost use Rattle.hound_medium.specs.Journal.{FailsAt, IsNumbered, calls, greatest_count};
+
     ghost left = { λ j _. refl };
 
     #[inline]
@@ -245,6 +285,11 @@ impl Source for Journal {
         ensures bound { IfOk result (λ n. n ≤ length buf.new) }
         ensures gets { let state = ⟦<Journal as Placed>⟧.state in
             Gets buf.new result (state self.old) (state self.new) }
+        ensures fails { IsErr result ↔ FailsAt self.old (calls self.new) }
+        ensures most { let state = ⟦<Journal as Placed>⟧.state self.old in
+            IfOk result (λ n. n ≡ min (length (drop state.place state.contents))
+            (min (length buf.old) (greatest_count self.old))) }
+        ensures numbered { IsNumbered self.old self.new }
     {
         self.call()?;
         let room = buf.len().min(self.most);

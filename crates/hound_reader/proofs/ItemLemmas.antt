@@ -27,7 +27,7 @@ a_container_is_taken None meaning width (Some xs) (Some ys) value read = (read.0
 
 -- a sample was given, as `read` of its type does it
 pub a_sample_is_given : {R A : Type 0} (left : R → Option (List ℕ))
-    (refusal : SampleFormat → ℕ → ℕ → Option ReadRefusal) (meaning : ℕ → ℕ → List ℕ → A)
+    (refusal : SampleFormat → ℕ → ℕ → Option ReadRefusal) (meaning : SampleFormat → ℕ → ℕ → List ℕ → A)
     (old new : ReaderState R) (answer : Result A NoSample) (fault : IoFault) (value : A)
     → old.samples_read < old.num_samples
     → new ≡ record {
@@ -96,7 +96,7 @@ item_more None meaning width (Some bytes) new (Err TooLong) items read rest = re
 item_more None meaning width (Some bytes) new (Err OutOfMemory) items read rest = read
 
 module _ {R A : Type 0} (left : R → Option (List ℕ))
-    (refusal : SampleFormat → ℕ → ℕ → Option ReadRefusal) (meaning : ℕ → ℕ → List ℕ → A) where
+    (refusal : SampleFormat → ℕ → ℕ → Option ReadRefusal) (meaning : SampleFormat → ℕ → ℕ → List ℕ → A) where
   -- a run gives the items of the bytes that were left
   pub items_given : (items : List (Result A Error)) (old new : ReaderState R)
       → GivesItems left refusal meaning items old new

@@ -7,6 +7,7 @@ pub mod ItemLemmas
 pub mod ReaderLemmas
 pub mod SeekLemmas
 pub mod SourceReads
+pub mod TakenLemmas
 pub mod Unique
 pub mod WalkLemmas
 pub mod WrittenLemmas

@@ -107,7 +107,7 @@ reads_first meaning width bytes new (Err TooLong) read = read
 reads_first meaning width bytes new (Err OutOfMemory) read = read
 
 module _ {R A : Type 0} (state : R → MediumState) (left : R → Option (List ℕ))
-    (refusal : SampleFormat → ℕ → ℕ → Option ReadRefusal) (meaning : ℕ → ℕ → List ℕ → A) where
+    (refusal : SampleFormat → ℕ → ℕ → Option ReadRefusal) (meaning : SampleFormat → ℕ → ℕ → List ℕ → A) where
   -- the item after a seek
   pub sought_item : (start time : ℕ) (old mid new : ReaderState R) (next : Option (Result A Error))
       → left mid.reader ≡ Some (unread (state mid.reader)) → HasSought state start time old mid
@@ -160,7 +160,7 @@ module _ {R : Type 0} (left : R → Option (List ℕ)) where
 
   -- an item keeps what is left as counted
   pub item_counted : {A : Type 0} (refusal : SampleFormat → ℕ → ℕ → Option ReadRefusal)
-      (meaning : ℕ → ℕ → List ℕ → A) (bytes : List ℕ) (old new : ReaderState R)
+      (meaning : SampleFormat → ℕ → ℕ → List ℕ → A) (bytes : List ℕ) (old new : ReaderState R)
       (next : Option (Result A Error)) → StandsAsCounted left bytes old
       → IsNext left refusal meaning next old new → StandsAsCounted left bytes new
   item_counted refusal meaning bytes old new None stands step =
@@ -191,7 +191,7 @@ module _ {R : Type 0} (left : R → Option (List ℕ)) (state : R → MediumStat
 
   -- an item of a type passes
   pub item_passes : {A : Type 0} (refusal : SampleFormat → ℕ → ℕ → Option ReadRefusal)
-      (meaning : ℕ → ℕ → List ℕ → A) (old new : ReaderState R) (item : Result A Error)
+      (meaning : SampleFormat → ℕ → ℕ → List ℕ → A) (old new : ReaderState R) (item : Result A Error)
       → IsNext left refusal meaning (Some item) old new
       → ReadsInPlace (state old.reader) (state new.reader) → PassesItem left state old new
   item_passes refusal meaning old new item step place =
@@ -242,7 +242,7 @@ module _ {R : Type 0} (left : R → Option (List ℕ)) (state : R → MediumStat
 
     -- the item after a seek, after any items and seeks since the data began
     pub item_after : {A : Type 0} (refusal : SampleFormat → ℕ → ℕ → Option ReadRefusal)
-        (meaning : ℕ → ℕ → List ℕ → A) (calls : List (Option ℕ)) (time : ℕ)
+        (meaning : SampleFormat → ℕ → ℕ → List ℕ → A) (calls : List (Option ℕ)) (time : ℕ)
         (first old mid new : ReaderState R) (next : Option (Result A Error)) → first.bytes_read ≡ 0
         → Follows left state calls first old
         → Seeks state time old mid → time < first.num_samples / first.spec_ex.spec.channels

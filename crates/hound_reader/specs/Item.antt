@@ -32,7 +32,7 @@ answer_of (Err no_sample) fault = Err (error_of_item no_sample fault)
 
 -- a sample is read as `read` of a type does it, whichever the fault is
 abbrev pub AnswersRead : {A : Type 0} → (SampleFormat → ℕ → ℕ → Option ReadRefusal)
-    → (ℕ → ℕ → List ℕ → A) → WavSpecEx → Option (List ℕ) → Option (List ℕ) → Result A NoSample
+    → (SampleFormat → ℕ → ℕ → List ℕ → A) → WavSpecEx → Option (List ℕ) → Option (List ℕ) → Result A NoSample
     → Type 0
 AnswersRead refusal meaning s old new answer = (fault : IoFault)
     → Reads (refusal_at refusal s) (meaning_at meaning s) s.bytes_per_sample old new

@@ -22,7 +22,7 @@ AreItems None meaning width bytes (Err _ ∷ items) = ⊥
 
 -- these items were given one after the other
 abbrev pub GivesItems : {R A : Type 0} → (R → Option (List ℕ))
-    → (SampleFormat → ℕ → ℕ → Option ReadRefusal) → (ℕ → ℕ → List ℕ → A) → List (Result A Error)
+    → (SampleFormat → ℕ → ℕ → Option ReadRefusal) → (SampleFormat → ℕ → ℕ → List ℕ → A) → List (Result A Error)
     → ReaderState R → ReaderState R → Type 0
 GivesItems left refusal meaning [] old new = new ≡ old
 GivesItems {R} left refusal meaning (item ∷ items) old new = (mid : ReaderState R)

@@ -14,3 +14,4 @@ pub mod Item
 pub mod Items
 pub mod Rows
 pub mod Seeking
+pub mod Taken

@@ -59,8 +59,8 @@ CountsTaken left old new = (n : ℕ) × (new.bytes_read ≡ old.bytes_read + n)
 abbrev pub refusal_at : (SampleFormat → ℕ → ℕ → Option ReadRefusal) → WavSpecEx → Option ReadRefusal
 refusal_at refusal s = refusal s.spec.sample_format s.bytes_per_sample s.spec.bits_per_sample
 
-abbrev pub meaning_at : {A : Type 0} → (ℕ → ℕ → List ℕ → A) → WavSpecEx → List ℕ → A
-meaning_at meaning s = meaning s.bytes_per_sample s.spec.bits_per_sample
+abbrev pub meaning_at : {A : Type 0} → (SampleFormat → ℕ → ℕ → List ℕ → A) → WavSpecEx → List ℕ → A
+meaning_at meaning s = meaning s.spec.sample_format s.bytes_per_sample s.spec.bits_per_sample
 
 -- An item of a type with this refusal and meaning was given: it is what `read` of the type answers,
 -- and it counts.
@@ -78,7 +78,7 @@ pub record GivesItem {R A : Type 0} (left : R → Option (List ℕ)) (refusal : 
 
 -- `next`: an item while samples are left, then None and nothing changes
 abbrev pub IsNext : {R A : Type 0} → (R → Option (List ℕ))
-    → (SampleFormat → ℕ → ℕ → Option ReadRefusal) → (ℕ → ℕ → List ℕ → A) → Option (Result A Error)
+    → (SampleFormat → ℕ → ℕ → Option ReadRefusal) → (SampleFormat → ℕ → ℕ → List ℕ → A) → Option (Result A Error)
     → ReaderState R → ReaderState R → Type 0
 IsNext left refusal meaning None old new = (old.num_samples ≤ old.samples_read) × (new ≡ old)
 IsNext left refusal meaning (Some item) old new = GivesItem left (refusal_at refusal old.spec_ex)

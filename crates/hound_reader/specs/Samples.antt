@@ -19,7 +19,7 @@ module _ {R S : Type 0} where
 
   -- `next`: the next sample of the reader, which stays the same one
   abbrev pub LendsNext : (R → Option (List ℕ)) → (SampleFormat → ℕ → ℕ → Option ReadRefusal)
-      → (ℕ → ℕ → List ℕ → S) → WavSamples R S → Option (Result S Error) → WavSamples R S → Type 0
+      → (SampleFormat → ℕ → ℕ → List ℕ → S) → WavSamples R S → Option (Result S Error) → WavSamples R S → Type 0
   LendsNext left refusal meaning old item new = (lender new ≡ lender old)
       × IsNext left refusal meaning item (lent_reader old) (lent_reader new)
 
@@ -29,7 +29,7 @@ module _ {R S : Type 0} where
 
   -- `next`: the next sample of the reader that was taken
   abbrev pub TakesNext : (R → Option (List ℕ)) → (SampleFormat → ℕ → ℕ → Option ReadRefusal)
-      → (ℕ → ℕ → List ℕ → S) → WavIntoSamples R S → Option (Result S Error) → WavIntoSamples R S
+      → (SampleFormat → ℕ → ℕ → List ℕ → S) → WavIntoSamples R S → Option (Result S Error) → WavIntoSamples R S
       → Type 0
   TakesNext left refusal meaning old item new = IsNext left refusal meaning item (taken_reader old)
       (taken_reader new)

@@ -1,16 +1,17 @@
 // The walk over chunks to the data.
 ghost use Rattle.hound_medium.specs.State.{WhereTells};
-ghost use Rattle.std.specs.Prelude.{◌≡◌, ℕ, ◌+◌, ◌++◌, ◌<◌, ◌≤◌, List, length, take, drop, Ok, Some, IsTrue, OnOk, IfOk, IfErr};
+ghost use Rattle.std.specs.Prelude.{◌≡◌, ℕ, ◌+◌, ◌++◌, ◌<◌, ◌≤◌, List, [], length, take, drop, Ok, Some, IsTrue, OnOk, IfOk, IfErr};
 ghost use Rattle.std.specs.Io.KnownBytes.{Consumes};
 ghost use Rattle.hound_number.specs.Input.{Known};
 ghost use Rattle.hound_number.specs.Number.{number};
-ghost use Rattle.hound_spec.specs.FmtChunk.{greatest_u32};
+ghost use Rattle.hound_spec.specs.FmtChunk.{fmt_fields, greatest_u32};
 ghost use Rattle.hound_spec.specs.Header.{padded, riff_tag, wave_tag};
 ghost use Rattle.hound_reader.specs.Outcome.{CountsFailed, Refuses, UnlessReadFailed};
 ghost use Rattle.hound_reader.specs.Fmt.{fmt_of, IsSoundSpec};
 ghost use Rattle.hound_reader.specs.Chunks.{Head, IsDataPlace, Refused, fault_of, first_fault, cut_fault, front_fault, content_fault, chunk_fault};
-ghost use Rattle.hound_reader.specs.Sources.{FindsData};
+ghost use Rattle.hound_reader.specs.Sources.{FindsData, unread};
 ghost use Rattle.hound_reader.specs.Front.{TakesFront};
+ghost use Rattle.hound_reader.specs.Taken.{MeetsFaultAfter, RefusedAfter, TakesAll, TakesFor, chunk_taken, content_taken};
 ghost use Rattle.hound_reader.specs.Answer.{Answer, Answers, ReportsAnswer};
 ghost use Rattle.hound_reader.specs.Walk.{ReadsChunk, ReadsContent, ReadsFmt, Advances, ReachesData, MeetsFault, IsSoundOption, IsSoundChunk};
 
@@ -57,7 +58,8 @@ fn skip_bytes<R: Input>(reader: &mut R, count: u32) -> Result<(), HeadError>
     ensures ok { OnOk result ((bytes : List ℕ)
         × Consumes (R.left reader.old) (R.left reader.new) bytes × (length bytes ≡ count)) }
     ensures err { IfErr result (λ e. Refuses e (λ c. (c ≡ Cause.Ended)
-        × Known (R.left reader.old) (R.left reader.new) (λ xs ys. length xs < count))) }
+        × Known (R.left reader.old) (R.left reader.new)
+        (λ xs ys. (length xs < count) × (ys ≡ [])))) }
 {
     let mut buf = [0; 512];
     let mut left = count;
@@ -115,6 +117,8 @@ fn read_fmt_content<R: Input>(
     ensures err { IfErr result (λ e. Refuses e (λ c.
         Known (R.left reader.old) (R.left reader.new) (λ xs ys.
         first_fault (fault_of (fmt_of chunk_len (take content xs))) (cut_fault content xs) ≡ Some c))) }
+    ensures taken { IfErr result (TakesFor (R.left reader.old) (R.left reader.new)
+        (λ c xs. content_taken (fmt_fields xs).tag chunk_len c (length xs))) }
 {
     let spec_ex = read_fmt_chunk(reader, chunk_len)?;
     skip_bytes(reader, content - chunk_len.min(40))?;
@@ -140,6 +144,8 @@ fn read_content<R: Input>(
     ensures err { IfErr result (λ e. Refuses e (λ c.
         Known (R.left reader.old) (R.left reader.new) (λ xs ys.
         content_fault taken found tag.now chunk_len xs ≡ Some c))) }
+    ensures taken { IfErr result (TakesFor (R.left reader.old) (R.left reader.new)
+        (λ c xs. content_taken (fmt_fields xs).tag chunk_len c (length xs))) }
 {
     if tag == DATA.as_slice() {
         return match found {
@@ -176,6 +182,8 @@ fn read_next_chunk<R: Input>(
     ensures err { IfErr result (λ e. Refuses e (λ c.
         Known (R.left reader.old) (R.left reader.new) (λ xs ys.
         chunk_fault taken found xs ≡ Some c))) }
+    ensures taken { IfErr result (TakesFor (R.left reader.old) (R.left reader.new)
+        (chunk_taken taken)) }
 {
     if taken > 4_294_967_287 {
         return Err(HeadError::Refused(Cause::Format(Reason::NoDataChunk)));
@@ -195,6 +203,7 @@ fn read_chunks<R: Input>(reader: &mut R) -> Result<FileHead, HeadError>
         (taken : ℕ) × ReachesData xs ys r.spec_ex r.data_length taken × (r.data_start ≡ 12 + taken + 8))) }
     ensures err { IfErr result (λ e. Refuses e (λ c.
         Known (R.left reader.old) (R.left reader.new) (λ xs ys. MeetsFault xs c))) }
+    ensures taken { IfErr result (TakesAll MeetsFaultAfter (R.left reader.old) (R.left reader.new)) }
 {
     let mut found = None;
     let mut taken = 0;
@@ -224,6 +233,7 @@ fn read_head<R: Input>(reader: &mut R) -> Result<FileHead, HeadError>
         Head xs r.spec_ex r.data_length r.data_start × (ys ≡ drop r.data_start xs))) }
     ensures err { IfErr result (λ e. Refuses e (λ c.
         Known (R.left reader.old) (R.left reader.new) (λ xs ys. Refused xs c))) }
+    ensures taken { IfErr result (TakesAll RefusedAfter (R.left reader.old) (R.left reader.new)) }
 {
     let _size = read_riff_header(reader)?;
     read_chunks(reader)
@@ -242,6 +252,7 @@ pub fn read_until_data<R: Input>(reader: &mut R) -> Result<FileHead, HeadError>
         Head xs r.spec_ex r.data_length r.data_start × (ys ≡ drop r.data_start xs))) }
     ensures refused { IfErr result (λ e. Refuses e (λ c.
         Known (R.left reader.old) (R.left reader.new) (λ xs ys. Refused xs c))) }
+    ensures taken { IfErr result (TakesAll RefusedAfter (R.left reader.old) (R.left reader.new)) }
     ensures only { UnlessReadFailed result (Known (R.left reader.old) (R.left reader.new) (λ xs ys.
         (a : Answer) → Answers xs a → ReportsAnswer result xs ys a)) }
 {
@@ -255,6 +266,8 @@ pub fn find_data<S: Source>(source: S) -> (S, Result<FileHead, HeadError>)
     ensures sound { IfOk result.1 (λ r. IsSoundSpec r.spec_ex) }
     ensures start { IfOk result.1 (λ r. IsDataPlace r.data_start) }
     ensures finds { WhereTells S.tells (FindsData result.1 (S.state source) (S.state result.0)) }
+    ensures taken { WhereTells S.tells (IfErr result.1 (TakesAll RefusedAfter
+        (Some (unread (S.state source))) (Some (unread (S.state result.0))))) }
 {
     let mut input = Counted { source };
     let answer = read_until_data(&mut input);

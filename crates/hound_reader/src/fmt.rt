@@ -1,7 +1,8 @@
 // The content of a fmt chunk.
-ghost use Rattle.std.specs.Prelude.{◌≡◌, ◌-◌, ◌≤◌, length, take, IfOk};
-ghost use Rattle.hound_spec.specs.FmtChunk.{fmt_fields, extension};
-ghost use Rattle.hound_reader.specs.Outcome.{Gives, CountsFailed};
+ghost use Rattle.std.specs.Prelude.{◌≡◌, ℕ, ◌+◌, ◌-◌, ◌≤◌, length, take, IfOk, IfErr};
+ghost use Rattle.hound_spec.specs.FmtChunk.{fmt_fields, extension, pcm, ieee_float, extensible};
+ghost use Rattle.hound_reader.specs.Outcome.{Gives, CountsFailed, Refuses};
+ghost use Rattle.hound_reader.specs.Taken.{TakesFor, content_taken};
 ghost use Rattle.hound_reader.specs.Fmt.{wave_format, wave_format_pcm, wave_format_ieee_float, wave_format_extensible, by_subformat, by_tag, fmt_len, fmt_of, IsSoundSpec};
 
 use crate::fault::{Cause, HeadError, Reason};
@@ -73,6 +74,10 @@ fn read_wave_format_pcm<R: Input>(
     ensures gives { Gives (R.left reader.old) (R.left reader.new)
         (fmt_len chunk_len - 16) result
         (λ xs. wave_format_pcm chunk_len found (take (fmt_len chunk_len - 16) xs)) }
+    ensures taken { IfErr result (TakesFor (R.left reader.old) (R.left reader.new)
+        (λ c xs. content_taken pcm chunk_len c (16 + length xs) - 16)) }
+    ensures late { IfErr result (λ e. Refuses e (λ c. (n : ℕ) →
+        16 ≤ content_taken pcm chunk_len c (16 + n))) }
 {
     if chunk_len == 16 {
         return Ok(found);
@@ -105,6 +110,10 @@ fn read_wave_format_ieee_float<R: Input>(
     ensures gives { Gives (R.left reader.old) (R.left reader.new)
         (fmt_len chunk_len - 16) result
         (λ xs. wave_format_ieee_float chunk_len found (take (fmt_len chunk_len - 16) xs)) }
+    ensures taken { IfErr result (TakesFor (R.left reader.old) (R.left reader.new)
+        (λ c xs. content_taken ieee_float chunk_len c (16 + length xs) - 16)) }
+    ensures late { IfErr result (λ e. Refuses e (λ c. (n : ℕ) →
+        16 ≤ content_taken ieee_float chunk_len c (16 + n))) }
 {
     if chunk_len != 16 && chunk_len != 18 {
         return Err(HeadError::Refused(Cause::Format(Reason::UnexpectedFmtSize)));
@@ -169,6 +178,10 @@ fn read_wave_format_extensible<R: Input>(
     ensures gives { Gives (R.left reader.old) (R.left reader.new)
         (fmt_len chunk_len - 16) result
         (λ xs. wave_format_extensible chunk_len found (take (fmt_len chunk_len - 16) xs)) }
+    ensures taken { IfErr result (TakesFor (R.left reader.old) (R.left reader.new)
+        (λ c xs. content_taken extensible chunk_len c (16 + length xs) - 16)) }
+    ensures late { IfErr result (λ e. Refuses e (λ c. (n : ℕ) →
+        16 ≤ content_taken extensible chunk_len c (16 + n))) }
 {
     if chunk_len < 40 {
         return Err(HeadError::Refused(Cause::Format(Reason::UnexpectedFmtSize)));
@@ -198,6 +211,10 @@ fn read_by_tag<R: Input>(
     ensures gives { Gives (R.left reader.old) (R.left reader.new)
         (fmt_len chunk_len - 16) result
         (λ xs. by_tag tag chunk_len found (take (fmt_len chunk_len - 16) xs)) }
+    ensures taken { IfErr result (TakesFor (R.left reader.old) (R.left reader.new)
+        (λ c xs. content_taken tag chunk_len c (16 + length xs) - 16)) }
+    ensures late { IfErr result (λ e. Refuses e (λ c. (n : ℕ) →
+        16 ≤ content_taken tag chunk_len c (16 + n))) }
 {
     match tag {
         PCM => read_wave_format_pcm(reader, chunk_len, found),
@@ -218,6 +235,8 @@ pub(crate) fn read_fmt_chunk<R: Input>(
     ensures failures { CountsFailed (R.account reader.old) (R.account reader.new) result }
     ensures gives { Gives (R.left reader.old) (R.left reader.new)
         (fmt_len chunk_len) result (fmt_of chunk_len) }
+    ensures taken { IfErr result (TakesFor (R.left reader.old) (R.left reader.new)
+        (λ c xs. content_taken (fmt_fields xs).tag chunk_len c (length xs))) }
 {
     if chunk_len < 16 {
         return Err(HeadError::Refused(Cause::Format(Reason::FmtSize)));

@@ -8,6 +8,7 @@ ghost use Rattle.hound_reader.specs.Outcome.{CountsFailed, Refuses};
 ghost use Rattle.hound_reader.specs.Fmt.{IsSoundSpec};
 ghost use Rattle.hound_reader.specs.Chunks.{Readable, Unreadable};
 ghost use Rattle.hound_reader.specs.Front.{ReportsFront};
+ghost use Rattle.hound_reader.specs.Taken.{TakesAll, UnreadableAfter};
 ghost use Rattle.hound_reader.specs.declared.fault.Cause.{Cause};
 ghost use Rattle.hound_reader.specs.Refusals.{IsRefusal, OpensAs, FailsAs};
 ghost use Rattle.hound_medium.specs.State.{Shifts, WhereTells};
@@ -38,6 +39,7 @@ fn read_until_samples<R: Input>(reader: &mut R) -> result::Result<(WavSpecEx, u3
         (h : ℕ) × Readable xs r.0 r.1 h × (ys ≡ drop h xs))) }
     ensures refused { IfErr result (λ e. Refuses e
         (λ c. Known (R.left reader.old) (R.left reader.new) (λ xs ys. Unreadable xs c))) }
+    ensures taken { IfErr result (TakesAll UnreadableAfter (R.left reader.old) (R.left reader.new)) }
     ensures frames { IfOk result (λ r. r.1 % r.0.spec.channels ≡ 0) }
 {
     let head = read_until_data(reader)?;

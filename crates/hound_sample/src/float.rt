@@ -41,7 +41,7 @@ impl Sample for FloatBits {
 
     ghost refusal = { float_refusal };
 
-    ghost meaning = { λ width bits container. record { 0 = pattern container } };
+    ghost meaning = { λ format width bits container. record { 0 = pattern container } };
 
     ghost can_cast = { λ _. ⊥ };
 

@@ -38,8 +38,8 @@ pub trait Sample: Sized + Drop {
     /// aren't.
     ghost refusal: { SampleFormat → ℕ → ℕ → Option ReadRefusal };
 
-    /// The value that a container of so many bytes and used bits stands for.
-    ghost meaning: { ℕ → ℕ → List ℕ → Self };
+    /// The value of a container, in a file of this format, with so many bytes and used bits.
+    ghost meaning: { SampleFormat → ℕ → ℕ → List ℕ → Self };
 
     /// Whether a value may be cast to sixteen bits: each integer may, and no `FloatBits`.
     ghost can_cast: { Self → Type 0 };
@@ -78,7 +78,7 @@ pub trait Sample: Sized + Drop {
     /// fault that it met itself. A refusal of the format, the bytes or the bits comes before any
     /// read and leaves the reader untouched.
     fn read<R: io::Read>(reader: &mut R, fmt: SampleFormat, bytes: u16, bits: u16) -> Result<Self>
-        ensures reads { Reads (refusal fmt bytes bits) (meaning bytes bits) bytes
+        ensures reads { Reads (refusal fmt bytes bits) (meaning fmt bytes bits) bytes
             (R.remaining reader.old) (R.remaining reader.new) result }
         ensures untouched { IsSome (refusal fmt bytes bits) → reader.new ≡ reader.old };
 
@@ -106,7 +106,7 @@ impl Sample for i8 {
 
     ghost refusal = { int_refusal 1 };
 
-    ghost meaning = { int_meaning };
+    ghost meaning = { λ format. int_meaning };
 
     ghost can_cast = { λ _. ⊤ };
 
@@ -138,7 +138,7 @@ impl Sample for i16 {
 
     ghost refusal = { int_refusal 2 };
 
-    ghost meaning = { int_meaning };
+    ghost meaning = { λ format. int_meaning };
 
     ghost can_cast = { λ _. ⊤ };
 
@@ -175,7 +175,7 @@ impl Sample for i32 {
 
     ghost refusal = { int_refusal 4 };
 
-    ghost meaning = { int_meaning };
+    ghost meaning = { λ format. int_meaning };
 
     ghost can_cast = { λ _. ⊤ };
 

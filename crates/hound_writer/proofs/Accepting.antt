@@ -4,7 +4,7 @@ use Rattle.std.proofs.lemmas.List.{take_at, take_all, drop_at, drop-drop, append
 use Rattle.std.proofs.lemmas.Bool.{false≢true}
 use Rattle.std.specs.List.{concat}
 use Rattle.std.specs.declared.io.Error.{Error as IoFault}
-use Rattle.hound_medium.specs.Bytes.{put_at, placed, overlay}
+use Rattle.hound_medium.specs.Bytes.{put_at, placed, overlay, moment}
 use Rattle.hound_medium.specs.State.{MediumState, WhereTells, WhereKeeps}
 use Rattle.hound_medium.specs.Spans.{Span}
 use Rattle.hound_medium.proofs.Overlays.{overlay_is, length-put_at, take_overlay_before, length_overlay_le, front_part}
@@ -22,7 +22,8 @@ use Rattle.hound_writer.specs.Parts.{PutsAt, IsStanding}
 use Rattle.hound_writer.specs.Writer.{WriterState, HasRoom, IsCounted, IsSound, IsWhole, accepted_samples, data_length}
 use Rattle.hound_writer.proofs.Answers.{accept_as, on_refused, unless_failed}
 use Rattle.hound_writer.proofs.Containers.{containers_append, containers_front, count_append, count_bytes, joined_bytes, whole_more}
-use Rattle.hound_writer.proofs.Samples.{counts_at, samples_out, samples_same, whole_out}
+use Rattle.hound_writer.proofs.Storing.{stored_same, stored_still}
+use Rattle.hound_writer.proofs.Samples.{concat-samples, counts_at, samples_out, samples_same, whole_out}
 use Rattle.hound_writer.proofs.Standing.{inside, stands_front, stands_more}
 use Rattle.hound_spec.specs.FmtChunk.{greatest_u32}
 use Rattle.hound_writer.proofs.Sizes.{take_front}
@@ -95,6 +96,7 @@ accepts_refused tells keeps state w memory asked e counts replays mark faults an
             (replays told kept) refl refl (counts told whole);
         front = λ whole. span_still (λ _ c. take end c ≡ take end old.contents) 0 old old
             (replays told kept) refl refl refl;
+        stored = λ _. stored_still w.data_start (concat (accepted_samples state w)) old;
       };
     }
 
@@ -204,6 +206,11 @@ module _ {W : Type 0} (tells keeps : Bool) (state : W → MediumState) (w : Writ
         let same : end ≤ length old.contents → (k : ℕ)
         → take end (overlay old.contents (placed end (take k bs))) ≡ take end old.contents =
         λ whole k. take_overlay_before (take k bs) end end old.contents (omega arith) whole in
+        let fixed : IsWhole state w
+        → Span (λ _ c. take end c ≡ take end old.contents) 0 old new =
+        λ whole. span_puts
+        (λ _ c. take end c ≡ take end old.contents) 0 old new end bs replays puts.start
+        (puts.past kept) (λ k within. same whole k) in
         record {
           counts =
               λ whole. span_puts
@@ -211,9 +218,17 @@ module _ {W : Type 0} (tells keeps : Bool) (state : W → MediumState) (w : Writ
               (accepted_samples state w)) 0 old new end bs replays puts.start (puts.past kept)
               (λ k within. counts_front told whole (overlay old.contents (placed end (take k bs)))
               (same whole k));
-          front = λ whole. span_puts
-              (λ _ c. take end c ≡ take end old.contents) 0 old new end bs replays puts.start
-              (puts.past kept) (λ k within. same whole k);
+          front = fixed;
+          stored =
+              λ whole. stored_same w.data_start w.out
+              (concat (accepted_samples state w)) old.contents old new
+              (omega (
+                arith,
+                ap length (concat-samples state w none sound),
+                length-take w.out (drop w.data_start old.contents),
+              ))
+              (λ k from to. front_part end w.data_start w.out (moment new.start new.past k)
+              old.contents (omega arith) ((fixed whole).each k from to));
         }
 
     -- all of them went out
@@ -468,7 +483,7 @@ accepts_swapped tells keeps state memory asked answer a b c d before after faile
             counts = f.counts;
           };
       moments = λ told kept. let at_each = inner.moments told kept in
-          record { counts = at_each.counts; front = at_each.front };
+          record { counts = at_each.counts; front = at_each.front; stored = at_each.stored };
     }
 
 -- an answer to containers for which there is room and no memory is wanted

@@ -1,7 +1,8 @@
 -- What the block of accepted samples changes: samples that join it, and what waits in it when it
 -- goes out.
-use Rattle.std.proofs.Common.{◌≡◌, ℕ, zero, suc, ◌+◌, ◌/◌, ◌%◌, ◌≤◌, Bool, true, false, IsTrue, List, [], ◌++◌, length, take, drop, Result, Ok, refl, sym, subst, ◌∙◌, ap, arith, length-append}
-use Rattle.std.proofs.lemmas.List.{append-nil, nil_from_length}
+use Rattle.std.proofs.Common.{◌≡◌, ℕ, zero, suc, ◌+◌, ◌/◌, ◌%◌, ◌≤◌, Bool, true, false, IsTrue, List, [], ◌++◌, length, take, drop, Result, Ok, refl, sym, subst, ◌∙◌, ap, arith, length-append, length-drop}
+use Rattle.std.proofs.lemmas.List.{append-nil, length-take-le, nil_from_length}
+use Rattle.std.specs.List.{concat}
 use Rattle.hound_medium.specs.Bytes.{overlay}
 use Rattle.hound_medium.specs.State.{MediumState, WhereTells, WhereKeeps}
 use Rattle.hound_medium.proofs.Spans.{span_still, span_weaker}
@@ -12,6 +13,7 @@ use Rattle.hound_writer.specs.Block.{GoesAtEach, GoesOut, IsLimit, StaysAround, 
 use Rattle.hound_writer.specs.Counts.{Counts}
 use Rattle.hound_writer.specs.Fields.{IsConsistent}
 use Rattle.hound_writer.specs.Parts.{IsStanding, PutsAt}
+use Rattle.hound_writer.specs.Storing.{KeepsStored}
 use Rattle.hound_writer.specs.Writer.{WriterState, HasRoom, IsSound, IsWhole, accepted_samples, data_length, data_end}
 use Rattle.hound_writer.proofs.Accepting.{accepts_all, at_each, data_stays, front, front_at_each, front_stays, grows, reach, rest, room_fits, sound_more, still}
 use Rattle.hound_writer.proofs.Containers.{joined_bytes, none_whole, whole_more}
@@ -20,6 +22,7 @@ use Rattle.hound_writer.proofs.Keeping.{consistent_moved}
 use Rattle.hound_writer.proofs.PutsFrom.{puts_from}
 use Rattle.hound_writer.proofs.Samples.{counts_at, samples_more, samples_parts}
 use Rattle.hound_writer.proofs.Standing.{stands_more}
+use Rattle.hound_writer.proofs.Storing.{joined_samples, puts_stored, stored_still}
 
 -- a writer over a medium that stays
 module _ {W : Type 0} (tells keeps : Bool) (state : W → MediumState) (w : WriterState W)
@@ -104,6 +107,7 @@ module _ {W : Type 0} (tells keeps : Bool) (state : W → MediumState) (w : Writ
               (counts_at state w sound known.whole_out old.contents whole (known.stands told) refl);
           front = λ whole. span_still (λ _ c. take reach c ≡ take reach old.contents) 0 old old
               (replays told kept) refl refl refl;
+          stored = λ _. stored_still w.data_start (concat (accepted_samples state w)) old;
         };
       }
 
@@ -156,8 +160,10 @@ module _ {W : Type 0} (tells keeps : Bool) (state : W → MediumState) (w : Writ
       zero_div zero = refl
       zero_div (suc n) = omega arith
 
-  moments : AddsAtEach state shorter (state m) → AddsAtEach state w (state m)
-  moments at_each = record {
+  moments : (IsWhole state w
+      → KeepsStored w.data_start (concat (accepted_samples state w)) (state w.medium) (state m))
+      → AddsAtEach state shorter (state m) → AddsAtEach state w (state m)
+  moments stored at_each = record {
     counts =
         λ whole. span_weaker (λ _. Counts w.spec_ex w.data_start (accepted_samples state shorter))
         (λ _. Counts w.spec_ex w.data_start (accepted_samples state w)) 0 old (state m)
@@ -166,6 +172,7 @@ module _ {W : Type 0} (tells keeps : Bool) (state : W → MediumState) (w : Writ
         (containers wide (length w.waiting / wide) w.waiting) c known.sound.width counts))
         (at_each.counts whole);
     front = at_each.front;
+    stored = stored;
   }
 
   -- all of it, or a beginning
@@ -173,9 +180,22 @@ module _ {W : Type 0} (tells keeps : Bool) (state : W → MediumState) (w : Writ
       (puts : WhereTells tells
       (PutsAt keeps (w.data_start + w.out) w.waiting (all_out all) (state w.medium) (state m)))
     where
+      stored_out : IsTrue tells → IsTrue keeps → IsWhole state w
+          → KeepsStored w.data_start (concat (accepted_samples state w)) (state w.medium) (state m)
+      stored_out told kept whole =
+          let held = drop w.data_start old.contents in
+          let size : w.data_start + length (take w.out held) ≡ end =
+          ap (λ n. w.data_start + n)
+          (length-take-le w.out held
+          (omega (arith, whole, length-drop w.data_start old.contents))) in
+          subst (λ l. KeepsStored w.data_start l old (state m))
+          (sym (joined_samples state w known.sound whole))
+          (puts_stored w.data_start end (take w.out held) w.waiting (puts told).count old (state m)
+          size ((puts told).past kept))
+
       moments_out : WhereKeeps tells keeps (GoesAtEach state w (state m))
       moments_out told kept = record {
-        adds = moments
+        adds = moments (stored_out told kept)
             (at_each tells keeps state shorter refl sound_shorter stands m w.waiting
             (all_out all) told (puts told) kept (replays told kept));
         front = front_at_each tells keeps state shorter refl sound_shorter stands m w.waiting
@@ -336,6 +356,7 @@ goes_out_nothing tells keeps state far w moved limit known replays none =
               (replays told kept) refl refl (counts told whole);
           front = λ whole. span_still (λ _ c. take end c ≡ take end old.contents) 0 old old
               (replays told kept) refl refl refl;
+          stored = λ _. stored_still w.data_start (concat (accepted_samples state w)) old;
         };
         front = span_still (λ _ c. take w.data_start c ≡ take w.data_start old.contents) 0 old old
             (replays told kept) refl refl refl;

@@ -12,9 +12,11 @@ use Rattle.hound_writer.specs.Accepting.{Accepts, AddsAtEach}
 use Rattle.hound_writer.specs.Answers.{FitAnswer, IsIoError, faults_told, if_marked, mark_of}
 use Rattle.hound_writer.specs.Block.{GoesOut, after_out, or_fault}
 use Rattle.hound_writer.specs.Counts.{Counts}
+use Rattle.hound_writer.specs.Storing.{KeepsStored}
 use Rattle.hound_writer.proofs.Accepting.{not_refused, room_fits}
 use Rattle.hound_writer.proofs.Answers.{accept_as, unless_then}
 use Rattle.hound_writer.proofs.Sizes.{take_front}
+use Rattle.hound_writer.proofs.Storing.{stored_join}
 use Rattle.hound_writer.specs.Writer.{WriterState, HasRoom, IsWhole, accepted_samples, data_length, data_end}
 
 -- bytes behind others that stay, stay
@@ -77,6 +79,15 @@ module _ {W : Type 0} (tells keeps : Bool) (state : W → MediumState) (far : �
             (a.data_start + data_length a) then)
             (λ _ c. take reach_out c ≡ take reach_out first) 0 (state m) new
             (λ j c same. front_later told whole c same) (at_each.front (f.whole whole)));
+        stored =
+            λ whole.
+            let out_span = before.front whole in
+            let new_span = at_each.front (f.whole whole) in
+            stored_join a.data_start (concat (accepted_samples state a)) (state a.medium) (state m)
+            new out_span.added new_span.added out_span.past new_span.start new_span.past
+            (before.stored whole)
+            (subst (λ l. KeepsStored a.data_start (concat l) (state m) new)
+            (f.accepted whole) (at_each.stored (f.whole whole)));
       }
 
   accepts_after : far ≤ data_end a

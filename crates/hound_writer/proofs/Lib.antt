@@ -7,8 +7,9 @@ pub mod Stores
 pub mod Keeping
 pub mod Answers
 pub mod Samples
-pub mod Accepting
 pub mod PutsFrom
+pub mod Storing
+pub mod Accepting
 pub mod Blocks
 pub mod Padding
 pub mod Patching

@@ -4,6 +4,7 @@ use Rattle.std.proofs.lemmas.Bool.{cases_lt, false≢true}
 use Rattle.std.proofs.lemmas.List.{take-take, length-take-le, get_or_at}
 use Rattle.std.proofs.lemmas.Result.{on_ok_weaker}
 use Rattle.std.specs.Io.{StartsWith}
+use Rattle.std.specs.List.{concat}
 use Rattle.std.specs.declared.io.Error.{Error as IoFault}
 use Rattle.hound_number.specs.Number.{bytes_of, mix, AreBytes}
 use Rattle.hound_number.proofs.Mixing.{mix_none, mix_all}
@@ -23,10 +24,11 @@ use Rattle.hound_writer.specs.Answers.{IsPublishing}
 use Rattle.hound_writer.specs.Publishing.{Checkpoints, Finishes, Publishes, IsHalfPublished, IsOldOrNew, PublishesAtEach, PutsLast, place_of}
 use Rattle.hound_writer.specs.Sizes.{field}
 use Rattle.hound_writer.specs.Writer.{WriterState, AreFrames, IsPadded, IsSound, IsWhole, accepted_samples, data_length, data_end, sample_count}
-use Rattle.hound_writer.proofs.Answers.{published}
+use Rattle.hound_writer.proofs.Answers.{on_published_then, published}
 use Rattle.hound_writer.proofs.Later.{drop_later}
 use Rattle.hound_writer.proofs.Publishing.{publishes}
-use Rattle.hound_writer.proofs.Samples.{counts_at, length_out, whole_out}
+use Rattle.hound_writer.proofs.Storing.{stored_same}
+use Rattle.hound_writer.proofs.Samples.{concat-samples, counts_at, length_out, whole_out}
 use Rattle.hound_writer.proofs.Sizes.{same_reflexive, same_transitive, same_riff, field_riff, same_length}
 use Rattle.hound_writer.proofs.Standing.{inside, stands_patched}
 
@@ -265,6 +267,16 @@ publishes_at_each state w none sound stands padded small end patched are_frames 
           moment (state end).start (state end).past k in
           subst (λ l. StartsWith l (padding (data_length w)))
           (sym (behind c (span.each k (omega (arith, from, later)) to).same.behind)) padded;
+      stored =
+          λ whole. stored_same w.data_start w.out (concat (accepted_samples state w)) old
+          (state w.medium) (state end)
+          (omega (
+            arith,
+            ap length (concat-samples state w none sound),
+            length-take w.out (drop w.data_start old),
+          ))
+          (λ k from to. samples (moment (state end).start (state end).past k)
+          (span.each k from to).same.behind);
     }
 
 pub patches_at_each_seen : {W : Type 0} (state : W → MediumState) (a b : WriterState W)
@@ -317,8 +329,9 @@ module _ {W : Type 0} (tells keeps : Bool) (state : W → MediumState) (w : Writ
       (before known) end patched are_frames told is (moments known kept)
 
   -- `flush`
-  pub checkpoints : Checkpoints tells keeps state told w new
-  checkpoints = subst (Checkpoints tells keeps state told w) (sym same) record {
+  pub checkpoints : WhereTells tells (OnOk patched ((state end).place ≡ w.data_start + w.out))
+      → Checkpoints tells keeps state told w new
+  checkpoints place = subst (Checkpoints tells keeps state told w) (sym same) record {
     answers = answers;
     samples = record { spec_ex = refl; data_start = refl; data_length = refl; buffer = refl };
     publishes = published_all;
@@ -327,6 +340,11 @@ module _ {W : Type 0} (tells keeps : Bool) (state : W → MediumState) (w : Writ
         λ known whole.
         ap (λ bytes. containers w.spec_ex.bytes_per_sample (sample_count w) (bytes ++ w.waiting))
         ((published_all known).out whole);
+    place = λ known. on_published_then told
+        (λ at. at ∙ (let all : w.data_start + w.out ≡ data_end w = omega (arith, ap length none) in
+        all))
+        (published ((state end).place ≡ w.data_start + w.out) patched are_frames told is
+        (place known));
     moments = at_each;
   }
 

@@ -22,11 +22,13 @@ use Rattle.hound_writer.specs.Block.{GoesAtEach, GoesOut, StaysAround, after_out
 use Rattle.hound_writer.specs.Counts.{Counts}
 use Rattle.hound_writer.specs.Publishing.{Checkpoints, Finishes, IsHalfPublished, IsOldOrNew, OncePutBefore, Publishes, PublishesAtEach, ReadsAs, place_of}
 use Rattle.hound_writer.specs.Sizes.{ChangesSizesOnly, field}
+use Rattle.hound_writer.specs.Storing.{KeepsStored}
 use Rattle.hound_writer.specs.Writer.{WriterState, IsBegun, IsPadded, IsSound, HasHeader, accepted_samples, data_length, padded_end}
 use Rattle.hound_writer.proofs.Answers.{on_published_then, publishing_as}
 use Rattle.hound_writer.proofs.Later.{counts_later, goes_further, length_same}
 use Rattle.hound_writer.proofs.Sizes.{header_front, sizes_front, sizes_then, take_front}
 use Rattle.hound_writer.proofs.Standing.{inside}
+use Rattle.hound_writer.proofs.Storing.{stored_join}
 
 -- bytes before the data that stay
 module _ {W : Type 0} (state : W → MediumState) (a : WriterState W) (sound : IsSound a) where
@@ -146,6 +148,7 @@ module _ {W : Type 0} (tells keeps : Bool) (state : W → MediumState) (a : Writ
             (goes.front.each k from to));
         padded =
             λ i k from to before later last. absurd (omega (arith, before, goes.behind i from to));
+        stored = goes.adds.stored;
       }
 
   checkpoints_of : WhereTells tells (AreBytes (state a.medium).contents)
@@ -156,6 +159,7 @@ module _ {W : Type 0} (tells keeps : Bool) (state : W → MediumState) (a : Writ
     publishes = publishes_cut;
     whole = λ told. (out.file told).whole;
     accepted = λ told. (out.file told).accepted;
+    place = λ _. tt;
     moments = λ told kept. publishes_at_each_cut told kept (small told);
   }
 
@@ -351,6 +355,12 @@ module _ {W : Type 0} (tells keeps : Bool) (state : W → MediumState) (a : Writ
             whole = g.whole;
             old_or_new = old_or_new_later;
             padded = padded_later;
+            stored =
+                λ whole. stored_join a.data_start (concat (accepted_samples state a))
+                (state a.medium) (state m) (state end) goes.front.added g.half.added goes.front.past
+                g.half.start g.half.past (goes.adds.stored whole)
+                (subst (λ l. KeepsStored a.data_start (concat l) (state m) (state end))
+                ((out.file told).accepted whole) (g.stored ((out.file told).whole whole)));
           }
 
     finishes_after : WhereTells tells (AreBytes (state a.medium).contents)
@@ -379,6 +389,7 @@ module _ {W : Type 0} (tells keeps : Bool) (state : W → MediumState) (a : Writ
     accepted =
         λ told whole. g.accepted told ((out.file told).whole whole)
         ∙ (out.file told).accepted whole;
+    place = g.place;
     moments =
         λ told kept. publishes_at_each_later answer c.medium told kept (small told)
         (g.moments told kept);

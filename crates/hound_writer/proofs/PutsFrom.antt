@@ -7,7 +7,7 @@ use Rattle.hound_medium.proofs.Overlays.{length-placed}
 use Rattle.hound_writer.specs.Publishing.{PutsFrom, place_of}
 
 -- each went to the next place
-place_placed : (at : ℕ) (bytes : List ℕ) (j : ℕ) → j < length bytes
+pub place_placed : (at : ℕ) (bytes : List ℕ) (j : ℕ) → j < length bytes
     → place_of (placed at bytes) j ≡ at + j
 place_placed at [] j few = absurd (omega (arith, few))
 place_placed at (b ∷ bytes) zero few = omega arith

@@ -7,6 +7,7 @@ use Rattle.hound_medium.specs.State.{MediumState, WhereTells, WhereKeeps}
 use Rattle.hound_medium.specs.Spans.{Span}
 use Rattle.hound_writer.specs.Counts.{Counts}
 use Rattle.hound_writer.specs.Answers.{AcceptAnswer, OnRefused, UnlessFailed, faults_told, if_marked, mark_of}
+use Rattle.hound_writer.specs.Storing.{KeepsStored}
 use Rattle.hound_writer.specs.Writer.{WriterState, IsWhole, IsCounted, accepted_samples, data_length, data_end}
 
 -- What a call did to its writer that was asked to accept these containers, by its answer, over
@@ -42,8 +43,9 @@ pub record AddsToFile {W : Type 0} (state : W → MediumState)
       accepted_samples state new ≡ accepted_samples state old ++ if_marked (mark_of answer) asked
   pub counts : IsWhole state old → IsCounted state new
 
--- The medium at each moment of such a call: the samples that were accepted before it count, and
--- nothing up to the end of the bytes that were out has changed.
+-- The medium at each moment of such a call: the samples that were accepted before it count, nothing
+-- up to the end of the bytes that were out has changed, and of all accepted bytes those that are
+-- stored stay stored.
 pub record AddsAtEach {W : Type 0} (state : W → MediumState) (old : WriterState W)
     (new : MediumState) : Type 0 where
   pub counts : IsWhole state old →
@@ -53,6 +55,8 @@ pub record AddsAtEach {W : Type 0} (state : W → MediumState) (old : WriterStat
       Span (λ _ c. take (old.data_start + old.out) c
       ≡ take (old.data_start + old.out) (state old.medium).contents)
       0 (state old.medium) new
+  pub stored : IsWhole state old →
+      KeepsStored old.data_start (concat (accepted_samples state old)) (state old.medium) new
 
 -- What a call does that is asked to accept these containers, where it may want memory, by its
 -- answer.

@@ -10,4 +10,5 @@ pub mod Parts
 pub mod Publishing
 pub mod Room
 pub mod Sizes
+pub mod Storing
 pub mod Writer

@@ -14,7 +14,8 @@ use Rattle.hound_reader.specs.Chunks.{Readable}
 use Rattle.hound_writer.specs.Answers.{IsPublishing, OnPublished, faults_told}
 use Rattle.hound_writer.specs.Counts.{Counts}
 use Rattle.hound_writer.specs.Sizes.{ChangesSizesOnly, field}
-use Rattle.hound_writer.specs.Writer.{WriterState, KeepsSamples, IsWhole, IsBegun, IsPadded, HasHeader, accepted_samples, data_length, padded_end}
+use Rattle.hound_writer.specs.Storing.{KeepsStored}
+use Rattle.hound_writer.specs.Writer.{WriterState, KeepsSamples, IsWhole, IsBegun, IsPadded, HasHeader, accepted_samples, data_end, data_length, padded_end}
 
 -- The contents are read as exactly these samples, with this spec, from this place on.
 pub record ReadsAs (s : WavSpecEx) (start : ℕ) (samples : List (List ℕ))
@@ -114,7 +115,8 @@ IsOldOrNew p before after old new =
 
 -- The medium at each moment of such a call: the accepted samples count, and the data length takes
 -- on the bytes of their length one by one, the low one first, from the moment `split` on, all four
--- where all was published. Once a byte was put before the data the pad byte stands.
+-- where all was published. Once a byte was put before the data the pad byte stands. Of all accepted
+-- bytes those that are stored stay stored.
 pub record PublishesAtEach {W : Type 0} (state : W → MediumState) (w : WriterState W)
     (answer : Result (Unit {0}) Error) (end : W) : Type 0 where
   pub counts : IsWhole state w →
@@ -128,8 +130,11 @@ pub record PublishesAtEach {W : Type 0} (state : W → MediumState) (w : WriterS
       (field (w.data_start - 4) (state w.medium).contents) (data_length w) (state w.medium)
       (state end)
   pub padded : OncePutBefore w.data_start (IsPadded w) (state w.medium) (state end)
+  pub stored : IsWhole state w →
+      KeepsStored w.data_start (concat (accepted_samples state w)) (state w.medium) (state end)
 
 -- What `flush` does, by its answer: it publishes, and the writer goes on with the same samples.
+-- Where all was published the medium is at the end of the accepted data.
 pub record Checkpoints {W : Type 0} (tells keeps : Bool) (state : W → MediumState)
     (answer : Result (Unit {0}) Error)
     (old new : WriterState W) : Type 0 where
@@ -139,6 +144,7 @@ pub record Checkpoints {W : Type 0} (tells keeps : Bool) (state : W → MediumSt
   pub whole : WhereTells tells (IsWhole state old → IsWhole state new)
   pub accepted : WhereTells tells
       (IsWhole state old → accepted_samples state new ≡ accepted_samples state old)
+  pub place : WhereTells tells (OnPublished answer ((state new.medium).place ≡ data_end new))
   pub moments : WhereKeeps tells keeps (PublishesAtEach state old answer new.medium)
 
 -- What the end of a writer does, by its answer: it publishes, and leaves the medium where the data

@@ -3,12 +3,12 @@ ghost use Rattle.std.specs.Prelude.{◌≡◌, ◌+◌, ◌*◌, ◌%◌, ◌^�
 
 use crate::WavWriter;
 use hound_medium::Medium;
+use hound_spec::Result;
 
 /// A batch of samples of sixteen bits for a writer, all of which are accepted by one call.
 ///
 /// [`WavWriter::get_i16_writer`] makes it, for a number of samples; each is written, and then
 /// [`SampleWriter16::flush`] ends it. Dropped without that nothing is accepted.
-#[derive(Drop)]
 pub struct SampleWriter16<'parent, W: Medium> {
     // The writer that the batch goes to, in whose memory it is put together.
     pub(crate) parent: &'parent mut WavWriter<W>,
@@ -23,4 +23,47 @@ pub struct SampleWriter16<'parent, W: Medium> {
     ghost few: { written + 2 * left < 2 ^ 33 },
     ghost whole: { written % 2 ≡ 0 },
     ghost width: { parent.now.spec_ex.bytes_per_sample ≡ 2 },
+}
+
+impl<W: Medium> SampleWriter16<'_, W> {
+    ghost use Rattle.std.specs.Prelude.{◌/◌, Ok, false};
+    ghost use Rattle.hound_sample.specs.Container.{containers};
+    ghost use Rattle.hound_writer.specs.Accepting.{Accepts};
+    ghost use Rattle.hound_writer.specs.Batch.{batch_bytes, batch_writer, remaining};
+
+    /// Accepts all samples of a batch that is full, or none of them. It publishes nothing: that
+    /// [`WavWriter::flush`] does.
+    ///
+    /// The batch must be full: [`SampleWriter16::remaining`] is 0, so ask it. The one error is
+    /// `IoError`, where the medium failed: none of the batch is accepted, and the writer may go on.
+    pub fn flush(self) -> Result<()>
+        requires { remaining self ≡ 0 }
+        ensures accepts { let old = batch_writer self.entry in Accepts W.tells W.keeps W.state false
+            (Ok (containers old.spec_ex.bytes_per_sample (length (batch_bytes self.entry) / old.spec_ex.bytes_per_sample) (batch_bytes self.entry)))
+            result old self.exit.0.now }
+        ensures buffer { self.exit.0.now.buffer ≡ (batch_writer self.entry).buffer }
+    {
+        let SampleWriter16 {
+            parent,
+            written,
+            left: _,
+        } = self;
+        parent.output.accept_batch(written, &mut parent.fault)
+    }
+}
+
+impl<W: Medium> Drop for SampleWriter16<'_, W> {
+    ghost use Rattle.hound_writer.specs.Batch.{batch_writer};
+
+    // Leaves the writer as it is: nothing is accepted.
+    fn drop(self)
+        ensures { self.exit.0.now ≡ batch_writer self.entry }
+    {
+        let SampleWriter16 {
+            parent,
+            written: _,
+            left: _,
+        } = self;
+        let _ = parent;
+    }
 }

@@ -78,8 +78,8 @@ impl<W: Medium> Output<W> {
         }
     }
 
-    // Accepts the samples in the first bytes of the memory, or none of them.
-    fn accept_batch(&mut self, num_bytes: usize, fault: &mut io::Error) -> Result<()>
+    /// Accepts the samples in the first bytes of the memory, or none of them.
+    pub(crate) fn accept_batch(&mut self, num_bytes: usize, fault: &mut io::Error) -> Result<()>
         requires memory { num_bytes ≤ length self.old.buffer }
         requires few { num_bytes ≤ 2 ^ 33 }
         requires whole { num_bytes % self.old.spec_ex.bytes_per_sample ≡ 0 }
@@ -193,25 +193,5 @@ impl<'parent, W: Medium> SampleWriter16<'parent, W> {
         ensures { result ≡ remaining self.now }
     {
         self.left as u32
-    }
-
-    /// Accepts all samples of a batch that is full, or none of them. It publishes nothing: that
-    /// [`WavWriter::flush`] does.
-    ///
-    /// The batch must be full: [`SampleWriter16::remaining`] is 0, so ask it. The one error is
-    /// `IoError`, where the medium failed: none of the batch is accepted, and the writer may go on.
-    pub fn flush(self) -> Result<()>
-        requires { remaining self ≡ 0 }
-        ensures accepts { let old = batch_writer self.entry in Accepts W.tells W.keeps W.state false
-            (Ok (containers old.spec_ex.bytes_per_sample (length (batch_bytes self.entry) / old.spec_ex.bytes_per_sample) (batch_bytes self.entry)))
-            result old self.exit.0.now }
-        ensures buffer { self.exit.0.now.buffer ≡ (batch_writer self.entry).buffer }
-    {
-        let SampleWriter16 {
-            parent,
-            written,
-            left: _,
-        } = self;
-        parent.output.accept_batch(written, &mut parent.fault)
     }
 }

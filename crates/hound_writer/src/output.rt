@@ -366,6 +366,8 @@ impl<W: Medium> Output<W> {
         ensures patches { WhereTells W.tells (Patches (self.old.data_start - 4)
             (riff_size self.old.data_start self.old.out) self.old.out result
             (W.state self.old.medium) (W.state self.new.medium)) }
+        ensures place { WhereTells W.tells (OnOk result ((W.state self.new.medium).place
+            ≡ self.old.data_start + self.old.out)) }
         ensures moments { WhereKeeps W.tells W.keeps
             (PatchesAtEach (self.old.data_start - 4) self.old.out result (W.state self.old.medium)
             (W.state self.new.medium)) }

@@ -5,6 +5,8 @@ use Rattle.hound_reader.specs.declared.chunks.ChunkRead.TheVariants.{Other}
 use Rattle.hound_number.proofs.Counting.{NoneFailed-trans}
 use Rattle.hound_number.proofs.KnownSteps.{known_both}
 use Rattle.hound_reader.proofs.WalkLemmas.{walked_more}
+use Rattle.std.proofs.lemmas.Result.{err_from_is_err_and}
+use Rattle.hound_reader.proofs.TakenLemmas.{walk_takes}
 use Rattle.hound_reader.proofs.chunks.read_chunks.Goals as goal
 
 sound_next : (next : Option WavSpecEx) (now : ℕ) → IsSoundChunk (Other next now)
@@ -26,3 +28,10 @@ chunks-preserved g c =
           walked_more xs ys zs c.chunks.taken c.in-Other.now c.chunks.found c.in-Other.next w
           t),
     )
+
+pub returns-in_err-spec_ex-clause-taken : goal.returns-in_err-spec_ex-clause-taken
+returns-in_err-spec_ex-clause-taken g c =
+    let p = err_from_is_err_and c.from_residual.result c.from_residual.ensures.1 in
+    rw (p.1, p.2)
+    (walk_takes _ _ _ c.chunks.found c.chunks.taken c.in_err-spec_ex.field-0.0
+    c.chunks.invariant.3 c.in_err-spec_ex.ensures.err c.in_err-spec_ex.ensures.taken)

@@ -3,6 +3,10 @@ use Rattle.std.proofs.lemmas.Result.{IfOk-weaker}
 use Rattle.hound_reader.specs.Walk.{ReadsContent}
 use Rattle.hound_number.proofs.KnownSteps.{known_then}
 use Rattle.hound_reader.proofs.WalkLemmas.{chunk_from}
+use Rattle.std.proofs.Common.{length}
+use Rattle.hound_spec.specs.FmtChunk.{fmt_fields}
+use Rattle.hound_reader.specs.Taken.{chunk_taken, content_taken}
+use Rattle.hound_reader.proofs.TakenLemmas.{chunk_takes, takes_more}
 use Rattle.hound_reader.proofs.chunks.read_next_chunk.Goals as goal
 
 pub returns-clause-ok : goal.returns-clause-ok
@@ -13,3 +17,12 @@ returns-clause-ok g c =
     chunk_from c.args.taken c.args.found h t ys zs (omega arith) (omega arith)
     (subst (λ n. ReadsContent c.args.taken c.args.found
     (take 4 h) n t ys zs) c.u32_at-chunk_len.ensures q))) c.read_content.ensures.ok
+
+pub returns-clause-taken : goal.returns-clause-taken
+returns-clause-taken g c =
+    let h = c.fill.new.buf in
+    let len = c.u32_at-chunk_len.result in
+    takes_more h _ _ _ (λ d ys. content_taken (fmt_fields ys).tag len d (length ys))
+    (chunk_taken c.args.taken) c.read_content.result c.in_ok-fill.ensures.ok
+    (λ d ys. chunk_takes c.args.taken len h ys d (omega arith) (omega arith)
+    c.u32_at-chunk_len.ensures) c.read_content.ensures.taken

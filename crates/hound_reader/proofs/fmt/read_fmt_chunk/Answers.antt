@@ -1,9 +1,17 @@
-use Rattle.std.proofs.Common.{◌-◌, take, arith, sym, ap, ◌∙◌}
+use Rattle.std.proofs.Common.{◌≡◌, ℕ, ◌+◌, ◌-◌, ◌≤◌, List, ◌++◌, length, take, slice_range, arith, sym, ap, ◌∙◌, length-append, Option, Result, Ok, Err}
+use Rattle.std.specs.Prelude.{IfErr}
+use Rattle.std.specs.Io.KnownBytes.{Consumes}
 use Rattle.std.proofs.lemmas.Result.{err_from_is_err_and}
 use Rattle.hound_spec.specs.FmtChunk.{fmt_fields}
 use Rattle.hound_reader.specs.Fmt.{◌>>=◌, fmt_len, fmt_of, by_tag}
 use Rattle.hound_reader.proofs.Gives.{gives_from, known_err}
 use Rattle.hound_reader.proofs.FmtLemmas.{fmt_head}
+use Rattle.hound_reader.proofs.TakenLemmas.{take_within, takes_after, takes_these, wave_format_takes}
+use Rattle.hound_reader.specs.Taken.{TakesFor, content_taken}
+use Rattle.hound_number.specs.Number.{number}
+use Rattle.hound_reader.specs.Outcome.{Refuses}
+use Rattle.hound_spec.specs.declared.spec.WavSpecEx.{WavSpecEx}
+use Rattle.hound_reader.specs.declared.fault.HeadError.{HeadError}
 use Rattle.hound_reader.proofs.fmt.read_fmt_chunk.Goals as goal
 
 pub returns-in_err-found-clause-gives : goal.returns-in_err-found-clause-gives
@@ -32,3 +40,41 @@ returns-clause-gives g c =
     ∙ ap (λ r. r >>= λ found. by_tag (fmt_fields h).tag len found (take (n - 16) ys)) good
     ∙ ap (λ t. by_tag t len c.in_ok-found.found (take (n - 16) ys)) (sym c.u16_at.ensures))
     c.read_by_tag.ensures.gives
+
+-- after the first sixteen bytes so many more are taken
+more_are_taken : (h : List ℕ) (tag len : ℕ) (o m n : Option (List ℕ))
+    (r : Result WavSpecEx HeadError) → Consumes o m h → length h ≡ 16
+    → tag ≡ number (slice_range h 0 2)
+    → IfErr r (TakesFor m n (λ d xs. content_taken tag len d (16 + length xs) - 16))
+    → IfErr r (λ e. Refuses e (λ d. (k : ℕ) → 16 ≤ content_taken tag len d (16 + k)))
+    → IfErr r (TakesFor o n (λ d xs. content_taken (fmt_fields xs).tag len d (length xs)))
+more_are_taken h tag len o m n (Ok x) taken sixteen same t late = tt
+more_are_taken h tag len o m n (Err e) taken sixteen same t late =
+    takes_after h o m n (λ d xs. content_taken tag len d (16 + length xs) - 16)
+    (λ d xs. content_taken (fmt_fields xs).tag len d (length xs))
+    (λ d. (k : ℕ) → 16 ≤ content_taken tag len d (16 + k)) e taken late
+    (λ d ys later.
+    let is : (fmt_fields (h ++ ys)).tag ≡ tag =
+    ap number (take_within 2 h ys (omega (arith, sixteen))) ∙ sym same in
+    let more : length (h ++ ys) ≡ 16 + length ys = omega (arith, length-append h ys, sixteen) in
+    rw (is, more) (omega (arith, sixteen, later (length ys)))) t
+
+pub returns-in_err-found-clause-taken : goal.returns-in_err-found-clause-taken
+returns-in_err-found-clause-taken g c =
+    let p = err_from_is_err_and c.from_residual-in_err-found.result
+    c.from_residual-in_err-found.ensures.1 in
+    let h = c.fill.new.buf in
+    let len = c.args.chunk_len in
+    let bad = sym c.check_wave_format.ensures.fields ∙ c.in_err-found.was in
+    let sixteen : 16 ≡ length h = omega arith in
+    rw (p.1, p.2)
+    (takes_these h _ _ (λ d xs. content_taken (fmt_fields xs).tag len d (length xs)) _
+    c.in_ok-fill.ensures.ok
+    (λ ys. wave_format_takes (fmt_fields h) (fmt_fields (h ++ ys)).tag len _ (length (h ++ ys)) bad
+    ∙ sixteen))
+
+pub returns-clause-taken : goal.returns-clause-taken
+returns-clause-taken g c =
+    more_are_taken c.fill.new.buf c.u16_at.result c.args.chunk_len _ _ _ c.read_by_tag.result
+    c.in_ok-fill.ensures.ok (omega arith) c.u16_at.ensures c.read_by_tag.ensures.taken
+    c.read_by_tag.ensures.late

@@ -1,10 +1,13 @@
-use Rattle.std.proofs.Common.{◌++◌, arith, sym, ap, ◌∙◌, length-append, take_all}
+use Rattle.std.proofs.Common.{◌+◌, ◌-◌, ◌++◌, length, arith, sym, ap, ◌∙◌, length-append, take_all}
 use Rattle.std.proofs.lemmas.Result.{err_from_is_err_and}
 use Rattle.std.proofs.KnownBytes.{Consumes-trans}
 use Rattle.hound_reader.specs.Fmt.{wave_format_extensible}
 use Rattle.hound_number.specs.Number.{number}
 use Rattle.hound_reader.proofs.Gives.{ok_from_taken, err_from_taken}
 use Rattle.hound_reader.proofs.FmtLemmas.{extensible_at}
+use Rattle.hound_reader.proofs.TakenLemmas.{subformat_fails, takes_these}
+use Rattle.hound_reader.specs.Taken.{content_taken}
+use Rattle.hound_spec.specs.FmtChunk.{extensible, extension}
 use Rattle.hound_reader.proofs.fmt.read_wave_format_extensible.Goals as goal
 
 pub returns-in_err-found-clause-gives : goal.returns-in_err-found-clause-gives
@@ -37,3 +40,28 @@ returns-clause-gives g c =
     (Consumes-trans _ _ _ _ _ c.in_ok-fill.ensures.ok c.in_ok-fill-2.ensures.ok)
     (omega (arith, length-append a b))
     (at ∙ sym c.choose_subformat.ensures.subformat ∙ c.in_ok-found.was)
+
+pub returns-in_err-found-clause-taken : goal.returns-in_err-found-clause-taken
+returns-in_err-found-clause-taken g c =
+    let p = err_from_is_err_and c.from_residual-in_err-found.result
+    c.from_residual-in_err-found.ensures.1 in
+    let a = c.fill.new.buf in
+    let b = c.fill-2.new.buf in
+    let is =
+    subformat_fails c.args.found (extension c.fill-2.new.buf) c.in_err-found.field-0.0
+    (sym c.choose_subformat.ensures.subformat ∙ c.in_err-found.was) in
+    rw (p.1, p.2)
+    (takes_these (a ++ b) _ _
+    (λ d xs. content_taken extensible c.args.chunk_len d (16 + length xs) - 16)
+    c.in_err-found.field-0.0
+    (Consumes-trans _ _ _ _ _ c.in_ok-fill.ensures.ok c.in_ok-fill-2.ensures.ok)
+    (λ ys. rw is (omega (arith, length-append a b))))
+
+pub returns-in_err-found-clause-late : goal.returns-in_err-found-clause-late
+returns-in_err-found-clause-late g c =
+    let p = err_from_is_err_and c.from_residual-in_err-found.result
+    c.from_residual-in_err-found.ensures.1 in
+    let is =
+    subformat_fails c.args.found (extension c.fill-2.new.buf) c.in_err-found.field-0.0
+    (sym c.choose_subformat.ensures.subformat ∙ c.in_err-found.was) in
+    rw (p.1, p.2) (λ n. rw is (omega arith))

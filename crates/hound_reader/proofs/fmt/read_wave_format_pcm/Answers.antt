@@ -6,6 +6,7 @@ use Rattle.hound_reader.proofs.Gives.{ok_from_taken}
 use Rattle.hound_reader.proofs.FmtLemmas.{pcm_forty}
 use Rattle.hound_reader.proofs.fmt.read_wave_format_pcm.Goals as goal
 use Rattle.hound_reader.proofs.fmt.read_wave_format_pcm.Goals.{else-bits-ne8-via-then-bits-ne8+then-bits-ne16+else-bits-ne24, else-bits-ne8-via-then-bits-ne8+else-bits-ne16, else-bits-ne8-via-else-bits-ne8}
+use Rattle.hound_reader.proofs.FrontLemmas.{all_taken}
 
 pub returns-in_ok-fill-2-clause-gives : goal.returns-in_ok-fill-2-clause-gives
 returns-in_ok-fill-2-clause-gives g c =
@@ -22,3 +23,7 @@ returns-in_ok-fill-2-clause-gives g c =
     (omega (arith, length-append a b))
     (pcm_forty c.args.chunk_len c.args.found (a ++ b) c.if-chunk_len-eq40.true
     (omega (arith, length-append a b)) good)
+
+pub returns-then-bits-ne24-clause-taken : goal.returns-then-bits-ne24-clause-taken
+returns-then-bits-ne24-clause-taken g c =
+    all_taken c.fill.new.buf 2 _ _ c.in_ok-fill.ensures.ok (omega arith)

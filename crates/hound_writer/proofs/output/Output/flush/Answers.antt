@@ -44,4 +44,4 @@ returns g c =
     (λ told.
     pad.padded told refl) publish.result c.are_frames.result c.told.result c.told.ensures
     publish.new.self e.stays c.are_frames.ensures (g.met.W.Placed.bytes padded.medium)
-    (g.met.W.Placed.bytes publish.new.self.medium) e.patches e.moments))
+    (g.met.W.Placed.bytes publish.new.self.medium) e.patches e.moments e.place))

@@ -1,0 +1,38 @@
+-- The tables of a sample type that reads either format.
+use Rattle.std.specs.Prelude.{◌≡◌, ℕ, ℤ, pos, ◌≤◌, ⊤, List, length, Option, Result, Ok}
+use Rattle.hound.specs.Container.{Refusal, int_container, pattern_container}
+use Rattle.hound.specs.Meaning.{ReadRefusal, float_refusal, int_meaning, int_refusal, low_short, pattern}
+use Rattle.hound.specs.ContainerLaws.{int_container-in_width, pattern_container-in_width}
+use Rattle.hound.specs.declared.SampleFormat.{SampleFormat}
+use Rattle.hound.specs.declared.SampleFormat.TheVariants.{Int, Float}
+use Rattle.hound_callers.specs.declared.either.EitherSample.{EitherSample}
+use Rattle.hound_callers.specs.declared.either.EitherSample.TheVariants.{Whole, Bits}
+
+abbrev pub either_container : EitherSample → ℕ → ℕ → Result (List ℕ) Refusal
+either_container (Whole value) bits width = int_container value bits width
+either_container (Bits value) bits width = pattern_container value bits width
+
+-- an integer file is read as `i32` reads it, a float file as `FloatBits` does
+abbrev pub either_refusal : SampleFormat → ℕ → ℕ → Option ReadRefusal
+either_refusal Int width bits = int_refusal 4 Int width bits
+either_refusal Float width bits = float_refusal Float width bits
+
+-- what a container means in a file of this format
+abbrev pub either_meaning : SampleFormat → ℕ → ℕ → List ℕ → EitherSample
+either_meaning Int width bits container = Whole (int_meaning width bits container)
+either_meaning Float width bits container = Bits (pattern container)
+
+abbrev pub IsWhole : EitherSample → Type 0
+IsWhole (Whole value) = ⊤
+IsWhole (Bits value) = ⊥
+
+abbrev pub either_short : EitherSample → ℤ
+either_short (Whole value) = low_short value
+either_short (Bits value) = pos 0
+
+pub either_container-in_width : (v : EitherSample) (bits width : ℕ) (c : List ℕ)
+    → either_container v bits width ≡ Ok c → (length c ≡ width) × (1 ≤ width) × (width ≤ 4)
+either_container-in_width (Whole value) bits width c is =
+    int_container-in_width value bits width c is
+either_container-in_width (Bits value) bits width c is =
+    pattern_container-in_width value bits width c is

@@ -1,0 +1,233 @@
+-- How many bytes are taken where the bytes are refused, piece after piece.
+use Rattle.std.proofs.Common.{◌≡◌, ℕ, zero, suc, ◌+◌, ◌*◌, ◌%◌, ◌<◌, ◌≤◌, Bool, true, false, not, ◌||◌, if◌then◌else◌, List, [], ◌∷◌, ◌++◌, length, take, drop, refl, sym, ap, ◌∙◌, subst, arith, inl, inr, slice_range, append_assoc, drop_at, le-ltb, length-append, length-drop, Option, None, Some, Result, Ok, Err}
+use Rattle.std.proofs.lemmas.List.{drop-drop}
+use Rattle.std.proofs.Math.Seq.{drop-length}
+use Rattle.std.specs.Io.KnownBytes.{Consumes}
+use Rattle.hound_number.specs.Input.{Known}
+use Rattle.hound_number.proofs.KnownSteps.{known_both, known_from, known_then, known_weaker}
+use Rattle.hound_reader.specs.Outcome.{Refuses}
+use Rattle.hound_reader.specs.Reader.{AreTaken}
+use Rattle.hound_reader.specs.Taken.{MeetsFaultAfter, RefusedAfter, UnreadableAfter, TakesAll, TakesFor, chunk_taken, content_taken}
+use Rattle.hound_reader.specs.Chunks.{Head, chunk_fault, data_fault, joined, last_spec}
+use Rattle.hound_reader.specs.Walk.{Walked}
+use Rattle.hound_number.specs.Number.{number}
+use Rattle.hound_spec.specs.Header.{data_tag, riff_tag, wave_tag}
+use Rattle.std.specs.Prelude.{IfErr, ⊤}
+use Rattle.std.proofs.Common.{◌==◌, nat_lt}
+use Rattle.std.specs.Str.{bytes_eq}
+use Rattle.hound_reader.specs.Fmt.{by_subformat, spec_of, wave_format, width_of, with_bits, with_format}
+use Rattle.hound_spec.specs.FmtChunk.{FmtFields, Extension, fmt_fields, greatest_u16, greatest_u32, subformat}
+use Rattle.hound_spec.specs.declared.spec.SampleFormat.TheVariants.{Int, Float}
+use Rattle.hound_spec.specs.declared.spec.WavSpecEx.{WavSpecEx}
+use Rattle.hound_reader.specs.declared.fault.Cause.{Cause}
+use Rattle.hound_reader.specs.declared.fault.Cause.TheVariants.{Ended, Format, Unsupported}
+use Rattle.hound_reader.specs.declared.fault.Reason.TheVariants.{ZeroChannels, BitsExceedWidth, Inconsistent, BitsNotWholeBytes, ZeroBits}
+use Rattle.hound_reader.specs.declared.fault.HeadError.{HeadError}
+use Rattle.hound_reader.specs.declared.fault.HeadError.TheVariants.{Failed, Refused}
+
+-- the front of what begins with h
+pub take_within : (n : ℕ) (h ys : List ℕ) → n ≤ length h → take n (h ++ ys) ≡ take n h
+take_within zero h ys room = refl
+take_within (suc n) [] ys room = absurd (omega (arith, room))
+take_within (suc n) (x ∷ h) ys room = ap (λ t. x ∷ t) (take_within n h ys (omega (arith, room)))
+
+-- what is left of the front of what begins with h
+pub drop_within : (n : ℕ) (h ys : List ℕ) → n ≤ length h → drop n (h ++ ys) ≡ drop n h ++ ys
+drop_within zero h ys room = refl
+drop_within (suc n) [] ys room = absurd (omega (arith, room))
+drop_within (suc n) (x ∷ h) ys room = drop_within n h ys (omega (arith, room))
+
+-- h was taken, and then n bytes
+pub taken_then : (h ys zs : List ℕ) (n : ℕ) → AreTaken n ys zs
+    → AreTaken (length h + n) (h ++ ys) zs
+taken_then h ys zs n t = (
+  omega (arith, t.0, length-append h ys),
+  t.1 ∙ ap (drop n) (sym (drop_at h ys (length h) refl)) ∙ drop-drop n (length h) (h ++ ys)
+      ∙ ap (λ i. drop i (h ++ ys)) (omega arith),
+)
+
+-- h was taken, and then what a refusal takes, for a cause of which P holds
+pub takes_after : (h : List ℕ) (o m n : Option (List ℕ)) (f g : Cause → List ℕ → ℕ)
+    (P : Cause → Type 0) (e : HeadError) → Consumes o m h → Refuses e P
+    → ((c : Cause) (ys : List ℕ) → P c → g c (h ++ ys) ≡ length h + f c ys)
+    → TakesFor m n f e → TakesFor o n g e
+takes_after h o m n f g P (Failed e) taken is same t = tt
+takes_after h o m n f g P (Refused c) taken is same t =
+    known_then h o m n (λ xs ys. AreTaken (f c xs) xs ys) (λ xs ys. AreTaken (g c xs) xs ys) taken t
+    (λ ys zs p. subst (λ i. AreTaken i (h ++ ys) zs) (sym (same c ys is))
+    (taken_then h ys zs (f c ys) p))
+
+-- h was taken, and then all that was left, at an early end
+pub takes_end : (h : List ℕ) (k : ℕ) (o m n : Option (List ℕ)) (g : Cause → List ℕ → ℕ)
+    (e : HeadError) → Consumes o m h
+    → Refuses e (λ c. (c ≡ Ended) × Known m n (λ xs ys. (length xs < k) × (ys ≡ [])))
+    → ((ys : List ℕ) → g Ended (h ++ ys) ≡ length (h ++ ys)) → TakesFor o n g e
+takes_end h k o m n g (Failed e) taken end all = tt
+takes_end h k o m n g (Refused c) taken end all =
+    subst (λ d. Known o n (λ xs ys. AreTaken (g d xs) xs ys)) (sym end.0)
+    (known_then h o m n _ (λ xs ys. AreTaken (g Ended xs) xs ys) taken end.1
+    (λ ys zs p. subst (λ i. AreTaken i (h ++ ys) zs) (sym (all ys))
+    (omega arith, p.1 ∙ sym (drop-length (h ++ ys)))))
+
+-- exactly h was taken
+pub takes_these : (h : List ℕ) (o n : Option (List ℕ)) (g : Cause → List ℕ → ℕ) (c : Cause)
+    → Consumes o n h → ((ys : List ℕ) → g c (h ++ ys) ≡ length h)
+    → Known o n (λ xs ys. AreTaken (g c xs) xs ys)
+takes_these h o n g c taken same =
+    known_from h o n (λ xs ys. AreTaken (g c xs) xs ys) taken
+    (λ ys. subst (λ i. AreTaken i (h ++ ys) ys) (sym (same ys))
+    (omega (arith, length-append h ys), sym (drop_at h ys (length h) refl)))
+
+choice_fails : {A : Type 0} (a b : Bool) (x y : A) (c : Cause)
+    → (if a then Ok x else if b then Ok y else Err Unsupported) ≡ Err c → c ≡ Unsupported
+choice_fails true b x y c e = absurd (let no : ⊥ = cc in no)
+choice_fails false true x y c e = absurd (let no : ⊥ = cc in no)
+choice_fails false false x y c e = cc
+
+-- an extension has no fault but another subformat
+pub subformat_fails : (found : WavSpecEx) (e : Extension) (c : Cause) → by_subformat found e ≡ Err c
+    → c ≡ Unsupported
+subformat_fails found e c is =
+    choice_fails (bytes_eq e.subformat (subformat Int)) (bytes_eq e.subformat (subformat Float))
+    (with_bits (with_format found Int) e.valid_bits)
+    (with_bits (with_format found Float) e.valid_bits) c is
+
+checks_take : (a b d e f : Bool) (x : WavSpecEx) (tag len : ℕ) (c : Cause) (n : ℕ)
+    → (if a then Err (Format ZeroChannels) else if b then Err (Format BitsExceedWidth)
+    else if d then Err (Format Inconsistent) else if e then Err (Format BitsNotWholeBytes)
+    else if f then Err (Format ZeroBits) else Ok x) ≡ Err c → content_taken tag len c n ≡ 16
+checks_take true b d e f x tag len c n is =
+    let same : c ≡ Format ZeroChannels = cc in rw same refl
+checks_take false true d e f x tag len c n is =
+    let same : c ≡ Format BitsExceedWidth = cc in rw same refl
+checks_take false false true e f x tag len c n is =
+    let same : c ≡ Format Inconsistent = cc in rw same refl
+checks_take false false false true f x tag len c n is =
+    let same : c ≡ Format BitsNotWholeBytes = cc in rw same refl
+checks_take false false false false true x tag len c n is =
+    let same : c ≡ Format ZeroBits = cc in rw same refl
+checks_take false false false false false x tag len c n is = absurd (let no : ⊥ = cc in no)
+
+-- the checks of every format tag take the first sixteen bytes
+pub wave_format_takes : (f : FmtFields) (tag len : ℕ) (c : Cause) (n : ℕ) → wave_format f ≡ Err c
+    → content_taken tag len c n ≡ 16
+unfolding wave_format
+wave_format_takes f tag len c n is =
+    checks_take (f.channels == 0)
+    (nat_lt (8 * width_of f) f.bits || nat_lt greatest_u16 (8 * width_of f))
+    (not (f.byte_rate == f.align * f.rate) || nat_lt greatest_u32 (f.align * f.rate))
+    (not (f.bits % 8 == 0)) (f.bits == 0) (spec_of f Int) tag len c n is
+
+-- h was taken, and then what a call takes that answers a refusal
+pub takes_more : {A : Type 0} (h : List ℕ) (o m n : Option (List ℕ)) (f g : Cause → List ℕ → ℕ)
+    (r : Result A HeadError) → Consumes o m h
+    → ((c : Cause) (ys : List ℕ) → g c (h ++ ys) ≡ length h + f c ys)
+    → IfErr r (TakesFor m n f) → IfErr r (TakesFor o n g)
+takes_more h o m n f g (Ok x) taken same t = tt
+takes_more h o m n f g (Err (Failed e)) taken same t = tt
+takes_more h o m n f g (Err (Refused c)) taken same t =
+    takes_after h o m n f g (λ _. ⊤) (Refused c) taken tt (λ d ys is. same d ys) t
+
+-- a chunk whose header is h takes that, and of its content what the table says
+pub chunk_takes : (c len : ℕ) (h ys : List ℕ) (cause : Cause) → length h ≡ 8 → c + 8 ≤ greatest_u32
+    → len ≡ number (slice_range h 4 8)
+    → chunk_taken c cause (h ++ ys)
+    ≡ length h + content_taken (fmt_fields ys).tag len cause (length ys)
+chunk_takes c len h ys cause eight room is =
+    let limit = le-ltb greatest_u32 (c + 8) room in
+    let enough = le-ltb (length (h ++ ys)) 8 (omega (arith, eight, length-append h ys)) in
+    let size : take 4 (drop 4 (h ++ ys)) ≡ take 4 (drop 4 h) =
+    ap (take 4) (drop_within 4 h ys (omega (arith, eight)))
+    ∙ take_within 4 (drop 4 h) ys (simp length-drop (omega (arith, eight))) in
+    rw (limit, enough, drop_at h ys 8 eight, size, sym is, eight) refl
+
+-- P and Q of the same bytes
+pub known_and : (o n : Option (List ℕ)) (P Q : List ℕ → List ℕ → Type 0) → Known o n P → Known o n Q
+    → Known o n (λ xs ys. P xs ys × Q xs ys)
+known_and None n P Q p q = tt
+known_and (Some xs) None P Q p q = p
+known_and (Some xs) (Some ys) P Q p q = (p, q)
+
+-- whole chunks, and then a fault
+pub walk_takes : (o m n : Option (List ℕ)) (found : Option WavSpecEx) (taken : ℕ) (e : HeadError)
+    → Known o m (λ xs ys. Walked xs ys found taken)
+    → Refuses e (λ c. Known m n (λ xs ys. chunk_fault taken found xs ≡ Some c))
+    → TakesFor m n (chunk_taken taken) e → TakesAll MeetsFaultAfter o n e
+walk_takes o m n found taken (Failed e) walked fault t = tt
+walk_takes o m n found taken (Refused c) walked fault t =
+    known_both o m n (λ xs ys. Walked xs ys found taken)
+    (λ ys zs. (chunk_fault taken found ys ≡ Some c) × AreTaken (chunk_taken taken c ys) ys zs)
+    (λ xs zs. (k : ℕ) × MeetsFaultAfter xs c k × AreTaken k xs zs) walked
+    (known_and m n _ _ fault t) (λ xs ys zs w p. (
+      taken + chunk_taken taken c ys,
+      (ys, found, taken, w, p.0, refl),
+      subst (λ bytes. AreTaken (taken + chunk_taken taken c ys) bytes zs) (sym w.whole)
+          (subst (λ k. AreTaken (k + chunk_taken taken c ys) (joined w.chunks ++ ys) zs)
+          (sym w.taken_is) (taken_then (joined w.chunks) ys zs (chunk_taken taken c ys) p.1)),
+    ))
+
+-- the first twelve bytes, and then what the walk takes
+pub head_takes : (o m n : Option (List ℕ)) (len : ℕ) (e : HeadError)
+    → Known o m (λ xs ys. (size : List ℕ) × (length size ≡ 4)
+    × (xs ≡ riff_tag ++ (size ++ (wave_tag ++ ys))) × (len ≡ number size))
+    → TakesAll MeetsFaultAfter m n e → TakesAll RefusedAfter o n e
+head_takes o m n len (Failed e) front t = tt
+head_takes o m n len (Refused c) front t =
+    known_both o m n _ (λ ys zs. (k : ℕ) × MeetsFaultAfter ys c k × AreTaken k ys zs)
+    (λ xs zs. (k : ℕ) × RefusedAfter xs c k × AreTaken k xs zs) front t
+    (λ xs ys zs (size, four, whole, is) (k, (rest, found, taken, w, fault, count), are). (
+      12 + k,
+      inr (
+        w.chunks,
+        rest,
+        record {
+          size = size;
+          four = four;
+          whole = whole ∙ ap (λ t. riff_tag ++ (size ++ (wave_tag ++ t))) w.whole;
+          each = w.each;
+        },
+        subst (λ i. chunk_fault i (last_spec None w.chunks) rest ≡ Some c) w.taken_is
+            (subst (λ f. chunk_fault taken f rest ≡ Some c) w.found_is fault),
+        omega (arith, count, w.taken_is, ap (λ i. chunk_taken i c rest) w.taken_is),
+      ),
+      subst (λ bytes. AreTaken (12 + k) bytes zs)
+          (simp append_assoc (sym whole))
+          (let front = riff_tag ++ (size ++ wave_tag) in
+          subst (λ i. AreTaken (i + k) (front ++ ys) zs)
+          (omega (arith, four, length-append size wave_tag)) (taken_then front ys zs k are)),
+    ))
+
+-- a head is all there
+pub head_is_there : (bytes : List ℕ) (spec : WavSpecEx) (len h : ℕ) → Head bytes spec len h
+    → h ≤ length bytes
+head_is_there bytes spec len h head =
+    let w = head.walk in
+    omega (
+      arith,
+      head.place,
+      head.four,
+      w.four,
+      ap length w.whole,
+      length-append w.size (wave_tag ++ (joined head.chunks ++ (data_tag ++ (head.size ++ head.rest)))),
+      length-append (joined head.chunks) (data_tag ++ (head.size ++ head.rest)),
+      length-append head.size head.rest,
+    )
+
+-- a head, and a data length at fault
+pub length_takes : (o n : Option (List ℕ)) (spec : WavSpecEx) (len h : ℕ) (c : Cause)
+    → data_fault spec len ≡ Some c
+    → Known o n (λ xs ys. Head xs spec len h × (ys ≡ drop h xs))
+    → Known o n (λ xs ys. (k : ℕ) × UnreadableAfter xs c k × AreTaken k xs ys)
+length_takes o n spec len h c fault head =
+    known_weaker o n _ _ head (λ xs ys p. (
+      h,
+      inr (spec, len, p.0, fault),
+      (head_is_there xs spec len h p.0, p.1),
+    ))
+
+-- no head
+pub walk_fails : (o n : Option (List ℕ)) (e : HeadError) → TakesAll RefusedAfter o n e
+    → TakesAll UnreadableAfter o n e
+walk_fails o n (Failed e) t = tt
+walk_fails o n (Refused c) t =
+    known_weaker o n _ _ t (λ xs ys (k, after, are). (k, inl after, are))
