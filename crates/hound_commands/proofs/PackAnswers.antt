@@ -4,6 +4,7 @@ use Rattle.std.proofs.Math.Nat.{mul-div_cancel}
 use Rattle.std.proofs.lemmas.Bool.Decides.{nat_tests}
 use Rattle.std.proofs.lemmas.Bool.{and_parts}
 use Rattle.std.proofs.lemmas.List.Folds.{concat-append}
+use Rattle.std.proofs.lemmas.Grind.{flat_map-append}
 use Rattle.std.specs.List.{AllByRecursion, concat, flat_map}
 use Rattle.hound.specs.Answers.{AcceptAnswer, FitAnswer, IsIoError, IsPublishing, if_marked, one}
 use Rattle.hound.specs.Container.{Refusal, too_wide, unsupported, fits, if_fits, int_bytes, int_container}
@@ -405,3 +406,13 @@ session_refused s writable integers steps writes answer e told (inl (f, is, inr 
     (session_error s writable integers (some_bytes s writable integers) [] [] tt (room_of_none s) 0 steps writes f
     stops)
 session_refused s writable integers steps writes answer e told (inr (all, is)) = cc
+
+-- steps that write numbers, one list after the other
+pub write-append : (s : WavSpecEx) (xs ys : List Step) → WriteNumbers s xs → WriteNumbers s ys
+    → WriteNumbers s (xs ++ ys)
+write-append s [] ys front back = back
+write-append s (x ∷ xs) ys (here, front) back = (here, write-append s xs ys front back)
+
+-- a number's own step after others
+pub written-push : (steps : List Step) (v : ℤ) → numbers_of (steps ++ Whole v ∷ []) ≡ numbers_of steps ++ v ∷ []
+written-push steps v = flat_map-append step_numbers steps (Whole v ∷ [])

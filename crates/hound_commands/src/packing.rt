@@ -5,7 +5,7 @@ ghost use Rattle.hound.specs.Writable.{IsWritable, with_default_width};
 ghost use Rattle.hound.specs.declared.SampleFormat.TheVariants.{Int};
 ghost use Rattle.hound.specs.declared.WavSpecEx.{WavSpecEx};
 ghost use Rattle.hound_commands.specs.Packing.{IsPacked, IsPackFailure};
-ghost use Rattle.hound_commands.specs.Session.{WriteNumbers, numbers_of};
+ghost use Rattle.hound_commands.specs.Session.{AreShort, WriteNumbers, numbers_of};
 
 use crate::failure::Failure;
 use hound::{Error, Placed, Step, Tape, WavSpec, WavSpecEx, run_sessions};
@@ -40,7 +40,8 @@ pub fn file_of(alloc: Global, spec: WavSpec, numbers: Vec<i32>) -> Result<Tape, 
 
 // The numbers as values of sixteen bits, if all of them fit.
 fn sixteen_bits(alloc: Global, numbers: &[i32]) -> Result<Option<Vec<i16>>, AllocError>
-    ensures { IfOk result (λ found. IfSome found (λ values. values.items ≡ numbers.now)) }
+    ensures same { IfOk result (λ found. IfSome found (λ values. values.items ≡ numbers.now)) }
+    ensures short { IfOk result (λ found. IfSome found (λ values. AreShort values.items)) }
 {
     let mut values = Vec::with_capacity(alloc, numbers.len())?;
     for number in numbers {
@@ -57,6 +58,7 @@ fn file_of_batches(alloc: Global, spec_ex: WavSpecEx, values: &[i16]) -> Result<
     requires writable { IsWritable spec_ex }
     requires integers { spec_ex.spec.sample_format ≡ Int }
     requires sixteen { spec_ex.spec.bits_per_sample ≡ 16 }
+    requires short { AreShort values.now }
     ensures made { IfOk result (λ file. IsPacked spec_ex values.now
         (⟦<Tape as Placed>⟧.state file).contents) }
     ensures refused { IfErr result (IsPackFailure spec_ex values.now) }
@@ -67,8 +69,9 @@ fn file_of_batches(alloc: Global, spec_ex: WavSpecEx, values: &[i16]) -> Result<
 
 // Values of sixteen bits as batches.
 fn batches<'a>(alloc: Global, values: &'a [i16]) -> Result<Vec<Step<'a>>, AllocError>
+    requires short { AreShort values.now }
     ensures numbers { IfOk result (λ steps. numbers_of steps.items ≡ values.now) }
-    ensures short { IfOk result (λ steps. (s : WavSpecEx) → IsTrue (is_sixteen s.spec) →
+    ensures batches { IfOk result (λ steps. (s : WavSpecEx) → IsTrue (is_sixteen s.spec) →
         WriteNumbers s steps.items) }
 {
     let mut steps = Vec::new(alloc);

@@ -8,12 +8,11 @@ use Rattle.hound_commands.proofs.packing.file_of_steps.Goals as goal
 pub returns-in-Ok-clause-made : goal.returns-in-Ok-clause-made
 returns-in-Ok-clause-made c =
     let run = c.run_sessions-file in
-    let kept = where_ok _ _ c.in-Ok.is (run.ensures.answered.no_fault refl) in
     session_made c.args.spec_ex c.requires.writable c.requires.integers c.args.steps.now
     c.requires.numbers run.result.1 c.in-Ok.is
     (run.ensures.answered.first_error refl c.requires.writable) _
     (where_ok _ _ c.in-Ok.is
-    (run.ensures.exact refl (lit< tt) (c.new-2.ensures.contents ∙ c.new.ensures.items) (kept, rw c.new-2.ensures.faults (lit< tt)))
+    (run.ensures.exact refl (lit< tt) (c.new-2.ensures.contents ∙ c.new.ensures.items))
     ∙ ap (λ l. canonical c.args.spec_ex (containers_of c.args.spec_ex l)) (append-nil c.args.steps.now))
 
 pub returns-in-Err-clause-refused : goal.returns-in-Err-clause-refused
