@@ -1,32 +1,30 @@
 -- What a session that writes numbers answers, said of the numbers.
-use Rattle.std.proofs.Common.{◌≡◌, ℕ, ℤ, ◌+◌, ◌*◌, ◌/◌, ◌%◌, ◌<◌, ◌≤◌, ◌⊎◌, inl, inr, Bool, true, false, cond, nat_le, nat_lt, IsTrue, List, [], ◌∷◌, ◌++◌, length, map, Result, Ok, Err, OnOk, refl, sym, ◌∙◌, ap, subst, append_assoc, append-nil, length-append, leb-true, leb-false, le-leb, eqb, eqb-true, arith, lit≤}
+use Rattle.std.proofs.Common.{◌≡◌, ℕ, ℤ, ◌+◌, ◌*◌, ◌/◌, ◌%◌, ◌≤◌, ◌⊎◌, inl, inr, Bool, true, false, cond, nat_le, nat_lt, IsTrue, List, [], ◌∷◌, ◌++◌, length, map, Result, Ok, Err, OnOk, refl, sym, ◌∙◌, ap, subst, append_assoc, append-nil, length-append, leb-true, leb-false, eqb, eqb-true, arith, lit≤}
 use Rattle.std.proofs.Math.Nat.{mul-div_cancel}
 use Rattle.std.proofs.lemmas.Bool.Decides.{nat_tests}
 use Rattle.std.proofs.lemmas.Bool.{and_parts}
 use Rattle.std.proofs.lemmas.List.Folds.{concat-append}
 use Rattle.std.proofs.lemmas.Grind.{flat_map-append}
-use Rattle.std.specs.List.{AllByRecursion, concat, flat_map}
+use Rattle.std.specs.List.{concat}
 use Rattle.hound.specs.Answers.{AcceptAnswer, FitAnswer, IsIoError, IsPublishing, if_marked, one}
 use Rattle.hound.specs.Container.{Refusal, too_wide, unsupported, fits, if_fits, int_bytes, int_container}
 use Rattle.hound.specs.ContainerLaws.{int_container-in_width}
-use Rattle.hound.specs.Encoding.{error_of}
 use Rattle.hound.specs.FirstError.{AnswersSession, AnswersStep, longest_with, writer_after}
 use Rattle.hound.specs.FmtChunk.{greatest_u32}
 use Rattle.hound.specs.Header.{canonical, data_start, is_short, riff_size}
 use Rattle.hound.specs.Number.{signed_bytes_of}
 use Rattle.hound.specs.Steps.{accepted_by, batch_containers, containers_of, is_int, is_sixteen, step_containers}
-use Rattle.hound.specs.Writable.{IsPair, IsWritable, is_pair}
+use Rattle.hound.specs.Writable.{IsPair, IsWritable}
 use Rattle.hound.specs.Writer.{WriterState, AreFrames, sample_count}
 use Rattle.hound.specs.declared.Error.{Error}
-use Rattle.hound.specs.declared.Error.TheVariants.{IoError, FormatError, InvalidSampleFormat, OutOfMemory, TooLong, TooWide, UnfinishedSample, Unsupported}
-use Rattle.hound.specs.declared.SampleFormat.{SampleFormat}
-use Rattle.hound.specs.declared.SampleFormat.TheVariants.{Int, Float}
+use Rattle.hound.specs.declared.Error.TheVariants.{IoError, OutOfMemory, TooLong, TooWide, UnfinishedSample}
+use Rattle.hound.specs.declared.SampleFormat.TheVariants.{Int}
 use Rattle.hound.specs.declared.Step.{Step}
 use Rattle.hound.specs.declared.Step.TheVariants.{Whole, Bits, Batch, Flush}
 use Rattle.hound.specs.declared.WavSpecEx.{WavSpecEx}
 use Rattle.hound_commands.specs.Failing.{failure_of}
-use Rattle.hound_commands.specs.Packing.{HasRoom, HaveContainers, IsPackError, IsPackFailure, IsPacked, IsRefused, IsTooLong, IsTooWide, IsUnfinished, container_of}
-use Rattle.hound_commands.specs.Session.{AreShort, IsSessionFailure, WriteNumbers, WritesNumbers, numbers_of, step_numbers}
+use Rattle.hound_commands.specs.Packing.{HasRoom, HaveContainers, IsPackError, IsPackFailure, IsPacked, container_of}
+use Rattle.hound_commands.specs.Session.{AreShort, WriteNumbers, WritesNumbers, numbers_of, step_numbers}
 
 -- containers of numbers, one list after the other
 pub have-append : (s : WavSpecEx) (xs ys : List ℤ) (cs ds : List (List ℕ))
@@ -105,11 +103,10 @@ short_have : (s : WavSpecEx) → s.spec.bits_per_sample ≡ 16 → s.bytes_per_s
     → (values : List ℤ) → AreShort values
     → HaveContainers s values (map (signed_bytes_of 2) values)
 short_have s bits bytes [] short = tt
-short_have s bits bytes (v ∷ values) (fit, short) =
-    (
-      (λ i. int_container v (bits i) (bytes i)) ∙ short_container v fit,
-      short_have s bits bytes values short,
-    )
+short_have s bits bytes (v ∷ values) (fit, short) = (
+  (λ i. int_container v (bits i) (bytes i)) ∙ short_container v fit,
+  short_have s bits bytes values short,
+)
 
 sixteen_is : (s : WavSpecEx) → IsTrue (is_sixteen s.spec) → s.spec.bits_per_sample ≡ 16
 sixteen_is s sixteen =
@@ -120,11 +117,10 @@ batch_have : (s : WavSpecEx) → IsWritable s → s.spec.sample_format ≡ Int �
     → IsTrue (is_sixteen s.spec) → AreShort values
     → (batch_containers s values ≡ Ok (map (signed_bytes_of 2) values))
     × HaveContainers s values (map (signed_bytes_of 2) values)
-batch_have s writable integers values sixteen short =
-    (
-      ap (λ b. cond b (Ok (map (signed_bytes_of 2) values)) (Err unsupported)) sixteen,
-      short_have s (sixteen_is s sixteen) (two_bytes s writable integers (sixteen_is s sixteen)) values short,
-    )
+batch_have s writable integers values sixteen short = (
+  ap (λ b. cond b (Ok (map (signed_bytes_of 2) values)) (Err unsupported)) sixteen,
+  short_have s (sixteen_is s sixteen) (two_bytes s writable integers (sixteen_is s sixteen)) values short,
+)
 
 one_have : (s : WavSpecEx) (v : ℤ) (r : Result (List ℕ) Refusal) → container_of s v ≡ r
     → (cs : List (List ℕ)) → one r ≡ Ok cs → HaveContainers s (v ∷ []) cs
@@ -160,8 +156,7 @@ step_ok s writable integers list longest step writes answer = go step writes ans
     of memory step writes answer =
         let (cs, asked, fit) = accepted memory (step_containers s step) (writer_after s list) answer in
         let same : accepted_by s step true ≡ cs = ap (if_marked true) asked in
-        subst (λ l. HaveContainers s (step_numbers step) l × HasRoom s (list ++ l)) (sym same)
-        (
+        subst (λ l. HaveContainers s (step_numbers step) l × HasRoom s (list ++ l)) (sym same) (
           step_have s writable integers step writes cs asked,
           subst (λ n. n ≤ greatest_u32) (room_is s list cs) fit,
         )
@@ -190,8 +185,7 @@ session_ok s writable integers list longest (step ∷ steps) (here, writes) room
     let taken = accepted_by s step true in
     let (more, all, frames) =
     session_ok s writable integers (list ++ taken) (longest_with longest step) steps writes fit rest in
-    let joined = append_assoc list taken (containers_of s steps) in
-    (
+    let joined = append_assoc list taken (containers_of s steps) in (
       have-append s (step_numbers step) (numbers_of steps) taken (containers_of s steps) have more,
       subst (HasRoom s) joined all,
       subst (λ l. AreFrames (writer_after s l)) joined frames,
@@ -217,21 +211,20 @@ no_room : (s : WavSpecEx) → IsWritable s → (done : List ℤ) (list : List (L
     → HaveContainers s here cs
     → nat_le (riff_size (data_start s) (length (concat list) + 0 + length (concat cs))) greatest_u32 ≡ false
     → IsPackError s (done ++ (here ++ after)) TooLong
-no_room s writable done list before here after cs have big =
-    (
-      writable,
-      record {
-        before = done ++ here;
-        after = after;
-        whole = regroup done here after;
-        containers = list ++ cs;
-        have = have-append s done here list cs before have;
-        no_room = λ room.
-            let fit = subst (λ n. n ≤ greatest_u32) (sym (room_is s list cs)) room in
-            let over = leb-false _ _ big in
-            omega arith;
-      },
-    )
+no_room s writable done list before here after cs have big = (
+  writable,
+  record {
+    before = done ++ here;
+    after = after;
+    whole = regroup done here after;
+    containers = list ++ cs;
+    have = have-append s done here list cs before have;
+    no_room = λ room.
+        let fit = subst (λ n. n ≤ greatest_u32) (sym (room_is s list cs)) room in
+        let over = leb-false _ _ big in
+        omega arith;
+  },
+)
 
 -- integers of a spec that can be written aren't refused as of other bits and bytes
 never_unsupported : (v : ℤ) (bits width : ℕ) → IsPair Int bits width
@@ -255,8 +248,7 @@ single_error s writable integers done list before room v after (Ok c) is e answe
     (no_room s writable done list before (v ∷ []) after (c ∷ []) (is, tt))
 single_error s writable integers done list before room v after (Err too_wide) is e answer =
     let wide : TooWide ≡ e = cc in
-    subst (λ x. IsPackFailure s (done ++ (v ∷ after)) (failure_of x)) wide
-    (
+    subst (λ x. IsPackFailure s (done ++ (v ∷ after)) (failure_of x)) wide (
       writable,
       record {
         before = done;
@@ -307,8 +299,7 @@ end_error : (s : WavSpecEx) → IsWritable s → (done : List ℤ) (list : List 
     → IsPublishing {T = Unit {0}} (Err e) (writer_after s list)
     → IsPackFailure s (done ++ []) (failure_of e)
 end_error s writable done list before room some UnfinishedSample answer =
-    let whole = append-nil done in
-    (
+    let whole = append-nil done in (
       writable,
       record {
         containers = list;

@@ -1,6 +1,6 @@
 -- What `pack` makes of numbers: the canonical file of their containers, or the first cause for which
 -- there is none.
-use Rattle.std.specs.Prelude.{◌≡◌, ℕ, ℤ, ◌%◌, ◌≤◌, ◌⊎◌, ⊤, List, [], ◌∷◌, ◌++◌, length, Result, Ok, Err}
+use Rattle.std.specs.Prelude.{◌≡◌, ℕ, ℤ, ◌%◌, ◌≤◌, ⊤, List, [], ◌∷◌, ◌++◌, length, Result, Ok, Err}
 use Rattle.std.specs.List.{concat}
 use Rattle.hound.specs.Container.{Refusal, too_wide, int_container}
 use Rattle.hound.specs.FmtChunk.{greatest_u32}

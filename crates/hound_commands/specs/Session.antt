@@ -1,15 +1,11 @@
 -- The session that writes numbers, and what it answers.
-use Rattle.std.specs.Prelude.{◌≡◌, ℕ, ℤ, ◌⊎◌, ⊤, Bool, true, IsTrue, List, [], ◌∷◌, Result, Ok, Err}
+use Rattle.std.specs.Prelude.{ℤ, ⊤, IsTrue, List, [], ◌∷◌, Err}
 use Rattle.std.specs.List.{AllByRecursion, flat_map}
 use Rattle.hound.specs.Container.{fits}
-use Rattle.hound.specs.Header.{canonical}
 use Rattle.hound.specs.FirstError.{AnswersSession}
-use Rattle.hound.specs.Steps.{containers_of, is_sixteen}
-use Rattle.hound.specs.Writable.{IsWritable}
-use Rattle.hound.specs.declared.Error.{Error}
-use Rattle.hound.specs.declared.Error.TheVariants.{OutOfMemory}
+use Rattle.hound.specs.Steps.{is_sixteen}
 use Rattle.hound.specs.declared.Step.{Step}
-use Rattle.hound.specs.declared.Step.TheVariants.{Whole, Bits, Batch, Flush}
+use Rattle.hound.specs.declared.Step.TheVariants.{Whole, Batch}
 use Rattle.hound.specs.declared.WavSpecEx.{WavSpecEx}
 use Rattle.hound_commands.specs.declared.failure.Failure.{Failure}
 use Rattle.hound_commands.specs.declared.failure.Failure.TheVariants.{BadNumber, InputOrOutput, Refused}

@@ -1,5 +1,9 @@
 // What the program does, over any reader and writers.
-ghost use Rattle.std.specs.Prelude.{◌≡◌, ◌≤◌};
+ghost use Rattle.std.specs.Prelude.{◌≡◌, ◌≤◌, IfErr, IfSome, MatchResult, OnOk, length};
+ghost use Rattle.hound.specs.Writable.{with_default_width};
+ghost use Rattle.hound.specs.declared.SampleFormat.TheVariants.{Int};
+ghost use Rattle.hound_commands.specs.Commands.{IsNotPacked, Packs};
+ghost use Rattle.hound_commands.specs.declared.failure.Failure.TheVariants.{InputOrOutput};
 
 use crate::failure::Failure;
 use crate::packing::file_of;
@@ -32,7 +36,11 @@ pub fn run<R: io::Read, O: io::Write, E: io::Write>(
     output: &mut O,
     errors: &mut E,
 ) -> u8
-    ensures { result ≤ 2 }
+    ensures status { result ≤ 2 }
+
+    // `append FILE` has two words.
+    ensures unknown { (length words.now ≡ 1 → ⊥) → (length words.now ≡ 4 → ⊥) → result ≡ 2 }
+    ensures kept { result ≡ 2 → output.new ≡ output.old }
 {
     let result = match words {
         ["pack", channels, rate, bits] => match spec_of(channels, rate, bits) {
@@ -65,7 +73,7 @@ pub fn run_append<R: io::Read, E: io::Write>(
 
 // The status of a result; a failure has its line on `errors`.
 fn status_of<E: io::Write>(outcome: Result<(), Failure>, errors: &mut E) -> u8
-    ensures { result ≤ 1 }
+    ensures { MatchResult outcome (λ _. result ≡ 0) (λ _. result ≡ 1) }
 {
     match outcome {
         Ok(()) => 0,
@@ -92,7 +100,9 @@ fn usage<E: io::Write>(errors: &mut E) -> u8
 }
 
 // The spec of three words, if they are digits within range.
-fn spec_of(channels: &str, rate: &str, bits: &str) -> Option<WavSpec> {
+fn spec_of(channels: &str, rate: &str, bits: &str) -> Option<WavSpec>
+    ensures { IfSome result (λ spec. spec.sample_format ≡ Int) }
+{
     Some(WavSpec {
         channels: digits(channels, 65535)? as u16,
         sample_rate: digits(rate, 4_294_967_295)?,
@@ -101,12 +111,20 @@ fn spec_of(channels: &str, rate: &str, bits: &str) -> Option<WavSpec> {
     })
 }
 
+// The file of the numbers that are read goes to the output.
 fn pack<R: io::Read, O: io::Write>(
     alloc: Global,
     spec: WavSpec,
     input: &mut R,
     output: &mut O,
-) -> Result<(), Failure> {
+) -> Result<(), Failure>
+    requires integers { spec.sample_format ≡ Int }
+    ensures packed { OnOk result (Packs (with_default_width spec) (O.contents output.old)
+        (O.contents output.new)) }
+    ensures refused { IfErr result (IsNotPacked (with_default_width spec)) }
+    ensures kept { IfErr result (λ failure. (failure ≡ InputOrOutput → ⊥) →
+        output.new ≡ output.old) }
+{
     let numbers = read_numbers(alloc, input)?;
     let file = file_of(alloc, spec, numbers)?;
     output.write_all(Tape::bytes(&file))?;

@@ -108,7 +108,6 @@ fn singles<'a>(alloc: Global, numbers: &[i32]) -> Result<Vec<Step<'a>>, AllocErr
     Ok(steps)
 }
 
-
 // The file that one session over a new tape makes.
 fn file_of_steps(alloc: Global, spec_ex: WavSpecEx, steps: &[Step]) -> Result<Tape, Failure>
     requires writable { IsWritable spec_ex }

@@ -1,4 +1,4 @@
-use Rattle.std.proofs.Common.{◌≡◌, refl, sym, ◌∙◌, ap, subst, lit<, append-nil}
+use Rattle.std.proofs.Common.{refl, sym, ◌∙◌, ap, subst, lit<, append-nil}
 use Rattle.hound.specs.Header.{canonical}
 use Rattle.hound.specs.Steps.{containers_of}
 use Rattle.hound_commands.specs.Packing.{IsPackFailure}

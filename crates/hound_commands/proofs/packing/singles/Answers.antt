@@ -1,4 +1,4 @@
-use Rattle.std.proofs.Common.{◌≡◌, ◌∷◌, ◌++◌, [], ◌∙◌, w32, to_z, of_z, rules, ap, sym, subst, take, get_or, arith, ℤ, pos}
+use Rattle.std.proofs.Common.{◌≡◌, ◌∷◌, ◌++◌, [], ◌∙◌, w32, to_z, of_z, rules, ap, sym, subst, get_or, arith, pos}
 use Rattle.std.proofs.Math.Facts.{to_z-of_z}
 use Rattle.std.proofs.lemmas.Grind.{common_steps}
 use Rattle.hound.specs.declared.Step.TheVariants.{Whole}
@@ -12,7 +12,7 @@ loop-number-preserved c =
     let number = get_or c.args.numbers.now c.loop-number.number-index (pos 0) in
     let back : to_z w32 (of_z w32 number) ≡ number = to_z-of_z {w = w32} (search rules) in
     let pushed : c.push.new.self.items ≡ steps ++ Whole number ∷ [] =
-        c.in_ok-push.ensures.items ∙ ap (λ v. steps ++ Whole v ∷ []) back in
+    c.in_ok-push.ensures.items ∙ ap (λ v. steps ++ Whole v ∷ []) back in
     let more = written-push steps number in
     record {
       written = ap numbers_of pushed ∙ more ∙ ap (λ l. l ++ number ∷ []) c.loop-number.invariant.written
