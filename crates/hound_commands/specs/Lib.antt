@@ -1,0 +1,4 @@
+pub mod Commands
+pub mod Failing
+pub mod Packing
+pub mod Session

@@ -1,20 +1,20 @@
 // What the program does, over any reader and writers.
-ghost use Rattle.std.specs.Prelude.{◌≡◌, ◌≤◌};
+ghost use Rattle.std.specs.Prelude.{◌≡◌, ◌≤◌, IfErr, IfSome, MatchResult, OnOk, length};
+ghost use Rattle.hound.specs.Writable.{with_default_width};
+ghost use Rattle.hound.specs.declared.SampleFormat.TheVariants.{Int};
+ghost use Rattle.hound_commands.specs.Commands.{IsNotPacked, Packs};
+ghost use Rattle.hound_commands.specs.declared.failure.Failure.TheVariants.{InputOrOutput};
 
 use crate::failure::Failure;
-use hound::{
-    FloatBits, SampleFormat, Step, Tape, WavReader, WavSpec, WavSpecEx, WavWriter, run_sessions,
-};
+use crate::packing::file_of;
+use hound::{FloatBits, SampleFormat, Tape, WavReader, WavSpec, WavWriter};
 use hound_text::{Ahead, Lines, digits, read_numbers};
-use std::alloc::{AllocError, Global};
+use std::alloc::Global;
 use std::fmt::Display;
 use std::io::Write;
 use std::path::Path;
 use std::rt::Files;
 use std::{fs, io};
-
-// The values of a batch.
-const BATCH_LENGTH: usize = 4096;
 
 // More bytes than a line on standard error has.
 const LINE_LENGTH: usize = 256;
@@ -36,7 +36,11 @@ pub fn run<R: io::Read, O: io::Write, E: io::Write>(
     output: &mut O,
     errors: &mut E,
 ) -> u8
-    ensures { result ≤ 2 }
+    ensures status { result ≤ 2 }
+
+    // `append FILE` has two words.
+    ensures unknown { (length words.now ≡ 1 → ⊥) → (length words.now ≡ 4 → ⊥) → result ≡ 2 }
+    ensures kept { result ≡ 2 → output.new ≡ output.old }
 {
     let result = match words {
         ["pack", channels, rate, bits] => match spec_of(channels, rate, bits) {
@@ -69,7 +73,7 @@ pub fn run_append<R: io::Read, E: io::Write>(
 
 // The status of a result; a failure has its line on `errors`.
 fn status_of<E: io::Write>(outcome: Result<(), Failure>, errors: &mut E) -> u8
-    ensures { result ≤ 1 }
+    ensures { MatchResult outcome (λ _. result ≡ 0) (λ _. result ≡ 1) }
 {
     match outcome {
         Ok(()) => 0,
@@ -96,7 +100,9 @@ fn usage<E: io::Write>(errors: &mut E) -> u8
 }
 
 // The spec of three words, if they are digits within range.
-fn spec_of(channels: &str, rate: &str, bits: &str) -> Option<WavSpec> {
+fn spec_of(channels: &str, rate: &str, bits: &str) -> Option<WavSpec>
+    ensures { IfSome result (λ spec. spec.sample_format ≡ Int) }
+{
     Some(WavSpec {
         channels: digits(channels, 65535)? as u16,
         sample_rate: digits(rate, 4_294_967_295)?,
@@ -105,12 +111,20 @@ fn spec_of(channels: &str, rate: &str, bits: &str) -> Option<WavSpec> {
     })
 }
 
+// The file of the numbers that are read goes to the output.
 fn pack<R: io::Read, O: io::Write>(
     alloc: Global,
     spec: WavSpec,
     input: &mut R,
     output: &mut O,
-) -> Result<(), Failure> {
+) -> Result<(), Failure>
+    requires integers { spec.sample_format ≡ Int }
+    ensures packed { OnOk result (Packs (with_default_width spec) (O.contents output.old)
+        (O.contents output.new)) }
+    ensures refused { IfErr result (IsNotPacked (with_default_width spec)) }
+    ensures kept { IfErr result (λ failure. (failure ≡ InputOrOutput → ⊥) →
+        output.new ≡ output.old) }
+{
     let numbers = read_numbers(alloc, input)?;
     let file = file_of(alloc, spec, numbers)?;
     output.write_all(Tape::bytes(&file))?;
@@ -212,50 +226,4 @@ fn show_spec<O: io::Write>(spec: WavSpec, samples: u32, output: &mut O) -> io::R
         output,
         "channels {channels} rate {rate} bits {bits} format {format} samples {samples}"
     )
-}
-
-// The whole file of these samples. Where all have sixteen bits they go in batches, which take less
-// time and memory than a step for each; the first that is too wide is refused as such a step.
-fn file_of(alloc: Global, spec: WavSpec, numbers: Vec<i32>) -> Result<Tape, Failure> {
-    if spec.bits_per_sample == 16 {
-        if let Some(values) = sixteen_bits(alloc, &numbers)? {
-            drop(numbers);
-            return file_of_batches(alloc, spec, &values);
-        }
-    }
-    let steps: Vec<Step> = numbers
-        .iter()
-        .map(|number| Step::Whole(*number))
-        .collect(alloc)?;
-    drop(numbers);
-    file_of_steps(alloc, spec, &steps)
-}
-
-// The numbers as values of sixteen bits, if all of them fit.
-fn sixteen_bits(alloc: Global, numbers: &[i32]) -> Result<Option<Vec<i16>>, AllocError> {
-    let mut values = Vec::with_capacity(alloc, numbers.len())?;
-    for number in numbers {
-        match i16::try_from(*number) {
-            Ok(value) => values.push(value)?,
-            Err(_) => return Ok(None),
-        }
-    }
-    Ok(Some(values))
-}
-
-// The file of values of sixteen bits, in batches.
-fn file_of_batches(alloc: Global, spec: WavSpec, values: &[i16]) -> Result<Tape, Failure> {
-    let steps: Vec<Step> = values.chunks(BATCH_LENGTH).map(Step::Batch).collect(alloc)?;
-    file_of_steps(alloc, spec, &steps)
-}
-
-// The file that one session over a new tape makes.
-fn file_of_steps(alloc: Global, spec: WavSpec, steps: &[Step]) -> Result<Tape, Failure> {
-    let spec_ex = WavSpecEx {
-        spec,
-        bytes_per_sample: spec.bits_per_sample.div_ceil(8),
-    };
-    let (file, result) = run_sessions(alloc, Tape::new(Vec::new(alloc)), spec_ex, &[&steps[..]]);
-    result?;
-    Ok(file)
 }

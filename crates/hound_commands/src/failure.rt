@@ -1,7 +1,12 @@
 // Why the program fails.
+ghost use Rattle.std.specs.Prelude.{◌≡◌};
+ghost use Rattle.hound.specs.declared.Error.TheVariants.{OutOfMemory};
+ghost use Rattle.hound_commands.specs.Failing.{failure_of, refusal_of};
+ghost use Rattle.hound_commands.specs.declared.failure.Failure.TheVariants.{InputOrOutput, Refused};
+
 use hound::Error;
 use hound_text::Refusal;
-use std::alloc::AllocError;
+use std::alloc::{AllocError, AllocFailed};
 use std::io;
 use thiserror::Error as DeriveError;
 
@@ -17,6 +22,8 @@ pub enum Failure {
 }
 
 impl From<Error> for Failure {
+    ghost from_gives = { λ error failure. failure ≡ failure_of error };
+
     fn from(error: Error) -> Failure {
         match error {
             Error::IoError(_) => Failure::InputOrOutput,
@@ -26,6 +33,8 @@ impl From<Error> for Failure {
 }
 
 impl From<Refusal> for Failure {
+    ghost from_gives = { λ refusal failure. failure ≡ refusal_of refusal };
+
     fn from(refusal: Refusal) -> Failure {
         match refusal {
             Refusal::BadNumber => Failure::BadNumber,
@@ -36,13 +45,25 @@ impl From<Refusal> for Failure {
 }
 
 impl From<io::Error> for Failure {
+    ghost from_gives = { λ _ failure. failure ≡ InputOrOutput };
+
     fn from(_: io::Error) -> Failure {
         Failure::InputOrOutput
     }
 }
 
 impl From<AllocError> for Failure {
+    ghost from_gives = { λ _ failure. failure ≡ Refused OutOfMemory };
+
     fn from(_: AllocError) -> Failure {
+        Failure::Refused(Error::OutOfMemory)
+    }
+}
+
+impl<T: Drop> From<AllocFailed<T>> for Failure {
+    ghost from_gives = { λ _ failure. failure ≡ Refused OutOfMemory };
+
+    fn from(_: AllocFailed<T>) -> Failure {
         Failure::Refused(Error::OutOfMemory)
     }
 }

@@ -4,5 +4,6 @@
 
 mod commands;
 mod failure;
+mod packing;
 
 pub use commands::{run, run_append};
