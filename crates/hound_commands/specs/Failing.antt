@@ -2,7 +2,7 @@
 use Rattle.hound.specs.declared.Error.{Error}
 use Rattle.hound.specs.declared.Error.TheVariants.{IoError, OutOfMemory}
 use Rattle.hound_text.specs.declared.Refusal.{Refusal}
-use Rattle.hound_text.specs.declared.Refusal.TheVariants.{BadNumber as TextBadNumber, InputOrOutput as TextInputOrOutput, OutOfMemory as TextOutOfMemory}
+use Rattle.hound_text.specs.declared.Refusal.TheVariants.{BadNumber as TextBadNumber, InputOrOutput as TextInputOrOutput, TooLong as TextTooLong, OutOfMemory as TextOutOfMemory}
 use Rattle.hound_commands.specs.declared.failure.Failure.{Failure}
 use Rattle.hound_commands.specs.declared.failure.Failure.TheVariants.{BadNumber, InputOrOutput, Refused}
 
@@ -11,8 +11,9 @@ abbrev pub failure_of : Error → Failure
 failure_of (IoError fault) = InputOrOutput
 failure_of error = Refused error
 
--- the failure of a text that is no list of numbers
+-- the failure of a text that is no list of numbers: too long an input is one of the input
 abbrev pub refusal_of : Refusal → Failure
 refusal_of TextBadNumber = BadNumber
 refusal_of TextInputOrOutput = InputOrOutput
+refusal_of TextTooLong = InputOrOutput
 refusal_of TextOutOfMemory = Refused OutOfMemory

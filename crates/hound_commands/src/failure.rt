@@ -38,7 +38,7 @@ impl From<Refusal> for Failure {
     fn from(refusal: Refusal) -> Failure {
         match refusal {
             Refusal::BadNumber => Failure::BadNumber,
-            Refusal::InputOrOutput => Failure::InputOrOutput,
+            Refusal::InputOrOutput | Refusal::TooLong => Failure::InputOrOutput,
             Refusal::OutOfMemory => Failure::Refused(Error::OutOfMemory),
         }
     }
