@@ -1,5 +1,9 @@
 -- What the commands do to their output.
-use Rattle.std.specs.Prelude.{ℕ, ℤ, ⊤, List, Option}
+use Rattle.std.specs.Prelude.{◌≡◌, ℕ, ℤ, ◌≤◌, ◌⊎◌, ⊤, List, [], ◌∷◌, Option, codes}
+use Rattle.std.specs.Borrow.{Bor}
+use Rattle.std.specs.Str.Parse.{IsNumeral, digits_value}
+use Rattle.hound.specs.declared.SampleFormat.TheVariants.{Int}
+use Rattle.hound.specs.declared.WavSpec.{WavSpec}
 use Rattle.std.specs.Io.KnownBytes.{Appends}
 use Rattle.hound.specs.declared.WavSpecEx.{WavSpecEx}
 use Rattle.hound_commands.specs.Packing.{IsPacked, IsPackFailure}
@@ -16,3 +20,27 @@ abbrev pub IsNotPacked : WavSpecEx → Failure → Type 0
 IsNotPacked s BadNumber = ⊤
 IsNotPacked s InputOrOutput = ⊤
 IsNotPacked s (Refused e) = (numbers : List ℤ) × IsPackFailure s numbers (Refused e)
+
+-- These words are digits alone, within range, and say this spec.
+pub record SaySpec (channels rate bits : List ℕ) (spec : WavSpec) : Type 0 where
+  pub channels_are : IsNumeral 10 channels × (digits_value 10 channels ≡ spec.channels)
+  pub rate_is : IsNumeral 10 rate × (digits_value 10 rate ≡ spec.sample_rate)
+  pub bits_are : IsNumeral 10 bits × (digits_value 10 bits ≡ spec.bits_per_sample)
+  pub within : (spec.channels ≤ 65535) × (spec.sample_rate ≤ 4294967295)
+      × (spec.bits_per_sample ≤ 65535)
+  pub format : spec.sample_format ≡ Int
+
+-- The words of `pack`, with the spec that they say.
+abbrev pub IsPackCommand : List (Bor (List ℕ)) → WavSpec → Type 0
+IsPackCommand (word ∷ channels ∷ rate ∷ bits ∷ []) spec =
+    (word.now ≡ codes "pack") × SaySpec channels.now rate.now bits.now spec
+IsPackCommand _ spec = ⊥
+
+-- The word of `show`.
+abbrev pub IsShowCommand : List (Bor (List ℕ)) → Type 0
+IsShowCommand (word ∷ []) = word.now ≡ codes "show"
+IsShowCommand _ = ⊥
+
+-- Words that `run` carries out.
+abbrev pub IsCommand : List (Bor (List ℕ)) → Type 0
+IsCommand words = IsShowCommand words ⊎ ((spec : WavSpec) × IsPackCommand words spec)

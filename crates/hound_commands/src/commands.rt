@@ -1,8 +1,9 @@
 // What the program does, over any reader and writers.
-ghost use Rattle.std.specs.Prelude.{◌≡◌, ◌≤◌, IfErr, IfSome, MatchResult, OnOk, length};
+ghost use Rattle.std.specs.Prelude.{◌≡◌, ◌≤◌, ◌↔◌, IfErr, IfSome, IsNone, MatchResult, OnOk, length};
 ghost use Rattle.hound.specs.Writable.{with_default_width};
 ghost use Rattle.hound.specs.declared.SampleFormat.TheVariants.{Int};
-ghost use Rattle.hound_commands.specs.Commands.{IsNotPacked, Packs};
+ghost use Rattle.hound.specs.declared.WavSpec.{WavSpec};
+ghost use Rattle.hound_commands.specs.Commands.{IsCommand, IsNotPacked, Packs, SaySpec};
 ghost use Rattle.hound_commands.specs.declared.failure.Failure.TheVariants.{InputOrOutput};
 
 use crate::failure::Failure;
@@ -37,9 +38,7 @@ pub fn run<R: io::Read, O: io::Write, E: io::Write>(
     errors: &mut E,
 ) -> u8
     ensures status { result ≤ 2 }
-
-    // `append FILE` has two words.
-    ensures unknown { (length words.now ≡ 1 → ⊥) → (length words.now ≡ 4 → ⊥) → result ≡ 2 }
+    ensures usage { result ≡ 2 ↔ (IsCommand words.now → ⊥) }
     ensures kept { result ≡ 2 → output.new ≡ output.old }
 {
     let result = match words {
@@ -101,7 +100,9 @@ fn usage<E: io::Write>(errors: &mut E) -> u8
 
 // The spec of three words, if they are digits within range.
 fn spec_of(channels: &str, rate: &str, bits: &str) -> Option<WavSpec>
-    ensures { IfSome result (λ spec. spec.sample_format ≡ Int) }
+    ensures said { IfSome result (SaySpec channels.now rate.now bits.now) }
+    ensures none { IsNone result → (spec : WavSpec) →
+        SaySpec channels.now rate.now bits.now spec → ⊥ }
 {
     Some(WavSpec {
         channels: digits(channels, 65535)? as u16,
