@@ -1,9 +1,9 @@
 // What the program does, over any reader and writers.
-ghost use Rattle.std.specs.Prelude.{◌≡◌, ◌≤◌, ◌↔◌, IfErr, IfSome, IsNone, MatchResult, OnOk, length};
+ghost use Rattle.std.specs.Prelude.{◌≡◌, ◌≤◌, ◌↔◌, ◌⊎◌, IfErr, IfSome, IsNone, MatchResult, OnOk, length};
 ghost use Rattle.hound.specs.Writable.{with_default_width};
 ghost use Rattle.hound.specs.declared.SampleFormat.TheVariants.{Int};
 ghost use Rattle.hound.specs.declared.WavSpec.{WavSpec};
-ghost use Rattle.hound_commands.specs.Commands.{IsCommand, IsNotPacked, Packs, SaySpec};
+ghost use Rattle.hound_commands.specs.Commands.{IsCommand, IsNotPacked, IsPackCommand, IsShowCommand, Packs, SaySpec};
 ghost use Rattle.hound_commands.specs.declared.failure.Failure.TheVariants.{InputOrOutput};
 
 use crate::failure::Failure;
@@ -39,6 +39,9 @@ pub fn run<R: io::Read, O: io::Write, E: io::Write>(
 ) -> u8
     ensures status { result ≤ 2 }
     ensures usage { result ≡ 2 ↔ (IsCommand words.now → ⊥) }
+    ensures success { result ≡ 0 → IsShowCommand words.now
+        ⊎ ((spec : WavSpec) × IsPackCommand words.now spec
+        × Packs (with_default_width spec) (O.contents output.old) (O.contents output.new)) }
     ensures kept { result ≡ 2 → output.new ≡ output.old }
 {
     let result = match words {
