@@ -1,3 +1,4 @@
 pub mod Counting
 pub mod KnownSteps
 pub mod Mixing
+pub mod Pieces

@@ -1,2 +1,4 @@
 pub mod Back
+pub mod Containers
+pub mod Many
 pub mod Reading

@@ -1,12 +1,15 @@
 // Floating-point samples by their bits.
-ghost use Rattle.std.specs.Prelude.{◌≡◌, pos, ⊤};
+ghost use Rattle.std.specs.Prelude.{◌≡◌, ◌<◌, ◌≤◌, None, pos, ⊤};
 ghost use Rattle.hound_number.specs.Number.{number};
 ghost use Rattle.hound_sample.specs.Container.{pattern_container};
 ghost use Rattle.hound_sample.specs.ContainerLaws.{pattern_container-in_width};
 ghost use Rattle.hound_sample.specs.Meaning.{float_refusal, pattern};
 ghost use Rattle.hound_sample.specs.Reads.{ReadsContainer};
+ghost use Rattle.hound_spec.specs.declared.error.Error.TheVariants.{InvalidSampleFormat, TooWide, Unsupported};
+ghost use Rattle.hound_spec.specs.declared.spec.SampleFormat.TheVariants.{Float, Int};
 
 use crate::Sample;
+use crate::decode::{Decode, read_pieces, refuse_many};
 use hound_number::{le_u32, read_into, u32_at};
 use hound_spec::{Error, Result, SampleFormat};
 use std::io;
@@ -34,6 +37,35 @@ fn read_pattern<R: io::Read>(reader: &mut R) -> Result<FloatBits>
     }
 }
 
+// Why a pattern isn't read from samples of another format or pair.
+#[inline(always)]
+fn pattern_refusal(fmt: SampleFormat, bytes: u16) -> Error
+    ensures format { fmt ≡ Int → result ≡ InvalidSampleFormat }
+    ensures wider { fmt ≡ Float → 4 < bytes → result ≡ TooWide }
+    ensures pair { fmt ≡ Float → bytes ≤ 4 → result ≡ Unsupported }
+{
+    match fmt {
+        SampleFormat::Int => Error::InvalidSampleFormat,
+        SampleFormat::Float => {
+            if bytes > 4 {
+                return Error::TooWide;
+            }
+            Error::Unsupported
+        }
+    }
+}
+
+impl Decode for FloatBits {
+    ghost Decodes = { λ fmt bytes bits. float_refusal fmt bytes bits ≡ None };
+
+    ghost value = { λ fmt bytes bits container. record { 0 = pattern container } };
+
+    #[inline(always)]
+    fn decode(container: &[u8], fmt: SampleFormat, bytes: u16, bits: u16) -> FloatBits {
+        FloatBits(u32_at(container, 0))
+    }
+}
+
 impl Sample for FloatBits {
     ghost container = { λ sample. pattern_container sample.0 };
 
@@ -54,18 +86,24 @@ impl Sample for FloatBits {
         bytes: u16,
         bits: u16,
     ) -> Result<FloatBits> {
-        match fmt {
-            SampleFormat::Int => Err(Error::InvalidSampleFormat),
-            SampleFormat::Float => {
-                if bytes == 4 && bits == 32 {
-                    return read_pattern(reader);
-                }
-                if bytes > 4 {
-                    return Err(Error::TooWide);
-                }
-                Err(Error::Unsupported)
-            }
+        if matches!(fmt, SampleFormat::Float) && bytes == 4 && bits == 32 {
+            return read_pattern(reader);
         }
+        Err(pattern_refusal(fmt, bytes))
+    }
+
+    #[inline(always)]
+    fn read_many<R: io::Read>(
+        reader: &mut R,
+        samples: &mut [FloatBits],
+        fmt: SampleFormat,
+        bytes: u16,
+        bits: u16,
+    ) -> (usize, Result<()>) {
+        if matches!(fmt, SampleFormat::Float) && bytes == 4 && bits == 32 {
+            return read_pieces(reader, samples, fmt, 4, 32);
+        }
+        refuse_many(samples, pattern_refusal(fmt, bytes))
     }
 
     #[inline(always)]

@@ -1,14 +1,15 @@
 // The containers of integers.
-ghost use Rattle.std.specs.Prelude.{◌≡◌, ◌<◌, ◌≤◌, ◌++◌, ◌∷◌, [], take, Ok, Err, if◌then◌else◌};
+ghost use Rattle.std.specs.Prelude.{◌≡◌, ◌<◌, ◌≤◌, ◌++◌, ◌∷◌, [], take, None, Ok, Err, if◌then◌else◌};
 ghost use Rattle.hound_number.specs.Number.{signed_bytes_of};
 ghost use Rattle.hound_sample.specs.Container.{fits, if_fits, offset_byte, int_container};
 ghost use Rattle.hound_sample.specs.Encoding.{IsEncoded};
-ghost use Rattle.hound_sample.specs.Meaning.{int_meaning, low_short};
+ghost use Rattle.hound_sample.specs.Meaning.{int_meaning, int_refusal, low_short};
 ghost use Rattle.hound_sample.specs.Reads.{ReadsContainer};
 ghost use Rattle.hound_spec.specs.Writable.{IsPair};
 ghost use Rattle.hound_spec.specs.declared.error.Error.TheVariants.{InvalidSampleFormat, TooWide, Unsupported};
 ghost use Rattle.hound_spec.specs.declared.spec.SampleFormat.TheVariants.{Float, Int};
 
+use crate::decode::Decode;
 use hound_number::{
     i16_from_le, i24_from_le, i32_from_le, le_i16, le_i32, read_into, signed_from_u8,
     u8_from_signed,
@@ -174,5 +175,46 @@ pub(crate) fn read_integer<R: io::Read>(reader: &mut R, bits: u16, bytes: u16) -
     match read_into(reader, &mut container[..bytes as usize]) {
         Ok(()) => Ok(integer_of(container, bits, bytes)),
         Err(error) => Err(Error::IoError(error.into())),
+    }
+}
+
+impl Decode for i8 {
+    ghost Decodes = { λ fmt bytes bits. int_refusal 1 fmt bytes bits ≡ None };
+
+    ghost value = { λ fmt. int_meaning };
+
+    #[inline(always)]
+    fn decode(container: &[u8], fmt: SampleFormat, bytes: u16, bits: u16) -> i8 {
+        signed_from_u8(container[0])
+    }
+}
+
+impl Decode for i16 {
+    ghost Decodes = { λ fmt bytes bits. int_refusal 2 fmt bytes bits ≡ None };
+
+    ghost value = { λ fmt. int_meaning };
+
+    #[inline(always)]
+    fn decode(container: &[u8], fmt: SampleFormat, bytes: u16, bits: u16) -> i16 {
+        if bytes == 2 {
+            return i16_from_le([container[0], container[1]]);
+        }
+        signed_from_u8(container[0]) as i16
+    }
+}
+
+impl Decode for i32 {
+    ghost Decodes = { λ fmt bytes bits. int_refusal 4 fmt bytes bits ≡ None };
+
+    ghost value = { λ fmt. int_meaning };
+
+    #[inline(always)]
+    fn decode(container: &[u8], fmt: SampleFormat, bytes: u16, bits: u16) -> i32 {
+        match bits {
+            8 => signed_from_u8(container[0]) as i32,
+            16 => i16_from_le([container[0], container[1]]) as i32,
+            24 => i24_from_le([container[0], container[1], container[2]]),
+            _ => i32_from_le([container[0], container[1], container[2], container[3]]),
+        }
     }
 }

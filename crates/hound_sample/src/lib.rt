@@ -1,6 +1,7 @@
 //! Samples, and their containers: the bytes that they take in a file.
 #![tactic(auto)]
 
+mod decode;
 mod float;
 mod integer;
 mod laws;

@@ -1,12 +1,14 @@
 // The types of samples.
-ghost use Rattle.std.specs.Prelude.{◌≡◌, ◌≤◌, ◌/◌, ℕ, ℤ, ⊤, List, Option, Result, Ok, IsSome, IsErr, length};
+ghost use Rattle.std.specs.Prelude.{◌≡◌, ◌≤◌, ◌/◌, ℕ, ℤ, ⊤, List, Option, Result, Ok, IsSome, IsErr, length, take};
 ghost use Rattle.hound_sample.specs.Container.{Refusal, int_container};
 ghost use Rattle.hound_sample.specs.Encoding.{IsEncoded, WritesContainer};
 ghost use Rattle.hound_sample.specs.ContainerLaws.{int_container-in_width};
 ghost use Rattle.hound_sample.specs.Meaning.{ReadRefusal, int_refusal, int_meaning, low_short};
+ghost use Rattle.hound_sample.specs.Many.{FillsFront, ReadsEach, items_of};
 ghost use Rattle.hound_sample.specs.Reads.{Reads};
 ghost use Rattle.hound_spec.specs.declared.spec.SampleFormat.{SampleFormat};
 
+use crate::decode::{read_pieces, refuse_many};
 use crate::integer::{
     encode_integer, integer_refusal, lowest_16_bits, read_8_bits, read_16_bits, read_integer,
 };
@@ -82,6 +84,33 @@ pub trait Sample: Sized + Drop {
             (R.remaining reader.old) (R.remaining reader.new) result }
         ensures untouched { IsSome (refusal fmt bytes bits) → reader.new ≡ reader.old };
 
+    /// Reads samples one after the other, until the slice is full or `read` answers an error (own).
+    ///
+    /// Returns how many samples were read, which are the front of the slice, and the error that
+    /// ended it, if one did. The rest of the slice stays as it was. A type of your own need not give
+    /// it; the types of this crate read many containers at once here.
+    fn read_many<R: io::Read>(
+        reader: &mut R,
+        samples: &mut [Self],
+        fmt: SampleFormat,
+        bytes: u16,
+        bits: u16,
+    ) -> (usize, Result<()>)
+        ensures each { ReadsEach (refusal fmt bytes bits) (meaning fmt bytes bits) bytes
+            (items_of (take result.0 samples.new) result.1)
+            (R.remaining reader.old) (R.remaining reader.new) }
+        ensures front { FillsFront result.0 result.1 samples.old samples.new }
+        ensures untouched { IsSome (refusal fmt bytes bits) → reader.new ≡ reader.old }
+    {
+        for i in 0..samples.len() {
+            match Self::read(reader, fmt, bytes, bits) {
+                Ok(sample) => samples[i] = sample,
+                Err(error) => return (i, Err(error)),
+            }
+        }
+        (samples.len(), Ok(()))
+    }
+
     /// The value cast to sixteen bits: of an integer the lowest sixteen, as a signed number. Code
     /// that is generic over the type needs `can_cast`; at an integer type it holds by itself.
     fn as_i16(self) -> i16
@@ -118,6 +147,20 @@ impl Sample for i8 {
             return read_8_bits(reader);
         }
         Err(integer_refusal(fmt, bytes, 1))
+    }
+
+    #[inline(always)]
+    fn read_many<R: io::Read>(
+        reader: &mut R,
+        samples: &mut [Self],
+        fmt: SampleFormat,
+        bytes: u16,
+        bits: u16,
+    ) -> (usize, Result<()>) {
+        if matches!(fmt, SampleFormat::Int) && bytes == 1 && bits == 8 {
+            return read_pieces(reader, samples, fmt, 1, 8);
+        }
+        refuse_many(samples, integer_refusal(fmt, bytes, 1))
     }
 
     #[inline(always)]
@@ -158,6 +201,21 @@ impl Sample for i16 {
     }
 
     #[inline(always)]
+    fn read_many<R: io::Read>(
+        reader: &mut R,
+        samples: &mut [Self],
+        fmt: SampleFormat,
+        bytes: u16,
+        bits: u16,
+    ) -> (usize, Result<()>) {
+        match (fmt, bytes, bits) {
+            (SampleFormat::Int, 2, 16) => read_pieces(reader, samples, fmt, 2, 16),
+            (SampleFormat::Int, 1, 8) => read_pieces(reader, samples, fmt, 1, 8),
+            _ => refuse_many(samples, integer_refusal(fmt, bytes, 2)),
+        }
+    }
+
+    #[inline(always)]
     fn as_i16(self) -> i16 {
         self
     }
@@ -187,6 +245,26 @@ impl Sample for i32 {
             return read_integer(reader, bits, bytes);
         }
         Err(integer_refusal(fmt, bytes, 4))
+    }
+
+    #[inline(always)]
+    fn read_many<R: io::Read>(
+        reader: &mut R,
+        samples: &mut [Self],
+        fmt: SampleFormat,
+        bytes: u16,
+        bits: u16,
+    ) -> (usize, Result<()>) {
+        if matches!(fmt, SampleFormat::Int) && is_pair(fmt, bits, bytes) {
+            return match (bytes, bits) {
+                (2, _) => read_pieces(reader, samples, fmt, 2, 16),
+                (3, _) => read_pieces(reader, samples, fmt, 3, 24),
+                (4, 24) => read_pieces(reader, samples, fmt, 4, 24),
+                (4, _) => read_pieces(reader, samples, fmt, 4, 32),
+                _ => read_pieces(reader, samples, fmt, 1, 8),
+            };
+        }
+        refuse_many(samples, integer_refusal(fmt, bytes, 4))
     }
 
     #[inline(always)]

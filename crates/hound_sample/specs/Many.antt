@@ -1,0 +1,25 @@
+-- What `read_many` answers, by what `read` answers of each sample.
+use Rattle.std.specs.Prelude.{◌≡◌, ℕ, ◌≤◌, List, [], ◌∷◌, ◌++◌, map, length, drop, Option, Result, Ok, Err, OnOk}
+use Rattle.hound_spec.specs.declared.error.Error.{Error}
+use Rattle.hound_sample.specs.Meaning.{ReadRefusal}
+use Rattle.hound_sample.specs.Reads.{Reads}
+
+-- what was answered of each sample: these values, and then the error, if one ended it
+abbrev pub items_of : {A T E : Type 0} → List A → Result T E → List (Result A E)
+items_of values (Ok done) = map Ok values
+items_of values (Err error) = map Ok values ++ (Err error ∷ [])
+
+-- samples were read one after the other: this is what `read` answered of each
+abbrev pub ReadsEach : {A : Type 0} → Option ReadRefusal → (List ℕ → A) → ℕ → List (Result A Error)
+    → Option (List ℕ) → Option (List ℕ) → Type 0
+ReadsEach refusal meaning width [] old new = new ≡ old
+ReadsEach refusal meaning width (item ∷ items) old new = (mid : Option (List ℕ))
+    × Reads refusal meaning width old mid item × ReadsEach refusal meaning width items mid new
+
+-- The samples before the place `count` of a slice were read, and there an error ended it, or the
+-- slice. From that place on the slice is as it was.
+pub record FillsFront {A T : Type 0} (count : ℕ) (result : Result T Error) (old new : List A)
+    : Type 0 where
+  pub within : count ≤ length new
+  pub full : OnOk result (count ≡ length new)
+  pub rest : drop count new ≡ drop count old

@@ -1,0 +1,118 @@
+// Many samples in few reads: whole containers are taken by pieces, and then decoded.
+ghost use Rattle.std.specs.Prelude.{◌≡◌, ◌≤◌, ◌<◌, ◌*◌, ℕ, List, length, map, take, None, Ok, Err, OnErr, OnOk};
+ghost use Rattle.std.specs.Io.KnownBytes.{Consumes};
+ghost use Rattle.hound_sample.specs.Container.{containers};
+ghost use Rattle.hound_sample.specs.Many.{FillsFront, ReadsEach, items_of};
+ghost use Rattle.hound_spec.specs.declared.spec.SampleFormat.{SampleFormat};
+
+use hound_number::early_end;
+use hound_spec::{Error, Result, SampleFormat};
+use std::io;
+
+// The bytes of a piece: enough that a read of them costs little for each sample, and few enough
+// that a call for two samples doesn't pay for them.
+const PIECE: usize = 1024;
+
+/// A type of which a container that was taken has a value in every case.
+///
+/// It is no part of [`Sample`](crate::Sample), whose `read_many` is made of it: the check wants no
+/// cycle between the methods of an `impl`.
+pub(crate) trait Decode: Sized + Drop {
+    /// Whether a container of a format, of so many bytes and used bits, is decoded.
+    ghost Decodes: { SampleFormat → ℕ → ℕ → Type 0 };
+
+    /// The value of a container, in a file of this format, with so many bytes and used bits.
+    ghost value: { SampleFormat → ℕ → ℕ → List ℕ → Self };
+
+    /// The value of a container of so many bytes.
+    fn decode(container: &[u8], fmt: SampleFormat, bytes: u16, bits: u16) -> Self
+        requires decodes { Decodes fmt bytes bits }
+        requires width { length container.now ≡ bytes }
+        ensures { result ≡ value fmt bytes bits container.now };
+}
+
+// Fills the front of a buffer, all of it unless a read fails or the input ends; how many bytes.
+#[inline(always)]
+fn read_piece<R: io::Read>(reader: &mut R, piece: &mut [u8]) -> (usize, io::Result<()>)
+    ensures within { result.0 ≤ length piece.new }
+    ensures taken { Consumes (R.remaining reader.old) (R.remaining reader.new)
+        (take result.0 piece.new) }
+    ensures full { OnOk result.1 (result.0 ≡ length piece.new) }
+    ensures part { OnErr result.1 (result.0 < length piece.new) }
+{
+    let mut at = 0;
+    while at < piece.len() {
+        match reader.read(&mut piece[at..]) {
+            Ok(0) => return (at, Err(early_end())),
+            Ok(n) => at += n,
+            Err(error) => return (at, Err(error)),
+        }
+    }
+    (at, Ok(()))
+}
+
+// Decodes containers, one after the other.
+#[inline(always)]
+fn decode_each<S: Decode>(from: &[u8], samples: &mut [S], fmt: SampleFormat, bytes: u16, bits: u16)
+    requires decodes { S.Decodes fmt bytes bits }
+    requires whole { length from.now ≡ length samples.old * bytes }
+    ensures { samples.new ≡ map (S.value fmt bytes bits)
+        (containers bytes (length samples.old) from.now) }
+{
+    let width = bytes as usize;
+    for i in 0..samples.len() {
+        samples[i] = S::decode(&from[i * width..(i + 1) * width], fmt, bytes, bits);
+    }
+}
+
+/// Reads samples by pieces, as [`Sample::read_many`] does, where the type reads them.
+#[inline(always)]
+pub(crate) fn read_pieces<S: Decode, R: io::Read>(
+    reader: &mut R,
+    samples: &mut [S],
+    fmt: SampleFormat,
+    bytes: u16,
+    bits: u16,
+) -> (usize, Result<()>)
+    requires decodes { S.Decodes fmt bytes bits }
+    requires some { 1 ≤ bytes }
+    requires few { bytes ≤ 4 }
+    ensures each { ReadsEach None (S.value fmt bytes bits) bytes
+        (items_of (take result.0 samples.new) result.1)
+        (R.remaining reader.old) (R.remaining reader.new) }
+    ensures front { FillsFront result.0 result.1 samples.old samples.new }
+{
+    let width = bytes as usize;
+    let mut piece = [0; PIECE];
+    let mut done = 0;
+    while done < samples.len() {
+        let wanted = (samples.len() - done).min(PIECE / width);
+        let (taken, answer) = read_piece(reader, &mut piece[..wanted * width]);
+        let count = taken / width;
+        decode_each(
+            &piece[..count * width],
+            &mut samples[done..done + count],
+            fmt,
+            bytes,
+            bits,
+        );
+        done += count;
+        if let Err(error) = answer {
+            return (done, Err(Error::IoError(error)));
+        }
+    }
+    (done, Ok(()))
+}
+
+/// What a type answers that doesn't read the samples: the error, unless none is asked for.
+#[inline(always)]
+pub(crate) fn refuse_many<S>(samples: &[S], refusal: Error) -> (usize, Result<()>)
+    ensures none { result.0 ≡ 0 }
+    ensures empty { length samples.now ≡ 0 → result.1 ≡ Ok tt }
+    ensures refused { 0 < length samples.now → result.1 ≡ Err refusal }
+{
+    if samples.is_empty() {
+        return (0, Ok(()));
+    }
+    (0, Err(refusal))
+}
