@@ -16,7 +16,7 @@ use Rattle.hound_reader.specs.declared.item.NoSample.{NoSample}
 use Rattle.hound_reader.specs.Items.{AreItems, GivesItems}
 
 -- an Ok took exactly a container
-a_container_is_taken : {A : Type 0} (refusal : Option ReadRefusal) (meaning : List ℕ → A)
+pub a_container_is_taken : {A : Type 0} (refusal : Option ReadRefusal) (meaning : List ℕ → A)
     (width : ℕ) (old new : Option (List ℕ)) (value : A)
     → Reads refusal meaning width old new (Ok value) → Known old new (AreTaken width)
 a_container_is_taken {A = A} (Some refusal) meaning width old new value read =

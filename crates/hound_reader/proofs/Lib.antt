@@ -1,3 +1,4 @@
+pub mod BlockLemmas
 pub mod CountingLemmas
 pub mod Exists
 pub mod FmtLemmas

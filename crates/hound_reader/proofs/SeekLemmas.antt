@@ -151,7 +151,7 @@ known_left (Some zs) (Some ys) xs P e k = (ys, refl, subst (λ l. P l ys) (same_
 
 module _ {R : Type 0} (left : R → Option (List ℕ)) where
   -- what an item took is counted
-  took_counted : (bytes : List ℕ) (old new : ReaderState R) → StandsAsCounted left bytes old
+  pub took_counted : (bytes : List ℕ) (old new : ReaderState R) → StandsAsCounted left bytes old
       → CountsTaken left old new → StandsAsCounted left bytes new
   took_counted bytes old new stands (n, count, known) =
       let p = known_left (left old.reader) (left new.reader) (drop old.bytes_read bytes)

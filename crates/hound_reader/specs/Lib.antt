@@ -3,6 +3,7 @@ pub mod Chunks
 pub mod Outcome
 pub mod Walk
 pub mod Answer
+pub mod Blocks
 pub mod Refusals
 pub mod Reader
 pub mod Samples

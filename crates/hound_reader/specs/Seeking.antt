@@ -61,7 +61,8 @@ pub record ReadsInPlace (old new : MediumState) : Type 0 where
   pub contents : new.contents ≡ old.contents
   pub place : new.place ≡ old.place + (length (unread old) - length (unread new))
 
--- an item of whatever type was given, whole, refused or torn, and it counts what it took
+-- an item of whatever type was given, whole, refused or torn, or a block of items, and it counts
+-- what it took
 pub record PassesItem {R : Type 0} (left : R → Option (List ℕ)) (state : R → MediumState)
     (old new : ReaderState R) : Type 0 where
   pub taken : CountsTaken left old new
@@ -69,7 +70,8 @@ pub record PassesItem {R : Type 0} (left : R → Option (List ℕ)) (state : R �
   pub spec_ex : new.spec_ex ≡ old.spec_ex
   pub num_samples : new.num_samples ≡ old.num_samples
 
--- items and Ok seeks, one after the other: None is an item, and Some a seek to that frame
+-- items, blocks and Ok seeks, one after the other: None is an item or a block, and Some a seek to
+-- that frame
 abbrev pub Follows : {R : Type 0} → (R → Option (List ℕ)) → (R → MediumState) → List (Option ℕ)
     → ReaderState R → ReaderState R → Type 0
 Follows left state [] old new = new ≡ old

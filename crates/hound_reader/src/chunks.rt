@@ -61,6 +61,22 @@ fn skip_bytes<R: Input>(reader: &mut R, count: u32) -> Result<(), HeadError>
         × Known (R.left reader.old) (R.left reader.new)
         (λ xs ys. (length xs < count) × (ys ≡ [])))) }
 {
+    if count == 0 {
+        return Ok(());
+    }
+    skip_some(reader, count)
+}
+
+// The same of at least one byte: where there is none to skip, no buffer is made.
+#[inline(never)]
+fn skip_some<R: Input>(reader: &mut R, count: u32) -> Result<(), HeadError>
+    ensures failures { CountsFailed (R.account reader.old) (R.account reader.new) result }
+    ensures ok { OnOk result ((bytes : List ℕ)
+        × Consumes (R.left reader.old) (R.left reader.new) bytes × (length bytes ≡ count)) }
+    ensures err { IfErr result (λ e. Refuses e (λ c. (c ≡ Cause.Ended)
+        × Known (R.left reader.old) (R.left reader.new)
+        (λ xs ys. (length xs < count) × (ys ≡ [])))) }
+{
     let mut buf = [0; 512];
     let mut left = count;
     while left > 0 {

@@ -1,6 +1,8 @@
 // A reader that counts the bytes that it gives.
 ghost use Rattle.std.specs.Prelude.{◌≡◌, ◌<◌, ◌≤◌, List, Option, Result, ℕ, None, IsSome, length, take};
+ghost use Rattle.hound_sample.specs.Many.{FillsFront};
 ghost use Rattle.hound_sample.specs.Reads.{Reads};
+ghost use Rattle.hound_reader.specs.Blocks.{AnswersReadMany};
 ghost use Rattle.hound_reader.specs.Reader.{refusal_at, meaning_at};
 ghost use Rattle.hound_reader.specs.declared.item.NoSample.{NoSample};
 ghost use Rattle.hound_reader.specs.Item.{answer_of, AnswersRead};
@@ -104,6 +106,10 @@ pub(crate) trait Ask {
     ghost Answers: { WavSpecEx → Option (List ℕ) → Option (List ℕ)
         → Result Self.Value NoSample → Type 0 };
 
+    /// What is answered of many values that are asked for at once: those that were read.
+    ghost AnswersMany: { WavSpecEx → Option (List ℕ) → Option (List ℕ)
+        → List Self.Value → Result (Unit {0}) NoSample → Type 0 };
+
     /// Whether no byte is asked for.
     ghost Refuses: { WavSpecEx → Type 0 };
 
@@ -111,12 +117,26 @@ pub(crate) trait Ask {
     fn ask<R: io::Read>(reader: &mut R, spec_ex: WavSpecEx) -> result::Result<Self::Value, NoSample>
         ensures answers { Answers spec_ex (R.remaining reader.old) (R.remaining reader.new) result }
         ensures untouched { Refuses spec_ex → reader.new ≡ reader.old };
+
+    /// How many values were read into the front of a slice, and why no more if it isn't full.
+    fn ask_many<R: io::Read>(
+        reader: &mut R,
+        spec_ex: WavSpecEx,
+        values: &mut [Self::Value],
+    ) -> (usize, result::Result<(), NoSample>)
+        ensures answers { AnswersMany spec_ex (R.remaining reader.old) (R.remaining reader.new)
+            (take result.0 values.new) result.1 }
+        ensures front { FillsFront result.0 result.1 values.old values.new }
+        ensures untouched { Refuses spec_ex → reader.new ≡ reader.old };
 }
 
 impl<S: Sample> Ask for S {
     type Value = S;
 
     ghost Answers = { λ s old new answer. AnswersRead S.refusal S.meaning s old new answer };
+
+    ghost AnswersMany = { λ s old new values answer.
+        AnswersReadMany S.refusal S.meaning s old new values answer };
 
     ghost Refuses = { λ s. IsSome (refusal_at S.refusal s) };
 
@@ -127,6 +147,27 @@ impl<S: Sample> Ask for S {
         match S::read(reader, spec.sample_format, width, spec.bits_per_sample) {
             Ok(sample) => Ok(sample),
             Err(error) => Err(reason_of(error)),
+        }
+    }
+
+    #[inline(always)]
+    fn ask_many<R: io::Read>(
+        reader: &mut R,
+        spec_ex: WavSpecEx,
+        samples: &mut [S],
+    ) -> (usize, result::Result<(), NoSample>) {
+        let spec = spec_ex.spec;
+        let width = spec_ex.bytes_per_sample;
+        let (count, read) = S::read_many(
+            reader,
+            samples,
+            spec.sample_format,
+            width,
+            spec.bits_per_sample,
+        );
+        match read {
+            Ok(()) => (count, Ok(())),
+            Err(error) => (count, Err(reason_of(error))),
         }
     }
 }
@@ -173,6 +214,55 @@ fn ask_since<'a, R: io::Read, A: Ask, B: Beginning>(
     *answer = A::ask(&mut counting, spec_ex);
     let CountingReader { reader, given, .. } = counting;
     Asked { reader, given }
+}
+
+// As `ask_since`, for values that are asked for at once.
+#[inline(always)]
+fn ask_many_since<'a, R: io::Read, A: Ask, B: Beginning>(
+    reader: &'a mut KeepingReader<R>,
+    spec_ex: WavSpecEx,
+    values: &mut [A::Value],
+    answer: &mut (usize, result::Result<(), NoSample>),
+) -> Asked<'a, R>
+    requires left { B.left ≡ R.remaining reader.now.reader }
+    requires lender { B.lender ≡ reader.ghost_name }
+    ensures answers { A.AnswersMany spec_ex (R.remaining reader.entry.now.reader)
+        (R.remaining result.reader.now.reader) (take answer.new.0 values.new) answer.new.1 }
+    ensures front { FillsFront answer.new.0 answer.new.1 values.old values.new }
+    ensures untouched { A.Refuses spec_ex → result.reader.now ≡ reader.entry.now }
+    ensures given { HasGiven (R.remaining reader.entry.now.reader) result.given
+        (R.remaining result.reader.now.reader) }
+    ensures stays { result.reader.ghost_name ≡ reader.entry.ghost_name }
+{
+    let mut counting = CountingReader {
+        reader,
+        given: 0,
+        since: PhantomData::<B>,
+    };
+    *answer = A::ask_many(&mut counting, spec_ex, values);
+    let CountingReader { reader, given, .. } = counting;
+    Asked { reader, given }
+}
+
+/// How many samples of this spec the type reads into the front of a slice, why no more if it isn't
+/// full, and how many bytes the reader gave for them.
+#[inline(always)]
+pub(crate) fn read_many_counted<R: io::Read, S: Sample>(
+    reader: &mut KeepingReader<R>,
+    spec_ex: WavSpecEx,
+    samples: &mut [S],
+) -> (usize, result::Result<(), NoSample>, u64)
+    ensures each { AnswersReadMany S.refusal S.meaning spec_ex (R.remaining reader.old.reader)
+        (R.remaining reader.new.reader) (take result.0 samples.new) result.1 }
+    ensures front { FillsFront result.0 result.1 samples.old samples.new }
+    ensures untouched { IsSome (refusal_at S.refusal spec_ex) → reader.new ≡ reader.old }
+    ensures given { HasGiven (R.remaining reader.old.reader) result.2
+        (R.remaining reader.new.reader) }
+{
+    let mut answer = (0, Err(NoSample::Failed));
+    let asked = ask_many_since::<R, S, Brand>(reader, spec_ex, samples, &mut answer);
+    let given = asked.done();
+    (answer.0, answer.1, given)
 }
 
 /// What the type reads of a sample of this spec, and how many bytes the reader gave for it.

@@ -1,11 +1,12 @@
 // What holds of all bytes, of all files that are written, and of all readers.
 ghost use Rattle.hound_medium.specs.State.{WhereTells};
-ghost use Rattle.std.specs.Prelude.{◌≡◌, ℕ, ◌+◌, ◌*◌, ◌/◌, List, length, drop, ◌++◌, ◌<◌, ◌≤◌, IsTrue, Option, None, Some, Result, IfSome};
+ghost use Rattle.std.specs.Prelude.{◌≡◌, ℕ, ◌+◌, ◌*◌, ◌/◌, List, length, map, drop, ◌++◌, ◌<◌, ◌≤◌, IsTrue, IsSome, Option, None, Some, Ok, Result, IfSome};
 ghost use Rattle.hound_spec.specs.Writable.{IsWritable};
 ghost use Rattle.hound_spec.specs.FmtChunk.{greatest_u32};
 ghost use Rattle.hound_spec.specs.Header.{header, data_start, canonical};
 ghost use Rattle.hound_spec.specs.declared.spec.WavSpecEx.{WavSpecEx};
 ghost use Rattle.hound_reader.specs.Answer.{HasOneAnswer, HasOneFileAnswer};
+ghost use Rattle.hound_reader.specs.Blocks.{GivesItemsOfBytes, ReadsBlock, over_bytes};
 ghost use Rattle.hound_reader.specs.Chunks.{Head, Readable};
 ghost use Rattle.hound_sample.specs.Container.{containers};
 ghost use Rattle.hound_reader.specs.Containers.{AreContainers};
@@ -68,6 +69,20 @@ pub fn an_iterator_gives_what_it_hints<R: io::Read, S: Sample>()
         next ≡ None }
 {}
 
+/// A block is its items: what the iterator gives are items of the bytes that are left, as those of a
+/// block are. So where bytes are known, samples that a block read are those that as many calls of
+/// `next` would have given, with the same counts and the same bytes left after them.
+pub fn a_block_is_its_items<R: io::Read, S: Sample>()
+    ensures items { (items : List (Result S Error)) (old new : ReaderState R) →
+        GivesItems R.remaining S.refusal S.meaning items old new →
+        GivesItemsOfBytes R.remaining S.refusal S.meaning items old new }
+    ensures same { (samples others : List S) (old block new : ReaderState R) →
+        IsSome (R.remaining old.reader) → length samples ≡ length others →
+        GivesItemsOfBytes R.remaining S.refusal S.meaning (map Ok samples) old block →
+        GivesItems R.remaining S.refusal S.meaning (map Ok others) old new →
+        (samples ≡ others) × (over_bytes R.remaining block ≡ over_bytes R.remaining new) }
+{}
+
 /// A reader counts the bytes that its items took, whether they were read, refused or torn: what is
 /// left are the data behind these bytes. So it stays after an Ok `seek` that doesn't go back, and
 /// over a source whose reads move its place alone after any `seek`.
@@ -76,11 +91,20 @@ pub fn a_reader_stands_as_counted<R: Source, S: Sample>()
         StandsAsCounted R.remaining bytes old → IsNext R.remaining S.refusal S.meaning next old
         new →
         StandsAsCounted R.remaining bytes new }
+    ensures block { (bytes : List ℕ) (old new : ReaderState R) (result : Result ℕ Error)
+        (before after : List S) → StandsAsCounted R.remaining bytes old →
+        ReadsBlock R.remaining S.refusal S.meaning result before after old new →
+        StandsAsCounted R.remaining bytes new }
     ensures ahead { (bytes : List ℕ) (time : ℕ) (old new : ReaderState R) → WhereTells R.tells (
         StandsAsCounted R.remaining bytes old → Seeks R.state time old new →
         old.bytes_read ≤ bytes_before time old.spec_ex → StandsAsCounted R.remaining bytes new) }
     ensures passes { (old new : ReaderState R) (item : Result S Error) →
         IsNext R.remaining S.refusal S.meaning (Some item) old new →
+        ReadsInPlace (R.state old.reader) (R.state new.reader) →
+        PassesItem R.remaining R.state old new }
+    ensures passes_block { (old new : ReaderState R) (result : Result ℕ Error)
+        (before after : List S) →
+        ReadsBlock R.remaining S.refusal S.meaning result before after old new →
         ReadsInPlace (R.state old.reader) (R.state new.reader) →
         PassesItem R.remaining R.state old new }
     ensures place { (start : ℕ) (calls : List (Option ℕ)) (old new : ReaderState R) →

@@ -13,11 +13,12 @@ ghost use Rattle.hound_reader.specs.declared.fault.Cause.{Cause};
 ghost use Rattle.hound_reader.specs.Refusals.{IsRefusal, OpensAs, FailsAs};
 ghost use Rattle.hound_medium.specs.State.{Shifts, WhereTells};
 ghost use Rattle.hound_reader.specs.Reader.{IsNext, HasWholeFrames, samples_left};
+ghost use Rattle.hound_reader.specs.Blocks.{ReadsBlock};
 ghost use Rattle.hound_reader.specs.Seeking.{Recounts, way_to};
 ghost use Rattle.hound_reader.specs.Samples.{lent_reader, lender, taken_reader};
 
 use crate::chunks::{read_riff_header, read_until_data};
-use crate::counting::read_counted;
+use crate::counting::{read_counted, read_many_counted};
 use crate::fault::{Cause, HeadError, Reason, error_of};
 use crate::item::{NoSample, error_of_item, taken_without};
 use crate::keeping::KeepingReader;
@@ -194,6 +195,36 @@ impl<R: io::Read + Drop> WavReader<R> {
         ensures { taken_reader result ≡ self }
     {
         WavIntoSamples::new(self)
+    }
+
+    /// Reads the next samples into the front of a slice, all channels in turn, and returns how many:
+    /// as many as fit or are left, so 0 only at the end or for an empty slice (own).
+    ///
+    /// The samples are those that the iterator of [`WavReader::samples`] would give, and exactly
+    /// their containers are taken; the rest of the slice stays as it was. An `Err` is the item that
+    /// the iterator would give next, and counts as one: a refusal of the type, which comes before
+    /// any byte is taken, a fault, or an early end. The samples before it are in the slice; how
+    /// many, [`WavReader::samples`] says by `len`, which falls by one more than that.
+    pub fn read_samples<S: Sample>(&mut self, samples: &mut [S]) -> Result<usize>
+        ensures { ReadsBlock R.remaining S.refusal S.meaning result samples.old samples.new
+            self.old self.new }
+    {
+        let wanted = samples.len().min(self.samples_left() as usize);
+        let (count, answer, given) = read_many_counted::<R, S>(
+            &mut self.reader,
+            self.spec_ex,
+            &mut samples[..wanted],
+        );
+        let width = self.spec_ex.bytes_per_sample;
+        let bytes = count as u64 * width as u64;
+        self.samples_read += count as u64;
+        self.bytes_read += bytes;
+        let Err(no_sample) = answer else {
+            return Ok(count);
+        };
+        self.samples_read += 1;
+        self.bytes_read += taken_without(no_sample, given.saturating_sub(bytes), width);
+        Err(error_of_item(no_sample, &self.reader.fault))
     }
 
     /// Moves the source to the first container of a frame; `time` counts frames from 0.

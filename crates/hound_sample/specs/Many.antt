@@ -1,5 +1,5 @@
 -- What `read_many` answers, by what `read` answers of each sample.
-use Rattle.std.specs.Prelude.{◌≡◌, ℕ, ◌≤◌, List, [], ◌∷◌, ◌++◌, map, length, drop, Option, Result, Ok, Err, OnOk}
+use Rattle.std.specs.Prelude.{◌≡◌, ℕ, ◌<◌, ◌≤◌, List, [], ◌∷◌, ◌++◌, map, length, drop, Option, Result, Ok, Err, OnOk, OnErr}
 use Rattle.hound_spec.specs.declared.error.Error.{Error}
 use Rattle.hound_sample.specs.Meaning.{ReadRefusal}
 use Rattle.hound_sample.specs.Reads.{Reads}
@@ -16,10 +16,11 @@ ReadsEach refusal meaning width [] old new = new ≡ old
 ReadsEach refusal meaning width (item ∷ items) old new = (mid : Option (List ℕ))
     × Reads refusal meaning width old mid item × ReadsEach refusal meaning width items mid new
 
--- The samples before the place `count` of a slice were read, and there an error ended it, or the
--- slice. From that place on the slice is as it was.
-pub record FillsFront {A T : Type 0} (count : ℕ) (result : Result T Error) (old new : List A)
+-- So many samples were read into the front of a slice: all that it has, unless an error came. The
+-- rest of the slice is as it was.
+pub record FillsFront {A T E : Type 0} (count : ℕ) (result : Result T E) (old new : List A)
     : Type 0 where
   pub within : count ≤ length new
   pub full : OnOk result (count ≡ length new)
+  pub part : OnErr result (count < length new)
   pub rest : drop count new ≡ drop count old

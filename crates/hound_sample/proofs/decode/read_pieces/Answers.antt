@@ -1,8 +1,8 @@
-use Rattle.std.proofs.Common.{◌≡◌, ◌≤◌, ◌+◌, ◌-◌, ◌*◌, ◌/◌, ◌++◌, ℕ, List, arith, length, map, take, drop, ap, sym, subst, ◌∙◌}
-use Rattle.std.specs.Prelude.{min, OnOk}
+use Rattle.std.proofs.Common.{◌≡◌, ◌<◌, ◌≤◌, ◌+◌, ◌-◌, ◌*◌, ◌/◌, ◌++◌, ℕ, List, arith, length, map, take, drop, ap, sym, subst, ◌∙◌}
+use Rattle.std.specs.Prelude.{min, OnOk, OnErr}
 use borrow.Rule.Slice.PartMut.{put_mid, same_len_mid}
 use Rattle.std.proofs.lemmas.List.{length-append, length-take-le, length-drop, take-take, take-append-le}
-use Rattle.std.proofs.Math.Nat.{div-mul-le_self, div-le_of_le-mul, lt-div-mul-add, le-div_iff_mul-le, mul-le-mul_right, mul-div_cancel_left}
+use Rattle.std.proofs.Math.Nat.{div-mul-le_self, div-le_of_le-mul, lt-div-mul-add, le-div_iff_mul-le, div-lt_iff_lt-mul, mul-le-mul_right, mul-div_cancel_left}
 use Rattle.std.proofs.lemmas.Slice.{drop-put_mid}
 use Rattle.hound_sample.specs.Container.{containers}
 use Rattle.hound_sample.proofs.Many.{decoded, each_behind, each_ended, drop_further}
@@ -70,6 +70,8 @@ returns-in-Err-clause-front g c =
     let piece_size : length c.read_piece-taken.new.piece ≡ wanted * c.args.bytes =
     c.read_piece-taken.auto.piece
     ∙ length-take-le (wanted * c.args.bytes) c.loop-done.piece (omega (arith, room, c.loop-done.invariant.room)) in
+    let torn : c.read_piece-taken.result.0 < length c.read_piece-taken.new.piece =
+    subst (λ r. OnErr r (c.read_piece-taken.result.0 < length c.read_piece-taken.new.piece)) c.in-Err.is c.read_piece-taken.ensures.part in
     let few = count_fits c.read_piece-taken.result.0 wanted c.args.bytes (omega (arith, piece_size, c.read_piece-taken.ensures.within)) in
     let end : done + count ≤ length c.loop-done.samples =
     omega (arith, few, c.min-wanted.ensures, c.loop-done.invariant.within) in
@@ -82,6 +84,14 @@ returns-in-Err-clause-front g c =
     record {
       within = omega (arith, end, length_kept);
       full = tt;
+      part = omega (
+        arith,
+        c.min-wanted.ensures,
+        c.loop-done.invariant.within,
+        length_kept,
+        (div-lt_iff_lt-mul {k = c.args.bytes} {x = c.read_piece-taken.result.0} {y = wanted} c.requires.some).1
+            (omega (arith, piece_size, torn)),
+      );
       rest = drop-put_mid done (done + count - done) c.loop-done.samples c.decode_each.new.samples
           (done + count) (omega arith) c.loop-done.invariant.within (omega (arith, size))
           ∙ drop_further done count c.loop-done.samples c.args.samples.now c.loop-done.invariant.rest;

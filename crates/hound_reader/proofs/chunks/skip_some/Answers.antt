@@ -1,7 +1,7 @@
 use Rattle.std.proofs.Common.{◌++◌, arith, length-append, length-take, length-drop, drop}
 use Rattle.std.proofs.KnownBytes.{Consumes-trans}
 use Rattle.hound_number.proofs.Counting.{NoneFailed-trans}
-use Rattle.hound_reader.proofs.chunks.skip_bytes.Goals as goal
+use Rattle.hound_reader.proofs.chunks.skip_some.Goals as goal
 
 pub loop-left-preserved : goal.loop-left-preserved
 loop-left-preserved g c =

@@ -1,7 +1,7 @@
 use Rattle.std.proofs.Common.{◌≡◌, ◌+◌, ℕ, List, length}
 use Rattle.std.specs.Io.KnownBytes.{Consumes}
 use Rattle.hound_number.specs.Input.{NoneFailed}
-use Rattle.hound_reader.proofs.chunks.skip_bytes.Given as goal
+use Rattle.hound_reader.proofs.chunks.skip_some.Given as goal
 
 abbrev pub invariant-loop-left : goal.invariant-loop-left
 invariant-loop-left g l =

@@ -1,0 +1,475 @@
+-- Samples that were read at once, as items.
+use Rattle.std.proofs.Common.{◌≡◌, ℕ, suc, ◌+◌, ◌-◌, ◌*◌, ◌^◌, ◌<◌, ◌≤◌, min, List, [], ◌∷◌, ◌++◌, map, length, take, drop, refl, sym, ap, ◌∙◌, subst, arith, Option, None, Some, Result, Ok, Err}
+use Rattle.std.proofs.lemmas.Bool.{false≢true}
+use Rattle.std.proofs.lemmas.List.{drop-drop, length-drop, length-take-le, length-append, take-append-le, drop-append-le, take-append-drop}
+use Rattle.std.proofs.lemmas.Option.{same_Some}
+use Rattle.std.specs.Prelude.{IsSome}
+use Rattle.std.specs.declared.io.Error.{Error as IoFault}
+use Rattle.hound_number.specs.Input.{Known}
+use Rattle.hound_spec.specs.declared.error.Error.{Error}
+use Rattle.hound_spec.specs.declared.error.Error.TheVariants.{IoError, FormatError, TooWide, UnfinishedSample, Unsupported, InvalidSampleFormat, TooLong, OutOfMemory}
+use Rattle.hound_spec.specs.declared.spec.SampleFormat.{SampleFormat}
+use Rattle.hound_sample.specs.Many.{ReadsEach}
+use Rattle.hound_sample.specs.Meaning.{ReadRefusal, other_format, wider, other_pair}
+use Rattle.hound_sample.specs.Reads.{Reads, error_of_read}
+use Rattle.hound_number.proofs.KnownSteps.{known_both}
+use Rattle.hound_reader.specs.Blocks.{GivesItemsOfBytes, over_bytes}
+use Rattle.hound_reader.specs.Counting.{HasGiven}
+use Rattle.hound_reader.specs.Item.{reason_of, error_of_item, taken_without}
+use Rattle.hound_reader.specs.Items.{GivesItems}
+use Rattle.hound_reader.specs.Reader.{ReaderState, IsNext, AreTaken, TookBytes, CountsTaken, refusal_at, meaning_at, samples_left}
+use Rattle.hound_reader.specs.declared.item.NoSample.{NoSample}
+use Rattle.hound_reader.specs.declared.item.NoSample.TheVariants.{Failed, OtherFormat, Wider, OtherPair}
+use Rattle.hound_reader.proofs.ItemLemmas.{a_container_is_taken}
+
+-- an Ok of a type that refuses
+no_value : {A : Type 0} {P : Type 0} (value : A) (error : Error)
+    → (let answer : Result A Error = Ok value in answer) ≡ Err error → P
+no_value value error is = cc
+
+-- the error of a refusal, by its reason
+refusal_by_reason : (refusal : ReadRefusal) (fault : IoFault)
+    → error_of_item (reason_of (error_of_read refusal)) fault ≡ error_of_read refusal
+refusal_by_reason other_format fault = refl
+refusal_by_reason wider fault = refl
+refusal_by_reason other_pair fault = refl
+
+same_Err : {A : Type 0} (d e : Error) → (let answer : Result A Error = Err d in answer) ≡ Err e
+    → d ≡ e
+same_Err d e is = cc
+
+-- an error that ended samples, by its reason, whichever the fault is
+error_by_reason : {A : Type 0} (refusal : Option ReadRefusal) (meaning : List ℕ → A) (width : ℕ)
+    (old new : Option (List ℕ)) (e : Error) (fault : IoFault)
+    → Reads refusal meaning width old new (Err e)
+    → Reads refusal meaning width old new (Err (error_of_item (reason_of e) fault))
+error_by_reason (Some refusal) meaning width old new e fault (is, same) = (
+  ap Err (ap (λ d. error_of_item (reason_of d) fault) (same_Err _ _ is) ∙ refusal_by_reason refusal fault),
+  same,
+)
+error_by_reason None meaning width old new (IoError e) fault read = read
+error_by_reason None meaning width old new (FormatError s) fault read = absurd read
+error_by_reason None meaning width old new TooWide fault read = absurd read
+error_by_reason None meaning width old new UnfinishedSample fault read = absurd read
+error_by_reason None meaning width old new Unsupported fault read = absurd read
+error_by_reason None meaning width old new InvalidSampleFormat fault read = absurd read
+error_by_reason None meaning width old new TooLong fault read = absurd read
+error_by_reason None meaning width old new OutOfMemory fault read = absurd read
+
+pub each_by_reason : {A : Type 0} (refusal : Option ReadRefusal) (meaning : List ℕ → A) (width : ℕ)
+    (values : List A) (e : Error) (reason : NoSample) (fault : IoFault) (old new : Option (List ℕ))
+    → reason ≡ reason_of e
+    → ReadsEach refusal meaning width (map Ok values ++ (Err e ∷ [])) old new
+    → ReadsEach refusal meaning width (map Ok values ++ (Err (error_of_item reason fault) ∷ [])) old new
+each_by_reason refusal meaning width [] e reason fault old new is (mid, read, same) = (
+  mid,
+  subst (λ r. Reads refusal meaning width old mid (Err (error_of_item r fault))) (sym is)
+      (error_by_reason refusal meaning width old mid e fault read),
+  same,
+)
+each_by_reason refusal meaning width (value ∷ values) e reason fault old new is (mid, read, rest) =
+    (mid, read, each_by_reason refusal meaning width values e reason fault mid new is rest)
+
+-- nothing is said of bytes that aren't known
+unknown_read : {A : Type 0} (meaning : List ℕ → A) (width : ℕ) (item : Result A Error)
+    (old new : Option (List ℕ)) → Reads None meaning width old new item
+    → Reads None meaning width None new item
+unknown_read meaning width (Ok value) old new read = tt
+unknown_read meaning width (Err (IoError e)) old new read = tt
+unknown_read meaning width (Err (FormatError s)) old new read = absurd read
+unknown_read meaning width (Err TooWide) old new read = absurd read
+unknown_read meaning width (Err UnfinishedSample) old new read = absurd read
+unknown_read meaning width (Err Unsupported) old new read = absurd read
+unknown_read meaning width (Err InvalidSampleFormat) old new read = absurd read
+unknown_read meaning width (Err TooLong) old new read = absurd read
+unknown_read meaning width (Err OutOfMemory) old new read = absurd read
+
+unknown_each : {A : Type 0} (meaning : List ℕ → A) (width : ℕ) (values : List A)
+    → ReadsEach None meaning width (map Ok values) None None
+unknown_each meaning width [] = refl
+unknown_each meaning width (value ∷ values) = (None, tt, unknown_each meaning width values)
+
+unknown_last : {A : Type 0} (meaning : List ℕ → A) (width : ℕ) (values : List A)
+    (item : Result A Error) (old new : Option (List ℕ))
+    → ReadsEach None meaning width (map Ok values ++ (item ∷ [])) old new
+    → Reads None meaning width None new item
+unknown_last meaning width [] item old new (mid, read, same) =
+    unknown_read meaning width item old new
+    (subst (λ m. Reads None meaning width old m item) (sym same) read)
+unknown_last meaning width (value ∷ values) item old new (mid, read, rest) =
+    unknown_last meaning width values item mid new rest
+
+-- samples, and what was answered after them; bytes that aren't known stay so
+pub each_split : {A : Type 0} (refusal : Option ReadRefusal) (meaning : List ℕ → A) (width : ℕ)
+    (values : List A) (item : Result A Error) (old new : Option (List ℕ))
+    → ReadsEach refusal meaning width (map Ok values ++ (item ∷ [])) old new
+    → (mid : Option (List ℕ)) × ReadsEach refusal meaning width (map Ok values) old mid
+    × Reads refusal meaning width mid new item × (old ≡ None → mid ≡ None)
+each_split refusal meaning width [] item old new (mid, read, same) =
+    (old, refl, subst (λ m. Reads refusal meaning width old m item) (sym same) read, λ none. none)
+each_split (Some refusal) meaning width (value ∷ values) item old new (mid, read, rest) =
+    no_value value (error_of_read refusal) read.0
+each_split None meaning width (value ∷ values) item None new (mid, read, rest) = (
+  None,
+  (None, tt, unknown_each meaning width values),
+  unknown_last meaning width values item mid new rest,
+  λ none. refl,
+)
+each_split None meaning width (value ∷ values) item (Some xs) new (mid, read, rest) =
+    let (end, before, last, _) = each_split None meaning width values item mid new rest in
+    (end, (mid, read, before), last, λ none. cc)
+
+-- samples that were read took their containers
+each_takes : {A : Type 0} (refusal : Option ReadRefusal) (meaning : List ℕ → A) (width : ℕ)
+    (values : List A) (xs : List ℕ) (new : Option (List ℕ))
+    → ReadsEach refusal meaning width (map Ok values) (Some xs) new
+    → (length values * width ≤ length xs) × (new ≡ Some (drop (length values * width) xs))
+each_takes refusal meaning width [] xs new same =
+    (omega arith, same ∙ ap (λ n. Some (drop n xs)) (let e : 0 ≡ 0 * width = omega arith in e))
+each_takes refusal meaning width (value ∷ values) xs new (None, read, rest) =
+    absurd (a_container_is_taken refusal meaning width (Some xs) None value read)
+each_takes refusal meaning width (value ∷ values) xs new (Some ys, read, rest) =
+    let (enough, is) = a_container_is_taken refusal meaning width (Some xs) (Some ys) value read in
+    let (more, end) = each_takes refusal meaning width values ys new rest in
+    let size = ap length is ∙ length-drop width xs in
+    let e : width + length values * width ≡ suc (length values) * width = omega arith in (
+      omega (arith, e, more, size, enough),
+      end ∙ ap (λ l. Some (drop (length values * width) l)) is
+          ∙ ap Some (drop-drop (length values * width) width xs ∙ ap (λ n. drop n xs) e),
+    )
+
+-- a fault is no refusal
+no_refusal : {A : Type 0} (fault : IoFault) (refusal : ReadRefusal)
+    → (let answer : Result A Error = Err (IoError fault) in answer) ≡ Err (error_of_read refusal)
+    → ⊥
+no_refusal fault other_format is = cc
+no_refusal fault wider is = cc
+no_refusal fault other_pair is = cc
+
+torn_after : {A : Type 0} (refusal : Option ReadRefusal) (meaning : List ℕ → A) (width count : ℕ)
+    (reason : NoSample) (fault : IoFault) (given : ℕ) (xs ms ys : List ℕ)
+    → count * width ≤ length xs → length ms ≡ length xs - count * width
+    → count * width + width < 2 ^ 64 → given ≡ min (length xs - length ys) (2 ^ 64 - 1)
+    → Reads refusal meaning width (Some ms) (Some ys) (Err (error_of_item reason fault))
+    → AreTaken (taken_without reason (given - count * width) width) ms ys
+torn_after (Some refusal) meaning width count Failed fault given xs ms ys enough size few has read =
+    absurd (no_refusal fault refusal read.0)
+torn_after (Some refusal) meaning width count OtherFormat fault given xs ms ys enough size few has read =
+    (omega arith, same_Some _ _ read.1)
+torn_after (Some refusal) meaning width count Wider fault given xs ms ys enough size few has read =
+    (omega arith, same_Some _ _ read.1)
+torn_after (Some refusal) meaning width count OtherPair fault given xs ms ys enough size few has read =
+    (omega arith, same_Some _ _ read.1)
+torn_after None meaning width count Failed fault given xs ms ys enough size few has (m, part, within, is) =
+    let left = ap length is ∙ length-drop m ms in
+    let same : min (given - count * width) width ≡ m =
+    omega (arith, few, has, left, size, enough, part, within) in
+    (omega (arith, same, within), is ∙ ap (λ n. drop n ms) (sym same))
+torn_after None meaning width count OtherFormat fault given xs ms ys enough size few has read = absurd read
+torn_after None meaning width count Wider fault given xs ms ys enough size few has read = absurd read
+torn_after None meaning width count OtherPair fault given xs ms ys enough size few has read = absurd read
+
+-- an item without a sample took as many bytes as were given after the samples
+pub torn_takes : {A : Type 0} (refusal : Option ReadRefusal) (meaning : List ℕ → A) (width : ℕ)
+    (values : List A) (reason : NoSample) (fault : IoFault) (given : ℕ)
+    (old mid new : Option (List ℕ)) → length values * width + width < 2 ^ 64
+    → HasGiven old given new → ReadsEach refusal meaning width (map Ok values) old mid
+    → Reads refusal meaning width mid new (Err (error_of_item reason fault))
+    → (old ≡ None → mid ≡ None)
+    → Known mid new (AreTaken (taken_without reason (given - length values * width) width))
+torn_takes refusal meaning width values reason fault given None mid new few has before read same =
+    subst (λ m. Known m new (AreTaken (taken_without reason (given - length values * width) width)))
+    (sym (same refl)) tt
+torn_takes refusal meaning width values reason fault given (Some xs) mid None few has before read same =
+    absurd has
+torn_takes refusal meaning width values reason fault given (Some xs) mid (Some ys) few has before read same =
+    let (enough, is) = each_takes refusal meaning width values xs mid before in
+    let ms = drop (length values * width) xs in
+    subst (λ m. Known m (Some ys)
+    (AreTaken (taken_without reason (given - length values * width) width))) (sym is)
+    (torn_after refusal meaning width (length values) reason fault given xs ms ys enough
+    (length-drop (length values * width) xs) few has.2
+    (subst (λ m. Reads refusal meaning width m (Some ys) (Err (error_of_item reason fault))) is
+    read))
+
+-- an item without a sample took no more than a container
+took_of_reason : (A : Type 0) (reason : NoSample) (fault : IoFault) (given width old : ℕ)
+    → TookBytes {A = A} width (Err (error_of_item reason fault)) old
+    (old + taken_without reason given width)
+took_of_reason A Failed fault given width old = (omega arith, omega arith)
+took_of_reason A OtherFormat fault given width old = omega arith
+took_of_reason A Wider fault given width old = omega arith
+took_of_reason A OtherPair fault given width old = omega arith
+
+pub taken_few : (reason : NoSample) (given width : ℕ) → taken_without reason given width ≤ width
+taken_few Failed given width = omega arith
+taken_few OtherFormat given width = omega arith
+taken_few Wider given width = omega arith
+taken_few OtherPair given width = omega arith
+
+-- a refusal leaves the bytes
+refused_stays : {A : Type 0} (refusal : Option ReadRefusal) (meaning : List ℕ → A) (width : ℕ)
+    (old new : Option (List ℕ)) (item : Result A Error)
+    → Reads refusal meaning width old new item → IsSome refusal → new ≡ old
+refused_stays None meaning width old new item read some = absurd (false≢true some)
+refused_stays (Some refusal) meaning width old new item read some = read.1
+
+-- so many samples and bytes later
+abbrev pub later : ReaderState (Option (List ℕ)) → ℕ → ℕ → Option (List ℕ) → ReaderState (Option (List ℕ))
+later reading samples bytes left = record {
+  reader = left;
+  spec_ex = reading.spec_ex;
+  num_samples = reading.num_samples;
+  samples_read = reading.samples_read + samples;
+  bytes_read = reading.bytes_read + bytes;
+}
+
+module _ {A : Type 0} (refusal : SampleFormat → ℕ → ℕ → Option ReadRefusal)
+    (meaning : SampleFormat → ℕ → ℕ → List ℕ → A) where
+  abbrev Gives : List (Result A Error) → ReaderState (Option (List ℕ)) → ReaderState (Option (List ℕ)) → Type 0
+  Gives items old new = GivesItems (λ (bytes : Option (List ℕ)). bytes) refusal meaning items old new
+
+  -- samples that were read are items
+  pub samples_are_items : (values : List A) (old : ReaderState (Option (List ℕ)))
+      (new : Option (List ℕ)) → length values ≤ samples_left old
+      → ReadsEach (refusal_at refusal old.spec_ex) (meaning_at meaning old.spec_ex)
+      old.spec_ex.bytes_per_sample (map Ok values) old.reader new
+      → Gives (map Ok values) old
+      (later old (length values) (length values * old.spec_ex.bytes_per_sample) new)
+  samples_are_items [] old new few same = λ i. record {
+    reader = same i;
+    spec_ex = old.spec_ex;
+    num_samples = old.num_samples;
+    samples_read = (let e : old.samples_read + 0 ≡ old.samples_read = omega arith in e i);
+    bytes_read =
+        (let e : old.bytes_read + 0 * old.spec_ex.bytes_per_sample ≡ old.bytes_read = omega arith in e i);
+  }
+  samples_are_items (value ∷ values) old new few (mid, read, rest) =
+      let width = old.spec_ex.bytes_per_sample in
+      let next = later old 1 width mid in (
+        next,
+        record {
+          inside = omega (arith, few);
+          counted = refl;
+          read = read;
+          untouched = refused_stays (refusal_at refusal old.spec_ex) _ _ _ _ _ read;
+          bytes = refl;
+          taken = (width, refl, a_container_is_taken (refusal_at refusal old.spec_ex) _ _ _ _ value read);
+          spec_ex = refl;
+          num_samples = refl;
+        },
+        subst (Gives (map Ok values) next)
+            (λ i. record {
+              reader = new;
+              spec_ex = old.spec_ex;
+              num_samples = old.num_samples;
+              samples_read = (let e : old.samples_read + 1 + length values ≡ old.samples_read + suc (length values) = omega arith in e i);
+              bytes_read = (let e : old.bytes_read + width + length values * width ≡ old.bytes_read + suc (length values) * width = omega arith in e i);
+            })
+            (samples_are_items values next new (omega (arith, few)) rest),
+      )
+
+  -- items, and then one more
+  items_more : (items : List (Result A Error)) (item : Result A Error)
+      (old mid new : ReaderState (Option (List ℕ))) → Gives items old mid
+      → IsNext (λ (bytes : Option (List ℕ)). bytes) refusal meaning (Some item) mid new
+      → Gives (items ++ (item ∷ [])) old new
+  items_more [] item old mid new before step =
+      (new, subst (λ s. IsNext (λ (bytes : Option (List ℕ)). bytes) refusal meaning (Some item) s new) before step, refl)
+  items_more (first ∷ items) item old mid new (next, given, before) step =
+      (next, given, items_more items item next mid new before step)
+
+  -- samples that were read, and the error that ended them, are items
+  pub error_is_item : (values : List A) (reason : NoSample) (fault : IoFault) (given : ℕ)
+      (old : ReaderState (Option (List ℕ))) (new : Option (List ℕ))
+      → length values < samples_left old
+      → length values * old.spec_ex.bytes_per_sample + old.spec_ex.bytes_per_sample < 2 ^ 64
+      → HasGiven old.reader given new
+      → ReadsEach (refusal_at refusal old.spec_ex) (meaning_at meaning old.spec_ex)
+      old.spec_ex.bytes_per_sample
+      (map Ok values ++ (Err (error_of_item reason fault) ∷ [])) old.reader new
+      → Gives (map Ok values ++ (Err (error_of_item reason fault) ∷ [])) old
+      (later old (length values + 1)
+      (length values * old.spec_ex.bytes_per_sample
+      + taken_without reason (given - length values * old.spec_ex.bytes_per_sample)
+      old.spec_ex.bytes_per_sample) new)
+  error_is_item values reason fault given old new few small has each =
+      let width = old.spec_ex.bytes_per_sample in
+      let k = length values in
+      let r = refusal_at refusal old.spec_ex in
+      let m = meaning_at meaning old.spec_ex in
+      let (mid, before, read, unknown) = each_split r m width values _ old.reader new each in
+      let torn = taken_without reason (given - k * width) width in
+      let next = later old k (k * width) mid in
+      let last : ReaderState (Option (List ℕ)) = later next 1 torn new in
+      subst (Gives (map Ok values ++ (Err (error_of_item reason fault) ∷ [])) old)
+      (λ i. record {
+        reader = new;
+        spec_ex = old.spec_ex;
+        num_samples = old.num_samples;
+        samples_read = (let e : old.samples_read + k + 1 ≡ old.samples_read + (k + 1) = omega arith in e i);
+        bytes_read = (let e : old.bytes_read + k * width + torn ≡ old.bytes_read + (k * width + torn) = omega arith in e i);
+      })
+      (items_more (map Ok values) _ old next last
+      (samples_are_items values old mid (omega (arith, few)) before)
+      (record {
+        inside = omega (arith, few);
+        counted = refl;
+        read = read;
+        untouched = refused_stays r m _ _ _ _ read;
+        bytes = took_of_reason A reason fault (given - k * width) width (old.bytes_read + k * width);
+        taken = (torn, refl, torn_takes r m width values reason fault given old.reader mid new small has before read unknown);
+        spec_ex = refl;
+        num_samples = refl;
+      }))
+
+  -- so they are where a slice has so many of them
+  pub block_of_samples : (values : List A) (count : ℕ) (old : ReaderState (Option (List ℕ)))
+      (new : Option (List ℕ)) → length values ≡ count → count ≤ samples_left old
+      → ReadsEach (refusal_at refusal old.spec_ex) (meaning_at meaning old.spec_ex)
+      old.spec_ex.bytes_per_sample (map Ok values) old.reader new
+      → Gives (map Ok values) old (later old count (count * old.spec_ex.bytes_per_sample) new)
+  block_of_samples values count old new size few each =
+      subst (λ n. Gives (map Ok values) old (later old n (n * old.spec_ex.bytes_per_sample) new)) size
+      (samples_are_items values old new (omega (arith, size, few)) each)
+
+  pub block_of_error : (values : List A) (count : ℕ) (reason : NoSample) (fault : IoFault)
+      (given : ℕ) (old : ReaderState (Option (List ℕ))) (new : Option (List ℕ))
+      → length values ≡ count → count < samples_left old
+      → count * old.spec_ex.bytes_per_sample + old.spec_ex.bytes_per_sample < 2 ^ 64
+      → HasGiven old.reader given new
+      → ReadsEach (refusal_at refusal old.spec_ex) (meaning_at meaning old.spec_ex)
+      old.spec_ex.bytes_per_sample
+      (map Ok values ++ (Err (error_of_item reason fault) ∷ [])) old.reader new
+      → Gives (map Ok values ++ (Err (error_of_item reason fault) ∷ [])) old
+      (later old (count + 1)
+      (count * old.spec_ex.bytes_per_sample
+      + taken_without reason (given - count * old.spec_ex.bytes_per_sample)
+      old.spec_ex.bytes_per_sample) new)
+  block_of_error values count reason fault given old new size few small has each =
+      let width = old.spec_ex.bytes_per_sample in
+      let e : length values * width ≡ count * width = ap (λ n. n * width) size in
+      subst (λ n. Gives (map Ok values ++ (Err (error_of_item reason fault) ∷ [])) old
+      (later old (n + 1) (n * width + taken_without reason (given - n * width) width) new)) size
+      (error_is_item values reason fault given old new (omega (arith, size, few))
+      (omega (arith, e, small)) has each)
+
+-- a front of a slice that was filled to a place: the slice before that place, and after it
+pub front_filled : {A : Type 0} (count wanted : ℕ) (xs ys : List A) → wanted ≤ length xs
+    → length ys ≡ length (take wanted xs) → count ≤ length ys
+    → drop count ys ≡ drop count (take wanted xs)
+    → (take count (ys ++ drop wanted xs) ≡ take count ys)
+    × (drop count (ys ++ drop wanted xs) ≡ drop count xs)
+    × (length (ys ++ drop wanted xs) ≡ length xs)
+front_filled count wanted xs ys within size few rest =
+    let front = length-take-le wanted xs within in (
+      take-append-le count ys (drop wanted xs) few,
+      drop-append-le count ys (drop wanted xs) few ∙ ap (λ l. l ++ drop wanted xs) rest
+          ∙ sym (drop-append-le count (take wanted xs) (drop wanted xs) (omega (arith, few, size)))
+          ∙ ap (drop count) (take-append-drop wanted xs),
+      length-append ys (drop wanted xs) ∙ omega (arith, size, front, within, length-drop wanted xs),
+    )
+
+module _ {R A : Type 0} (left : R → Option (List ℕ))
+    (refusal : SampleFormat → ℕ → ℕ → Option ReadRefusal) (meaning : SampleFormat → ℕ → ℕ → List ℕ → A) where
+  -- the items of the iterator are items of the bytes that are left
+  pub items_of_bytes : (items : List (Result A Error)) (old new : ReaderState R)
+      → GivesItems left refusal meaning items old new
+      → GivesItemsOfBytes left refusal meaning items old new
+  items_of_bytes [] old new same = ap (over_bytes left) same
+  items_of_bytes (item ∷ items) old new (mid, step, rest) = (
+    over_bytes left mid,
+    record {
+      inside = step.inside;
+      counted = step.counted;
+      read = step.read;
+      untouched = λ some. ap left (step.untouched some);
+      bytes = step.bytes;
+      taken = step.taken;
+      spec_ex = step.spec_ex;
+      num_samples = step.num_samples;
+    },
+    items_of_bytes items mid new rest,
+  )
+
+-- more was taken
+taken_more : (old mid new : Option (List ℕ)) (n m : ℕ) → Known old mid (AreTaken n)
+    → Known mid new (AreTaken m) → Known old new (AreTaken (n + m))
+taken_more old mid new n m before after =
+    known_both old mid new (AreTaken n) (AreTaken m) (AreTaken (n + m)) before after
+    (λ xs ys zs first second. (
+      omega (arith, first.0, second.0, ap length first.1, length-drop n xs),
+      second.1 ∙ ap (drop m) first.1 ∙ drop-drop m n xs,
+    ))
+
+none_taken : (bytes : Option (List ℕ)) → Known bytes bytes (AreTaken 0)
+none_taken None = tt
+none_taken (Some xs) = (omega arith, refl)
+
+module _ {A : Type 0} (refusal : SampleFormat → ℕ → ℕ → Option ReadRefusal)
+    (meaning : SampleFormat → ℕ → ℕ → List ℕ → A) where
+  -- a run of items counts what it took, and leaves the spec and the number of samples
+  pub run_takes : (items : List (Result A Error)) (old new : ReaderState (Option (List ℕ)))
+      → Gives refusal meaning items old new → CountsTaken (λ (bytes : Option (List ℕ)). bytes) old new
+      × (new.spec_ex ≡ old.spec_ex) × (new.num_samples ≡ old.num_samples)
+  run_takes [] old new same = (
+    (
+      0,
+      ap (λ (s : ReaderState (Option (List ℕ))). s.bytes_read) same ∙ omega arith,
+      subst (λ (s : ReaderState (Option (List ℕ))). Known old.reader s.reader (AreTaken 0)) (sym same) (none_taken old.reader),
+    ),
+    ap (λ (s : ReaderState (Option (List ℕ))). s.spec_ex) same,
+    ap (λ (s : ReaderState (Option (List ℕ))). s.num_samples) same,
+  )
+  run_takes (item ∷ items) old new (mid, step, rest) =
+      let ((more, counted, known), spec_ex, num_samples) = run_takes items mid new rest in
+      let (n, count, taken) = step.taken in (
+        (
+          n + more,
+          counted ∙ omega (arith, count),
+          taken_more old.reader mid.reader new.reader n more taken known,
+        ),
+        spec_ex ∙ step.spec_ex,
+        num_samples ∙ step.num_samples,
+      )
+
+  -- a value that was read of known bytes
+  value_read : (r : Option ReadRefusal) (m : List ℕ → A) (width : ℕ) (xs : List ℕ)
+      (new : Option (List ℕ)) (value : A) → Reads r m width (Some xs) new (Ok value)
+      → (value ≡ m (take width xs)) × (new ≡ Some (drop width xs))
+  value_read (Some r) m width xs new value read = no_value value (error_of_read r) read.0
+  value_read None m width xs None value read = absurd read
+  value_read None m width xs (Some ys) value (enough, is, left) = (is, ap Some left)
+
+  -- the same samples come of the same bytes
+  pub same_samples : (samples others : List A) (old block new : ReaderState (Option (List ℕ)))
+      (xs : List ℕ) → old.reader ≡ Some xs → length samples ≡ length others
+      → Gives refusal meaning (map Ok samples) old block
+      → Gives refusal meaning (map Ok others) old new → (samples ≡ others) × (block ≡ new)
+  same_samples [] [] old block new xs known size first second = (refl, first ∙ sym second)
+  same_samples [] (other ∷ others) old block new xs known size first second = absurd (omega (arith, size))
+  same_samples (sample ∷ samples) [] old block new xs known size first second = absurd (omega (arith, size))
+  same_samples (sample ∷ samples) (other ∷ others) old block new xs known size (mid, step, first) (mid', step', second) =
+      let width = old.spec_ex.bytes_per_sample in
+      let r = refusal_at refusal old.spec_ex in
+      let m = meaning_at meaning old.spec_ex in
+      let (is, left) = value_read r m width xs mid.reader sample
+      (subst (λ b. Reads r m width b mid.reader (Ok sample)) known step.read) in
+      let (is', left') = value_read r m width xs mid'.reader other
+      (subst (λ b. Reads r m width b mid'.reader (Ok other)) known step'.read) in
+      let same : mid' ≡ mid =
+      λ i. record {
+        reader = (left' ∙ sym left) i;
+        spec_ex = (step'.spec_ex ∙ sym step.spec_ex) i;
+        num_samples = (step'.num_samples ∙ sym step.num_samples) i;
+        samples_read = (step'.counted ∙ sym step.counted) i;
+        bytes_read = (step'.bytes ∙ sym step.bytes) i;
+      } in
+      let (more, end) = same_samples samples others mid block new (drop width xs) left (omega (arith, size)) first
+      (subst (λ s. Gives refusal meaning (map Ok others) s new) same second) in
+      ((λ i. (is ∙ sym is') i ∷ more i), end)
+
+-- bytes that are known
+pub known_bytes : (bytes : Option (List ℕ)) → IsSome bytes → (xs : List ℕ) × (bytes ≡ Some xs)
+known_bytes None some = absurd (false≢true some)
+known_bytes (Some xs) some = (xs, refl)
