@@ -13,16 +13,19 @@ pub use Rattle.hound_spec.specs.Header
 pub use Rattle.hound_sample.specs.Container
 pub use Rattle.hound_sample.specs.ContainerLaws
 pub use Rattle.hound_sample.specs.Encoding
+pub use Rattle.hound_sample.specs.ManyReads
 pub use Rattle.hound_sample.specs.Meaning
 pub use Rattle.hound_sample.specs.Reads
 pub use Rattle.hound_medium.specs.Bytes
 pub use Rattle.hound_medium.specs.Spans
 pub use Rattle.hound_medium.specs.State
+pub use Rattle.hound_medium.specs.Journal
 pub use Rattle.hound_reader.specs.Fmt
 pub use Rattle.hound_reader.specs.Chunks
 pub use Rattle.hound_reader.specs.Outcome
 pub use Rattle.hound_reader.specs.Walk
 pub use Rattle.hound_reader.specs.Answer
+pub use Rattle.hound_reader.specs.Blocks
 pub use Rattle.hound_reader.specs.Refusals
 pub use Rattle.hound_reader.specs.Reader
 pub use Rattle.hound_reader.specs.Samples
@@ -33,6 +36,7 @@ pub use Rattle.hound_reader.specs.Front
 pub use Rattle.hound_reader.specs.Item
 pub use Rattle.hound_reader.specs.Items
 pub use Rattle.hound_reader.specs.Seeking
+pub use Rattle.hound_reader.specs.Taken
 pub use Rattle.hound_reader.specs.declared.fault.Reason
 pub use Rattle.hound_reader.specs.declared.fault.Cause
 pub use Rattle.hound_reader.specs.declared.fault.HeadError

@@ -10,7 +10,7 @@
 //! checkpoint, and `finalize`. A whole run as one call: [`run_session`], [`run_sessions`].
 //!
 //! To read one: [`WavReader`] (`open`, or `new` over any reader), `samples` or `into_samples`,
-//! `seek`; [`read_wave_header`] for the first twelve bytes alone.
+//! `read_samples` for many at once, `seek`; [`read_wave_header`] for the first twelve bytes alone.
 //!
 //! A recorder that has to know which samples came through gives a whole run as one call:
 //!
@@ -73,7 +73,7 @@ mod steps;
 
 pub use hound_medium::{Journal, Medium, Placed, Source, Tape};
 pub use hound_reader::{
-    WavIntoSamples, WavReader, WavSamples, a_reader_stands_as_counted, a_seek_leads_to_its_frame,
+    WavIntoSamples, WavReader, WavSamples, a_block_is_its_items, a_reader_stands_as_counted, a_seek_leads_to_its_frame,
     an_iterator_gives_what_it_hints, items_are_of_the_file, one_answer, read_wave_header,
     written_is_head, written_is_read,
 };

@@ -9,7 +9,7 @@ use Rattle.hound_number.specs.Input.{Known}
 use Rattle.hound_spec.specs.declared.error.Error.{Error}
 use Rattle.hound_spec.specs.declared.error.Error.TheVariants.{IoError, FormatError, TooWide, UnfinishedSample, Unsupported, InvalidSampleFormat, TooLong, OutOfMemory}
 use Rattle.hound_spec.specs.declared.spec.SampleFormat.{SampleFormat}
-use Rattle.hound_sample.specs.Many.{ReadsEach}
+use Rattle.hound_sample.specs.ManyReads.{ReadsEach}
 use Rattle.hound_sample.specs.Meaning.{ReadRefusal, other_format, wider, other_pair}
 use Rattle.hound_sample.specs.Reads.{Reads, error_of_read}
 use Rattle.hound_number.proofs.KnownSteps.{known_both}

@@ -4,7 +4,7 @@ use Rattle.hound_spec.specs.declared.error.Error.{Error}
 use Rattle.hound_spec.specs.declared.spec.SampleFormat.{SampleFormat}
 use Rattle.hound_spec.specs.declared.spec.WavSpecEx.{WavSpecEx}
 use Rattle.std.specs.declared.io.Error.{Error as IoFault}
-use Rattle.hound_sample.specs.Many.{ReadsEach, items_of}
+use Rattle.hound_sample.specs.ManyReads.{ReadsEach, items_of}
 use Rattle.hound_sample.specs.Meaning.{ReadRefusal}
 use Rattle.hound_reader.specs.Item.{answer_of}
 use Rattle.hound_reader.specs.Items.{GivesItems}

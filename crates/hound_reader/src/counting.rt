@@ -1,6 +1,6 @@
 // A reader that counts the bytes that it gives.
 ghost use Rattle.std.specs.Prelude.{◌≡◌, ◌<◌, ◌≤◌, List, Option, Result, ℕ, None, IsSome, length, take};
-ghost use Rattle.hound_sample.specs.Many.{FillsFront};
+ghost use Rattle.hound_sample.specs.ManyReads.{FillsFront};
 ghost use Rattle.hound_sample.specs.Reads.{Reads};
 ghost use Rattle.hound_reader.specs.Blocks.{AnswersReadMany};
 ghost use Rattle.hound_reader.specs.Reader.{refusal_at, meaning_at};

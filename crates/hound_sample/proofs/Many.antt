@@ -10,7 +10,7 @@ use Rattle.hound_spec.specs.declared.error.Error.{Error}
 use Rattle.hound_spec.specs.declared.error.Error.TheVariants.{IoError}
 use Rattle.hound_sample.specs.Container.{containers}
 use Rattle.hound_sample.specs.Meaning.{ReadRefusal}
-use Rattle.hound_sample.specs.Many.{ReadsEach}
+use Rattle.hound_sample.specs.ManyReads.{ReadsEach}
 use Rattle.hound_sample.specs.Reads.{Reads}
 use Rattle.hound_sample.proofs.Containers.{containers_front, length-containers}
 use Rattle.hound_sample.proofs.Reading.{takes_container, takes_part}

@@ -1,6 +1,6 @@
 pub mod Container
 pub mod ContainerLaws
 pub mod Encoding
-pub mod Many
+pub mod ManyReads
 pub mod Meaning
 pub mod Reads

@@ -2,7 +2,7 @@
 ghost use Rattle.std.specs.Prelude.{◌≡◌, ◌≤◌, ◌<◌, ◌*◌, ℕ, List, length, map, take, None, Ok, Err, OnErr, OnOk};
 ghost use Rattle.std.specs.Io.KnownBytes.{Consumes};
 ghost use Rattle.hound_sample.specs.Container.{containers};
-ghost use Rattle.hound_sample.specs.Many.{FillsFront, ReadsEach, items_of};
+ghost use Rattle.hound_sample.specs.ManyReads.{FillsFront, ReadsEach, items_of};
 ghost use Rattle.hound_spec.specs.declared.spec.SampleFormat.{SampleFormat};
 
 use hound_number::early_end;

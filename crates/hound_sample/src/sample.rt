@@ -4,7 +4,7 @@ ghost use Rattle.hound_sample.specs.Container.{Refusal, int_container};
 ghost use Rattle.hound_sample.specs.Encoding.{IsEncoded, WritesContainer};
 ghost use Rattle.hound_sample.specs.ContainerLaws.{int_container-in_width};
 ghost use Rattle.hound_sample.specs.Meaning.{ReadRefusal, int_refusal, int_meaning, low_short};
-ghost use Rattle.hound_sample.specs.Many.{FillsFront, ReadsEach, items_of};
+ghost use Rattle.hound_sample.specs.ManyReads.{FillsFront, ReadsEach, items_of};
 ghost use Rattle.hound_sample.specs.Reads.{Reads};
 ghost use Rattle.hound_spec.specs.declared.spec.SampleFormat.{SampleFormat};
 

@@ -20,7 +20,7 @@ impl NumberWords {
 struct SpecWords;
 
 impl SpecWords {
-    ghost use Rattle.hound.specs.FmtChunk.{Extension, FieldsFit, FmtFields, extension, extension_bytes, extension_size, fmt_bytes, fmt_fields, greatest_u32, subformat};
+    ghost use Rattle.hound.specs.FmtChunk.{Extension, FieldsFit, FmtFields, extensible, extension, extension_bytes, extension_size, fmt_bytes, fmt_fields, greatest_u32, ieee_float, pcm, subformat};
     ghost use Rattle.hound.specs.Header.{canonical, data_start, fields, header, is_short, long_fmt, mask, padded, riff_size, riff_tag, short_fmt, sized_fmt, wave_tag};
     ghost use Rattle.hound.specs.Writable.{IsPair, IsWritable, is_pair, with_default_width};
     ghost use Rattle.hound.specs.declared.Error.{Error};
@@ -53,6 +53,7 @@ impl SampleWords {
     ghost use Rattle.hound.specs.Container.{Refusal, containers, fits, if_fits, int_container, offset_byte, pattern_container};
     ghost use Rattle.hound.specs.ContainerLaws.{int_container-in_width, pattern_container-in_width};
     ghost use Rattle.hound.specs.Encoding.{IsEncoded, WritesContainer};
+    ghost use Rattle.hound.specs.ManyReads.{FillsFront, ReadsEach, items_of};
     ghost use Rattle.hound.specs.Meaning.{ReadRefusal, float_refusal, int_meaning, int_refusal, low_short, pattern};
     ghost use Rattle.hound.specs.Reads.{Reads, ReadsContainer};
 
@@ -67,6 +68,7 @@ struct MediumWords;
 
 impl MediumWords {
     ghost use Rattle.hound.specs.Bytes.{moment, overlay, placed};
+    ghost use Rattle.hound.specs.Journal.{FailsAt, IsNumbered, calls, greatest_count};
     ghost use Rattle.hound.specs.Spans.{Span};
     ghost use Rattle.hound.specs.State.{Flushes, Gets, Goes, MediumState, Puts, PutsAll, Shifts, WhereKeeps, WhereTells, faults_after, one_more, unknown};
 
@@ -81,6 +83,7 @@ struct ReaderWords;
 
 impl ReaderWords {
     ghost use Rattle.hound.specs.Answer.{Answer, Answers, HasOneAnswer, HasOneFileAnswer, ReportsAnswer};
+    ghost use Rattle.hound.specs.Blocks.{AnswersReadMany, GivesItemsOfBytes, ReadsBlock, over_bytes};
     ghost use Rattle.hound.specs.Cause.{Cause};
     ghost use Rattle.hound.specs.Chunks.{Head, IsDataPlace, Readable, Refused, Unreadable, chunk_fault, content_fault, cut_fault, fault_of, first_fault, front_fault};
     ghost use Rattle.hound.specs.Containers.{AreContainers};
@@ -95,6 +98,7 @@ impl ReaderWords {
     ghost use Rattle.hound.specs.Samples.{LendsNext, TakesNext, lender, lent_reader, taken_reader};
     ghost use Rattle.hound.specs.Seeking.{Follows, HasSought, IsAtCount, IsMeaningOf, PassesItem, ReadsInPlace, Recounts, Seeks, StandsAsCounted, bytes_before, container_at, samples_before, way_to};
     ghost use Rattle.hound.specs.Sources.{FindsData, Untouched, account_of, unread};
+    ghost use Rattle.hound.specs.Taken.{MeetsFaultAfter, RefusedAfter, TakesAll, TakesFor, UnreadableAfter, chunk_taken, content_taken};
     ghost use Rattle.hound.specs.Walk.{Advances, IsSoundChunk, IsSoundOption, MeetsFault, ReachesData, ReadsChunk, ReadsContent, ReadsFmt};
 
     fn read() -> bool
@@ -146,7 +150,7 @@ impl SessionWords {
     ghost use Rattle.hound.specs.FirstError.{IsAnswered};
     ghost use Rattle.hound.specs.Run.{Begins, Ends, IsNotBegun, IsSession, NoFault, Ran, Runs, Takes};
     ghost use Rattle.hound.specs.Sessions.{AreSessions, RunsAgain, RunsOk, RunsOn, RunsOnce, StopsIn, StopsShort, all_steps};
-    ghost use Rattle.hound.specs.Steps.{accepted_by_all, batch_containers, containers_of, is_sixteen, wants_memory};
+    ghost use Rattle.hound.specs.Steps.{OnBatched, accepted_by_all, batch_containers, containers_of, is_sixteen, wants_memory};
 
     fn read() -> bool
         ensures { result ≡ result }

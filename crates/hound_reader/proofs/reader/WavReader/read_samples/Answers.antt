@@ -1,6 +1,6 @@
 use Rattle.std.proofs.Common.{◌≡◌, ◌<◌, ◌+◌, ◌*◌, ◌-◌, ◌^◌, ◌++◌, [], Option, ◌∷◌, ℕ, List, map, take, drop, length, sym, ap, ◌∙◌, subst, arith, Ok, Err, refl, length-take-le}
 use Rattle.std.specs.Prelude.{OnOk, OnErr}
-use Rattle.hound_sample.specs.Many.{ReadsEach, items_of}
+use Rattle.hound_sample.specs.ManyReads.{ReadsEach, items_of}
 use Rattle.hound_reader.specs.Blocks.{GivesItemsOfBytes, ReadsBlock, over_bytes}
 use Rattle.hound_reader.specs.Item.{answer_of, error_of_item, taken_without}
 use Rattle.hound_reader.specs.Reader.{ReaderState, refusal_at, meaning_at, samples_left}
