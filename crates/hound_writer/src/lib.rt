@@ -8,6 +8,7 @@ mod batching;
 mod block;
 mod file;
 mod laws;
+mod many;
 mod outcome;
 mod output;
 mod patch;
