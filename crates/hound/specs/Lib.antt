@@ -18,6 +18,7 @@ pub use Rattle.hound_sample.specs.Reads
 pub use Rattle.hound_medium.specs.Bytes
 pub use Rattle.hound_medium.specs.Spans
 pub use Rattle.hound_medium.specs.State
+pub use Rattle.hound_medium.specs.Journal
 pub use Rattle.hound_reader.specs.Fmt
 pub use Rattle.hound_reader.specs.Chunks
 pub use Rattle.hound_reader.specs.Outcome
@@ -33,6 +34,7 @@ pub use Rattle.hound_reader.specs.Front
 pub use Rattle.hound_reader.specs.Item
 pub use Rattle.hound_reader.specs.Items
 pub use Rattle.hound_reader.specs.Seeking
+pub use Rattle.hound_reader.specs.Taken
 pub use Rattle.hound_reader.specs.declared.fault.Reason
 pub use Rattle.hound_reader.specs.declared.fault.Cause
 pub use Rattle.hound_reader.specs.declared.fault.HeadError
@@ -44,6 +46,7 @@ pub use Rattle.hound_writer.specs.Beginning
 pub use Rattle.hound_writer.specs.Block
 pub use Rattle.hound_writer.specs.Counts
 pub use Rattle.hound_writer.specs.Fields
+pub use Rattle.hound_writer.specs.Many
 pub use Rattle.hound_writer.specs.Parts
 pub use Rattle.hound_writer.specs.Publishing
 pub use Rattle.hound_writer.specs.Room
