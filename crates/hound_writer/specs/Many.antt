@@ -1,8 +1,12 @@
 -- The containers of many samples, which are asked to be accepted by one call.
-use Rattle.std.specs.Prelude.{ℕ, List, [], ◌∷◌, Result, Ok, Err}
+use Rattle.std.specs.Prelude.{◌≡◌, ℕ, Bool, false, List, [], ◌∷◌, Result, Ok, Err}
 use Rattle.std.specs.List.{flat_map}
 use Rattle.hound_spec.specs.declared.spec.WavSpecEx.{WavSpecEx}
 use Rattle.hound_sample.specs.Container.{Refusal, too_wide, unsupported}
+use Rattle.hound_medium.specs.State.{MediumState}
+use Rattle.hound_writer.specs.Accepting.{Accepts}
+use Rattle.hound_writer.specs.Answers.{one}
+use Rattle.hound_writer.specs.Writer.{WriterState}
 use Rattle.hound_writer.specs.declared.outcome.Outcome.{Outcome}
 use Rattle.hound_writer.specs.declared.outcome.Outcome.TheVariants.{Accepted, OutOfRange, WrongPair}
 
@@ -46,3 +50,14 @@ abbrev pub sample_bytes : {V : Type 0} → (V → ℕ → ℕ → Result (List �
     List ℕ
 sample_bytes container s values =
     joined_containers (λ v. container v s.spec.bits_per_sample s.bytes_per_sample) values
+
+-- Samples that were written one by one, each where the one before left off, and all accepted.
+abbrev pub AcceptsEach : {V W : Type 0} → Bool → Bool → (W → MediumState) →
+    (V → ℕ → ℕ → Result (List ℕ) Refusal) → List V → WriterState W → WriterState W → Type 0
+AcceptsEach tells keeps state container [] old new = new ≡ old
+AcceptsEach {V} {W} tells keeps state container (value ∷ values) old new =
+    (mid : WriterState W)
+    × Accepts tells keeps state false
+    (one (container value old.spec_ex.spec.bits_per_sample old.spec_ex.bytes_per_sample)) (Ok tt)
+    old mid
+    × AcceptsEach tells keeps state container values mid new

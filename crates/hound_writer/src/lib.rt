@@ -15,5 +15,5 @@ mod patch;
 mod write;
 
 pub use batch::SampleWriter16;
-pub use laws::one_append_answer;
+pub use laws::{a_block_is_its_samples, one_append_answer};
 pub use write::WavWriter;

@@ -77,14 +77,31 @@ pub(crate) fn look_at<S: Sample + Copy>(samples: &[S], bits: u16, width: u16) ->
     first_refusal(samples, bits, width)
 }
 
-// Stores a container, of which so many bytes count.
+// Stores a container, of which so many bytes count. Where the width is a constant, LLVM makes one
+// store of it, or a vector of many.
 #[inline(always)]
-fn store(bytes: &mut [u8; 4096], at: usize, container: [u8; 4], width: usize)
+fn store_container(bytes: &mut [u8; 4096], at: usize, container: [u8; 4], width: usize)
     requires width { width ≤ 4 }
     requires room { at + width ≤ 4096 }
     ensures { take (at + width) bytes.new ≡ take at bytes.old ++ take width container }
 {
-    bytes[at..at + width].copy_from_slice(&container[..width]);
+    let [a, b, c, d] = container;
+    if width == 0 {
+        return;
+    }
+    bytes[at] = a;
+    if width == 1 {
+        return;
+    }
+    bytes[at + 1] = b;
+    if width == 2 {
+        return;
+    }
+    bytes[at + 2] = c;
+    if width == 3 {
+        return;
+    }
+    bytes[at + 3] = d;
 }
 
 // Stores the containers of samples one after the other.
@@ -108,7 +125,7 @@ fn store_all<S: Sample + Copy>(
             Ok(container) => container,
             Err(_) => [0; 4],
         };
-        store(bytes, end, container, width as usize);
+        store_container(bytes, end, container, width as usize);
         end += width as usize;
     }
 }

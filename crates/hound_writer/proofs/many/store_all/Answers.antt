@@ -21,7 +21,7 @@ loop-sample-preserved g c =
           w.in-Ok.ensures) in
           record {
             end = omega (arith, loop.invariant.end);
-            stored = c.store.ensures
+            stored = c.store_container.ensures
                 ∙ ap (λ l. l ++ take a.width c.match-encode.container) loop.invariant.stored
                 ∙ append_assoc (take a.at a.bytes.now)
                 (joined_containers container (take loop.sample-index a.samples.now))
