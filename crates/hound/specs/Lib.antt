@@ -48,6 +48,7 @@ pub use Rattle.hound_writer.specs.Beginning
 pub use Rattle.hound_writer.specs.Block
 pub use Rattle.hound_writer.specs.Counts
 pub use Rattle.hound_writer.specs.Fields
+pub use Rattle.hound_writer.specs.Many
 pub use Rattle.hound_writer.specs.Parts
 pub use Rattle.hound_writer.specs.Publishing
 pub use Rattle.hound_writer.specs.Room

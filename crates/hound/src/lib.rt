@@ -6,8 +6,8 @@
 //! one channel, and a frame has a sample of each.
 //!
 //! To write a file: [`WavWriter`] (`create` on disk, `new` into any [`Medium`], `append` and
-//! `new_append` to go on with one), `write_sample` or a batch of `get_i16_writer`, `flush` for a
-//! checkpoint, and `finalize`. A whole run as one call: [`run_session`], [`run_sessions`].
+//! `new_append` to go on with one), `write_sample`, `write_samples` of a slice or a batch of
+//! `get_i16_writer`, `flush` for a checkpoint, and `finalize`. A whole run as one call: [`run_session`], [`run_sessions`].
 //!
 //! To read one: [`WavReader`] (`open`, or `new` over any reader), `samples` or `into_samples`,
 //! `read_samples` for many at once, `seek`; [`read_wave_header`] for the first twelve bytes alone.
@@ -81,7 +81,7 @@ pub use hound_sample::{FloatBits, Sample, integers_come_back, short_integers_are
 pub use hound_spec::{
     Error, Result, SampleFormat, WavSpec, WavSpecEx, extensions_come_back, fields_come_back,
 };
-pub use hound_writer::{SampleWriter16, WavWriter, one_append_answer};
+pub use hound_writer::{SampleWriter16, WavWriter, a_block_is_its_samples, one_append_answer};
 pub use laws::{a_batch_is_its_values, sessions_leave_one_file};
 pub use runs::run_session;
 pub use session::{Begin, End, Step};

@@ -10,6 +10,8 @@ pub mod Samples
 pub mod PutsFrom
 pub mod Storing
 pub mod Accepting
+pub mod Joined
+pub mod PutsMany
 pub mod Blocks
 pub mod Padding
 pub mod Patching
@@ -21,3 +23,5 @@ pub mod Beginning
 pub mod Appending
 pub mod AppendAnswers
 pub mod Writing
+pub mod AcceptingMany
+pub mod OneByOne

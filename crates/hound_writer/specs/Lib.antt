@@ -6,6 +6,7 @@ pub mod Beginning
 pub mod Block
 pub mod Counts
 pub mod Fields
+pub mod Many
 pub mod Parts
 pub mod Publishing
 pub mod Room

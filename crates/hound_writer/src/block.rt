@@ -1,6 +1,9 @@
 // A block of samples that wait to be put out.
-ghost use Rattle.std.specs.Prelude.{◌≡◌, ◌+◌, ◌≤◌, ◌++◌, [], length, take};
+ghost use Rattle.std.specs.Prelude.{◌≡◌, ◌+◌, ◌*◌, ◌≤◌, ◌++◌, [], IsOk, length, take};
+ghost use Rattle.hound_writer.specs.Many.{all_containers, joined_containers};
 
+use crate::many::store_by_pair;
+use hound_sample::Sample;
 use std::marker::Model;
 
 /// How many bytes a block holds.
@@ -78,6 +81,19 @@ impl Block {
         let end = at + containers.len();
         self.bytes[at..end].copy_from_slice(containers);
         self.waiting = end;
+    }
+
+    /// Takes the containers of samples, each of which has one, where there is room.
+    pub(crate) fn extend_by<S: Sample + Copy>(&mut self, samples: &[S], bits: u16, width: u16)
+        requires have { IsOk (all_containers (λ s. S.container s bits width) samples.now) }
+        requires width { width ≤ 4 }
+        requires room { length self.old + width * length samples.now ≤ 4096 }
+        ensures { self.new ≡ self.old
+            ++ joined_containers (λ s. S.container s bits width) samples.now }
+    {
+        let at = self.waiting;
+        store_by_pair(&mut self.bytes, at, samples, bits, width);
+        self.waiting = at + width as usize * samples.len();
     }
 
     /// Forgets what waits.

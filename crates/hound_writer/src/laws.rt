@@ -1,8 +1,14 @@
-// What holds of all bytes that are to be appended to.
-ghost use Rattle.std.specs.Prelude.{ℕ, List};
+// What holds of all bytes that are to be appended to, and of all samples that are written.
+ghost use Rattle.std.specs.Prelude.{◌≡◌, ℕ, List, Ok, false};
+ghost use Rattle.hound_medium.specs.State.{WhereTells};
+ghost use Rattle.hound_writer.specs.Accepting.{Accepts};
 ghost use Rattle.hound_writer.specs.Appending.{HasOneAppendAnswer};
+ghost use Rattle.hound_writer.specs.Many.{AcceptsEach, containers_in};
+ghost use Rattle.hound_writer.specs.Writer.{WriterState, IsWhole, accepted_samples, data_length};
 
+use hound_medium::Medium;
 use hound_reader::one_answer;
+use hound_sample::Sample;
 
 /// Bytes can be appended to with one head, or have one fault for which they can't, and never two of
 /// these: so what the calls that append answer is the bytes' own, unless the medium failed.
@@ -11,3 +17,13 @@ pub fn one_append_answer()
 {
     one_answer();
 }
+
+/// A block accepts what its samples do one by one: the same samples, and the same count of them.
+///
+/// It is said of a medium that tells, from one writer whose accepted samples are there, where
+/// `write_samples` and each `write_sample` answered Ok.
+pub fn a_block_is_its_samples<S: Sample, M: Medium>()
+    ensures { WhereTells M.tells ((samples : List S) (a b c : WriterState M) → IsWhole M.state a →
+        Accepts M.tells M.keeps M.state false (containers_in S.container a.spec_ex samples) (Ok tt) a b → AcceptsEach M.tells M.keeps M.state S.container samples a c →
+        (accepted_samples M.state b ≡ accepted_samples M.state c) × (data_length b ≡ data_length c)) }
+{}

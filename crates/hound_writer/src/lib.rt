@@ -8,11 +8,12 @@ mod batching;
 mod block;
 mod file;
 mod laws;
+mod many;
 mod outcome;
 mod output;
 mod patch;
 mod write;
 
 pub use batch::SampleWriter16;
-pub use laws::one_append_answer;
+pub use laws::{a_block_is_its_samples, one_append_answer};
 pub use write::WavWriter;

@@ -5,6 +5,7 @@ ghost use Rattle.hound_writer.specs.Block.{IsLimit};
 ghost use Rattle.hound_writer.specs.Parts.{IsTold};
 
 use crate::block::{BLOCK_LENGTH, Block};
+use crate::many::{look_at, put_samples_at_end};
 use crate::outcome::Outcome;
 use crate::patch::{patch, put_at_end};
 use hound_medium::Medium;
@@ -59,7 +60,7 @@ impl<W: Medium> Model for Output<W> {
 pub(crate) fn riff_size(data_start: u64, data_length: u64) -> u64
     requires behind { 8 ≤ data_start }
     requires small { data_start ≤ 2 ^ 33 }
-    requires few { data_length ≤ 2 ^ 34 }
+    requires few { data_length ≤ 2 ^ 35 }
     ensures { result ≡ riff_size data_start data_length }
 {
     data_start - 8 + data_length + data_length % 2
@@ -92,7 +93,7 @@ fn told(patched: io::Result<()>, are_frames: bool) -> Result<()>
 }
 
 impl<W: Medium> Output<W> {
-    ghost use Rattle.std.specs.Prelude.{◌≡◌, ◌+◌, ◌-◌, ◌/◌, ◌%◌, ◌≤◌, ◌^◌, ◌↔◌, [], false, IsTrue, Ok, IfErr, OnOk, length, take};
+    ghost use Rattle.std.specs.Prelude.{◌≡◌, ◌+◌, ◌*◌, ◌-◌, ◌/◌, ◌%◌, ◌≤◌, ◌^◌, ◌↔◌, [], false, IsTrue, IsOk, Ok, IfErr, OnOk, length, take};
     ghost use Rattle.hound_spec.specs.Header.{riff_size};
     ghost use Rattle.hound_sample.specs.Container.{containers};
     ghost use Rattle.hound_medium.specs.State.{Goes, WhereTells, WhereKeeps};
@@ -100,6 +101,7 @@ impl<W: Medium> Output<W> {
     ghost use Rattle.hound_writer.specs.Answers.{IsIoError, one};
     ghost use Rattle.hound_writer.specs.Block.{GoesOut, answer_of, or_fault};
     ghost use Rattle.hound_writer.specs.Fields.{of_fields};
+    ghost use Rattle.hound_writer.specs.Many.{containers_in, sample_bytes};
     ghost use Rattle.hound_writer.specs.Parts.{IsStanding, Patches, PatchesAtEach};
     ghost use Rattle.hound_writer.specs.Publishing.{Checkpoints, Finishes};
     ghost use Rattle.hound_writer.specs.Writer.{AreFrames, HasRoom, IsPadded, IsSound, IsWhole, IsCounted, data_end, data_length, padded_end, sample_count};
@@ -132,7 +134,7 @@ impl<W: Medium> Output<W> {
     /// Whether so many more bytes leave the RIFF size within 32 bits.
     #[inline(always)]
     pub(crate) fn has_room(&self, more: u64) -> bool
-        requires { more ≤ 2 ^ 33 }
+        requires { more ≤ 2 ^ 34 }
         ensures room { IsTrue result ↔ HasRoom self.now more }
         ensures sound { IsSound self.now }
         ensures counts { WhereTells W.tells (IsWhole W.state self.now
@@ -306,6 +308,110 @@ impl<W: Medium> Output<W> {
                 _ => Outcome::WrongPair,
             },
         }
+    }
+
+    // Accepts samples, each of which has a container, that the block has room for.
+    fn accept_samples_in_block<S: Sample + Copy>(&mut self, samples: &[S])
+        requires have { IsOk (containers_in S.container self.old.spec_ex samples.now) }
+        requires room { HasRoom self.old
+            (self.old.spec_ex.bytes_per_sample * length samples.now) }
+        requires few { length self.old.waiting
+            + self.old.spec_ex.bytes_per_sample * length samples.now ≤ 4096 }
+        ensures accepts { let bytes = sample_bytes S.container self.old.spec_ex samples.now in
+            Accepts W.tells W.keeps W.state false
+            (Ok (containers self.old.spec_ex.bytes_per_sample (length bytes / self.old.spec_ex.bytes_per_sample) bytes)) (Ok tt) self.old self.new }
+        ensures buffer { self.new.buffer ≡ self.old.buffer }
+    {
+        let spec = self.spec_ex.spec;
+        self.block.extend_by(samples, spec.bits_per_sample, self.spec_ex.bytes_per_sample);
+    }
+
+    // Puts out samples, each of which has a container, that nothing waits before, and accepts them
+    // once all are out.
+    fn accept_samples_at_once<S: Sample + Copy>(
+        &mut self,
+        samples: &[S],
+        fault: &mut io::Error,
+    ) -> bool
+        requires have { IsOk (containers_in S.container self.old.spec_ex samples.now) }
+        requires room { HasRoom self.old
+            (self.old.spec_ex.bytes_per_sample * length samples.now) }
+        requires none_waits { self.old.waiting ≡ [] }
+        ensures accepts { let bytes = sample_bytes S.container self.old.spec_ex samples.now in
+            Accepts W.tells W.keeps W.state false
+            (Ok (containers self.old.spec_ex.bytes_per_sample (length bytes / self.old.spec_ex.bytes_per_sample) bytes)) (or_fault result fault.new) self.old self.new }
+        ensures buffer { self.new.buffer ≡ self.old.buffer }
+    {
+        let end = self.data_start + self.data_bytes_written as u64;
+        if !put_samples_at_end(
+            &mut self.writer,
+            &mut self.may_have_moved,
+            fault,
+            end,
+            &mut self.block,
+            samples,
+            self.spec_ex,
+        ) {
+            self.block.clear();
+            return false;
+        }
+        self.block.clear();
+        self.data_bytes_written += samples.len() as u32 * self.spec_ex.bytes_per_sample as u32;
+        self.limit = limit_of(self.data_start, self.data_bytes_written);
+        true
+    }
+
+    // Accepts samples, each of which has a container: in the block, which goes out first where it
+    // has no room for them. A fault is kept aside, and none of them is accepted.
+    fn accept_encoded<S: Sample + Copy>(&mut self, samples: &[S], fault: &mut io::Error) -> bool
+        requires have { IsOk (containers_in S.container self.old.spec_ex samples.now) }
+        requires room { HasRoom self.old
+            (self.old.spec_ex.bytes_per_sample * length samples.now) }
+        ensures accepts { let bytes = sample_bytes S.container self.old.spec_ex samples.now in
+            Accepts W.tells W.keeps W.state false
+            (Ok (containers self.old.spec_ex.bytes_per_sample (length bytes / self.old.spec_ex.bytes_per_sample) bytes)) (or_fault result fault.new) self.old self.new }
+        ensures buffer { self.new.buffer ≡ self.old.buffer }
+    {
+        let num_bytes = samples.len() * self.spec_ex.bytes_per_sample as usize;
+        if num_bytes <= BLOCK_LENGTH - self.block.len() {
+            self.accept_samples_in_block(samples);
+            return true;
+        }
+        if !self.put_block(fault) {
+            return false;
+        }
+        if num_bytes > BLOCK_LENGTH {
+            return self.accept_samples_at_once(samples, fault);
+        }
+        self.accept_samples_in_block(samples);
+        true
+    }
+
+    /// Accepts all samples or none, or says why it doesn't, and keeps a fault aside.
+    pub(crate) fn accept_samples<S: Sample + Copy>(
+        &mut self,
+        samples: &[S],
+        fault: &mut io::Error,
+    ) -> Outcome
+        ensures accepts { Accepts W.tells W.keeps W.state false
+            (containers_in S.container self.old.spec_ex samples.now) (answer_of result fault.new) self.old self.new }
+        ensures buffer { self.new.buffer ≡ self.old.buffer }
+    {
+        let width = self.spec_ex.bytes_per_sample;
+        let outcome = look_at(samples, self.spec_ex.spec.bits_per_sample, width);
+        let Outcome::Accepted = outcome else {
+            return outcome;
+        };
+        if samples.len() > u32::MAX as usize {
+            return Outcome::NoRoom;
+        }
+        if !self.has_room(samples.len() as u64 * width as u64) {
+            return Outcome::NoRoom;
+        }
+        if !self.accept_encoded(samples, fault) {
+            return Outcome::Failed;
+        }
+        Outcome::Accepted
     }
 
     // Whether the accepted samples are whole frames.

@@ -47,6 +47,7 @@ impl<W: Medium> WavWriter<W> {
     ghost use Rattle.hound_writer.specs.Answers.{IsIoError, one};
     ghost use Rattle.hound_writer.specs.Beginning.{Begins, IsNotBegun};
     ghost use Rattle.hound_writer.specs.Fields.{of_fields};
+    ghost use Rattle.hound_writer.specs.Many.{containers_in};
     ghost use Rattle.hound_writer.specs.Parts.{IsStanding};
     ghost use Rattle.hound_writer.specs.Publishing.{Checkpoints, Finishes};
     ghost use Rattle.hound_writer.specs.Writer.{AreFrames, HasRoom, IsSound, IsWhole, IsCounted, data_length, sample_count};
@@ -139,6 +140,29 @@ impl<W: Medium> WavWriter<W> {
         ensures buffer { self.new.buffer ≡ self.old.buffer }
     {
         let outcome = self.output.accept_sample(sample, &mut self.fault);
+        if let Outcome::Accepted = outcome {
+            return Ok(());
+        }
+        Err(error_of(outcome, &self.fault))
+    }
+
+    /// Writes samples, all of them or none; the channels of a frame follow one another, and a frame
+    /// may be cut between two calls. An Ok accepts them as [`WavWriter::write_sample`] of each, one
+    /// after the other, does. It needs no memory. Of many samples a call takes a small part of the
+    /// time of single ones.
+    ///
+    /// The errors, in the order in which they are looked for: `Unsupported` or `TooWide`, that of
+    /// the first sample which has no container with the file's bits and bytes; `TooLong`, where the
+    /// RIFF size of the file with all of them would pass 4294967295; `IoError`, where the medium
+    /// failed. At each of them none of the samples is accepted, also not those before a refused one
+    /// or a fault, and the writer may go on: the next sample goes where the first of these should
+    /// have gone.
+    pub fn write_samples<S: Sample + Copy>(&mut self, samples: &[S]) -> Result<()>
+        ensures accepts { Accepts W.tells W.keeps W.state false
+            (containers_in S.container self.old.spec_ex samples.now) result self.old self.new }
+        ensures buffer { self.new.buffer ≡ self.old.buffer }
+    {
+        let outcome = self.output.accept_samples(samples, &mut self.fault);
         if let Outcome::Accepted = outcome {
             return Ok(());
         }

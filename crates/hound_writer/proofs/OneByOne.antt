@@ -1,0 +1,95 @@
+-- Samples of a block, and the same ones written one by one.
+use Rattle.std.proofs.Common.{◌≡◌, ℕ, ◌+◌, Bool, false, IsTrue, List, [], ◌∷◌, ◌++◌, length, Result, Ok, Err, refl, sym, ◌∙◌, ap, arith, append_assoc, length-append}
+use Rattle.std.proofs.lemmas.List.{append-nil}
+use Rattle.std.specs.List.{concat}
+use Rattle.hound_medium.specs.State.{MediumState}
+use Rattle.hound_sample.specs.Container.{Refusal}
+use Rattle.hound_writer.specs.Accepting.{Accepts}
+use Rattle.hound_writer.specs.Answers.{one}
+use Rattle.hound_writer.specs.Many.{AcceptsEach, and_more, containers_in}
+use Rattle.hound_writer.specs.Writer.{WriterState, IsWhole, accepted_samples, data_length}
+
+-- a writer that accepted these containers, over a medium that has the accepted samples
+pub record HasMore {W : Type 0} (state : W → MediumState) (list : List (List ℕ))
+    (old new : WriterState W) : Type 0 where
+  pub samples : accepted_samples state new ≡ accepted_samples state old ++ list
+  pub size : data_length new ≡ data_length old + length (concat list)
+
+-- an Ok accepted all containers that were asked for, which are there
+pub all_accepted : {W : Type 0} (tells keeps : Bool) (state : W → MediumState)
+    (asked : Result (List (List ℕ)) Refusal) (old new : WriterState W) → IsTrue tells
+    → IsWhole state old → Accepts tells keeps state false asked (Ok tt) old new
+    → (list : List (List ℕ)) × (asked ≡ Ok list) × HasMore state list old new
+all_accepted tells keeps state (Err refusal) old new told whole accepts = let h =
+    accepts.adds.answers in absurd (cc h)
+all_accepted tells keeps state (Ok list) old new told whole accepts = (
+  list,
+  refl,
+  record { samples = (accepts.file told).accepted whole; size = accepts.adds.data_length },
+)
+
+one_list : (asked : Result (List (List ℕ)) Refusal) (a b : List (List ℕ)) → asked ≡ Ok a
+    → asked ≡ Ok b → a ≡ b
+one_list asked a b is are = cc
+
+module _ {V W : Type 0} (tells keeps : Bool) (state : W → MediumState)
+    (container : V → ℕ → ℕ → Result (List ℕ) Refusal) (told : IsTrue tells) where
+  -- all that were written one by one
+  each_accepted : (values : List V) (old new : WriterState W) → IsWhole state old
+      → AcceptsEach tells keeps state container values old new
+      → (list : List (List ℕ)) × (containers_in container old.spec_ex values ≡ Ok list)
+      × HasMore state list old new
+  each_accepted [] old new whole same = (
+    [],
+    refl,
+    record {
+      samples = ap (accepted_samples state) same ∙ sym (append-nil (accepted_samples state old));
+      size = ap data_length same
+          ∙ (let e : data_length old ≡ data_length old + 0 = omega arith in e);
+    },
+  )
+  each_accepted (value ∷ values) old new whole (mid, accepts, each) =
+      go (container value old.spec_ex.spec.bits_per_sample old.spec_ex.bytes_per_sample) refl accepts
+      (each_accepted values mid new ((accepts.file told).whole whole) each)
+    where
+      go : (asked : Result (List ℕ) Refusal)
+          → container value old.spec_ex.spec.bits_per_sample old.spec_ex.bytes_per_sample ≡ asked
+          → Accepts tells keeps state false (one asked) (Ok tt) old mid
+          → (list : List (List ℕ)) × (containers_in container mid.spec_ex values ≡ Ok list)
+          × HasMore state list mid new
+          → (list : List (List ℕ))
+          × (containers_in container old.spec_ex (value ∷ values) ≡ Ok list)
+          × HasMore state list old new
+      go (Err refusal) is accepts rest = let h = accepts.adds.answers in absurd (cc h)
+      go (Ok c) is accepts (list, list_is, more) = (
+        c ∷ list,
+        (λ i. and_more (is i) ((ap (λ s. containers_in container s values)
+            (sym accepts.adds.spec_ex) ∙ list_is) i)),
+        record {
+          samples = more.samples
+              ∙ ap (λ l. l ++ list) ((accepts.file told).accepted whole)
+              ∙ append_assoc (accepted_samples state old) (c ∷ []) list;
+          size = omega (
+            arith,
+            more.size,
+            accepts.adds.data_length,
+            length-append c [],
+            length-append c (concat list),
+          );
+        },
+      )
+
+  pub block_is_samples : (values : List V) (a b c : WriterState W) → IsWhole state a
+      → Accepts tells keeps state false (containers_in container a.spec_ex values) (Ok tt) a b
+      → AcceptsEach tells keeps state container values a c
+      → (accepted_samples state b ≡ accepted_samples state c) × (data_length b ≡ data_length c)
+  block_is_samples values a b c whole block each =
+      let (list, is, all) =
+      all_accepted tells keeps state (containers_in container a.spec_ex values) a b told whole
+      block in
+      let (others, are, ones) = each_accepted values a c whole each in
+      let lists : list ≡ others =
+      one_list (containers_in container a.spec_ex values) list others is are in (
+        all.samples ∙ ap (λ l. accepted_samples state a ++ l) lists ∙ sym ones.samples,
+        all.size ∙ ap (λ l. data_length a + length (concat l)) lists ∙ sym ones.size,
+      )

@@ -1,0 +1,84 @@
+-- The bytes of samples that are put by several calls.
+use Rattle.std.proofs.Common.{◌≡◌, ℕ, ◌+◌, ◌*◌, ◌≤◌, Bool, List, ◌++◌, length, take, drop, Result, Ok, Err, IsOk, sym, subst, ◌∙◌, ap, arith, length-drop}
+use Rattle.std.proofs.lemmas.List.{length-take-le, take-append-drop, take-append-le}
+use Rattle.std.proofs.Math.Nat.{mul-le-mul_left}
+use Rattle.std.proofs.lemmas.Grind.{flat_map-append}
+use Rattle.hound_medium.specs.Bytes.{placed, overlay}
+use Rattle.hound_medium.specs.State.{MediumState, PutsAll, PutsFirst, one_more}
+use Rattle.hound_medium.proofs.Taking.{takes_more}
+use Rattle.hound_sample.specs.Container.{Refusal}
+use Rattle.hound_writer.specs.Many.{all_containers, bytes_in, joined_containers}
+use Rattle.hound_writer.proofs.Joined.{have_part, joined_rest, joined_size}
+
+-- bytes that begin alike: the first n of the one are those of the other
+puts_front : (keeps : Bool) (a b : List ℕ) (n : ℕ) (old new : MediumState)
+    → take n a ≡ take n b → PutsFirst keeps a n old new → PutsFirst keeps b n old new
+puts_front keeps a b n old new same puts = record {
+  contents = puts.contents ∙ ap (λ l. overlay old.contents (placed old.place l)) same;
+  place = puts.place;
+  start = puts.start;
+  past = λ kept. puts.past kept ∙ ap (λ l. old.past ++ placed old.place l) same;
+  flushed = puts.flushed;
+}
+
+-- values that all have containers, each of one width, of which the first `done` were put
+module _ {V : Type 0} (container : V → Result (List ℕ) Refusal) (width : ℕ)
+    (sized : (value : V) (c : List ℕ) → container value ≡ Ok c → length c ≡ width) (keeps : Bool)
+    (values : List V) (have : IsOk (all_containers container values)) (done count : ℕ)
+    (inside : done + count ≤ length values) (old mid new : MediumState)
+    (so_far : PutsFirst keeps (joined_containers container values) (width * done) old mid) where
+  abbrev all : List ℕ
+  all = joined_containers container values
+
+  abbrev piece : List ℕ
+  piece = joined_containers container (take count (drop done values))
+
+  size_all : length all ≡ width * length values
+  size_all = joined_size container width sized values have
+
+  pub size_piece : length piece ≡ width * count
+  size_piece =
+      joined_size container width sized (take count (drop done values))
+      (have_part container values done count have)
+      ∙ ap (λ n. width * n)
+      (length-take-le count (drop done values)
+      (omega (arith, inside, length-drop done values)))
+
+  rest_is : drop (width * done) all
+      ≡ piece ++ joined_containers container (drop count (drop done values))
+  rest_is =
+      joined_rest container width sized values done (omega (arith, inside)) have
+      ∙ ap (joined_containers container) (sym (take-append-drop count (drop done values)))
+      ∙ flat_map-append (λ v. bytes_in (container v)) (take count (drop done values))
+      (drop count (drop done values))
+
+  within : width * done + width * count ≤ width * length values
+  within = omega (arith, mul-le-mul_left width inside)
+
+  more : (n : ℕ) → n ≤ length piece → PutsFirst keeps piece n mid new
+      → PutsFirst keeps all (width * done + n) old new
+  more n few puts =
+      takes_more keeps all (width * done) n old mid new (omega (arith, within, size_all)) so_far
+      (puts_front keeps piece (drop (width * done) all) n mid new
+      (sym (take-append-le n piece (joined_containers container (drop count (drop done values))) few)
+      ∙ ap (take n) (sym rest_is)) puts)
+
+  -- so many more
+  pub piece_out : {T E : Type 0} (x : T) → PutsAll {T = T} {E = E} keeps piece (Ok x) mid new
+      → PutsFirst keeps all (width * (done + count)) old new
+  piece_out x puts =
+      subst (λ n. PutsFirst keeps all n old new)
+      (let e : width * done + puts.count ≡ width * (done + count) = omega
+      (arith, puts.whole, size_piece) in e) (more puts.count puts.within puts.takes)
+
+  -- or a part of them, where the medium failed
+  pub piece_cut : {T E : Type 0} (e : E) → mid.faults ≡ old.faults
+      → PutsAll {T = T} {E = E} keeps piece (Err e) mid new → PutsAll {T = T} {E = E} keeps all (Err e) old new
+  piece_cut e none puts = record {
+    count = width * done + puts.count;
+    within = omega (arith, within, puts.within, size_piece, size_all);
+    whole = tt;
+    part = omega (arith, within, puts.part, size_piece, size_all);
+    takes = more puts.count puts.within puts.takes;
+    faults = puts.faults ∙ ap one_more none;
+  }

@@ -1,0 +1,17 @@
+use Rattle.std.proofs.Common.{rules, ◌≡◌, arith}
+use Rattle.hound_writer.proofs.Stores.{four_stored}
+use Rattle.hound_writer.proofs.many.store_container.Goals as goal
+
+pub returns : goal.returns
+returns c =
+    let a = c.args in
+    let four : a.width ≡ 4 = omega (
+      arith,
+      c.requires.width,
+      c.if-width-eq0.false,
+      c.if-width-eq1.false,
+      c.if-width-eq2.false,
+      c.if-width-eq3.false,
+    ) in
+    four_stored a.bytes.now a.at a.width a.container (search rules)
+    (omega (arith, four, c.requires.room, c.told-bytes)) c.requires.width

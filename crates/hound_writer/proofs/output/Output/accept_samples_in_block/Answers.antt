@@ -1,0 +1,39 @@
+use Rattle.std.proofs.Common.{◌+◌, ◌*◌, ◌≤◌, Ok, arith, length, refl, subst, sym}
+use Rattle.hound_writer.specs.Fields.{bytes_kept, of_fields}
+use Rattle.hound_writer.specs.Many.{sample_bytes}
+use Rattle.hound_writer.proofs.AcceptingMany.{fit, many_seen}
+use Rattle.hound_writer.proofs.Blocks.{accepts_waiting, consistent_longer}
+use Rattle.hound_writer.proofs.Keeping.{consistent_seen}
+use Rattle.hound_writer.proofs.output.Output.accept_samples_in_block.Goals as goal
+
+pub invariant_of-self : goal.invariant_of-self
+invariant_of-self g c =
+    let W = g.W.Placed in
+    let i = c.self.inside in
+    let values = c.args.samples.now in
+    let fits = fit g.S.Sample.container g.met.S.Sample.in_width values _ _ c.self.view_is
+    c.requires.have c.requires.room in
+    let few : length i.block + i.spec_ex.bytes_per_sample * length values ≤ 4096 =
+    subst (λ w. length w.waiting + w.spec_ex.bytes_per_sample * length values ≤ 4096)
+    (sym c.self.view_is) c.requires.few in
+    consistent_seen W.tells W.state _ _ _ _ _
+    (sym (λ j. of_fields i.writer i.spec_ex i.data_start i.data_bytes_written
+    (c.extend_by.ensures j) (bytes_kept (λ buffer. buffer.items) i.buffer))) refl
+    (consistent_longer W.tells W.keeps W.state _ _ _ c.self.invariant
+    (sample_bytes g.S.Sample.container i.spec_ex values) fits.room fits.whole
+    (omega (arith, few, fits.size)))
+
+pub returns-clause-accepts : goal.returns-clause-accepts
+returns-clause-accepts g c =
+    let W = g.W.Placed in
+    let i = c.self.inside in
+    let values = c.args.samples.now in
+    let fits = fit g.S.Sample.container g.met.S.Sample.in_width values _ _ c.self.view_is
+    c.requires.have c.requires.room in
+    many_seen g.S.Sample.container g.met.S.Sample.in_width values W.tells W.keeps W.state (Ok tt)
+    _ _ _ _ c.self.view_is
+    (λ j. of_fields i.writer i.spec_ex i.data_start i.data_bytes_written (c.extend_by.ensures j)
+    (bytes_kept (λ buffer. buffer.items) i.buffer))
+    (accepts_waiting W.tells W.keeps W.state _ _ _ c.self.invariant
+    (sample_bytes g.S.Sample.container i.spec_ex values) fits.room fits.whole
+    (λ tells keeps. g.met.W.Medium.replays i.writer tells keeps))

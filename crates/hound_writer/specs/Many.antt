@@ -1,0 +1,63 @@
+-- The containers of many samples, which are asked to be accepted by one call.
+use Rattle.std.specs.Prelude.{◌≡◌, ℕ, Bool, false, List, [], ◌∷◌, Result, Ok, Err}
+use Rattle.std.specs.List.{flat_map}
+use Rattle.hound_spec.specs.declared.spec.WavSpecEx.{WavSpecEx}
+use Rattle.hound_sample.specs.Container.{Refusal, too_wide, unsupported}
+use Rattle.hound_medium.specs.State.{MediumState}
+use Rattle.hound_writer.specs.Accepting.{Accepts}
+use Rattle.hound_writer.specs.Answers.{one}
+use Rattle.hound_writer.specs.Writer.{WriterState}
+use Rattle.hound_writer.specs.declared.outcome.Outcome.{Outcome}
+use Rattle.hound_writer.specs.declared.outcome.Outcome.TheVariants.{Accepted, OutOfRange, WrongPair}
+
+-- a container and those after it, or the first refusal among them
+abbrev pub and_more : Result (List ℕ) Refusal → Result (List (List ℕ)) Refusal →
+    Result (List (List ℕ)) Refusal
+and_more (Err refusal) more = Err refusal
+and_more (Ok container) (Err refusal) = Err refusal
+and_more (Ok container) (Ok list) = Ok (container ∷ list)
+
+-- the containers of values, in their order, or the refusal of the first value that has none
+abbrev pub all_containers : {V : Type 0} → (V → Result (List ℕ) Refusal) → List V →
+    Result (List (List ℕ)) Refusal
+all_containers container [] = Ok []
+all_containers container (value ∷ values) =
+    and_more (container value) (all_containers container values)
+
+-- the bytes of a container, and none of a refusal
+abbrev pub bytes_in : Result (List ℕ) Refusal → List ℕ
+bytes_in (Ok container) = container
+bytes_in (Err refusal) = []
+
+-- the containers of values, joined
+abbrev pub joined_containers : {V : Type 0} → (V → Result (List ℕ) Refusal) → List V → List ℕ
+joined_containers container values = flat_map (λ value. bytes_in (container value)) values
+
+-- what becomes of samples by their containers alone
+abbrev pub outcome_of : {T : Type 0} → Result T Refusal → Outcome
+outcome_of (Ok list) = Accepted
+outcome_of (Err too_wide) = OutOfRange
+outcome_of (Err unsupported) = WrongPair
+
+-- the containers of samples in a file of this spec, by their type's table, or the first refusal
+abbrev pub containers_in : {V : Type 0} → (V → ℕ → ℕ → Result (List ℕ) Refusal) → WavSpecEx → List V →
+    Result (List (List ℕ)) Refusal
+containers_in container s values =
+    all_containers (λ v. container v s.spec.bits_per_sample s.bytes_per_sample) values
+
+-- the bytes of samples in a file of this spec
+abbrev pub sample_bytes : {V : Type 0} → (V → ℕ → ℕ → Result (List ℕ) Refusal) → WavSpecEx → List V →
+    List ℕ
+sample_bytes container s values =
+    joined_containers (λ v. container v s.spec.bits_per_sample s.bytes_per_sample) values
+
+-- Samples that were written one by one, each where the one before left off, and all accepted.
+abbrev pub AcceptsEach : {V W : Type 0} → Bool → Bool → (W → MediumState) →
+    (V → ℕ → ℕ → Result (List ℕ) Refusal) → List V → WriterState W → WriterState W → Type 0
+AcceptsEach tells keeps state container [] old new = new ≡ old
+AcceptsEach {V} {W} tells keeps state container (value ∷ values) old new =
+    (mid : WriterState W)
+    × Accepts tells keeps state false
+    (one (container value old.spec_ex.spec.bits_per_sample old.spec_ex.bytes_per_sample)) (Ok tt)
+    old mid
+    × AcceptsEach tells keeps state container values mid new
