@@ -132,6 +132,7 @@ impl WriterWords {
     ghost use Rattle.hound.specs.Beginning.{Begins, HasBegun, IsNotBegun};
     ghost use Rattle.hound.specs.Block.{GoesOut, IsLimit, all_out, answer_of, or_fault};
     ghost use Rattle.hound.specs.Fields.{IsConsistent, bytes_kept, of_fields};
+    ghost use Rattle.hound.specs.Many.{AcceptsEach, all_containers, containers_in, joined_containers, outcome_of, sample_bytes};
     ghost use Rattle.hound.specs.Parts.{HasSize, IsPatched, IsStanding, IsTold, Patches, PatchesAtEach, PutsAt};
     ghost use Rattle.hound.specs.Publishing.{Checkpoints, Finishes};
     ghost use Rattle.hound.specs.Room.{IsSixteen};
