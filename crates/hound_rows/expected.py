@@ -124,6 +124,8 @@ def answer_of(call):
 # Samples and specs.
 
 BITS_OF = {"i8": 8, "i16": 16, "i32": 32, "own": 16}
+# What each place of a block holds before it is read.
+FILLER = 85
 PAIRS = ((8, 1), (16, 2), (24, 3), (24, 4), (32, 4))
 
 
@@ -536,6 +538,29 @@ class Reader:
             return count, signed(total, 64), [str(error)]
         return count, signed(total, 64), []
 
+    def block(self, kind, samples):
+        """Puts samples into the front of a list, up to its end, the last one or an error: how many."""
+        for at in range(len(samples)):
+            value = self.next(kind)
+            if value is None:
+                return at
+            samples[at] = value
+        return len(samples)
+
+    def sum_by_blocks(self, kind, length):
+        """As `sum`, by blocks of so many; the samples before an error are those that are counted."""
+        count, total = 0, 0
+        while True:
+            samples, before, error = [FILLER] * length, self.count, []
+            try:
+                came = self.block(kind, samples)
+            except Refused as refused:
+                came, error = self.count - before - 1, [str(refused)]
+            total += sum((count + place) * value for place, value in enumerate(samples[:came], 1))
+            count += came
+            if error or came == 0:
+                return count, signed(total, 64), error
+
     def seek(self, time):
         frames = time * self.spec.channels
         self.source.medium.shift(frames * self.spec.width - self.moved)
@@ -552,6 +577,8 @@ class Writer:
     def __init__(self, medium, spec, start, out):
         self.medium, self.spec, self.start, self.out = medium, spec, start, out
         self.block, self.is_elsewhere = b"", False
+        # All that it accepted itself.
+        self.accepted = b""
 
     @staticmethod
     def begin(medium, spec):
@@ -612,6 +639,7 @@ class Writer:
         if len(self.block) + len(data) > 4096:
             self.put_block()
         self.block += data
+        self.accepted += data
 
     def batch(self, values):
         self.look_at_room(2 * len(values))
@@ -623,6 +651,21 @@ class Writer:
         else:
             self.put(data)
             self.out += len(data)
+        self.accepted += data
+
+    def write_many(self, kind, values):
+        """Accepts all of the values, or none where one is refused, is too many or doesn't go out."""
+        spec = self.spec
+        data = b"".join(container(kind, value, spec.bits, spec.width) for value in values)
+        self.look_at_room(len(data))
+        if len(self.block) + len(data) > 4096:
+            self.put_block()
+        if len(data) <= 4096:
+            self.block += data
+        else:
+            self.put(data)
+            self.out += len(data)
+        self.accepted += data
 
     def publish(self):
         self.put_block()
@@ -726,6 +769,8 @@ def infinite(spec):
 
 def asked(reader, ask):
     """The words of what a reader is asked."""
+    if ask.startswith("block:"):
+        return blocks_asked(reader, *ask[6:].split("="))
     if ask.startswith("hint="):
         return ["{0}..{0}/{0}".format(reader.left())]
     if ask.startswith("seek="):
@@ -738,9 +783,54 @@ def asked(reader, ask):
     return [answer_of(lambda: reader.shown(kind)) for _ in range(count)]
 
 
+def weighted(values):
+    """A sum in which each value counts by its place."""
+    return signed(sum(place * value for place, value in enumerate(values, 1)), 64)
+
+
+def blocks_asked(reader, kind, extent):
+    """The words of blocks that a reader is asked for."""
+    if extent.endswith("#"):
+        count, total, error = reader.sum_by_blocks(kind, int(extent[:-1]))
+        return [":".join([f"#{count}", str(total), *error])]
+    length, _, times = extent.partition("*")
+    words = []
+    for _ in range(int(times or 1)):
+        samples = [FILLER] * int(length)
+        answer = answer_of(lambda: reader.block(kind, samples))
+        listed = ",".join(shown(kind, sample) for sample in samples) or "-"
+        held = listed if len(samples) <= 8 else f"#{weighted(samples)}"
+        words.append(f"{answer}:{held}:{reader.left()}")
+    return words
+
+
 def row_read(*words):
     (word, *options), asks = parts_of(words)
     options, data = options_of(options), bytes_of(word)
+    if "calls" not in options:
+        return read(data, options, asks)
+
+    def run(faults):
+        words = read(data, faults, asks)
+        return words, len(words) > 1
+
+    return swept(options, run)
+
+
+def swept(options, run):
+    """What a row comes to while each range of so many calls fails in turn."""
+    calls, runs, begun, crc = int(options["calls"]), 0, 0, 0
+    for first in range(1, calls + 1):
+        for last in range(first, calls + 1):
+            words, has_begun = run({**options, "fail": f"{first}..{last}", "moments": ""})
+            runs += 1
+            begun += has_begun
+            crc = zlib.crc32(" ".join(words).encode() + b"\n", crc)
+    return ["runs", str(runs), "begun", str(begun), "crc", f"{crc:08x}"]
+
+
+def read(data, options, asks):
+    """The words of a reader of these bytes and of what it is asked, or of its refusal alone."""
     is_medium = "over" in options
     medium = Journal(data, options) if options.get("over") == "journal" else Tape(data)
     source = Source(medium) if is_medium else Fed(data, options)
@@ -796,6 +886,12 @@ def medium_of(options):
     return Tape(data) if "tape" in options else Journal(data, options)
 
 
+def wrapped(kind, word):
+    """The values of a word, those past the greatest of the type from its least one on."""
+    for value in values_of(kind, word):
+        yield value if kind == "f" else signed(value, BITS_OF[kind])
+
+
 def act(writer, word):
     """Does what a word asks of a writer."""
     kind, _, value = word.partition("=")
@@ -808,9 +904,12 @@ def act(writer, word):
             writer.look_at_room(2 * int(value.rpartition("/")[2]))
     elif word == "flush":
         writer.flush()
+    elif kind.startswith("block:"):
+        kind, words = kind[6:], value.split(",") if value != "-" else []
+        writer.write_many(kind, [sample for word in words for sample in wrapped(kind, word)])
     else:
-        for sample in values_of(kind, value):
-            writer.write(kind, sample if kind == "f" else signed(sample, BITS_OF[kind]))
+        for sample in wrapped(kind, value):
+            writer.write(kind, sample)
 
 
 def row_write(how, word, *words):
@@ -819,7 +918,29 @@ def row_write(how, word, *words):
         return row_write_padded(how, word, bits, int(bits) // 8, *options)
     options, acts, (end,) = parts_of(words)
     options = options_of(options)
+    first = 0 if "append" in how else first_moment(spec_of(word))
+    if "calls" not in options:
+        return write(how, word, options, acts, end, first)[0]
+
+    def run(faults):
+        words, medium, accepted = write(how, word, {**faults, "lent": ""}, acts, end, first)
+        if "append" not in how:
+            is_canonical = accepted is not None and end == "finalize" and "ok" in words
+            look_at_promises(medium, spec_of(word), accepted or b"", is_canonical)
+        return words, len(medium.past) >= first
+
+    return swept(options, run)
+
+
+def first_moment(spec):
+    """After how many bytes a new file has its whole header."""
+    return len(spec.header(0, 0)) if spec.is_writable() else 44
+
+
+def write(how, word, options, acts, end, first):
+    """The words of a writer, its medium, and what was accepted, if there was a writer."""
     medium = medium_of(options)
+    moments = lambda: [":", *moments_of(medium, first)] if "moments" in options else []
     try:
         if "append" in how:
             writer = Writer.append(medium)
@@ -828,11 +949,13 @@ def row_write(how, word, *words):
             writer = Writer.begin(medium, spec.with_default_width() if how == "new" else spec)
     except Refused as error:
         is_in_reach = "try" in how or "lent" in options
-        return [str(error), ":", *medium.words()] if is_in_reach else [str(error)]
+        seen = [":", *medium.words(), *moments()] if is_in_reach else []
+        return [str(error), *seen], medium, None
     answers = [f"{answer_of(lambda: act(writer, word))}:{writer.len()}" for word in acts]
     spec = [*writer.spec.words(), "duration", str(writer.len() // writer.spec.channels)]
     ended = answer_of(writer.finalize) if end == "finalize" else writer.drop() or "dropped"
-    return [*answers, ":", *spec, ":", ended, ":", *medium.words()]
+    words = [*answers, ":", *spec, ":", ended, ":", *medium.words(), *moments()]
+    return words, medium, writer.accepted
 
 
 def steps_of(words):
@@ -943,19 +1066,15 @@ def look_at_promises(journal, spec, data, is_canonical):
 
 def row_sweep(word, *words):
     options, steps, end = parts_of(words)
-    options, steps = options_of(options), list(steps_of(steps))
-    calls, runs, begun, crc = int(options["calls"]), 0, 0, 0
-    for first in range(1, calls + 1):
-        for last in range(first, calls + 1):
-            faults = {**options, "fail": f"{first}..{last}", "moments": ""}
-            words, medium, marks, answer = session(word, faults, steps, end)
-            spec = spec_of(word)
-            is_canonical = answer == "ok" and end == ["finalize"]
-            look_at_promises(medium, spec, accepted_by(spec, steps, marks), is_canonical)
-            runs += 1
-            begun += len(medium.past) >= len(spec.header(0, 0))
-            crc = zlib.crc32(" ".join(words).encode() + b"\n", crc)
-    return ["runs", str(runs), "begun", str(begun), "crc", f"{crc:08x}"]
+    spec, steps = spec_of(word), list(steps_of(steps))
+
+    def run(faults):
+        words, medium, marks, answer = session(word, faults, steps, end)
+        is_canonical = answer == "ok" and end == ["finalize"]
+        look_at_promises(medium, spec, accepted_by(spec, steps, marks), is_canonical)
+        return words, len(medium.past) >= len(spec.header(0, 0))
+
+    return swept(options_of(options), run)
 
 
 def run_sessions(medium, spec, sessions):

@@ -115,6 +115,14 @@ impl Feed {
         rest(&self.bytes, self.taken).len()
     }
 
+    // How many bytes it gives at most before the read that stumbles.
+    fn before_stumble(&self) -> usize {
+        match self.stumbles {
+            Some((at, _)) if at > self.taken => (at - self.taken) as usize,
+            _ => usize::MAX,
+        }
+    }
+
     // What it gives into a buffer.
     fn give(&self, buf: &mut [u8]) -> io::Result<usize> {
         let first = rest(&self.bytes, self.taken);
@@ -159,7 +167,7 @@ impl io::Read for Feed {
                 Stumble::Fails(kind) => Err(io::Error::from(kind)),
             };
         }
-        let room = buf.len().min(self.most);
+        let room = buf.len().min(self.most).min(self.before_stumble());
         let count = self.give(&mut buf[..room])?;
         // No reader can say more than it was asked for.
         let count = count.min(room);

@@ -2,6 +2,7 @@
 //! answer that came. An empty line, and one that begins with `#`, is written as it is.
 #![tactic(auto)]
 
+mod blocks;
 mod bytes;
 mod counting;
 mod crc;
@@ -18,6 +19,7 @@ mod samples;
 mod sessions;
 mod sink;
 mod specs;
+mod sweep;
 mod tool;
 mod values;
 mod writers;

@@ -1,10 +1,12 @@
 // Rows of readers of files.
 ghost use Rattle.std.specs.Prelude.{◌≡◌, ◌≤◌};
 
+use crate::blocks::read_blocks;
 use crate::feed::Feed;
 use crate::line::Line;
 use crate::media::set_faults;
 use crate::row::{Row, find, parts};
+use crate::sweep::Sweep;
 use crate::values::{Kind, Value, at_type, show};
 use hound::{Error, FloatBits, Journal, Source, Tape, WavReader, read_wave_header};
 use hound_callers::Twelve;
@@ -42,22 +44,57 @@ pub fn read(row: &mut Row, words: &[&str]) {
                 show_left(row, &mut tape);
             }
         }
-        _ => read_journal(row, bytes, options, asks),
+        _ => {
+            row.allow(options, &["over", "most", "fail", "calls"]);
+            if find(options, "calls").is_some() {
+                sweep(row, bytes, options, asks);
+            } else if let Some(mut journal) = journal_of(row, bytes, options) {
+                read_journal(row, &mut journal, asks);
+            }
+        }
     }
 }
 
-fn read_journal(row: &mut Row, bytes: &str, options: &[&str], asks: &[&str]) {
-    row.allow(options, &["over", "most", "fail"]);
+fn journal_of(row: &mut Row, bytes: &str, options: &[&str]) -> Option<Journal> {
     let bytes = row.bytes(bytes);
-    let Ok(mut journal) = Journal::new(row.alloc, bytes) else {
-        return row.line.fail();
-    };
-    set_faults(row, &mut journal, options);
-    if ask_all(row, &mut journal, asks) {
+    match Journal::new(row.alloc, bytes) {
+        Ok(mut journal) => {
+            set_faults(row, &mut journal, options);
+            Some(journal)
+        }
+        Err(_) => {
+            row.line.fail();
+            None
+        }
+    }
+}
+
+// Whether there is a reader.
+fn read_journal(row: &mut Row, journal: &mut Journal, asks: &[&str]) -> bool {
+    let has_begun = ask_all(row, journal, asks);
+    if has_begun {
         journal.fail(1, 0);
         journal.most(usize::MAX);
-        show_left(row, &mut journal);
+        show_left(row, journal);
     }
+    has_begun
+}
+
+// Reads while each range of so many calls fails in turn. A run has begun where there is a reader.
+fn sweep(row: &mut Row, bytes: &str, options: &[&str], asks: &[&str]) {
+    let calls = row.option(options, "calls", 0u64);
+    let mut sweep = Sweep::new();
+    for from in 1..calls.saturating_add(1) {
+        for to in from..calls.saturating_add(1) {
+            let Some(mut journal) = journal_of(row, bytes, options) else {
+                return;
+            };
+            journal.fail(from, to);
+            let has_begun = read_journal(row, &mut journal, asks);
+            sweep.add(row, has_begun);
+        }
+    }
+    sweep.show(row);
 }
 
 // How far a source was read, by what is left.
@@ -102,11 +139,14 @@ fn ask_all<S: Source>(row: &mut Row, source: &mut S, asks: &[&str]) -> bool {
     true
 }
 
-// `seek=TIME`, `hint=TYPE`, `TYPE#`, `TYPE*`, `TYPE*N` or `TYPE`
+// `seek=TIME`, `block:TYPE=..`, `hint=TYPE`, `TYPE#`, `TYPE*`, `TYPE*N` or `TYPE`
 fn ask_one<S: Source>(row: &mut Row, reader: &mut WavReader<&mut S>, ask: &str) {
     if let Some(time) = ask.strip_prefix("seek=") {
         let time = row.number(time);
         return row.line.io_answer(reader.seek(time));
+    }
+    if let Some(ask) = ask.strip_prefix("block:") {
+        return read_blocks(row, reader, ask);
     }
     let (kind, extent) = asked(row, ask);
     match Kind::of(kind) {
@@ -206,11 +246,7 @@ pub struct Sum {
 impl Sum {
     /// Of the samples that a reader has left.
     pub fn of<T: Value>(reader: &mut WavReader<impl io::Read + Drop>) -> Sum {
-        let mut sum = Sum {
-            count: 0,
-            sum: 0,
-            error: None,
-        };
+        let mut sum = Sum::none();
         for item in reader.samples::<T>() {
             match item {
                 Ok(value) => sum.add(value.number()),
@@ -221,6 +257,57 @@ impl Sum {
             }
         }
         sum
+    }
+
+    /// Of the samples that a reader has left, by blocks of as many as this slice has. After an
+    /// error the first of the slice are those that are gone from what was left, but for the last.
+    pub fn of_blocks<T: Value>(
+        reader: &mut WavReader<impl io::Read + Drop>,
+        samples: &mut [T],
+    ) -> Sum {
+        let mut sum = Sum::none();
+        for _ in 0..u64::MAX {
+            let left = reader.samples::<T>().len();
+            let answer = reader.read_samples(samples);
+            let gone = left.saturating_sub(reader.samples::<T>().len());
+            match answer {
+                Ok(0) => break,
+                Ok(count) => sum.add_first(samples, count),
+                Err(error) => {
+                    sum.add_first(samples, gone.saturating_sub(1));
+                    sum.error = Some(error);
+                    break;
+                }
+            }
+        }
+        sum
+    }
+
+    /// Of all samples of a slice.
+    pub fn of_slice<T: Value>(samples: &[T]) -> Sum {
+        let mut sum = Sum::none();
+        sum.add_first(samples, samples.len());
+        sum
+    }
+
+    /// The sum alone.
+    pub fn sum(&self) -> i64 {
+        self.sum
+    }
+
+    fn none() -> Sum {
+        Sum {
+            count: 0,
+            sum: 0,
+            error: None,
+        }
+    }
+
+    // Adds so many samples from the front of a slice.
+    fn add_first<T: Value>(&mut self, samples: &[T], count: usize) {
+        for sample in samples.iter().take(count) {
+            self.add(sample.number());
+        }
     }
 
     fn add(&mut self, number: i64) {

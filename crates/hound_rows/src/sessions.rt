@@ -3,9 +3,9 @@ ghost use Rattle.std.specs.Prelude.{◌≡◌, ◌≤◌, length};
 ghost use Rattle.hound.specs.State.{WhereTells};
 
 use crate::counting::Counted;
-use crate::crc::Crc;
 use crate::kept::{Kept, recorded_of, tape_of};
 use crate::row::{Row, find, name_and_value, parts};
+use crate::sweep::Sweep;
 use crate::values::Value;
 use crate::writers::is_finalized;
 use hound::{Begin, End, FloatBits, Result, Step, WavSpecEx, run_session, run_sessions};
@@ -56,11 +56,11 @@ pub fn session(row: &mut Row, words: &[&str]) {
     }
 }
 
-// Runs a session while each range of its calls fails, and says how many runs there were, in how
-// many the whole header was taken, and the checksum of what each answered.
+// Runs a session while each range of its calls fails. It has begun where the whole header was
+// taken.
 fn sweep(row: &mut Row, script: Script<'_>) {
     let calls = row.option(script.options, "calls", 0u64);
-    let (mut runs, mut begun, mut crc) = (0u64, 0u64, Crc::new());
+    let mut sweep = Sweep::new();
     for from in 1..calls.saturating_add(1) {
         for to in from..calls.saturating_add(1) {
             let Some(mut recorded) = recorded_of(row, script.options) else {
@@ -68,19 +68,10 @@ fn sweep(row: &mut Row, script: Script<'_>) {
             };
             recorded.journal.fail(from, to);
             let recorded = run_over(row, script, recorded);
-            runs = runs.saturating_add(1);
-            if recorded.journal.taken() >= first_moment(script.begin) {
-                begun = begun.saturating_add(1);
-            }
-            row.line.put("\n");
-            crc.add(row.line.bytes());
-            row.line.clear();
+            sweep.add(row, recorded.journal.taken() >= first_moment(script.begin));
         }
     }
-    row.line.count("runs", runs);
-    row.line.count("begun", begun);
-    row.line.word("crc");
-    row.line.hex(&crc.value().to_be_bytes());
+    sweep.show(row);
 }
 
 // A new file of this spec, or `append`.
@@ -99,13 +90,13 @@ fn end_of(row: &mut Row, end: &[&str]) -> End {
     }
 }
 
-// Whether each moment of a session is shown; in a sweep it always is.
-fn has_moments(options: &[&str]) -> bool {
+/// Whether each moment of a file is shown; in a sweep it always is.
+pub fn has_moments(options: &[&str]) -> bool {
     find(options, "moments").is_some() || find(options, "calls").is_some()
 }
 
-// How many bytes were put when a file has its whole header.
-fn first_moment(begin: Begin) -> usize {
+/// How many bytes were put when a file has its whole header.
+pub fn first_moment(begin: Begin) -> usize {
     match begin {
         Begin::New(spec_ex) if spec_ex.is_writable() => {
             header_of(spec_ex, 0, 0).as_slice().len()

@@ -9,6 +9,9 @@ pub trait Value: Sample + Copy {
     /// Whether values are written as patterns, in eight hex digits.
     const IS_PATTERN: bool;
 
+    /// What each place of a block holds before it is read.
+    const FILLER: Self;
+
     /// The value of a word.
     fn of(row: &mut Row, word: &str) -> Self;
 
@@ -21,6 +24,8 @@ pub trait Value: Sample + Copy {
 
 impl Value for i8 {
     const IS_PATTERN: bool = false;
+
+    const FILLER: i8 = 85;
 
     fn of(row: &mut Row, word: &str) -> i8 {
         row.number(word)
@@ -38,6 +43,8 @@ impl Value for i8 {
 impl Value for i16 {
     const IS_PATTERN: bool = false;
 
+    const FILLER: i16 = 85;
+
     fn of(row: &mut Row, word: &str) -> i16 {
         row.number(word)
     }
@@ -53,6 +60,8 @@ impl Value for i16 {
 
 impl Value for i32 {
     const IS_PATTERN: bool = false;
+
+    const FILLER: i32 = 85;
 
     fn of(row: &mut Row, word: &str) -> i32 {
         row.number(word)
@@ -70,6 +79,8 @@ impl Value for i32 {
 impl Value for FloatBits {
     const IS_PATTERN: bool = true;
 
+    const FILLER: FloatBits = FloatBits(85);
+
     fn of(row: &mut Row, word: &str) -> FloatBits {
         FloatBits(row.hex(word, 4))
     }
@@ -85,6 +96,8 @@ impl Value for FloatBits {
 
 impl Value for Twelve {
     const IS_PATTERN: bool = false;
+
+    const FILLER: Twelve = Twelve(85);
 
     fn of(row: &mut Row, word: &str) -> Twelve {
         Twelve(row.number(word))
@@ -103,15 +116,21 @@ impl Value for Twelve {
 pub fn show<T: Value>(line: &mut Line, item: hound::Result<T>) {
     match item {
         Ok(value) => {
-            let number = value.number();
-            if T::IS_PATTERN {
-                let [_, _, _, _, a, b, c, d] = number.to_be_bytes();
-                line.hex(&[a, b, c, d]);
-            } else {
-                line.shown(number);
-            }
+            line.word("");
+            put_value(line, value);
         }
         Err(error) => line.error(error),
+    }
+}
+
+/// Adds a value to the last word.
+pub fn put_value<T: Value>(line: &mut Line, value: T) {
+    let number = value.number();
+    if T::IS_PATTERN {
+        let [_, _, _, _, a, b, c, d] = number.to_be_bytes();
+        line.put_hex(&[a, b, c, d]);
+    } else {
+        line.put_shown(number);
     }
 }
 

@@ -2,11 +2,16 @@
 ghost use Rattle.std.specs.Prelude.{◌≡◌, ◌≤◌};
 ghost use Rattle.hound.specs.State.{WhereTells};
 
+use crate::blocks::write_block;
 use crate::counting::Counted;
 use crate::kept::{Kept, recorded_of, tape_of};
 use crate::row::{Row, find, name_and_value, parts};
+use crate::sessions::{first_moment, has_moments};
+use crate::sweep::Sweep;
 use crate::values::{Kind, Value, at_type};
-use hound::{Error, FloatBits, Medium, Result, SampleFormat, SampleWriter16, Source, WavWriter};
+use hound::{
+    Begin, Error, FloatBits, Medium, Result, SampleFormat, SampleWriter16, Source, WavWriter,
+};
 use hound_callers::Twelve;
 use std::result;
 
@@ -20,6 +25,7 @@ struct Script<'a> {
     is_finalized: bool,
     // It is over a `&mut` of its medium.
     is_lent: bool,
+    options: &'a [&'a str],
 }
 
 /// `write HOW SPEC OPTION.. : ACT.. : END`
@@ -29,19 +35,57 @@ pub fn write(row: &mut Row, words: &[&str]) {
     let [constructor, spec, options @ ..] = words else {
         return row.refuse();
     };
-    row.allow(options, &["over", "most", "fail", "tape", "lent"]);
+    row.allow(
+        options,
+        &["over", "most", "fail", "tape", "lent", "moments", "calls"],
+    );
     let script = Script {
         constructor,
         spec,
         acts,
         is_finalized: is_finalized(row, end),
         is_lent: find(options, "lent").is_some(),
+        options,
     };
-    if find(options, "tape").is_some() {
+    if find(options, "calls").is_some() {
+        sweep(row, script);
+    } else if find(options, "tape").is_some() {
         let tape = tape_of(row, options);
         write_over(row, script, tape);
     } else if let Some(recorded) = recorded_of(row, options) {
         write_over(row, script, recorded);
+    }
+}
+
+// Runs a script while each range of so many calls fails in turn, over a `&mut` of the medium. A run
+// has begun where the whole header was taken.
+fn sweep(row: &mut Row, script: Script<'_>) {
+    let calls = row.option(script.options, "calls", 0u64);
+    let script = Script {
+        is_lent: true,
+        ..script
+    };
+    let mut sweep = Sweep::new();
+    for from in 1..calls.saturating_add(1) {
+        for to in from..calls.saturating_add(1) {
+            let Some(mut recorded) = recorded_of(row, script.options) else {
+                return;
+            };
+            recorded.journal.fail(from, to);
+            let _ = run(row, script, &mut recorded);
+            show(row, script, &recorded);
+            let first = first_moment(begin_of(row, script));
+            sweep.add(row, recorded.journal.taken() >= first);
+        }
+    }
+    sweep.show(row);
+}
+
+// A new file of its spec, or one that is gone on with.
+fn begin_of(row: &mut Row, script: Script<'_>) -> Begin {
+    match script.constructor {
+        "append" | "try_append" => Begin::Append,
+        _ => Begin::New(row.spec(script.spec)),
     }
 }
 
@@ -63,15 +107,20 @@ fn write_over<M: Kept>(row: &mut Row, script: Script<'_>, medium: M)
     if script.is_lent {
         let mut medium = medium;
         let _ = run(row, script, &mut medium);
-        show(row, &medium);
+        show(row, script, &medium);
     } else if let Some(medium) = run(row, script, medium) {
-        show(row, &medium);
+        show(row, script, &medium);
     }
 }
 
-fn show<M: Kept>(row: &mut Row, medium: &M) {
+fn show<M: Kept>(row: &mut Row, script: Script<'_>, medium: &M) {
     row.line.word(":");
     medium.show(row);
+    if has_moments(script.options) {
+        row.line.word(":");
+        let first = first_moment(begin_of(row, script));
+        medium.show_past(row, first);
+    }
 }
 
 // Runs a script, and gives the medium where it is in reach.
@@ -156,9 +205,11 @@ fn end_lent<M: Medium>(row: &mut Row, script: Script<'_>, writer: WavWriter<M>) 
 // An act, its answer and the writer's length then.
 fn take<M: Medium>(row: &mut Row, writer: &mut WavWriter<M>, act: &str) {
     let (name, value) = name_and_value(act);
-    let answer = match Kind::of(name) {
-        Some(kind) => at_type!(kind, write_values(row, writer, value)),
-        None => take_other(row, writer, name, value),
+    let block = name.strip_prefix("block:");
+    let answer = match (Kind::of(name), block.and_then(Kind::of)) {
+        (Some(kind), _) => at_type!(kind, write_values(row, writer, value)),
+        (None, Some(kind)) => at_type!(kind, write_block(row, writer, value)),
+        (None, None) => take_other(row, writer, name, value),
     };
     row.line.answer(answer);
     row.line.put(":");
