@@ -620,12 +620,13 @@ class Writer:
     def is_sixteen(self):
         return self.spec.bits == 16 and not self.spec.is_float
 
-    def put(self, data):
+    def put(self, *pieces):
         """Puts bytes at the end of the accepted ones that are out."""
         if self.is_elsewhere:
             self.medium.go(self.start + self.out)
         self.is_elsewhere = True
-        put_all(self.medium, data)
+        for piece in pieces:
+            put_all(self.medium, piece)
         self.is_elsewhere = False
 
     def put_block(self):
@@ -663,7 +664,9 @@ class Writer:
         if len(data) <= 4096:
             self.block += data
         else:
-            self.put(data)
+            # They go out in pieces of whole containers.
+            size = 4096 // spec.width * spec.width
+            self.put(*(data[at : at + size] for at in range(0, len(data), size)))
             self.out += len(data)
         self.accepted += data
 
