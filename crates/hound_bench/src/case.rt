@@ -10,12 +10,51 @@ pub enum Kind {
     Float,
 }
 
+impl Kind {
+    fn named(name: &str) -> Option<Kind> {
+        match name {
+            "i8" => Some(Kind::Eight),
+            "i16" => Some(Kind::Sixteen),
+            "i24" => Some(Kind::TwentyFour),
+            "i32" => Some(Kind::ThirtyTwo),
+            "f32" => Some(Kind::Float),
+            _ => None,
+        }
+    }
+}
+
 /// What the frames of a file on disk are.
 #[derive(Clone, Copy)]
 pub enum Frames {
     Sixteen,
     TwoOfSixteen,
     TwentyFour,
+}
+
+/// Where a file is.
+#[derive(Clone, Copy)]
+pub enum Place {
+    Memory,
+    Disk,
+}
+
+impl Place {
+    fn named(name: &str) -> Option<Place> {
+        match name {
+            "mem" => Some(Place::Memory),
+            "file" => Some(Place::Disk),
+            _ => None,
+        }
+    }
+}
+
+/// Blocks of samples of a file.
+#[derive(Clone, Copy)]
+pub struct Blocks {
+    pub kind: Kind,
+    /// How many samples a call has.
+    pub length: u16,
+    pub place: Place,
 }
 
 /// A workload, over as many samples as it is asked for, of all channels together.
@@ -38,6 +77,10 @@ pub enum Case {
     ReadMemory(Kind),
     /// The samples of a file on disk.
     ReadFile(Frames),
+    /// The samples of a file, by blocks.
+    ReadBlocks(Blocks),
+    /// A file that is written by blocks. One in memory has its full size.
+    WriteBlocks(Blocks),
     /// As many seeks in a file in memory, to each thousandth frame in turn, with a sample read
     /// there.
     SeekMemory,
@@ -77,16 +120,40 @@ impl Case {
             "seek_f32_file" => Case::SeekFile,
             "flush_i16_mem" => Case::FlushMemory,
             "open_mem" => Case::OpenMemory,
-            _ => return None,
+            _ => return Case::of_blocks(name),
         };
         Some(case)
     }
 
+    // `read_block_i16_mem` and so on, of 4096 samples a call, or `read_block_64_i16_mem` of 64.
+    fn of_blocks(name: &str) -> Option<Case> {
+        let (call, others) = name.split_once("_block_")?;
+        let (samples, place) = others.rsplit_once("_")?;
+        let (length, kind) = samples.split_once("_").unwrap_or(("4096", samples));
+        let length: u16 = length.parse().ok()?;
+        if length == 0 {
+            return None;
+        }
+        let blocks = Blocks {
+            kind: Kind::named(kind)?,
+            length,
+            place: Place::named(place)?,
+        };
+        match call {
+            "read" => Some(Case::ReadBlocks(blocks)),
+            "write" => Some(Case::WriteBlocks(blocks)),
+            _ => None,
+        }
+    }
+
     /// Whether the workload has a file on disk.
     pub fn needs_file(self) -> bool {
-        matches!(
-            self,
-            Case::WriteFile(_) | Case::BatchFile | Case::ReadFile(_) | Case::SeekFile
-        )
+        match self {
+            Case::WriteFile(_) | Case::BatchFile | Case::ReadFile(_) | Case::SeekFile => true,
+            Case::ReadBlocks(blocks) | Case::WriteBlocks(blocks) => {
+                matches!(blocks.place, Place::Disk)
+            }
+            _ => false,
+        }
     }
 }

@@ -2,6 +2,7 @@
 #![tactic(auto)]
 
 mod batches;
+mod blocks;
 mod case;
 mod measure;
 mod pattern;

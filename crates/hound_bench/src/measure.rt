@@ -2,6 +2,7 @@
 ghost use Rattle.std.specs.Prelude.{◌≡◌, IfOk};
 
 use crate::batches::write_batches;
+use crate::blocks;
 use crate::case::{Case, Frames, Kind};
 use crate::pattern::{Eight, Float, Pattern, Sixteen, ThirtyTwo, TwentyFour, spec_of};
 use crate::sessions::{SESSION, write_sessions};
@@ -59,6 +60,8 @@ pub fn measure(rt: &HostRuntime, case: Case, count: u32, path: Path<'_>) -> Resu
             Frames::TwoOfSixteen => read_file::<Sixteen>(rt, 2, count, path),
             Frames::TwentyFour => read_file::<TwentyFour>(rt, 1, count, path),
         },
+        Case::ReadBlocks(blocks) => blocks::read(rt, blocks, count, path),
+        Case::WriteBlocks(blocks) => blocks::write(rt, blocks, count, path),
         Case::SeekMemory => seek_memory(rt, count),
         Case::SeekFile => seek_file(rt, count, path),
         Case::FlushMemory => flush_memory(rt, count),
@@ -66,8 +69,8 @@ pub fn measure(rt: &HostRuntime, case: Case, count: u32, path: Path<'_>) -> Resu
     }
 }
 
-// A tape of zeros, as long as the file of so many samples will be.
-fn full_tape(alloc: Global, spec: WavSpec, count: u32) -> Result<Tape>
+/// A tape of zeros, as long as the file of so many samples will be.
+pub fn full_tape(alloc: Global, spec: WavSpec, count: u32) -> Result<Tape>
     ensures { IfOk result (λ t. (⟦<Tape as Placed>⟧.state t).place ≡ 0) }
 {
     let header = spec.into_header_for_infinite_file(alloc)?;
@@ -80,16 +83,16 @@ fn full_tape(alloc: Global, spec: WavSpec, count: u32) -> Result<Tape>
     Ok(Tape::new(bytes))
 }
 
-// The file of so many samples, in so many channels.
-fn file_of<P: Pattern>(alloc: Global, channels: u16, count: u32) -> Result<Vec<u8>> {
+/// The file of so many samples, in so many channels.
+pub fn file_of<P: Pattern>(alloc: Global, channels: u16, count: u32) -> Result<Vec<u8>> {
     let mut tape = Tape::new(Vec::new(alloc));
     let writer = WavWriter::new(&mut tape, P::spec(channels))?;
     write_all::<P, _>(writer, count)?;
     Ok(tape.into_bytes())
 }
 
-// What a run gave that wrote these bytes.
-fn written(file: &[u8], nanoseconds: u128) -> Measured {
+/// What a run gave that wrote these bytes.
+pub fn written(file: &[u8], nanoseconds: u128) -> Measured {
     let mut check = 0i64;
     for byte in file {
         check = check.wrapping_add(*byte as i64);

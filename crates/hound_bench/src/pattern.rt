@@ -4,7 +4,7 @@ ghost use Rattle.std.specs.Prelude.{◌≡◌};
 use hound::{FloatBits, Sample, SampleFormat, WavSpec};
 
 /// A type of samples.
-pub trait Summed: Sample {
+pub trait Summed: Sample + Copy {
     /// What a sample adds to the check.
     fn value(self) -> i64;
 }

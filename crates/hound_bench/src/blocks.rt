@@ -1,0 +1,133 @@
+// The workloads of blocks: many samples a call.
+use crate::case::{Blocks, Kind, Place};
+use crate::measure::{Measured, file_of, full_tape, written};
+use crate::pattern::{Eight, Float, Pattern, Sixteen, Summed, ThirtyTwo, TwentyFour};
+use hound::{Error, Medium, Result, WavReader, WavWriter};
+use std::alloc::Global;
+use std::path::Path;
+use std::time::Instant;
+use std::{fs, io};
+
+/// Reads so many samples by blocks.
+pub fn read(rt: &HostRuntime, blocks: Blocks, count: u32, path: Path<'_>) -> Result<Measured> {
+    match blocks.kind {
+        Kind::Eight => read_pattern::<Eight>(rt, blocks, count, path),
+        Kind::Sixteen => read_pattern::<Sixteen>(rt, blocks, count, path),
+        Kind::TwentyFour => read_pattern::<TwentyFour>(rt, blocks, count, path),
+        Kind::ThirtyTwo => read_pattern::<ThirtyTwo>(rt, blocks, count, path),
+        Kind::Float => read_pattern::<Float>(rt, blocks, count, path),
+    }
+}
+
+/// Writes so many samples by blocks, which are made before.
+pub fn write(rt: &HostRuntime, blocks: Blocks, count: u32, path: Path<'_>) -> Result<Measured> {
+    match blocks.kind {
+        Kind::Eight => write_pattern::<Eight>(rt, blocks, count, path),
+        Kind::Sixteen => write_pattern::<Sixteen>(rt, blocks, count, path),
+        Kind::TwentyFour => write_pattern::<TwentyFour>(rt, blocks, count, path),
+        Kind::ThirtyTwo => write_pattern::<ThirtyTwo>(rt, blocks, count, path),
+        Kind::Float => write_pattern::<Float>(rt, blocks, count, path),
+    }
+}
+
+// So many samples, by their numbers.
+fn samples_of<P: Pattern>(alloc: Global, count: u32) -> Result<Vec<P::Sample>> {
+    let mut samples = Vec::with_capacity(alloc, count as usize).map_err(|_| Error::OutOfMemory)?;
+    for index in 0..count {
+        samples
+            .push(P::sample(index))
+            .map_err(|_| Error::OutOfMemory)?;
+    }
+    Ok(samples)
+}
+
+fn read_pattern<P: Pattern>(
+    rt: &HostRuntime,
+    blocks: Blocks,
+    count: u32,
+    path: Path<'_>,
+) -> Result<Measured> {
+    let file = file_of::<P>(rt.alloc(), 1, count)?;
+    let mut block = samples_of::<P>(rt.alloc(), blocks.length as u32)?;
+    let (check, time) = match blocks.place {
+        Place::Memory => {
+            let start = Instant::now(rt)?;
+            let check = read_blocks(WavReader::new(file.as_slice())?, &mut block)?;
+            (check, start.elapsed(rt)?)
+        }
+        Place::Disk => {
+            fs::write(rt, path, file.as_slice())?;
+            let start = Instant::now(rt)?;
+            let reader = WavReader::open(rt, rt.alloc(), path)?;
+            let check = read_blocks(reader, &mut block)?;
+            (check, start.elapsed(rt)?)
+        }
+    };
+    Ok(Measured {
+        bytes: file.len() as u64,
+        nanoseconds: time.as_nanos(),
+        check,
+    })
+}
+
+// The sum of all samples, by blocks of as many as the slice has.
+fn read_blocks<S: Summed, R: io::Read + Drop>(
+    reader: WavReader<R>,
+    block: &mut [S],
+) -> Result<i64> {
+    let mut reader = reader;
+    let mut sum = 0i64;
+    for _ in 0..u64::MAX {
+        let count = match reader.read_samples(block) {
+            Ok(0) => break,
+            Ok(count) => count,
+            Err(error) => return Err(error),
+        };
+        for sample in block.iter().take(count) {
+            sum = sum.wrapping_add(sample.value());
+        }
+    }
+    Ok(sum)
+}
+
+fn write_pattern<P: Pattern>(
+    rt: &HostRuntime,
+    blocks: Blocks,
+    count: u32,
+    path: Path<'_>,
+) -> Result<Measured> {
+    let samples = samples_of::<P>(rt.alloc(), count)?;
+    let spec = P::spec(1);
+    match blocks.place {
+        Place::Memory => {
+            let mut tape = full_tape(rt.alloc(), spec, count)?;
+            let start = Instant::now(rt)?;
+            let writer = WavWriter::new(&mut tape, spec)?;
+            write_blocks(writer, samples.as_slice(), blocks.length as usize)?;
+            let time = start.elapsed(rt)?;
+            Ok(written(tape.bytes(), time.as_nanos()))
+        }
+        Place::Disk => {
+            let start = Instant::now(rt)?;
+            let writer = WavWriter::create(rt, rt.alloc(), path, spec)?;
+            write_blocks(writer, samples.as_slice(), blocks.length as usize)?;
+            let time = start.elapsed(rt)?;
+            Ok(written(&fs::read(rt, path)?, time.as_nanos()))
+        }
+    }
+}
+
+// Writes samples by blocks of so many, and closes the file.
+fn write_blocks<S: Summed, W: Medium>(
+    writer: WavWriter<W>,
+    samples: &[S],
+    length: usize,
+) -> Result<()> {
+    let mut writer = writer;
+    for block in samples.chunks(length.max(1)) {
+        if let Err(error) = writer.write_samples(block) {
+            return Err(error);
+        }
+    }
+    writer.finalize()
+}
