@@ -1,1 +1,6 @@
+pub mod Bytes
+pub mod Eights
+pub mod Fronts
 pub mod Growing
+pub mod Leading
+pub mod Saying

@@ -1,12 +1,46 @@
 -- Texts of numbers.
-use Rattle.std.specs.Prelude.{◌≡◌, ℕ, ◌+◌, ◌<◌, ◌≤◌, ⊤, List, length, Option, Some, None}
+use Rattle.std.specs.Prelude.{◌≡◌, ℕ, ℤ, ⊤, Bool, cond, ◌||◌, ◌==◌, pos, neg_ℤ, FitsSigned, List, [], ◌∷◌, drop}
+use Rattle.std.specs.Int.{w32}
+use Rattle.std.specs.List.{filter, slice_split}
+use Rattle.std.specs.Str.Parse.{IsNumeral, digits_value, starts_with_minus}
 
--- a beginning of a text, of one byte at least: what it means, and its length
-abbrev pub IsFront : {A : Type 0} → List ℕ → A × ℕ → Type 0
-IsFront text front = (0 < front.1) × (front.1 ≤ length text)
+-- a byte that separates numbers: a space, a tab, a carriage return or a line feed
+abbrev pub is_separator : ℕ → Bool
+is_separator b = b == 32 || (b == 9 || (b == 13 || b == 10))
 
--- so many more bytes of a text may be read, of 4294967295 in all; this is left of it
-abbrev pub MayRead : Option (List ℕ) → Option (List ℕ) → ℕ → Type 0
-MayRead None left room = ⊤
-MayRead (Some text) None room = ⊥
-MayRead (Some text) (Some left) room = length text + room ≡ length left + 4294967295
+-- a list has an element
+abbrev pub is_filled : List ℕ → Bool
+is_filled [] = Bool.false
+is_filled (b ∷ bytes) = Bool.true
+
+-- the words of a text: its parts between separators that have a byte
+abbrev pub words : List ℕ → List (List ℕ)
+words text = filter is_filled (slice_split is_separator text)
+
+-- a word without its minus
+abbrev pub without_minus : List ℕ → List ℕ
+without_minus word = cond (starts_with_minus word) (drop 1 word) word
+
+-- the number with this sign and this magnitude
+abbrev pub signed_value : Bool → ℕ → ℤ
+signed_value negative magnitude = cond negative (neg_ℤ (pos magnitude)) (pos magnitude)
+
+-- A word says a number: an optional minus and then digits, and the number is an `i32`.
+pub record SaysNumber (word : List ℕ) (number : ℤ) : Type 0 where
+  pub digits : IsNumeral 10 (without_minus word)
+  pub value : number ≡ signed_value (starts_with_minus word) (digits_value 10 (without_minus word))
+  pub within : FitsSigned w32 number
+
+-- words say numbers, one each, in order
+abbrev pub SayNumbers : List (List ℕ) → List ℤ → Type 0
+SayNumbers [] [] = ⊤
+SayNumbers (word ∷ words) (number ∷ numbers) = SaysNumber word number × SayNumbers words numbers
+SayNumbers _ _ = ⊥
+
+-- a text says numbers
+abbrev pub SaysNumbers : List ℕ → List ℤ → Type 0
+SaysNumbers text numbers = SayNumbers (words text) numbers
+
+-- a text says no list of numbers
+abbrev pub SaysNoNumbers : List ℕ → Type 0
+SaysNoNumbers text = (numbers : List ℤ) → SaysNumbers text numbers → ⊥

@@ -1,5 +1,10 @@
 // Digits, eight at a time in one word: a byte each, the first one lowest.
-ghost use Rattle.std.specs.Prelude.{◌≤◌};
+ghost use Rattle.std.specs.Prelude.{◌≡◌, ◌≤◌, ℕ, List, length, take};
+ghost use Rattle.std.specs.Int.Digits.{AllBelowBase, number_from_digits};
+ghost use Rattle.std.specs.List.{prefix_len};
+ghost use Rattle.std.specs.Simd.Lanes.{number_l};
+ghost use Rattle.std.specs.Str.Parse.{AllDigits, digits_value};
+ghost use Rattle.hound_text.specs.Reading.{is_digit};
 
 // The text of eight zeros.
 const ZEROS: u64 = 0x3030_3030_3030_3030;
@@ -17,7 +22,11 @@ pub struct Digits {
 
 /// The digits that eight bytes of text begin with.
 #[inline(always)]
-pub fn leading_digits(text: [u8; 8]) -> Digits {
+pub fn leading_digits(text: [u8; 8]) -> Digits
+    ensures count { result.count ≡ prefix_len is_digit text }
+    ensures digits { AllDigits 10 (take result.count text) }
+    ensures number { result.number ≡ digits_value 10 (take result.count text) }
+{
     let values = u64::from_le_bytes(text) ^ ZEROS;
 
     // The high bit of the first byte that is no digit is set, and of none before it.
@@ -34,7 +43,10 @@ pub fn leading_digits(text: [u8; 8]) -> Digits {
 
 // The number that eight digits make: first their pairs, then all.
 #[inline(always)]
-fn number_of(digits: u64) -> u64 {
+fn number_of(digits: u64) -> u64
+    ensures { (values : List ℕ) → length values ≡ 8 → AllBelowBase 10 values →
+        digits ≡ number_l 256 values → result ≡ number_from_digits 10 values }
+{
     let pairs = digits.wrapping_mul(10).wrapping_add(digits >> 8);
     let outer = (pairs & 0x0000_00ff_0000_00ff).wrapping_mul(100 + (1_000_000 << 32));
     let inner = ((pairs >> 16) & 0x0000_00ff_0000_00ff).wrapping_mul(1 + (10_000 << 32));

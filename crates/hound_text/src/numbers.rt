@@ -1,9 +1,13 @@
 // Numbers as text.
-ghost use Rattle.std.specs.Prelude.{◌≡◌, ◌<◌, ◌≤◌, Err, IfOk, IfSome, OnOk, SomeIff, length};
+ghost use Rattle.std.specs.Prelude.{◌≡◌, ℤ, List, ◌<◌, ◌≤◌, IfErr, IfOk, IfSome, MatchResult, OnErr, OnOk, SomeIff, [], ◌∷◌, ◌++◌, Some, None, Err, drop, length, take};
 ghost use Rattle.std.specs.Io.KnownBytes.{IsAtEnd};
+ghost use Rattle.std.specs.Option.{ok_or};
 ghost use Rattle.std.specs.Str.Parse.{IsNumeral, digits_value};
-ghost use Rattle.hound_text.specs.Text.{IsFront};
-ghost use Rattle.hound_text.specs.declared.numbers.Refusal.TheVariants.{InputOrOutput, OutOfMemory};
+ghost use Rattle.hound_text.specs.Refusals.{IsRefused, IsTextRefusal};
+ghost use Rattle.hound_text.specs.Reading.{Breaks, IsFront, IsRun, Leads, before, ended, longer_magnitude, next_place, signed_within};
+ghost use Rattle.hound_text.specs.Text.{SaysNoNumbers, SaysNumbers, is_separator};
+ghost use Rattle.hound_text.specs.declared.numbers.Place.TheVariants.{Between};
+ghost use Rattle.hound_text.specs.declared.numbers.Refusal.TheVariants.{BadNumber, InputOrOutput, OutOfMemory, TooLong};
 
 use crate::eight::leading_digits;
 use std::alloc::{AllocFailed, Global};
@@ -49,12 +53,14 @@ impl From<AllocFailed<i32>> for Refusal {
 #[derive(Clone, Copy)]
 enum Place {
     Between,
-    BehindMinus,
+    AfterMinus,
     Inside { negative: bool, magnitude: u32 },
 }
 
 // The number with this sign, if it is an `i32`.
-fn signed(negative: bool, magnitude: u32) -> Option<i32> {
+fn signed(negative: bool, magnitude: u32) -> Option<i32>
+    ensures { result ≡ signed_within negative magnitude }
+{
     let number = if negative {
         -(magnitude as i64)
     } else {
@@ -65,9 +71,9 @@ fn signed(negative: bool, magnitude: u32) -> Option<i32> {
 
 // The magnitude with one digit more, at most 2 ^ 31, which only a negative number may have.
 fn with_digit(magnitude: u32, digit: u8) -> Result<u32, Refusal>
-    ensures { result ≡ Err Refusal.TooLong → ⊥ }
+    ensures { result ≡ ok_or (longer_magnitude magnitude digit) BadNumber }
 {
-    let longer = magnitude as u64 * 10 + (digit % 10) as u64;
+    let longer = magnitude as u64 * 10 + digit as u64;
     if longer > 2_147_483_648 {
         return Err(Refusal::BadNumber);
     }
@@ -75,25 +81,23 @@ fn with_digit(magnitude: u32, digit: u8) -> Result<u32, Refusal>
 }
 
 // Whether a byte stands between numbers.
-fn is_separator(byte: u8) -> bool {
+fn is_separator(byte: u8) -> bool
+    ensures { result ≡ is_separator byte }
+{
     matches!(byte, b' ' | b'\t' | b'\r' | b'\n')
 }
 
-// Takes one byte of the text. A number that it ends goes behind the others.
-fn take_byte(place: Place, byte: u8, numbers: &mut Vec<i32>) -> Result<Place, Refusal>
-    ensures { result ≡ Err Refusal.TooLong → ⊥ }
+// The place after a byte that is no separator.
+fn next_place(place: Place, byte: u8) -> Result<Place, Refusal>
+    ensures { result ≡ ok_or (next_place place byte) BadNumber }
 {
-    if is_separator(byte) {
-        end_of_word(place, numbers)?;
-        return Ok(Place::Between);
-    }
     match (byte, place) {
-        (b'-', Place::Between) => Ok(Place::BehindMinus),
+        (b'-', Place::Between) => Ok(Place::AfterMinus),
         (b'0'..=b'9', Place::Between) => Ok(Place::Inside {
             negative: false,
             magnitude: (byte - b'0') as u32,
         }),
-        (b'0'..=b'9', Place::BehindMinus) => Ok(Place::Inside {
+        (b'0'..=b'9', Place::AfterMinus) => Ok(Place::Inside {
             negative: true,
             magnitude: (byte - b'0') as u32,
         }),
@@ -111,13 +115,27 @@ fn take_byte(place: Place, byte: u8, numbers: &mut Vec<i32>) -> Result<Place, Re
     }
 }
 
+// Takes one byte of the text, and appends the number that it ends.
+fn take_byte(place: Place, byte: u8, numbers: &mut Vec<i32>) -> Result<Place, Refusal>
+    ensures taken { IfOk result (λ later.
+        Leads place (byte ∷ []) numbers.old.items later [] numbers.new.items) }
+    ensures refused { IfErr result (λ refusal. IsTextRefusal refusal (Breaks place (byte ∷ []))) }
+{
+    if is_separator(byte) {
+        end_of_word(place, numbers)?;
+        return Ok(Place::Between);
+    }
+    next_place(place, byte)
+}
+
 // The end of a word, or of the text.
 fn end_of_word(place: Place, numbers: &mut Vec<i32>) -> Result<(), Refusal>
-    ensures { result ≡ Err Refusal.TooLong → ⊥ }
+    ensures ended { OnOk result (before numbers.old.items (ended place) ≡ Some numbers.new.items) }
+    ensures refused { IfErr result (λ refusal. IsTextRefusal refusal (ended place ≡ None)) }
 {
     match place {
         Place::Between => Ok(()),
-        Place::BehindMinus => Err(Refusal::BadNumber),
+        Place::AfterMinus => Err(Refusal::BadNumber),
         Place::Inside {
             negative,
             magnitude,
@@ -131,8 +149,10 @@ fn end_of_word(place: Place, numbers: &mut Vec<i32>) -> Result<(), Refusal>
 
 // The eight bytes of a window from a place on.
 #[inline(always)]
+#[tactic(auto, using(crate::proofs::Fronts::eight_at))]
 fn eight_bytes(window: &[u8; 17], at: usize) -> [u8; 8]
     requires { at ≤ 9 }
+    ensures { result ≡ take 8 (drop at window.now) }
 {
     [
         window[at],
@@ -146,8 +166,32 @@ fn eight_bytes(window: &[u8; 17], at: usize) -> [u8; 8]
     ]
 }
 
+// The number of the digits from a place on, and how many they are: ten at most.
+#[inline(always)]
+fn digits_at(window: &[u8; 17], start: usize) -> Option<(u64, usize)>
+    requires { start ≤ 1 }
+    ensures { IfSome result (IsRun (drop start window.now)) }
+{
+    let first = leading_digits(eight_bytes(window, start));
+    if first.count == 0 {
+        return None;
+    }
+    if first.count < 8 {
+        return Some((first.number, first.count as usize));
+    }
+    let second = leading_digits(eight_bytes(window, start + 8));
+    let scale = match second.count {
+        0 => 1,
+        1 => 10,
+        2 => 100,
+        _ => return None,
+    };
+    let number = first.number.wrapping_mul(scale).wrapping_add(second.number);
+    Some((number, 8 + second.count as usize))
+}
+
 // The number that a text begins with and how many bytes it takes, with the byte that ends it. It
-// has at most ten digits, and the text goes on behind it: any other is left to `take_byte`.
+// has at most ten digits, and the text continues after it: any other is left to `take_byte`.
 #[inline(always)]
 fn whole_number(text: &[u8]) -> Option<(i32, usize)>
     ensures { IfSome result (IsFront text.now) }
@@ -156,34 +200,20 @@ fn whole_number(text: &[u8]) -> Option<(i32, usize)>
     let window = text.first_chunk::<17>()?;
     let negative = window[0] == b'-';
     let start = negative as usize;
-    let first = leading_digits(eight_bytes(window, start));
-    let mut magnitude = first.number;
-    let mut end = start + first.count as usize;
-    if first.count == 0 {
-        return None;
-    }
-    if first.count == 8 {
-        let second = leading_digits(eight_bytes(window, end));
-        let scale = match second.count {
-            0 => 1,
-            1 => 10,
-            2 => 100,
-            _ => return None,
-        };
-        magnitude = magnitude.wrapping_mul(scale).wrapping_add(second.number);
-        end += second.count as usize;
-    }
-    if !is_separator(window[end]) {
+    let (magnitude, count) = digits_at(window, start)?;
+    if !is_separator(window[start + count]) {
         return None;
     }
     let number = signed(negative, u32::try_from(magnitude).ok()?)?;
-    Some((number, end + 1))
+    Some((number, start + count + 1))
 }
 
-// Takes numbers from the front of a text, as long as one is whole, and gives the text behind them.
+// Takes numbers from the front of a text, as long as one is whole, and gives the text after them.
 fn take_whole<'a>(text: &'a [u8], numbers: &mut Vec<i32>) -> Result<&'a [u8], Refusal>
     ensures shorter { IfOk result (λ rest. length rest.now ≤ length text.now) }
-    ensures in_time { result ≡ Err Refusal.TooLong → ⊥ }
+    ensures taken { IfOk result (λ rest.
+        Leads Between text.now numbers.old.items Between rest.now numbers.new.items) }
+    ensures refused { IfErr result (λ refusal. refusal ≡ OutOfMemory) }
 {
     let mut rest = text;
     while let Some((number, taken)) = whole_number(rest) {
@@ -193,27 +223,48 @@ fn take_whole<'a>(text: &'a [u8], numbers: &mut Vec<i32>) -> Result<&'a [u8], Re
     Ok(rest)
 }
 
-// The text behind the separators that it begins with.
-fn behind_separators(text: &[u8]) -> &[u8]
-    ensures { length result.now ≤ length text.now }
+// The text after the separators that it begins with.
+fn after_separators(text: &[u8]) -> &[u8]
+    ensures shorter { length result.now ≤ length text.now }
+    ensures taken { (numbers : List ℤ) → Leads Between text.now numbers Between result.now numbers }
 {
-    let count = text
-        .iter()
-        .position(|byte| !is_separator(*byte))
-        .unwrap_or(text.len());
-    &text[count..]
+    let mut rest = text;
+    while let Some((byte, others)) = rest.split_first() {
+        if !is_separator(*byte) {
+            break;
+        }
+        rest = others;
+    }
+    rest
+}
+
+// Takes separators and whole numbers from the front of a text, where no word has begun.
+fn take_numbers<'a>(
+    place: Place,
+    text: &'a [u8],
+    numbers: &mut Vec<i32>,
+) -> Result<&'a [u8], Refusal>
+    ensures shorter { IfOk result (λ rest. length rest.now ≤ length text.now) }
+    ensures taken { IfOk result (λ rest.
+        Leads place text.now numbers.old.items place rest.now numbers.new.items) }
+    ensures refused { IfErr result (λ refusal. refusal ≡ OutOfMemory) }
+{
+    match place {
+        Place::Between => take_whole(after_separators(text), numbers),
+        _ => Ok(text),
+    }
 }
 
 // Takes bytes of the text, in order: whole numbers where it can, and else one byte.
 fn take_bytes(place: Place, bytes: &[u8], numbers: &mut Vec<i32>) -> Result<Place, Refusal>
-    ensures { result ≡ Err Refusal.TooLong → ⊥ }
+    ensures taken { IfOk result (λ later.
+        Leads place bytes.now numbers.old.items later [] numbers.new.items) }
+    ensures refused { IfErr result (λ refusal. IsTextRefusal refusal (Breaks place bytes.now)) }
 {
     let mut place = place;
     let mut rest = bytes;
     loop {
-        if let Place::Between = place {
-            rest = take_whole(behind_separators(rest), numbers)?;
-        }
+        rest = take_numbers(place, rest, numbers)?;
         let Some((byte, others)) = rest.split_first() else {
             return Ok(place);
         };
@@ -229,8 +280,10 @@ fn take_bytes(place: Place, bytes: &[u8], numbers: &mut Vec<i32>) -> Result<Plac
 /// `InputOrOutput`, and more than 4294967295 bytes of it are `TooLong`.
 pub fn read_numbers<R: io::Read>(alloc: Global, input: &mut R) -> Result<Vec<i32>, Refusal>
     ensures end { OnOk result (IsAtEnd (R.remaining input.new)) }
-    ensures long { result ≡ Err Refusal.TooLong →
-        IfSome (R.remaining input.old) (λ text. 4294967295 < length text) }
+    ensures numbers { IfOk result (λ numbers.
+        IfSome (R.remaining input.old) (λ text. SaysNumbers text numbers.items)) }
+    ensures refused { IfErr result (λ refusal.
+        IfSome (R.remaining input.old) (IsRefused refusal)) }
 {
     let mut numbers = Vec::new(alloc);
     let mut place = Place::Between;

@@ -1,0 +1,121 @@
+-- How reading leads from place to place.
+use Rattle.std.proofs.Common.{◌≡◌, ℕ, ℤ, ◌≤◌, List, [], ◌∷◌, ◌++◌, take, drop, Option, Some, None, true, IfSome, refl, ap, sym, ◌∙◌, append_assoc, arith, take-append-drop, IfErr, Result, Ok, Err, subst}
+use Rattle.std.proofs.lemmas.Grind.{common_steps}
+use Rattle.std.specs.Io.KnownBytes.{Consumes, IsAtEnd}
+use Rattle.hound_text.specs.Reading.{Breaks, Follows, Leads, before, ended, numbers_from}
+use Rattle.hound_text.specs.Text.{SaysNoNumbers, SaysNumbers, is_separator}
+use Rattle.hound_text.specs.declared.numbers.Place.{Place}
+use Rattle.hound_text.specs.declared.numbers.Place.TheVariants.{Between}
+use Rattle.std.specs.Result.{IsErrAnd}
+use Rattle.hound_text.specs.Refusals.{IsRefused, IsTextRefusal}
+use Rattle.hound_text.specs.declared.numbers.Refusal.{Refusal}
+use Rattle.hound_text.specs.declared.numbers.Refusal.TheVariants.{BadNumber, InputOrOutput, TooLong, OutOfMemory}
+use Rattle.hound_text.proofs.Saying.{said, unsaid}
+
+before_nil : (o : Option (List ℤ)) → before [] o ≡ o
+before_nil None = refl
+before_nil (Some more) = refl
+
+before-append : (ns ms : List ℤ) (o : Option (List ℤ)) → before ns (before ms o) ≡ before (ns ++ ms) o
+before-append ns ms None = refl
+before-append ns ms (Some more) = ap Some (sym (append_assoc ns ms more))
+
+before_none : (ns : List ℤ) (o : Option (List ℤ)) → before ns o ≡ None → o ≡ None
+before_none ns None e = refl
+before_none ns (Some more) e = cc
+
+-- one way after another
+pub leads_then : (p q r : Place) (xs ys zs : List ℕ) (ns ms ks : List ℤ)
+    → Leads p xs ns q ys ms → Leads q ys ms r zs ks → Leads p xs ns r zs ks
+leads_then p q r xs ys zs ns ms ks first second = λ tail. first tail ∙ second tail
+
+-- the same, where the second way is that of the front of what is left
+pub leads_front : (p q r : Place) (bytes rest xs ys : List ℕ) (ns ms ks : List ℤ)
+    → Leads p bytes ns q rest ms → rest ≡ xs ++ ys → Leads q xs ms r [] ks → Leads p bytes ns r ys ks
+leads_front p q r bytes rest xs ys ns ms ks first split second = λ tail.
+    first tail ∙ (ap (λ t. before ms (numbers_from q (t ++ tail))) split
+    ∙ (ap (λ t. before ms (numbers_from q t)) (append_assoc xs ys tail) ∙ second (ys ++ tail)))
+
+-- what breaks later breaks
+pub leads_breaks : (p q : Place) (bytes rest xs ys : List ℕ) (ns ms : List ℤ)
+    → Leads p bytes ns q rest ms → rest ≡ xs ++ ys → Breaks q xs → Breaks p bytes
+leads_breaks p q bytes rest xs ys ns ms first split breaks = λ tail.
+    before_none ns _ (first tail ∙ (ap (λ t. before ms (numbers_from q (t ++ tail))) split
+    ∙ (ap (λ t. before ms (numbers_from q t)) (append_assoc xs ys tail) ∙ ap (before ms) (breaks (ys ++ tail)))))
+
+-- numbers so far come before those that are read
+pub leads_after : (p q : Place) (xs ys : List ℕ) (ns ms : List ℤ)
+    → Leads p xs [] q ys ms → Leads p xs ns q ys (ns ++ ms)
+leads_after p q xs ys ns ms way = λ tail.
+    ap (before ns) (sym (before_nil _) ∙ way tail) ∙ before-append ns ms _
+
+-- a separator between numbers says nothing
+pub leads_separator : (b : ℕ) (bytes : List ℕ) → is_separator b ≡ true → (ns : List ℤ)
+    → Leads Between (b ∷ bytes) ns Between bytes ns
+leads_separator b bytes separator ns = λ tail.
+    rw separator (ap (before ns) (before_nil (numbers_from Between (bytes ++ tail))))
+
+-- bytes of the input are read
+pub follows_read : (old left later : Option (List ℕ)) (p q : Place) (ns ms : List ℤ) (bytes : List ℕ)
+    → Follows old left p ns → Consumes left later bytes → Leads p bytes ns q [] ms → Follows old later q ms
+follows_read None left later p q ns ms bytes follows read way = tt
+follows_read (Some text) None later p q ns ms bytes follows read way = absurd follows
+follows_read (Some text) (Some xs) None p q ns ms bytes follows read way = absurd read
+follows_read (Some text) (Some xs) (Some ys) p q ns ms bytes follows read way =
+    follows ∙ (ap (λ t. before ns (numbers_from p t)) read ∙ way ys)
+
+-- at the end of the input its numbers are those so far, and that of the word that ends there
+pub says_at_end : (old left later : Option (List ℕ)) (p : Place) (ns ms : List ℤ) (bytes : List ℕ)
+    → Follows old left p ns → Consumes left later bytes → bytes ≡ [] → IsAtEnd later
+    → before ns (ended p) ≡ Some ms → IfSome old (λ text. SaysNumbers text ms)
+says_at_end None left later p ns ms bytes follows read none end ends = tt
+says_at_end (Some text) None later p ns ms bytes follows read none end ends = absurd follows
+says_at_end (Some text) (Some xs) None p ns ms bytes follows read none end ends = absurd read
+says_at_end (Some text) (Some xs) (Some ys) p ns ms bytes follows read none end ends =
+    let empty : xs ≡ [] = read ∙ (ap (λ t. t ++ ys) none ∙ end) in
+    said text ms (follows ∙ (ap (λ t. before ns (numbers_from p t)) empty ∙ ends))
+
+-- and where none ends there the text says no numbers
+pub silent_at_end : (old left later : Option (List ℕ)) (p : Place) (ns : List ℤ) (bytes : List ℕ)
+    → Follows old left p ns → Consumes left later bytes → bytes ≡ [] → IsAtEnd later
+    → ended p ≡ None → IfSome old SaysNoNumbers
+silent_at_end None left later p ns bytes follows read none end ends = tt
+silent_at_end (Some text) None later p ns bytes follows read none end ends = absurd follows
+silent_at_end (Some text) (Some xs) None p ns bytes follows read none end ends = absurd read
+silent_at_end (Some text) (Some xs) (Some ys) p ns bytes follows read none end ends =
+    let empty : xs ≡ [] = read ∙ (ap (λ t. t ++ ys) none ∙ end) in
+    unsaid text (follows ∙ (ap (λ t. before ns (numbers_from p t)) empty ∙ ap (before ns) ends))
+
+-- bytes that break a text, and what was read with them
+pub silent_where_broken : (old left later : Option (List ℕ)) (p : Place) (ns : List ℤ) (bytes xs ys : List ℕ)
+    → Follows old left p ns → Consumes left later bytes → bytes ≡ xs ++ ys → Breaks p xs → IfSome old SaysNoNumbers
+silent_where_broken None left later p ns bytes xs ys follows read split breaks = tt
+silent_where_broken (Some text) None later p ns bytes xs ys follows read split breaks = absurd follows
+silent_where_broken (Some text) (Some us) None p ns bytes xs ys follows read split breaks = absurd read
+silent_where_broken (Some text) (Some us) (Some vs) p ns bytes xs ys follows read split breaks =
+    unsaid text (follows ∙ (ap (λ t. before ns (numbers_from p t))
+    (read ∙ (ap (λ t. t ++ vs) split ∙ append_assoc xs ys vs)) ∙ ap (before ns) (breaks (ys ++ vs))))
+
+-- a text is refused for what breaks it
+pub refused : {T : Type 0} (result : Result T Refusal) (refusal : Refusal) (breaks : Type 0) (old : Option (List ℕ))
+    → IsErrAnd result (λ e. e ≡ refusal) → IsTextRefusal refusal breaks → (breaks → IfSome old SaysNoNumbers)
+    → IfErr result (λ e. IfSome old (IsRefused e))
+refused (Ok x) refusal breaks old is text silent = tt
+refused (Err e) refusal breaks old is text silent =
+    subst (λ r. IfSome old (IsRefused r)) (sym is) (by_cause refusal old text silent)
+  where
+    always : (old : Option (List ℕ)) (P : List ℕ → Type 0) → ((text : List ℕ) → P text) → IfSome old P
+    always None P h = tt
+    always (Some text) P h = h text
+
+    by_cause : (refusal : Refusal) (old : Option (List ℕ)) → IsTextRefusal refusal breaks → (breaks → IfSome old SaysNoNumbers) → IfSome old (IsRefused refusal)
+    by_cause BadNumber old text silent = silent text
+    by_cause OutOfMemory old text silent = always old (IsRefused OutOfMemory) (λ _. tt)
+    by_cause InputOrOutput old text silent = absurd text
+    by_cause TooLong old text silent = absurd text
+
+-- a front of a front, and what is after it
+pub split_front : (n m : ℕ) (bytes : List ℕ) → n ≤ m → take m bytes ≡ take n bytes ++ drop n (take m bytes)
+split_front n m bytes within =
+    let front : take n (take m bytes) ≡ take n bytes = grind (arith, common_steps) in
+    sym (take-append-drop n (take m bytes)) ∙ ap (λ t. t ++ drop n (take m bytes)) front

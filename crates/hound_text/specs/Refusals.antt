@@ -1,0 +1,18 @@
+-- Why a text isn't taken.
+use Rattle.std.specs.Prelude.{ℕ, ◌<◌, ⊤, List, length}
+use Rattle.hound_text.specs.Text.{SaysNoNumbers}
+use Rattle.hound_text.specs.declared.numbers.Refusal.{Refusal}
+use Rattle.hound_text.specs.declared.numbers.Refusal.TheVariants.{BadNumber, InputOrOutput, TooLong, OutOfMemory}
+
+-- a refusal that the text itself has: this breaks it, or there is no memory for its numbers
+abbrev pub IsTextRefusal : Refusal → Type 0 → Type 0
+IsTextRefusal BadNumber breaks = breaks
+IsTextRefusal OutOfMemory breaks = ⊤
+IsTextRefusal _ breaks = ⊥
+
+-- why an input with this text is refused; a fault of the input or too little memory may come at any time
+abbrev pub IsRefused : Refusal → List ℕ → Type 0
+IsRefused BadNumber text = SaysNoNumbers text
+IsRefused TooLong text = 4294967295 < length text
+IsRefused InputOrOutput text = ⊤
+IsRefused OutOfMemory text = ⊤
