@@ -4,6 +4,7 @@ ghost use Rattle.hound.specs.Batch.{IsSameFile};
 ghost use Rattle.hound.specs.Container.{containers};
 ghost use Rattle.hound.specs.Containers.{AreContainers};
 ghost use Rattle.hound.specs.Header.{canonical};
+ghost use Rattle.hound.specs.Many.{containers_in};
 ghost use Rattle.hound.specs.Publishing.{ReadsAs};
 ghost use Rattle.hound.specs.Reader.{samples_left};
 ghost use Rattle.hound.specs.Refusals.{OpensAs};
@@ -37,6 +38,30 @@ pub fn record_checkpoint<S: Sample, M: Medium>(
         × IsWhole M.state writer.new × (accepted_samples M.state writer.new ≡ accepted_samples M.state writer.old ++ (container ∷ [])))) }
 {
     writer.write_sample(sample)?;
+    writer.flush()
+}
+
+// How many samples are written by one call.
+const BLOCK: usize = 1024;
+
+/// Writes samples by blocks and publishes them: the file is then read as the samples before and all
+/// of these.
+pub fn record_blocks<S: Sample + Copy, M: Medium>(
+    writer: &mut WavWriter<M>,
+    samples: &[S],
+) -> hound::Result<()>
+    ensures { WhereTells M.tells (IsWhole M.state writer.old → OnOk result (
+        let s = writer.old.spec_ex in (list : List (List ℕ))
+        × (containers_in S.container s samples.now ≡ Ok list)
+        × ReadsAs s writer.old.data_start (accepted_samples M.state writer.old ++ list) (M.state writer.new.medium).contents
+        × IsWhole M.state writer.new × (accepted_samples M.state writer.new ≡ accepted_samples M.state writer.old ++ list))) }
+{
+    let mut done = 0;
+    while done < samples.len() {
+        let count = BLOCK.min(samples.len() - done);
+        writer.write_samples(&samples[done..done + count])?;
+        done += count;
+    }
     writer.flush()
 }
 

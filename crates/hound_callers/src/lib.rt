@@ -7,7 +7,9 @@ mod either;
 mod example;
 mod twelve;
 
-pub use callers::{convert, give_up_batch, open_written, publish, record_checkpoint};
+pub use callers::{
+    convert, give_up_batch, open_written, publish, record_blocks, record_checkpoint,
+};
 pub use either::EitherSample;
 pub use example::record_and_read;
 pub use twelve::Twelve;
