@@ -1,11 +1,12 @@
 -- A run goes on by one step.
-use Rattle.std.proofs.Common.{◌≡◌, ℕ, zero, suc, ◌+◌, ◌<◌, List, [], ◌∷◌, ◌++◌, length, get_or, set, take, drop, replicate, map, Bool, Result, Ok, Err, refl, sym, ◌∙◌, ap, subst, arith, append_assoc, length-append, take-append-drop}
+use Rattle.std.proofs.Common.{◌≡◌, ℕ, ℤ, zero, suc, ◌+◌, ◌<◌, List, [], ◌∷◌, ◌++◌, length, get_or, set, take, drop, replicate, map, Bool, Result, Ok, Err, refl, sym, ◌∙◌, ap, subst, arith, append_assoc, length-append, take-append-drop}
 use Rattle.std.proofs.lemmas.List.{take_more, take_more_set}
 use Rattle.hound_spec.specs.declared.error.Error.{Error}
 use Rattle.hound_medium.specs.State.{MediumState}
 use Rattle.hound_writer.specs.Answers.{mark_of}
 use Rattle.hound_writer.specs.Writer.{WriterState}
 use Rattle.hound.specs.declared.session.Step.{Step}
+use Rattle.hound.specs.declared.session.Step.TheVariants.{Whole}
 use Rattle.hound.specs.Run.{Takes, Runs}
 use Rattle.hound.specs.Sessions.{RunsOk, StopsIn}
 
@@ -109,3 +110,12 @@ module _ {M : Type 0} (tells keeps : Bool) (state : M → MediumState) where
     runs = runs;
     takes = subst (λ r. Takes tells keeps state (get_or steps i d) r b c) is takes;
   }
+
+-- an integer that was written is its step taken
+pub whole_taken : {M : Type 0} (tells keeps : Bool) (state : M → MediumState) (step : Step)
+    (value same : ℤ) (answer : Result (Unit {0}) Error) (old new : WriterState M)
+    → step ≡ Whole value → same ≡ value → Takes tells keeps state (Whole same) answer old new
+    → Takes tells keeps state step answer old new
+whole_taken tells keeps state step value same answer old new is back takes =
+    subst (λ s. Takes tells keeps state s answer old new) (sym is)
+    (subst (λ v. Takes tells keeps state (Whole v) answer old new) back takes)

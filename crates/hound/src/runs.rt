@@ -13,7 +13,7 @@ ghost use Rattle.hound.specs.Run.{Begins, IsNotBegun, Runs, Ran, Ends, IsSession
 ghost use Rattle.hound.specs.Steps.{accepted_by_all};
 
 use crate::session::{Begin, End, Step};
-use crate::steps::take_step;
+use crate::steps::{take_step, write_whole};
 use hound_medium::{Medium, Source};
 use hound_spec::{Error, Result};
 use hound_writer::WavWriter;
@@ -21,6 +21,7 @@ use std::alloc::Global;
 use std::result;
 
 // Whether a sample or batch was accepted, or all was published.
+#[inline(always)]
 fn is_marked(answer: &Result<()>) -> bool
     ensures { result ≡ mark_of answer.now }
 {
@@ -59,6 +60,10 @@ fn take_steps<M: Medium>(
         × Runs M.tells M.keeps M.state steps.now answers cuts writer.old writer.new }
 {
     for i in 0..steps.len() {
+        if let Step::Whole(value) = steps[i] {
+            marks[i] = is_marked(&write_whole(writer, value));
+            continue;
+        }
         let answer = take_step(alloc, writer, steps[i]);
         marks[i] = is_marked(&answer);
     }

@@ -11,7 +11,7 @@ ghost use Rattle.hound.specs.Steps.{containers_of};
 
 use crate::runs::begin_writer;
 use crate::session::{Begin, Step};
-use crate::steps::take_step;
+use crate::steps::{take_step, write_whole};
 use hound_medium::{Medium, Source};
 use hound_spec::{Error, Result, WavSpecEx};
 use hound_writer::WavWriter;
@@ -28,6 +28,12 @@ fn take_until_error<M: Medium>(
         (λ e. StopsIn M.tells M.keeps M.state steps.now e writer.old writer.new) }
 {
     for i in 0..steps.len() {
+        if let Step::Whole(value) = steps[i] {
+            match write_whole(writer, value) {
+                Ok(()) => continue,
+                Err(error) => return Err(error),
+            }
+        }
         match take_step(alloc, writer, steps[i]) {
             Ok(()) => {}
             Err(error) => return Err(error),

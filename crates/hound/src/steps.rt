@@ -1,6 +1,7 @@
 // Steps taken with a writer.
 ghost use Rattle.std.specs.Prelude.{◌≡◌, ◌*◌, ◌≤◌, length};
 ghost use Rattle.hound_writer.specs.Accepting.{Accepts};
+ghost use Rattle.hound.specs.declared.session.Step.TheVariants.{Whole};
 ghost use Rattle.hound.specs.Run.{Takes};
 ghost use Rattle.hound.specs.Steps.{OnBatched, is_sixteen, batch_containers, wants_memory};
 
@@ -39,7 +40,17 @@ fn write_batch<M: Medium>(alloc: Global, writer: &mut WavWriter<M>, values: &[i1
     batch.flush()
 }
 
-/// Takes a step.
+/// Writes an integer, as its step does.
+#[inline(always)]
+pub(crate) fn write_whole<M: Medium>(writer: &mut WavWriter<M>, value: i32) -> Result<()>
+    ensures { Takes M.tells M.keeps M.state (Whole value) result writer.old writer.new }
+{
+    writer.write_sample(value)
+}
+
+/// Takes a step. The loops over steps look for integers first, so that no call is made for these.
+#[cold]
+#[inline(never)]
 pub(crate) fn take_step<M: Medium>(
     alloc: Global,
     writer: &mut WavWriter<M>,
@@ -48,7 +59,7 @@ pub(crate) fn take_step<M: Medium>(
     ensures { Takes M.tells M.keeps M.state step.entry result writer.old writer.new }
 {
     match step {
-        Step::Whole(value) => writer.write_sample(value),
+        Step::Whole(value) => write_whole(writer, value),
         Step::Bits(bits) => writer.write_sample(bits),
         Step::Batch(values) => write_batch(alloc, writer, values),
         Step::Flush => writer.flush(),
