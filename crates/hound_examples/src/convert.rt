@@ -40,12 +40,20 @@ pub fn convert<O: io::Write>(
     };
     let mut writer = WavWriter::create(rt, rt.alloc(), Path::new(to), new)?;
     let mut clipped = 0u32;
-    for sample in reader.samples::<i32>() {
-        let (sample, is_clipped) = fitted(sample?, old_shift, new_shift);
-        if is_clipped {
-            clipped = clipped.saturating_add(1);
+    let mut block = [0i32; 4096];
+    for _ in 0..u64::MAX {
+        let count = reader.read_samples(&mut block)?;
+        if count == 0 {
+            break;
         }
-        writer.write_sample(sample)?;
+        for sample in &mut block[..count] {
+            let (value, is_clipped) = fitted(*sample, old_shift, new_shift);
+            *sample = value;
+            if is_clipped {
+                clipped = clipped.saturating_add(1);
+            }
+        }
+        writer.write_samples(&block[..count])?;
     }
     writer.finalize()?;
     writeln!(output, "{clipped} samples clipped")?;

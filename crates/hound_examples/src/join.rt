@@ -33,18 +33,23 @@ fn append(rt: &HostRuntime, to: Path<'_>, part: Path<'_>) -> hound::Result<()> {
     let mut reader = WavReader::open(rt, rt.alloc(), part)?;
     let mut writer = WavWriter::append(rt, rt.alloc(), to)?;
     match reader.spec().sample_format {
-        SampleFormat::Int => copy::<i32, _, _>(&mut reader, &mut writer)?,
-        SampleFormat::Float => copy::<FloatBits, _, _>(&mut reader, &mut writer)?,
+        SampleFormat::Int => copy(&mut reader, &mut writer, &mut [0i32; 4096])?,
+        SampleFormat::Float => copy(&mut reader, &mut writer, &mut [FloatBits(0); 4096])?,
     }
     writer.finalize()
 }
 
-fn copy<S: Sample, R: io::Read + Drop, W: Medium>(
+// Copies as many samples a call as the block has.
+fn copy<S: Sample + Copy, R: io::Read + Drop, W: Medium>(
     reader: &mut WavReader<R>,
     writer: &mut WavWriter<W>,
+    block: &mut [S],
 ) -> hound::Result<()> {
-    for sample in reader.samples::<S>() {
-        writer.write_sample(sample?)?;
+    for _ in 0..u64::MAX {
+        match reader.read_samples(block)? {
+            0 => break,
+            count => writer.write_samples(&block[..count])?,
+        }
     }
     Ok(())
 }

@@ -1,9 +1,9 @@
 // How loud a file is, tenth by tenth of a second: `levels FILE`.
 //
-// `seek` leads to the first frame of each tenth. Its peak and its mean square, both as parts of the
-// greatest that there can be, are written and drawn as bars.
+// `seek` leads to the first frame of each tenth, and one call reads it. Its peak and its mean square,
+// both as parts of the greatest that there can be, are written and drawn as bars.
 use crate::failure::Failure;
-use hound::{Source, WavReader};
+use hound::WavReader;
 use std::io;
 use std::num::saturating_f64_to_usize;
 use std::path::Path;
@@ -22,11 +22,15 @@ pub fn levels<O: io::Write>(
     output: &mut O,
 ) -> Result<(), Failure> {
     let mut reader = WavReader::open(rt, rt.alloc(), path)?;
-    let rate = reader.spec().sample_rate;
-    let tenth = (rate / 10).max(1);
-    for frame in (0..reader.duration()).step_by(tenth as usize) {
+    let spec = reader.spec();
+    let rate = spec.sample_rate;
+    let tenth = (rate / 10).max(1) as usize;
+    let most = (tenth * spec.channels as usize).min(reader.len() as usize);
+    let mut samples = vec![in rt.alloc(); 0i32; most]?;
+    for frame in (0..reader.duration()).step_by(tenth) {
         reader.seek(frame)?;
-        let Level { peak, mean_square } = level_of(&mut reader, tenth)?;
+        let count = reader.read_samples(&mut samples)?;
+        let Level { peak, mean_square } = level_of(&samples[..count], spec.bits_per_sample);
         let seconds = f64::from(frame) / f64::from(rate);
         write!(output, "{seconds:.1} s  peak {peak:.6} ")?;
         draw(peak, output)?;
@@ -37,26 +41,22 @@ pub fn levels<O: io::Write>(
     Ok(())
 }
 
-// How loud the next frames are, so many of them or as many as there are.
-fn level_of<R: Source>(reader: &mut WavReader<R>, frames: u32) -> hound::Result<Level> {
-    let spec = reader.spec();
-    let full = 2f64.powi(i32::from(spec.bits_per_sample) - 1);
+// How loud samples of so many bits are.
+fn level_of(samples: &[i32], bits: u16) -> Level {
+    let full = 2f64.powi(i32::from(bits) - 1);
     let mut peak = 0f64;
     let mut squares = 0f64;
     let mut count = 0f64;
-    for sample in reader
-        .samples::<i32>()
-        .take(frames as usize * spec.channels as usize)
-    {
-        let part = f64::from(sample?) / full;
+    for sample in samples {
+        let part = f64::from(*sample) / full;
         peak = peak.max(part.abs());
         squares += part * part;
         count += 1.0;
     }
-    Ok(Level {
+    Level {
         peak,
         mean_square: squares / count,
-    })
+    }
 }
 
 // Draws a bar for a part of 1.
