@@ -9,10 +9,16 @@ pub fn record_and_read(rt: &HostRuntime, path: Path<'_>, spec: WavSpec) -> hound
         writer.write_sample(sample)?;
     }
     writer.flush()?; // A reader finds these 4800 now, whatever becomes of the writer.
-    writer.write_sample(-1i16)?;
+    writer.write_samples(&[-1i16, 1, -1])?; // All three, or none.
     writer.finalize()?;
+    let mut reader = WavReader::open(rt, rt.alloc(), path)?;
+    let mut block = [0i16; 4096];
+    reader.read_samples(&mut block)?; // The first 4096 by one call, the others one by one.
     let mut sum = 0i64;
-    for sample in WavReader::open(rt, rt.alloc(), path)?.into_samples::<i16>() {
+    for sample in &block {
+        sum = sum.wrapping_add(*sample as i64);
+    }
+    for sample in reader.into_samples::<i16>() {
         sum = sum.wrapping_add(sample? as i64);
     }
     Ok(sum)
