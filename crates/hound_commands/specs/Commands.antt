@@ -1,25 +1,33 @@
 -- What the commands do to their output.
-use Rattle.std.specs.Prelude.{◌≡◌, ℕ, ℤ, ◌≤◌, ◌⊎◌, ⊤, List, [], ◌∷◌, Option, codes}
+use Rattle.std.specs.Prelude.{◌≡◌, ℕ, ℤ, ◌≤◌, ◌⊎◌, ⊤, IfSome, List, [], ◌∷◌, Option, codes}
 use Rattle.std.specs.Borrow.{Bor}
 use Rattle.std.specs.Str.Parse.{IsNumeral, digits_value}
 use Rattle.hound.specs.declared.SampleFormat.TheVariants.{Int}
 use Rattle.hound.specs.declared.WavSpec.{WavSpec}
 use Rattle.std.specs.Io.KnownBytes.{Appends}
 use Rattle.hound.specs.declared.WavSpecEx.{WavSpecEx}
+use Rattle.hound.specs.declared.Error.TheVariants.{OutOfMemory}
+use Rattle.hound_text.specs.Text.{SaysNoNumbers, SaysNumbers}
 use Rattle.hound_commands.specs.Packing.{IsPacked, IsPackFailure}
 use Rattle.hound_commands.specs.declared.failure.Failure.{Failure}
 use Rattle.hound_commands.specs.declared.failure.Failure.TheVariants.{BadNumber, InputOrOutput, Refused}
 
--- the output got the file of some numbers, and no other byte
-abbrev pub Packs : WavSpecEx → Option (List ℕ) → Option (List ℕ) → Type 0
-Packs s old new =
-    (numbers : List ℤ) × (file : List ℕ) × IsPacked s numbers file × Appends old new file
+-- the text of an input, where it is known, says these numbers
+abbrev pub AreNumbersOf : Option (List ℕ) → List ℤ → Type 0
+AreNumbersOf input numbers = IfSome input (λ text. SaysNumbers text numbers)
 
--- why `pack` fails: the text is no list of numbers, or its numbers can't be packed
-abbrev pub IsNotPacked : WavSpecEx → Failure → Type 0
-IsNotPacked s BadNumber = ⊤
-IsNotPacked s InputOrOutput = ⊤
-IsNotPacked s (Refused e) = (numbers : List ℤ) × IsPackFailure s numbers (Refused e)
+-- the output got the file of the numbers that the input's text says, and no other byte
+abbrev pub Packs : WavSpecEx → Option (List ℕ) → Option (List ℕ) → Option (List ℕ) → Type 0
+Packs s input old new =
+    (numbers : List ℤ) × (file : List ℕ) × AreNumbersOf input numbers × IsPacked s numbers file
+    × Appends old new file
+
+-- why `pack` fails: the input's text says no numbers, its numbers can't be packed, or there is no memory
+abbrev pub IsNotPacked : WavSpecEx → Option (List ℕ) → Failure → Type 0
+IsNotPacked s input BadNumber = IfSome input SaysNoNumbers
+IsNotPacked s input InputOrOutput = ⊤
+IsNotPacked s input (Refused e) =
+    (e ≡ OutOfMemory) ⊎ ((numbers : List ℤ) × AreNumbersOf input numbers × IsPackFailure s numbers (Refused e))
 
 -- These words are digits alone, within range, and say this spec.
 pub record SaySpec (channels rate bits : List ℕ) (spec : WavSpec) : Type 0 where

@@ -41,7 +41,8 @@ pub fn run<R: io::Read, O: io::Write, E: io::Write>(
     ensures usage { result ≡ 2 ↔ (IsCommand words.now → ⊥) }
     ensures success { result ≡ 0 → IsShowCommand words.now
         ⊎ ((spec : WavSpec) × IsPackCommand words.now spec
-        × Packs (with_default_width spec) (O.contents output.old) (O.contents output.new)) }
+        × Packs (with_default_width spec) (R.remaining input.old) (O.contents output.old)
+        (O.contents output.new)) }
     ensures kept { result ≡ 2 → output.new ≡ output.old }
 {
     let result = match words {
@@ -123,9 +124,10 @@ fn pack<R: io::Read, O: io::Write>(
     output: &mut O,
 ) -> Result<(), Failure>
     requires integers { spec.sample_format ≡ Int }
-    ensures packed { OnOk result (Packs (with_default_width spec) (O.contents output.old)
-        (O.contents output.new)) }
-    ensures refused { IfErr result (IsNotPacked (with_default_width spec)) }
+    ensures packed { OnOk result (Packs (with_default_width spec) (R.remaining input.old)
+        (O.contents output.old) (O.contents output.new)) }
+    ensures refused { IfErr result (IsNotPacked (with_default_width spec)
+        (R.remaining input.old)) }
     ensures kept { IfErr result (λ failure. (failure ≡ InputOrOutput → ⊥) →
         output.new ≡ output.old) }
 {
