@@ -1,5 +1,5 @@
 -- Words of bytes, the first one lowest: what holds of each byte holds of the word.
-use Rattle.std.proofs.Common.{◌≡◌, ℕ, zero, suc, ◌+◌, ◌*◌, ◌/◌, ◌%◌, ◌^◌, ◌<◌, ◌≤◌, Bool, true, false, cond, ◌&&◌, nat_lt, List, [], ◌∷◌, length, map, replicate, refl, ap, sym, ◌∙◌, subst, arith, eqb}
+use Rattle.std.proofs.Common.{◌≡◌, ℕ, zero, suc, ◌+◌, ◌*◌, ◌/◌, ◌%◌, ◌^◌, ◌<◌, ◌≤◌, Bool, true, false, cond, ◌&&◌, not, nat_lt, List, [], ◌∷◌, length, map, replicate, refl, ap, sym, ◌∙◌, subst, arith, eqb}
 use Rattle.std.proofs.lemmas.Bool.Decides.{nat_tests}
 use Rattle.std.proofs.lemmas.Nat.{and_block, or_block, or_lt, xor_block, mod-mul-add, div-add-mod', mod_below}
 use Rattle.std.proofs.Math.Nat.{mul_comm, mul_assoc}
@@ -33,6 +33,12 @@ every test (suc n) = test n && every test n
 
 pub same_by : (a b : ℕ) → eqb a b ≡ true → a ≡ b
 same_by a b h = grind (arith, nat_tests)
+
+pub same_bools : (a b : Bool) → cond a b (not b) ≡ true → a ≡ b
+same_bools true true h = refl
+same_bools true false h = cc
+same_bools false true h = cc
+same_bools false false h = refl
 
 both : (a b : Bool) → a && b ≡ true → (a ≡ true) × (b ≡ true)
 both true b h = (refl, h)
@@ -70,21 +76,21 @@ xor_bytes key small (b ∷ bytes) all =
 
 -- ---- zeros at the end
 
-step_even : (k n : ℕ) → count_trailing_zeros (suc k) (n * 2) ≡ suc (count_trailing_zeros k n)
+pub step_even : (k n : ℕ) → count_trailing_zeros (suc k) (n * 2) ≡ suc (count_trailing_zeros k n)
 unfolding count_trailing_zeros
 step_even k n =
     let r : n * 2 % 2 ≡ 0 = omega arith in
     let q : n * 2 / 2 ≡ n = omega arith in
     ap (λ d. under d (count_trailing_zeros k (n * 2 / 2))) r ∙ ap (λ m. suc (count_trailing_zeros k m)) q
 
-step_odd : (k n : ℕ) → count_trailing_zeros (suc k) (n * 2 + 1) ≡ 0
+pub step_odd : (k n : ℕ) → count_trailing_zeros (suc k) (n * 2 + 1) ≡ 0
 unfolding count_trailing_zeros
 step_odd k n =
     let r : (n * 2 + 1) % 2 ≡ 1 = omega arith in
     ap (λ d. under d (count_trailing_zeros k ((n * 2 + 1) / 2))) r
 
 -- a byte that is zero, and one whose high bit alone is set
-zeros_more : (k n : ℕ) → count_trailing_zeros (suc (suc (suc (suc (suc (suc (suc (suc k)))))))) (n * 256)
+pub zeros_more : (k n : ℕ) → count_trailing_zeros (suc (suc (suc (suc (suc (suc (suc (suc k)))))))) (n * 256)
     ≡ suc (suc (suc (suc (suc (suc (suc (suc (count_trailing_zeros k n))))))))
 zeros_more k n =
     let e : n * 256 ≡ n * 2 * 2 * 2 * 2 * 2 * 2 * 2 * 2 = omega arith in

@@ -14,7 +14,7 @@ use Rattle.std.specs.List.{prefix_len}
 use Rattle.std.specs.Simd.Lanes.{number_l}
 use Rattle.std.specs.Str.Parse.{AllDigits, digits_value, digits_value_after}
 use Rattle.hound_text.specs.Reading.{is_digit}
-use Rattle.hound_text.proofs.Bytes.{AreBytes, bits_of, every_holds, flags_count, number-lt, places, same_by, places_some, xor_bytes}
+use Rattle.hound_text.proofs.Bytes.{AreBytes, bits_of, every_holds, flags_count, number-lt, places, same_bools, same_by, places_some, xor_bytes}
 
 -- ---- a byte of text, and what is left of it where that of `0` is taken from it by `xor`
 
@@ -23,12 +23,6 @@ record IsValue (b : ℕ) : Type 0 where
   byte : bit_xor b 48 < 256
   same : nat_lt (bit_xor b 48) 10 ≡ is_digit b
   digit : is_digit b ≡ true → (digit_value b < 10) × (digit_value b ≡ bit_xor b 48)
-
-same_bools : (a b : Bool) → cond a b (not b) ≡ true → a ≡ b
-same_bools true true h = refl
-same_bools true false h = cc
-same_bools false true h = cc
-same_bools false false h = refl
 
 below_by : (a b : ℕ) → nat_lt a b ≡ true → a < b
 below_by a b h = grind (arith, nat_tests)

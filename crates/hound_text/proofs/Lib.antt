@@ -1,6 +1,9 @@
 pub mod Bytes
+pub mod Decimals
 pub mod Eights
 pub mod Fronts
 pub mod Growing
+pub mod Lanes
 pub mod Leading
+pub mod Placing
 pub mod Saying

@@ -1,10 +1,12 @@
 // Digits, eight at a time in one word: a byte each, the first one lowest.
-ghost use Rattle.std.specs.Prelude.{◌≡◌, ◌≤◌, ℕ, List, length, take};
+ghost use Rattle.std.specs.Prelude.{◌≡◌, ◌<◌, ◌≤◌, ℕ, ◌/◌, ◌%◌, List, [], ◌∷◌, false, length, map, take};
+ghost use Rattle.std.specs.Fmt.{digit_glyph};
 ghost use Rattle.std.specs.Int.Digits.{AllBelowBase, number_from_digits};
 ghost use Rattle.std.specs.List.{prefix_len};
 ghost use Rattle.std.specs.Simd.Lanes.{number_l};
 ghost use Rattle.std.specs.Str.Parse.{AllDigits, digits_value};
 ghost use Rattle.hound_text.specs.Reading.{is_digit};
+ghost use Rattle.hound_text.specs.Writing.{is_zero, padded_digits};
 
 // The text of eight zeros.
 const ZEROS: u64 = 0x3030_3030_3030_3030;
@@ -56,27 +58,80 @@ fn number_of(digits: u64) -> u64
 /// The text of the eight digits of a number below 100000000, and how many zeros it begins with.
 #[inline(always)]
 pub fn decimal_text(number: u32) -> (u64, u32)
-    ensures { result.1 ≤ 8 }
+    requires { number < 100000000 }
+    ensures text { result.0 ≡ number_l 256 (padded_digits 10 8 number) }
+    ensures zeros { result.1 ≡ prefix_len is_zero (padded_digits 10 8 number) }
 {
-    // Two numbers of four digits, then four of two, then eight of one. A quotient by 100 or by 10
-    // is a product and a shift.
-    let fours = ((number / 10_000) as u64) | (((number % 10_000) as u64) << 32);
+    // Two numbers of four digits, then four of two, then eight of one.
+    let fours = (number / 10_000) as u64 + (((number % 10_000) as u64) << 32);
+    let digits = split_tens(split_hundreds(fours));
+    (digits.wrapping_add(ZEROS), digits.trailing_zeros() / 8)
+}
+
+// Four numbers of two digits, of two of four. A quotient by 100 or by 10 is a product and a shift.
+#[inline(always)]
+fn split_hundreds(fours: u64) -> u64
+    ensures { (a b : ℕ) → a < 10000 → b < 10000 → fours ≡ number_l 4294967296 (a ∷ b ∷ []) →
+        result ≡ number_l 65536 (a / 100 ∷ a % 100 ∷ b / 100 ∷ b % 100 ∷ []) }
+{
     let hundreds = (fours.wrapping_mul(10_486) >> 20) & 0x0000_007f_0000_007f;
-    let pairs = hundreds | (fours.wrapping_sub(hundreds.wrapping_mul(100)) << 16);
+    let rests = fours.wrapping_sub(hundreds.wrapping_mul(100));
+    hundreds.wrapping_add(rests << 16)
+}
+
+// Eight digits, of four numbers of two.
+#[inline(always)]
+fn split_tens(pairs: u64) -> u64
+    ensures { (a b c d : ℕ) → a < 100 → b < 100 → c < 100 → d < 100 →
+        pairs ≡ number_l 65536 (a ∷ b ∷ c ∷ d ∷ []) →
+        result ≡ number_l 256 (a / 10 ∷ a % 10 ∷ b / 10 ∷ b % 10 ∷ c / 10 ∷ c % 10 ∷ d / 10
+        ∷ d % 10 ∷ []) }
+{
     let tens = (pairs.wrapping_mul(103) >> 10) & 0x000f_000f_000f_000f;
-    let digits = tens | (pairs.wrapping_sub(tens.wrapping_mul(10)) << 8);
-    (digits | ZEROS, digits.trailing_zeros() / 8)
+    let ones = pairs.wrapping_sub(tens.wrapping_mul(10));
+    tens.wrapping_add(ones << 8)
 }
 
 /// The text of the eight digits of a number in base 16.
 #[inline(always)]
-pub fn hexadecimal_text(number: u32) -> u64 {
+pub fn hexadecimal_text(number: u32) -> u64
+    ensures { result ≡ number_l 256 (padded_digits 16 8 number) }
+{
     // Two numbers of four digits, then four of two, then eight of one.
-    let fours = ((number >> 16) as u64) | (((number & 0xffff) as u64) << 32);
-    let pairs = ((fours >> 8) & 0x0000_00ff_0000_00ff) | ((fours & 0x0000_00ff_0000_00ff) << 16);
-    let digits = ((pairs >> 4) & 0x000f_000f_000f_000f) | ((pairs & 0x000f_000f_000f_000f) << 8);
+    let fours = (number >> 16) as u64 + (((number & 0xffff) as u64) << 32);
+    glyphs_of(split_nibbles(split_bytes(fours)))
+}
 
-    // The letter of a digit above 9 stands 39 places behind where the row of digits would go on.
+// Four bytes, of two numbers of sixteen bits, the high one first.
+#[inline(always)]
+fn split_bytes(fours: u64) -> u64
+    ensures { (a b : ℕ) → a < 65536 → b < 65536 → fours ≡ number_l 4294967296 (a ∷ b ∷ []) →
+        result ≡ number_l 65536 (a / 256 ∷ a % 256 ∷ b / 256 ∷ b % 256 ∷ []) }
+{
+    let high = (fours >> 8) & 0x0000_00ff_0000_00ff;
+    high.wrapping_add((fours & 0x0000_00ff_0000_00ff) << 16)
+}
+
+// Eight digits in base 16, of four bytes.
+#[inline(always)]
+fn split_nibbles(pairs: u64) -> u64
+    ensures { (a b c d : ℕ) → a < 256 → b < 256 → c < 256 → d < 256 →
+        pairs ≡ number_l 65536 (a ∷ b ∷ c ∷ d ∷ []) →
+        result ≡ number_l 256 (a / 16 ∷ a % 16 ∷ b / 16 ∷ b % 16 ∷ c / 16 ∷ c % 16 ∷ d / 16
+        ∷ d % 16 ∷ []) }
+{
+    let high = (pairs >> 4) & 0x000f_000f_000f_000f;
+    high.wrapping_add((pairs & 0x000f_000f_000f_000f) << 8)
+}
+
+// The text of eight digits in base 16.
+#[inline(always)]
+fn glyphs_of(digits: u64) -> u64
+    ensures { (a b c d e f g h : ℕ) → AllBelowBase 16 (a ∷ b ∷ c ∷ d ∷ e ∷ f ∷ g ∷ h ∷ []) →
+        digits ≡ number_l 256 (a ∷ b ∷ c ∷ d ∷ e ∷ f ∷ g ∷ h ∷ []) →
+        result ≡ number_l 256 (map (digit_glyph false) (a ∷ b ∷ c ∷ d ∷ e ∷ f ∷ g ∷ h ∷ [])) }
+{
+    // The letter of a digit above 9 comes 39 places after where the row of digits would continue.
     let letters = (digits.wrapping_add(0x0606_0606_0606_0606) >> 4) & 0x0101_0101_0101_0101;
     digits
         .wrapping_add(letters.wrapping_mul(39))

@@ -1,5 +1,8 @@
 // Lines of numbers, buffered for the output.
-ghost use Rattle.std.specs.Prelude.{◌≡◌, ◌+◌, ◌≤◌, IsTrue, [], ◌++◌, length, OnOk};
+ghost use Rattle.std.specs.Prelude.{◌≡◌, ◌+◌, ◌≤◌, ℕ, IsTrue, List, [], ◌++◌, decimal, drop, length, take, OnOk};
+ghost use Rattle.std.specs.Int.Digits.{AllBelowBase};
+ghost use Rattle.std.specs.Simd.Lanes.{number_l};
+ghost use Rattle.hound_text.specs.Writing.{integer_line, pattern_line};
 ghost use Rattle.std.specs.Io.KnownBytes.{Appends};
 
 use crate::eight::{decimal_text, hexadecimal_text};
@@ -48,20 +51,12 @@ impl Lines {
     #[inline(always)]
     pub fn push_integer(&mut self, number: i32)
         requires { length self.old + 24 ≤ 16384 }
+        ensures { self.new ≡ self.old ++ integer_line number }
     {
         let start = self.length;
         self.bytes[start] = b'-';
         let at = start + (number < 0) as usize;
-        let magnitude = number.unsigned_abs();
-        let end = if magnitude < 100_000_000 {
-            let (text, zeros) = decimal_text(magnitude);
-            self.put_text(at, text, zeros.min(7))
-        } else {
-            let (high, zeros) = decimal_text(magnitude / 100_000_000);
-            let (low, _) = decimal_text(magnitude % 100_000_000);
-            let at = self.put_text(at, high, zeros);
-            self.put_text(at, low, 0)
-        };
+        let end = put_magnitude(&mut self.bytes, at, number.unsigned_abs());
         self.bytes[end] = b'\n';
         self.length = end + 1;
     }
@@ -70,8 +65,9 @@ impl Lines {
     #[inline(always)]
     pub fn push_pattern(&mut self, pattern: u32)
         requires { length self.old + 24 ≤ 16384 }
+        ensures { self.new ≡ self.old ++ pattern_line pattern }
     {
-        let end = self.put_text(self.length, hexadecimal_text(pattern), 0);
+        let end = put_text(&mut self.bytes, self.length, hexadecimal_text(pattern), 0);
         self.bytes[end] = b'\n';
         self.length = end + 1;
     }
@@ -85,25 +81,45 @@ impl Lines {
         self.length = 0;
         output.write_all(&self.bytes[..length])
     }
+}
 
-    // Puts a text of eight bytes from a place on, but for so many at its beginning, and gives the
-    // place behind it.
-    #[inline(always)]
-    fn put_text(&mut self, at: usize, text: u64, without: u32) -> usize
-        requires place { at + 8 ≤ 16384 }
-        requires without { without ≤ 8 }
-        ensures { result + without ≡ at + 8 }
-    {
-        let shifted = text.checked_shr(8 * without).unwrap_or(0);
-        let [a, b, c, d, e, f, g, h] = shifted.to_le_bytes();
-        self.bytes[at] = a;
-        self.bytes[at + 1] = b;
-        self.bytes[at + 2] = c;
-        self.bytes[at + 3] = d;
-        self.bytes[at + 4] = e;
-        self.bytes[at + 5] = f;
-        self.bytes[at + 6] = g;
-        self.bytes[at + 7] = h;
-        at + 8 - without as usize
+// Puts the digits of a number from a place on, and gives the place after them.
+#[inline(always)]
+fn put_magnitude(bytes: &mut [u8; 16384], at: usize, magnitude: u32) -> usize
+    requires { at + 16 ≤ 16384 }
+    ensures place { result ≤ at + 16 }
+    ensures put { take result bytes.new ≡ take at bytes.old ++ decimal magnitude }
+{
+    if magnitude < 100_000_000 {
+        let (text, zeros) = decimal_text(magnitude);
+        return put_text(bytes, at, text, zeros.min(7));
     }
+    let (high, zeros) = decimal_text(magnitude / 100_000_000);
+    let (low, _) = decimal_text(magnitude % 100_000_000);
+    let middle = put_text(bytes, at, high, zeros);
+    put_text(bytes, middle, low, 0)
+}
+
+// Puts a text of eight bytes from a place on, but for so many at its beginning, and gives the
+// place after it.
+#[inline(always)]
+fn put_text(bytes: &mut [u8; 16384], at: usize, text: u64, without: u32) -> usize
+    requires place { at + 8 ≤ 16384 }
+    requires without { without ≤ 8 }
+    ensures place { result + without ≡ at + 8 }
+    ensures put { (list : List ℕ) → length list ≡ 8 → AllBelowBase 256 list →
+        text ≡ number_l 256 list →
+        take result bytes.new ≡ take at bytes.old ++ drop without list }
+{
+    let shifted = text.checked_shr(8 * without).unwrap_or(0);
+    let [a, b, c, d, e, f, g, h] = shifted.to_le_bytes();
+    bytes[at] = a;
+    bytes[at + 1] = b;
+    bytes[at + 2] = c;
+    bytes[at + 3] = d;
+    bytes[at + 4] = e;
+    bytes[at + 5] = f;
+    bytes[at + 6] = g;
+    bytes[at + 7] = h;
+    at + 8 - without as usize
 }
