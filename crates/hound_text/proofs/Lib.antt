@@ -2,6 +2,7 @@ pub mod Bytes
 pub mod Decimals
 pub mod Eights
 pub mod Fronts
+pub mod Giving
 pub mod Growing
 pub mod Lanes
 pub mod Leading

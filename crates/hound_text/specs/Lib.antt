@@ -1,3 +1,4 @@
+pub mod Ahead
 pub mod Reading
 pub mod Refusals
 pub mod Text

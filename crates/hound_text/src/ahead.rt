@@ -1,11 +1,12 @@
 // Input that is read ahead.
-ghost use Rattle.std.specs.Prelude.{◌≤◌, length};
+ghost use Rattle.std.specs.Prelude.{◌≡◌, ◌≤◌, ◌<◌, ◌++◌, [], false, true, min, IfNone, IfSome, OnErr, OnOk, OnSome, length, take};
+ghost use Rattle.std.specs.Io.KnownBytes.{Consumes, IsAtEnd, Keeps, ReadConsumes};
 
 use std::io;
+use std::io::ErrorKind;
 
-/// A reader with a buffer, whose reads never fail: where the input fails they find its end, and
-/// `has_failed` says so. An answer that may be an `io::Error` has some ninety bytes, and costs more
-/// than the few bytes of a sample.
+/// A reader with a buffer. Once a read of the input failed, each read that needs more bytes fails,
+/// and `has_failed` says so; no byte is lost.
 #[derive(Drop)]
 pub struct Ahead<R> {
     input: R,
@@ -20,8 +21,13 @@ pub struct Ahead<R> {
 }
 
 impl<R: io::Read> Ahead<R> {
+    ghost use Rattle.hound_text.specs.Ahead.{has_failed, left_of, unread};
+
     /// Nothing is read yet.
-    pub fn new(input: R) -> Ahead<R> {
+    pub fn new(input: R) -> Ahead<R>
+        ensures left { left_of R.remaining result ≡ R.remaining input }
+        ensures fresh { has_failed result ≡ false }
+    {
         Ahead {
             input,
             bytes: [0; 16384],
@@ -31,55 +37,127 @@ impl<R: io::Read> Ahead<R> {
         }
     }
 
-    /// Whether the input failed.
-    pub fn has_failed(&self) -> bool {
+    /// Whether a read of the input failed.
+    pub fn has_failed(&self) -> bool
+        ensures { result ≡ has_failed self.now }
+    {
         self.failed
     }
 
-    // Gives what there is, or reads more where there is nothing; how many bytes that are.
+    // Gives what there is, or reads more where there is nothing, and says how many bytes that are;
+    // none where the input failed.
     #[cold]
     #[inline(never)]
-    fn read_slowly(&mut self, buf: &mut [u8]) -> usize
-        ensures { result ≤ length buf.new }
+    fn read_slowly(&mut self, buf: &mut [u8]) -> Option<usize>
+        ensures bound { IfSome result (λ n. n ≤ length buf.new) }
+        ensures given { IfSome result (λ n.
+            Consumes (left_of R.remaining self.old) (left_of R.remaining self.new) (take n buf.new)) }
+        ensures end { IfSome result (λ n. n ≡ 0 → 0 < length buf.new →
+            IsAtEnd (left_of R.remaining self.new)) }
+        ensures kept { IfNone result (
+            Keeps (left_of R.remaining self.old) (left_of R.remaining self.new)) }
+        ensures failed { IfNone result (has_failed self.new ≡ true) }
+        ensures as_before { OnSome result (has_failed self.new ≡ has_failed self.old) }
     {
-        if self.start == self.end {
-            self.fill();
+        if self.start == self.end && !self.fill() {
+            return None;
         }
+        Some(self.give(buf))
+    }
+
+    // Gives what was read, as far as there is room.
+    fn give(&mut self, buf: &mut [u8]) -> usize
+        ensures count { result ≡ min (length buf.new) (length (unread self.old)) }
+        ensures given { unread self.old ≡ take result buf.new ++ unread self.new }
+        ensures input { self.new.input ≡ self.old.input }
+        ensures as_before { has_failed self.new ≡ has_failed self.old }
+    {
         let count = buf.len().min(self.end - self.start);
         buf[..count].copy_from_slice(&self.bytes[self.start..self.start + count]);
         self.start += count;
         count
     }
 
-    // Reads the next bytes, once all were given.
-    fn fill(&mut self) {
+    // Reads the next bytes, once all were given; whether the input gave them.
+    fn fill(&mut self) -> bool
+        requires { self.old.start ≡ self.old.end }
+        ensures kept { Keeps (left_of R.remaining self.old) (left_of R.remaining self.new) }
+        ensures end { result ≡ true → unread self.new ≡ [] → IsAtEnd (R.remaining self.new.input) }
+        ensures failed { result ≡ false → has_failed self.new ≡ true }
+        ensures as_before { result ≡ true → has_failed self.new ≡ has_failed self.old }
+    {
         self.start = 0;
         self.end = 0;
         if self.failed {
-            return;
+            return false;
         }
         match self.input.read(&mut self.bytes) {
-            Ok(count) => self.end = count,
-            Err(_) => self.failed = true,
+            Ok(count) => {
+                self.end = count;
+                true
+            }
+            Err(_) => {
+                self.failed = true;
+                false
+            }
         }
     }
 }
 
+// Copies a few bytes. A copy of a length that isn't known is a call, and a sample has a few bytes.
+#[inline(always)]
+fn copy_few(buf: &mut [u8], from: &[u8])
+    requires { length buf.old ≡ length from.now }
+    ensures { buf.new ≡ from.now }
+{
+    match buf.len() {
+        2 => {
+            buf[0] = from[0];
+            buf[1] = from[1];
+        }
+        3 => {
+            buf[0] = from[0];
+            buf[1] = from[1];
+            buf[2] = from[2];
+        }
+        4 => {
+            buf[0] = from[0];
+            buf[1] = from[1];
+            buf[2] = from[2];
+            buf[3] = from[3];
+        }
+        _ => buf.copy_from_slice(from),
+    }
+}
+
+// The fault of an input that failed.
+#[cold]
+fn fault() -> io::Error {
+    io::Error::from(ErrorKind::Other)
+}
+
 impl<R: io::Read> io::Read for Ahead<R> {
+    ghost use Rattle.hound_text.specs.Ahead.{has_failed, left_of};
+    ghost use Rattle.std.specs.Io.{ReadsAtMost};
+
+    ghost remaining = { left_of R.remaining };
+
     #[inline(always)]
-    fn read(&mut self, buf: &mut [u8]) -> io::Result<usize> {
+    fn read(&mut self, buf: &mut [u8]) -> io::Result<usize>
+        ensures bound { ReadsAtMost result buf.new }
+        ensures bytes { ReadConsumes (left_of R.remaining self.old) (left_of R.remaining self.new)
+            result buf.new }
+        ensures failed { OnErr result (has_failed self.new ≡ true) }
+        ensures as_before { OnOk result (has_failed self.new ≡ has_failed self.old) }
+    {
         let count = buf.len();
         if count > self.end - self.start {
-            return Ok(self.read_slowly(buf));
+            return match self.read_slowly(buf) {
+                Some(given) => Ok(given),
+                None => Err(fault()),
+            };
         }
-        let from = &self.bytes[self.start..self.start + count];
-        match buf {
-            // A copy of a length that isn't known is a call, and a sample has a few bytes.
-            [a, b] => [*a, *b] = [from[0], from[1]],
-            [a, b, c] => [*a, *b, *c] = [from[0], from[1], from[2]],
-            [a, b, c, d] => [*a, *b, *c, *d] = [from[0], from[1], from[2], from[3]],
-            _ => buf.copy_from_slice(from),
-        }
+        copy_few(buf, &self.bytes[self.start..self.start + count]);
         self.start += count;
         Ok(count)
     }
