@@ -1,13 +1,13 @@
 // Numbers as text.
-ghost use Rattle.std.specs.Prelude.{◌≡◌, ℤ, List, ◌<◌, ◌≤◌, IfErr, IfOk, IfSome, MatchResult, OnErr, OnOk, SomeIff, [], ◌∷◌, ◌++◌, Some, None, Err, drop, length, take};
+ghost use Rattle.std.specs.Prelude.{◌≡◌, ℤ, ◌≤◌, IfErr, IfOk, IfSome, OnOk, SomeIff, List, [], ◌∷◌, Some, None, drop, length, take};
 ghost use Rattle.std.specs.Io.KnownBytes.{IsAtEnd};
 ghost use Rattle.std.specs.Option.{ok_or};
 ghost use Rattle.std.specs.Str.Parse.{IsNumeral, digits_value};
 ghost use Rattle.hound_text.specs.Refusals.{IsRefused, IsTextRefusal};
 ghost use Rattle.hound_text.specs.Reading.{Breaks, IsFront, IsRun, Leads, before, ended, longer_magnitude, next_place, signed_within};
-ghost use Rattle.hound_text.specs.Text.{SaysNoNumbers, SaysNumbers, is_separator};
+ghost use Rattle.hound_text.specs.Text.{SaysNumbers, is_separator};
 ghost use Rattle.hound_text.specs.declared.numbers.Place.TheVariants.{Between};
-ghost use Rattle.hound_text.specs.declared.numbers.Refusal.TheVariants.{BadNumber, InputOrOutput, OutOfMemory, TooLong};
+ghost use Rattle.hound_text.specs.declared.numbers.Refusal.TheVariants.{BadNumber, InputOrOutput, OutOfMemory};
 
 use crate::eight::leading_digits;
 use std::alloc::{AllocFailed, Global};
@@ -209,6 +209,8 @@ fn whole_number(text: &[u8]) -> Option<(i32, usize)>
 }
 
 // Takes numbers from the front of a text, as long as one is whole, and gives the text after them.
+// By itself its loop has registers for all constants of `leading_digits`.
+#[inline(never)]
 fn take_whole<'a>(text: &'a [u8], numbers: &mut Vec<i32>) -> Result<&'a [u8], Refusal>
     ensures shorter { IfOk result (λ rest. length rest.now ≤ length text.now) }
     ensures taken { IfOk result (λ rest.
