@@ -642,33 +642,29 @@ class Writer:
         self.block += data
         self.accepted += data
 
-    def batch(self, values):
-        self.look_at_room(2 * len(values))
-        data = b"".join(struct.pack("<H", value % 65536) for value in values)
-        if len(self.block) + len(data) > 4096:
-            self.put_block()
-        if len(data) <= 4096:
-            self.block += data
-        else:
-            self.put(data)
-            self.out += len(data)
-        self.accepted += data
-
-    def write_many(self, kind, values):
-        """Accepts all of the values, or none where one is refused, is too many or doesn't go out."""
-        spec = self.spec
-        data = b"".join(container(kind, value, spec.bits, spec.width) for value in values)
+    def accept(self, data, piece):
+        """Accepts samples, or none where they are too many or don't go out. Those that a block has no
+        room for go out in pieces of so many bytes."""
         self.look_at_room(len(data))
         if len(self.block) + len(data) > 4096:
             self.put_block()
         if len(data) <= 4096:
             self.block += data
         else:
-            # They go out in pieces of whole containers.
-            size = 4096 // spec.width * spec.width
-            self.put(*(data[at : at + size] for at in range(0, len(data), size)))
+            self.put(*(data[at : at + piece] for at in range(0, len(data), piece)))
             self.out += len(data)
         self.accepted += data
+
+    def batch(self, values):
+        # Of a batch that is too long no bytes are made.
+        self.look_at_room(2 * len(values))
+        data = b"".join(struct.pack("<H", value % 65536) for value in values)
+        self.accept(data, len(data))
+
+    def write_many(self, kind, values):
+        bits, width = self.spec.bits, self.spec.width
+        data = b"".join(container(kind, value, bits, width) for value in values)
+        self.accept(data, 4096 // width * width)
 
     def publish(self):
         self.put_block()

@@ -81,7 +81,7 @@ fn sweep(row: &mut Row, script: Script<'_>) {
     sweep.show(row);
 }
 
-// A new file of its spec, or one that is gone on with.
+// A new file of its spec, or one that is appended to.
 fn begin_of(row: &mut Row, script: Script<'_>) -> Begin {
     match script.constructor {
         "append" | "try_append" => Begin::Append,
