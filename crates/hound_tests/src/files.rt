@@ -20,6 +20,10 @@ enum Deed {
     Append(&'static [i16]),
     // A writer appends this sample and is dropped.
     AppendOne(i16),
+    // A writer makes it, of one channel, and is finalized after these samples by one call.
+    CreateBlock(&'static [i16]),
+    // A writer appends these samples by one call and is finalized.
+    AppendBlock(&'static [i16]),
     // The first samples are read at a checkpoint, before the same writer appends the second.
     Checkpoint(&'static [i16], &'static [i16]),
     // The program's `append` over this input: its status and its line of errors.
@@ -28,6 +32,8 @@ enum Deed {
     Example(i64),
     HasBytes(&'static [u8]),
     HasSamples(&'static [i16]),
+    // One call reads these samples, and the next one none.
+    HasBlock(&'static [i16]),
     // A reader seeks from each sample to each other one.
     Seeks(&'static [i32]),
 }
@@ -80,7 +86,18 @@ const ROWS: &[Row] = &[
         ],
         is_left: true,
     },
-    // The numbers from 0 to 4799, and -1.
+    Row {
+        name: "a file is made, appended to and read by blocks",
+        deeds: &[
+            (Deed::CreateBlock(&[11, 13, 17, 19]), "done"),
+            (Deed::AppendBlock(&[23, 29]), "done"),
+            (Deed::AppendBlock(&[]), "done"),
+            (Deed::HasBlock(&[11, 13, 17, 19, 23, 29]), "done"),
+            (Deed::HasBytes(&SIX_SAMPLES), "done"),
+        ],
+        is_left: true,
+    },
+    // The numbers from 0 to 4799, and -1, 1 and -1.
     Row {
         name: "the first example adds up",
         deeds: &[(Deed::Example(4799 * 4800 / 2 - 1), "done")],
@@ -115,6 +132,7 @@ const ROWS: &[Row] = &[
         deeds: &[
             (Deed::Append(&[]), "IoError"),
             (Deed::HasSamples(&[]), "IoError"),
+            (Deed::HasBlock(&[]), "IoError"),
             (Deed::HasBytes(&[]), "IoError"),
         ],
         is_left: false,
@@ -194,6 +212,28 @@ fn append_one(rt: &HostRuntime, path: Path<'_>, sample: i16) -> hound::Result<bo
     Ok(true)
 }
 
+fn create_block(rt: &HostRuntime, path: Path<'_>, samples: &[i16]) -> hound::Result<bool> {
+    let mut writer = WavWriter::create(rt, rt.alloc(), path, sixteen(1))?;
+    writer.write_samples(samples)?;
+    writer.finalize()?;
+    Ok(true)
+}
+
+fn append_block(rt: &HostRuntime, path: Path<'_>, samples: &[i16]) -> hound::Result<bool> {
+    let mut writer = WavWriter::append(rt, rt.alloc(), path)?;
+    writer.write_samples(samples)?;
+    writer.finalize()?;
+    Ok(true)
+}
+
+fn has_block(rt: &HostRuntime, path: Path<'_>, samples: &[i16]) -> hound::Result<bool> {
+    let mut reader = WavReader::open(rt, rt.alloc(), path)?;
+    let mut block = [0i16; 64];
+    let count = reader.read_samples(&mut block)?;
+    let is_so = count == samples.len() && block.starts_with(samples);
+    Ok(is_so && reader.read_samples(&mut block)? == 0)
+}
+
 fn append_text(rt: &HostRuntime, path: Path<'_>, text: &[u8], status: u8, line: &[u8]) -> bool {
     let mut input = text;
     let mut errors = Vec::new(rt.alloc());
@@ -232,11 +272,14 @@ fn does(rt: &HostRuntime, path: Path<'_>, deed: Deed) -> hound::Result<bool> {
         Deed::Create(channels, samples) => create(rt, path, channels, samples),
         Deed::Append(samples) => append(rt, path, samples),
         Deed::AppendOne(sample) => append_one(rt, path, sample),
+        Deed::CreateBlock(samples) => create_block(rt, path, samples),
+        Deed::AppendBlock(samples) => append_block(rt, path, samples),
         Deed::Checkpoint(first, second) => checkpoint(rt, path, first, second),
         Deed::AppendText(text, status, line) => Ok(append_text(rt, path, text, status, line)),
         Deed::Example(sum) => Ok(record_and_read(rt, path, sixteen(1))? == sum),
         Deed::HasBytes(bytes) => Ok(fs::read(rt, path)?.as_slice() == bytes),
         Deed::HasSamples(samples) => has_samples(rt, path, samples),
+        Deed::HasBlock(samples) => has_block(rt, path, samples),
         Deed::Seeks(numbers) => {
             seeks_everywhere(WavReader::open(rt, rt.alloc(), path)?, numbers)
         }

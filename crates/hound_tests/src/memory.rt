@@ -112,6 +112,7 @@ enum Act {
     // A batch of so many samples that count up from 2.
     Batch(u32),
     Sample(i16),
+    Block(&'static [i16]),
     Flush,
 }
 
@@ -123,7 +124,7 @@ struct Script {
     file: &'static [u8],
 }
 
-const SCRIPTS: [Script; 3] = [
+const SCRIPTS: [Script; 4] = [
     // A batch that is too long for a file is refused before memory, and the one of 1000 takes the
     // 2000 bytes that there are.
     Script {
@@ -164,6 +165,17 @@ const SCRIPTS: [Script; 3] = [
         ],
         file: &FOUR_SAMPLES,
     },
+    Script {
+        name: "a block takes no memory",
+        acts: &[
+            (0, Act::Block(&[2, -3]), "", 2),
+            (0, Act::Block(&[]), "", 2),
+            (0, Act::Flush, NO_MEMORY, 2),
+            (0, Act::Block(&[5, -7]), "", 4),
+            (PLENTY, Act::Flush, "", 4),
+        ],
+        file: &FOUR_SAMPLES,
+    },
 ];
 
 fn take(writer: &mut WavWriter<Tape>, alloc: Global, act: Act) -> hound::Result<()> {
@@ -178,6 +190,7 @@ fn take(writer: &mut WavWriter<Tape>, alloc: Global, act: Act) -> hound::Result<
         },
         Act::Batch(count) => write_up(writer, alloc, 2, count),
         Act::Sample(sample) => writer.write_sample(sample),
+        Act::Block(samples) => writer.write_samples(samples),
         Act::Flush => writer.flush(),
     }
 }
@@ -213,6 +226,18 @@ fn a_writer_without_memory(rt: HostRuntime) -> Result<(), Fail> {
     for script in &SCRIPTS {
         assert!(rt; script.holds(rt.alloc())?, "{}", script.name);
     }
+    Ok(())
+}
+
+#[test]
+fn a_block_is_read_without_memory(rt: HostRuntime) -> Result<(), Fail> {
+    let mut reader = WavReader::new(FOUR_SAMPLES.as_slice())?;
+    let mut samples = [0i16; 5];
+    let blocks = take_all_but(rt.alloc(), 0)?;
+    let answer = reader.read_samples(&mut samples);
+    drop(blocks);
+    let is_read = matches!(answer, Ok(4));
+    assert!(rt; is_read && samples == [2, -3, 5, -7, 0]);
     Ok(())
 }
 
