@@ -11,6 +11,7 @@ use Rattle.std.specs.Int.Digits.{AllBelowBase}
 use Rattle.std.specs.List.{prefix_len}
 use Rattle.std.specs.Str.Parse.{AllDigits, digits_value, digits_value_after}
 use Rattle.hound_text.specs.Writing.{is_zero, padded_digits}
+use Rattle.hound_text.proofs.Growing.{digits-append, value_after-append}
 use Rattle.hound_text.proofs.Bytes.{every_holds, same_by}
 
 own : IsNumeralModel (AllDigits 10) (digits_value 10)
@@ -89,14 +90,6 @@ first_other (d ∷ ds) some is = by_zero (d == 48) refl some is (λ less first. 
 
 prefix_few : (ds : List ℕ) → prefix_len is_zero ds ≤ length ds
 prefix_few ds = prefix_len-le-length is_zero ds
-
-digits-append : (xs ys : List ℕ) → AllDigits 10 xs → AllDigits 10 ys → AllDigits 10 (xs ++ ys)
-digits-append [] ys front back = back
-digits-append (x ∷ xs) ys front back = (front.0, digits-append xs ys front.1 back)
-
-value_after-append : (n : ℕ) (xs ys : List ℕ) → digits_value_after 10 n (xs ++ ys) ≡ digits_value_after 10 (digits_value_after 10 n xs) ys
-value_after-append n [] ys = refl
-value_after-append n (x ∷ xs) ys = value_after-append (n * 10 + digit_value x) xs ys
 
 -- ---- the digits of a number
 

@@ -1,5 +1,5 @@
 -- A number that a text begins with, read at once.
-use Rattle.std.proofs.Common.{◌≡◌, ℕ, ℤ, zero, suc, ◌+◌, ◌-◌, ◌*◌, ◌^◌, ◌%◌, ◌<◌, ◌≤◌, Bool, true, false, cond, ◌==◌, nat_le, List, [], ◌∷◌, ◌++◌, length, drop, take, get_or, Option, Some, None, refl, ap, sym, ◌∙◌, subst, append_assoc, take-append-drop, take-add, take-take, length-take-le, length-drop, drop-cons, arith}
+use Rattle.std.proofs.Common.{◌≡◌, ℕ, ℤ, zero, suc, ◌+◌, ◌-◌, ◌*◌, ◌^◌, ◌%◌, ◌<◌, ◌≤◌, Bool, true, false, cond, ◌==◌, nat_le, List, [], ◌∷◌, ◌++◌, length, drop, take, get_or, Some, None, refl, ap, sym, ◌∙◌, subst, append_assoc, take-append-drop, take-add, take-take, length-take-le, length-drop, drop-cons, arith}
 use Rattle.std.proofs.lemmas.Bool.Decides.{nat_tests}
 use Rattle.std.proofs.lemmas.Grind.{common_steps}
 use Rattle.std.proofs.lemmas.Int.Digits.{digits_value-lt}
@@ -10,7 +10,8 @@ use mir.Val.{bool_byte}
 use Rattle.std.specs.Char.{digit_value}
 use Rattle.std.specs.Option.{option_and_then, option_map}
 use Rattle.std.specs.Str.Parse.{AllDigits, digits_value, digits_value_after}
-use Rattle.hound_text.proofs.Growing.{value_after_grows}
+use Rattle.hound_text.proofs.Leading.{before_nil}
+use Rattle.hound_text.proofs.Growing.{digits-append, value_after-append, value_after_grows}
 use Rattle.hound_text.specs.Reading.{IsFront, IsRun, Leads, before, ended, is_digit, longer_magnitude, next_place, numbers_from, signed_within}
 use Rattle.hound_text.specs.Text.{is_separator, signed_value}
 use Rattle.hound_text.specs.declared.numbers.Place.TheVariants.{Between, AfterMinus, Inside}
@@ -119,10 +120,6 @@ digits_then negative (d ∷ ds) b zs number some all is separator =
 after_minus : (zs : List ℕ) → numbers_from Between (45 ∷ zs) ≡ numbers_from AfterMinus zs
 after_minus zs = refl
 
-before_nil : (o : Option (List ℤ)) → before [] o ≡ o
-before_nil None = refl
-before_nil (Some more) = refl
-
 -- where the sign, the digits and the separator are in a text
 signed_front : (negative : Bool) (text ds rest : List ℕ) (b : ℕ) (number : ℤ)
     → (get_or text 0 0 == 45) ≡ negative → 0 < length text
@@ -196,14 +193,6 @@ short_run xs number count some few digits value =
       digits = subst (AllDigits 10) same digits;
       value = value ∙ ap (digits_value 10) same;
     }
-
-digits-append : (xs ys : List ℕ) → AllDigits 10 xs → AllDigits 10 ys → AllDigits 10 (xs ++ ys)
-digits-append [] ys front back = back
-digits-append (x ∷ xs) ys front back = (front.0, digits-append xs ys front.1 back)
-
-value_after-append : (n : ℕ) (xs ys : List ℕ) → digits_value_after 10 n (xs ++ ys) ≡ digits_value_after 10 (digits_value_after 10 n xs) ys
-value_after-append n [] ys = refl
-value_after-append n (x ∷ xs) ys = value_after-append (n * 10 + digit_value x) xs ys
 
 -- two digits at most after a number
 scaled : (n : ℕ) (ys : List ℕ) → length ys ≤ 2 → digits_value_after 10 n ys ≡ n * 10 ^ length ys + digits_value 10 ys

@@ -1,8 +1,8 @@
 -- Digits that follow a number.
-use Rattle.std.proofs.Common.{rules, ◌≡◌, ℕ, suc, ◌+◌, ◌-◌, ◌*◌, ◌<◌, ◌≤◌, List, [], ◌∷◌, length, drop, get_or, subst, arith}
+use Rattle.std.proofs.Common.{rules, ◌≡◌, ℕ, suc, ◌+◌, ◌-◌, ◌*◌, ◌<◌, ◌≤◌, List, [], ◌∷◌, ◌++◌, length, drop, get_or, refl, subst, arith}
 use Rattle.std.proofs.Math.Seq.{drop-cons}
 use Rattle.std.specs.Char.{digit_value}
-use Rattle.std.specs.Str.Parse.{digits_value, digits_value_after}
+use Rattle.std.specs.Str.Parse.{AllDigits, digits_value, digits_value_after}
 
 -- digits that follow a number don't make it smaller
 pub value_after_grows : (n : ℕ) (ds : List ℕ) → n ≤ digits_value_after 10 n ds
@@ -25,3 +25,12 @@ too_long n most i items word within same low high long short =
     let grown = value_after_grows (n * 10 + digit_value (get_or items i 0)) (drop (suc i) items) in
     let digit = value_of_digit (get_or items i 0) low high in
     omega arith
+
+-- digits one after the other
+pub value_after-append : (n : ℕ) (xs ys : List ℕ) → digits_value_after 10 n (xs ++ ys) ≡ digits_value_after 10 (digits_value_after 10 n xs) ys
+value_after-append n [] ys = refl
+value_after-append n (x ∷ xs) ys = value_after-append (n * 10 + digit_value x) xs ys
+
+pub digits-append : (xs ys : List ℕ) → AllDigits 10 xs → AllDigits 10 ys → AllDigits 10 (xs ++ ys)
+digits-append [] ys front back = back
+digits-append (x ∷ xs) ys front back = (front.0, digits-append xs ys front.1 back)

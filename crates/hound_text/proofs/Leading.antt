@@ -12,7 +12,7 @@ use Rattle.hound_text.specs.declared.numbers.Refusal.{Refusal}
 use Rattle.hound_text.specs.declared.numbers.Refusal.TheVariants.{BadNumber, InputOrOutput, TooLong, OutOfMemory}
 use Rattle.hound_text.proofs.Saying.{said, unsaid}
 
-before_nil : (o : Option (List ℤ)) → before [] o ≡ o
+pub before_nil : (o : Option (List ℤ)) → before [] o ≡ o
 before_nil None = refl
 before_nil (Some more) = refl
 

@@ -10,7 +10,7 @@ use Rattle.std.specs.Int.{w32}
 use Rattle.std.specs.List.{filter, onto_first, slice_split}
 use Rattle.std.specs.Option.{option_and_then, option_map}
 use Rattle.std.specs.Str.Parse.{AllDigits, IsNumeral, digits_value, digits_value_after, starts_with_minus}
-use Rattle.hound_text.proofs.Growing.{value_after_grows}
+use Rattle.hound_text.proofs.Growing.{value_after-append, value_after_grows}
 use Rattle.hound_text.specs.Reading.{before, ended, is_digit, longer_magnitude, next_place, numbers_from}
 use Rattle.hound_text.specs.Text.{SayNumbers, SaysNoNumbers, SaysNumber, SaysNumbers, is_filled, is_separator, signed_value, without_minus, words}
 use Rattle.hound_text.specs.declared.numbers.Place.{Place}
@@ -122,11 +122,6 @@ no_digit b other small = let h = digit_from_value b small in grind (arith, nat_t
 
 some_byte : (b : ℕ) → without_minus (b ∷ []) ≡ cond (b == 45) [] (b ∷ [])
 some_byte b = refl
-
--- digits one after the other
-value_after-append : (n : ℕ) (xs ys : List ℕ) → digits_value_after 10 n (xs ++ ys) ≡ digits_value_after 10 (digits_value_after 10 n xs) ys
-value_after-append n [] ys = refl
-value_after-append n (x ∷ xs) ys = value_after-append (n * 10 + digit_value x) xs ys
 
 digits_at : (xs : List ℕ) (b : ℕ) (ys : List ℕ) → AllDigits 10 (xs ++ b ∷ ys) → digit_value b < 10
 digits_at [] b ys all = all.0
