@@ -73,9 +73,9 @@ mod steps;
 
 pub use hound_medium::{Journal, Medium, Placed, Source, Tape};
 pub use hound_reader::{
-    WavIntoSamples, WavReader, WavSamples, a_block_is_its_items, a_reader_stands_as_counted, a_seek_leads_to_its_frame,
-    an_iterator_gives_what_it_hints, items_are_of_the_file, one_answer, read_wave_header,
-    written_is_head, written_is_read,
+    WavIntoSamples, WavReader, WavSamples, a_block_is_its_items, a_reader_stands_as_counted,
+    a_seek_leads_to_its_frame, an_iterator_gives_what_it_hints, items_are_of_the_file, one_answer,
+    read_wave_header, written_is_head, written_is_read,
 };
 pub use hound_sample::{FloatBits, Sample, integers_come_back, short_integers_are_kept};
 pub use hound_spec::{
