@@ -1,5 +1,5 @@
 -- What a loss of power leaves of a run's file.
-use Rattle.std.proofs.Common.{◌≡◌, ℕ, zero, suc, ◌+◌, ◌-◌, ◌*◌, ◌/◌, ◌%◌, ◌<◌, ◌≤◌, inl, inr, Bool, List, [], ◌∷◌, ◌++◌, length, take, drop, refl, sym, ◌∙◌, ap, subst, arith, append_assoc, length-append, take-append-drop}
+use Rattle.std.proofs.Common.{◌≡◌, ℕ, zero, suc, ◌+◌, ◌-◌, ◌*◌, ◌/◌, ◌%◌, ◌<◌, ◌≤◌, inl, inr, Bool, List, [], ◌∷◌, ◌++◌, length, take, drop, refl, sym, ◌∙◌, ap, subst, arith, append_assoc, length-append, length-drop, take-append-drop}
 use Rattle.std.proofs.lemmas.Bool.{cases_lt}
 use Rattle.std.proofs.lemmas.List.{append-nil, length-take-le, take-take, take-append-le}
 use Rattle.std.proofs.lemmas.Nat.{div-add-mod', div_below, div-mul-add, mod-mul-add, mod_below, mul-le}
@@ -40,6 +40,15 @@ concat_front : (n : ℕ) (list : List (List ℕ))
     → concat list ≡ concat (take n list) ++ concat (drop n list)
 concat_front n list =
     ap concat (sym (take-append-drop n list)) ∙ concat-append (take n list) (drop n list)
+
+-- those of whole bytes are of their width
+pub wide_containers : (w n : ℕ) (bytes : List ℕ) → n * w ≤ length bytes
+    → AllByRecursion (λ c. length c ≡ w) (containers w n bytes)
+wide_containers w zero bytes le = tt
+wide_containers w (suc n) bytes le = (
+  length-take-le w bytes (omega (arith, le)),
+  wide_containers w n (drop w bytes) (omega (arith, le, length-drop w bytes)),
+)
 
 -- the bytes of whole containers that cover so many
 abbrev cover : ℕ → ℕ → ℕ

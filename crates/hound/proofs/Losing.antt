@@ -1,12 +1,12 @@
 -- What a loss of power leaves, from what holds at each state that it may mix.
 use Rattle.std.proofs.Common.{◌≡◌, ℕ, zero, suc, ◌+◌, ◌-◌, ◌*◌, ◌/◌, ◌<◌, ◌≤◌, inl, inr, List, [], ◌∷◌, ◌++◌, length, get_or, take, drop, refl, sym, ◌∙◌, ap, subst, arith, length-append, length-drop, length-take, take-append-drop}
 use Rattle.std.proofs.lemmas.Bool.{cases_lt}
-use Rattle.std.proofs.lemmas.List.{length-take-le, get_or-take, get_or-drop, ext_get_or}
+use Rattle.std.proofs.lemmas.List.{length-take-le, take-take, get_or-take, get_or-drop, ext_get_or}
 use Rattle.std.proofs.lemmas.Slice.{between_is}
 use Rattle.hound_number.specs.Number.{number}
 use Rattle.hound_spec.specs.declared.spec.WavSpecEx.{WavSpecEx}
 use Rattle.hound_medium.specs.Bytes.{moment, put_at, overlay}
-use Rattle.hound_medium.proofs.Overlays.{front_part, overlay_more, take_overlay_before}
+use Rattle.hound_medium.proofs.Overlays.{front_part, length-put_at, overlay-append, overlay_more, take_overlay_before}
 use Rattle.hound_medium.proofs.Inside.{drop_behind}
 use Rattle.hound_reader.specs.Chunks.{Head}
 use Rattle.hound_writer.specs.Publishing.{place_of}
@@ -51,6 +51,26 @@ same_before h c d i behind changes less = (
       subst (λ n. get_or d n 0 ≡ get_or c n 0) at
       (byte_in 8 8 (h - 4 - 8) d c j (omega (arith, less, high)) middle),
 )
+
+-- contents get no shorter as bytes are put
+length_overlay : (es : List (ℕ × ℕ)) (c : List ℕ) → length c ≤ length (overlay c es)
+length_overlay [] c = omega arith
+length_overlay (e ∷ es) c =
+    omega (arith, length_overlay es (put_at e.0 e.1 c), length-put_at e.0 e.1 c)
+
+pub moments_grow : (start : List ℕ) (past : List (ℕ × ℕ)) (i k : ℕ) → i ≤ k
+    → length (moment start past i) ≤ length (moment start past k)
+moments_grow start past i k le =
+    let first = take i past in
+    let parts : take k past ≡ first ++ drop i (take k past) =
+    sym (take-append-drop i (take k past))
+    ∙ ap (λ l. l ++ drop i (take k past)) (take-take i k past le) in
+    omega (
+      arith,
+      length_overlay (drop i (take k past)) (overlay start first),
+      ap (λ l. length (overlay start l)) parts,
+      ap length (overlay-append start first (drop i (take k past))),
+    )
 
 -- A file whose data begin at h, whose past put bytes at ascending places from f to k: at each of
 -- these states what the data length covers of these bytes is stored, and stays so.

@@ -1,7 +1,9 @@
 -- A whole run, from its beginning to its end.
-use Rattle.std.proofs.Common.{◌≡◌, ℕ, zero, suc, ◌+◌, ◌/◌, ◌<◌, ◌≤◌, Bool, List, [], ◌++◌, length, take, drop, map, Result, Ok, Err, OnOk, IsTrue, inl, inr, refl, sym, ◌∙◌, ap, subst, arith, length-append, length-drop}
+use Rattle.std.proofs.Common.{◌≡◌, ℕ, zero, suc, ◌+◌, ◌-◌, ◌/◌, ◌%◌, ◌==◌, ◌<◌, ◌≤◌, not, if◌then◌else◌, Bool, List, [], Option, Some, None, ◌++◌, length, take, drop, map, Result, Ok, Err, OnOk, IsTrue, inl, inr, refl, sym, ◌∙◌, ap, subst, arith, length-append, length-drop}
 use Rattle.std.proofs.lemmas.List.{take_all, length-take-le}
-use Rattle.std.specs.List.{concat}
+use Rattle.std.proofs.lemmas.Nat.{mul-le}
+use Rattle.std.proofs.Math.Nat.{div-mul-le_self}
+use Rattle.std.specs.List.{concat, AllByRecursion}
 use Rattle.std.specs.Io.{StartsWith}
 use Rattle.hound_spec.specs.declared.error.Error.{Error}
 use Rattle.hound_spec.specs.declared.error.Error.TheVariants.{IoError, UnfinishedSample}
@@ -10,33 +12,102 @@ use Rattle.hound_spec.specs.Header.{header, data_start, canonical}
 use Rattle.hound_spec.proofs.HeaderLemmas.{data_start_least, length-canonical, length-header}
 use Rattle.hound_sample.specs.Container.{containers}
 use Rattle.hound_medium.specs.State.{MediumState, WhereTells, WhereKeeps}
-use Rattle.hound_medium.specs.Bytes.{placed, overlay}
+use Rattle.hound_medium.specs.Bytes.{moment, placed, overlay}
 use Rattle.hound_medium.proofs.Overlays.{overlay_is}
+use Rattle.hound_medium.proofs.Spans.{moment_last}
+use Rattle.hound_reader.specs.declared.fault.Cause.{Cause}
+use Rattle.hound_reader.specs.declared.fault.Cause.TheVariants.{Format}
+use Rattle.hound_reader.specs.declared.fault.Reason.TheVariants.{DataLength, FrameLength}
+use Rattle.hound_reader.specs.Chunks.{Head, data_fault}
 use Rattle.hound_writer.specs.Answers.{IsPublishing, OnPublished, faults_told, mark_of}
-use Rattle.hound_writer.specs.Counts.{Counts}
+use Rattle.hound_writer.specs.Counts.{Counts, ReadsFirst}
 use Rattle.hound_writer.specs.Publishing.{Finishes}
-use Rattle.hound_writer.specs.Sizes.{ChangesSizesOnly}
-use Rattle.hound_writer.specs.Writer.{WriterState, IsSound, IsWhole, IsBegun, accepted_samples, data_length}
+use Rattle.hound_writer.specs.Sizes.{ChangesSizesOnly, field}
+use Rattle.hound_writer.specs.Writer.{WriterState, IsSound, IsWhole, IsBegun, accepted_bytes, accepted_samples, data_length}
 use Rattle.hound_writer.proofs.Accepting.{length_overlay_max}
 use Rattle.hound_writer.proofs.Answers.{on_published_then}
-use Rattle.hound_writer.proofs.Samples.{concat-samples, length_out, samples_out}
+use Rattle.hound_writer.proofs.Containers.{none_whole}
+use Rattle.hound_writer.proofs.Heads.{head_inside}
+use Rattle.hound_writer.proofs.Samples.{concat-samples, length-out, length_out, samples_out}
 use Rattle.hound_writer.proofs.Sizes.{sizes_then}
 use Rattle.hound.specs.declared.session.Step.{Step}
 use Rattle.hound.specs.declared.session.Begin.{Begin}
 use Rattle.hound.specs.declared.session.Begin.TheVariants.{New, Append}
 use Rattle.hound.specs.declared.session.End.{End}
 use Rattle.hound.specs.declared.session.End.TheVariants.{Finalize, Drop}
-use Rattle.hound.specs.Headline.{CanonicalAtEnd}
+use Rattle.hound.specs.Headline.{CanonicalAtEnd, CountedAfterLoss}
 use Rattle.hound.specs.Run.{Begins, Ends, IsNotBegun, Leaves, LeavesAtEach, NoFault, Ran, Runs}
 use Rattle.hound.specs.Steps.{accepted_by_all}
 use Rattle.hound.proofs.Leading.{Leads, leads, grows_told, no_fault_parts, length-concat-append}
-use Rattle.hound.proofs.Moments.{counted, published, span_later, stored}
+use Rattle.hound.proofs.AfterLoss.{counted_after_loss, wide_containers}
+use Rattle.hound.proofs.Losing.{moments_grow}
+use Rattle.hound.proofs.Moments.{counted, first_cut, later_then, published, run_later, same_moment, sizes_at_each, span_later, stored}
 
 -- the writer that a run begins with
 first_sound : {M : Type 0} (tells keeps : Bool) (state : M → MediumState) (begin : Begin) (old : M)
     (w : WriterState M) → Begins tells keeps state begin old w → IsSound w × (w.waiting ≡ [])
 first_sound tells keeps state (New s) old w begins = (begins.begun.sound, begins.begun.none_waits)
 first_sound tells keeps state Append old w begins = (begins.sound, begins.none_waits)
+
+zero_div : (w : ℕ) → 0 / w ≡ 0
+zero_div zero = refl
+zero_div (suc w) = omega arith
+
+-- nothing is accepted in a new file
+pub none_accepted : {M : Type 0} (state : M → MediumState) (w : WriterState M) → IsSound w
+    → w.waiting ≡ [] → w.out ≡ 0 → accepted_samples state w ≡ []
+none_accepted state w sound none empty =
+    let bytes = drop w.data_start (state w.medium).contents in
+    samples_out state w none sound
+    ∙ ap (λ n. containers w.spec_ex.bytes_per_sample n bytes)
+    (ap (λ n. n / w.spec_ex.bytes_per_sample) empty ∙ zero_div w.spec_ex.bytes_per_sample)
+
+-- no data are whole frames
+none_fault : (s : WavSpecEx) → data_fault s 0 ≡ None
+none_fault s =
+    let w = s.bytes_per_sample in
+    let n = s.spec.channels in
+    let pick : ℕ → ℕ → Option Cause =
+    λ samples frames. if not (samples == 0) then Some (Format DataLength)
+    else if not (frames == 0) then Some (Format FrameLength)
+    else None in
+    let frames : (0 / w) % n ≡ 0 = ap (λ m. m % n) (zero_div w) ∙ none_whole n in
+    λ i. pick (none_whole w i) (frames i)
+
+read_head : (s : WavSpecEx) (h n : ℕ) (accepted : List (List ℕ)) (contents : List ℕ) → n ≡ 0
+    → ReadsFirst (data_fault s n) s h n accepted contents → (len : ℕ) × Head contents s len h
+read_head s h n accepted contents none reads =
+    let r : ReadsFirst None s h n accepted contents =
+    subst (λ fault. ReadsFirst fault s h n accepted contents)
+    (ap (data_fault s) none ∙ none_fault s) reads in
+    (r.0.len, r.0.head)
+
+-- the head of its file
+head_of_begun : {M : Type 0} (tells keeps : Bool) (state : M → MediumState) (begin : Begin)
+    (old : M) (w : WriterState M) → IsTrue tells → Begins tells keeps state begin old w
+    → IsWhole state w
+    → (len : ℕ) × Head (state w.medium).contents w.spec_ex len w.data_start
+head_of_begun tells keeps state (New s) old w told begins whole =
+    let b = begins.begun in
+    let c = (begins.file told).counts in
+    let none : field (w.data_start - 4) (state w.medium).contents ≡ 0 =
+    omega (
+      arith,
+      c.covers,
+      mul-le c.samples w.spec_ex.bytes_per_sample 0 w.spec_ex.bytes_per_sample
+          (omega (
+            arith,
+            c.among,
+            ap length (none_accepted state w b.sound b.none_waits b.none_out),
+          )) (omega arith),
+    ) in
+    read_head w.spec_ex w.data_start (field (w.data_start - 4) (state w.medium).contents)
+    (accepted_samples state w) (state w.medium).contents none c.reads
+head_of_begun tells keeps state Append old w told begins whole =
+    let f = begins.file told in (
+      data_length w,
+      subst (λ c. Head c w.spec_ex (data_length w) w.data_start) (sym f.puts.stays.contents) f.head,
+    )
 
 -- its accepted samples, joined, have the length that it counts
 pub sized : {M : Type 0} (state : M → MediumState) (w : WriterState M) → IsSound w → w.waiting ≡ []
@@ -170,6 +241,71 @@ module _ {M : Type 0} (tells keeps : Bool) (state : M → MediumState) (begin : 
             );
       }
 
+  -- its accepted samples all have the width of its spec
+  all_wide : IsTrue tells → IsWhole state first
+      → AllByRecursion (λ c. length c ≡ first.spec_ex.bytes_per_sample)
+      (accepted_samples state first ++ accepted_by_all first.spec_ex steps (map mark_of answers))
+  all_wide told whole =
+      let l = leads tells keeps state told steps answers cuts first last behind runs in
+      let w = last.spec_ex.bytes_per_sample in
+      let bytes = accepted_bytes state last in
+      let held = take last.out (drop last.data_start (state last.medium).contents) in
+      let size : length bytes ≡ data_length last =
+      length-append held last.waiting
+      ∙ ap (λ n. n + length last.waiting) (length-out state last (l.whole whole)) in
+      subst (λ (x : ℕ × List (List ℕ)). AllByRecursion (λ c. length c ≡ x.0) x.1)
+      (λ i. ((l.spec_ex i).bytes_per_sample, l.accepted whole i))
+      (wide_containers w (data_length last / w) bytes
+      (omega (arith, size, div-mul-le_self (data_length last) w)))
+
+  after_loss :
+      ((m : M)
+      → WhereKeeps tells keeps ((state m).contents ≡ overlay (state m).start (state m).past))
+      → IsTrue tells → IsTrue keeps → IsWhole state first
+      → CountedAfterLoss first.spec_ex first.data_start (accepted_samples state first) steps
+      (map mark_of answers) cuts (state medium)
+  after_loss replays told kept whole =
+      let law = λ (m : M). replays m told kept in
+      let l = lead told in
+      let e = ended tells keeps state end last answer medium ends in
+      let at_each = e.1.moments told kept in
+      let h = first.data_start in
+      let base = (state first.medium).contents in
+      let last_whole = l.whole whole in
+      let span = at_each.counts last_whole in
+      let after =
+      span_later (λ _. Counts last.spec_ex last.data_start (accepted_samples state last)) 0
+      (state last.medium) (state medium) span in
+      let later =
+      later_then (state first.medium) (state last.medium) (state medium)
+      (run_later tells keeps state told kept law steps answers cuts first last runs whole) after in
+      let begins_at =
+      first_cut tells keeps state told kept law steps answers cuts first last (state medium) runs in
+      let same : moment (state medium).start (state medium).past
+      (length (state first.medium).past) ≡ base =
+      sym (same_moment (state first.medium) (state medium) (length (state first.medium).past) later
+      (omega arith)) ∙ moment_last (state first.medium) (law first.medium) in
+      let head = head_of_begun tells keeps state begin old first told begins whole in
+      let tall = head_inside base first.spec_ex head.0 h head.1 in
+      counted_after_loss first.spec_ex h head.0 (accepted_samples state first) steps
+      (map mark_of answers) cuts (state medium) base facts.0.width
+      (counted tells keeps state told kept law steps answers cuts first last (state medium) runs
+      after (λ k from to. span.each k from to) whole)
+      (stored tells keeps state told kept law steps answers cuts first last (state medium) runs
+      after (at_each.stored last_whole) whole)
+      (λ k from to.
+      sizes_at_each tells keeps state told kept law steps answers cuts first last (state medium)
+      runs after (λ j since until. (at_each.half.each j since until).front) behind whole k
+      (omega (arith, from, begins_at)) to)
+      (λ k from to.
+      omega (
+        arith,
+        tall,
+        ap length same,
+        moments_grow (state medium).start (state medium).past (length (state first.medium).past) k
+            (omega (arith, from, begins_at)),
+      )) head.1 tall (all_wide told whole)
+
   moments :
       ((m : M)
       → WhereKeeps tells keeps ((state m).contents ≡ overlay (state m).start (state m).past))
@@ -195,6 +331,8 @@ module _ {M : Type 0} (tells keeps : Bool) (state : M → MediumState) (begin : 
             λ whole. stored tells keeps state told kept
             (λ m. replays m told kept) steps answers cuts first last (state medium) runs
             (later whole) ((e.1.moments told kept).stored (l.whole whole)) whole;
+        after_loss =
+            λ whole. after_loss replays told kept whole;
       } in
       subst (λ b. LeavesAtEach state steps b cuts first medium) (sym marked) all
 
@@ -214,19 +352,6 @@ module _ {M : Type 0} (tells keeps : Bool) (state : M → MediumState) (begin : 
     leaves = leaves;
     moments = moments replays;
   }
-
--- nothing is accepted in a new file
-pub none_accepted : {M : Type 0} (state : M → MediumState) (w : WriterState M) → IsSound w
-    → w.waiting ≡ [] → w.out ≡ 0 → accepted_samples state w ≡ []
-none_accepted state w sound none empty =
-    let bytes = drop w.data_start (state w.medium).contents in
-    samples_out state w none sound
-    ∙ ap (λ n. containers w.spec_ex.bytes_per_sample n bytes)
-    (ap (λ n. n / w.spec_ex.bytes_per_sample) empty ∙ zero_div w.spec_ex.bytes_per_sample)
-  where
-    zero_div : (w : ℕ) → 0 / w ≡ 0
-    zero_div zero = refl
-    zero_div (suc w) = omega arith
 
 -- a run over a new file
 module _ {M : Type 0} (tells keeps : Bool) (state : M → MediumState) (s : WavSpecEx)
