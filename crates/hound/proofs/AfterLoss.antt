@@ -17,7 +17,7 @@ use Rattle.hound_writer.proofs.Counted.{counts_more, counts_standing}
 use Rattle.hound_writer.proofs.Heads.{head_behind}
 use Rattle.hound.specs.declared.session.Step.{Step}
 use Rattle.hound.specs.Headline.{CountedAtEach, CountedAfterLoss, StoredAtEach, accepted_after, cut_point}
-use Rattle.hound.specs.Losses.{Ascends, SurvivesLoss}
+use Rattle.hound_durable.specs.Losses.{Ascends, SurvivesLoss}
 use Rattle.hound.specs.Steps.{accepted_by, accepted_by_all}
 use Rattle.hound.proofs.Leading.{concat-append}
 use Rattle.hound.proofs.Losing.{few_after, head_after, says_chosen, stored_after}

@@ -13,7 +13,7 @@ use Rattle.hound_writer.specs.Publishing.{place_of}
 use Rattle.hound_writer.specs.Sizes.{ChangesSizesOnly, field}
 use Rattle.hound_writer.proofs.Counted.{samples_le}
 use Rattle.hound_writer.proofs.Heads.{head_with}
-use Rattle.hound.specs.Losses.{Ascends, SurvivesLoss}
+use Rattle.hound_durable.specs.Losses.{Ascends, SurvivesLoss}
 
 -- a byte of two parts that are the same
 byte_in : (p q n : ℕ) (c d : List ℕ) (i : ℕ) → i < n → take n (drop p c) ≡ take n (drop q d)

@@ -101,6 +101,20 @@ module _ {M : Type 0} (tells keeps : Bool) (state : M → MediumState) (told : I
   last_cut (step ∷ steps) (answer ∷ answers) (cut ∷ cuts) old new end (mid, at, takes, rest) =
       last_cut steps answers cuts mid new end rest
 
+  -- and it lies within the past
+  pub end_cut : (steps : List Step) (answers : List (Result (Unit {0}) Error)) (cuts : List ℕ)
+      (old new : WriterState M) (end : MediumState)
+      → Runs tells keeps state steps answers cuts old new
+      → cut_point cuts end (length steps) ≡ length (state new.medium).past
+  end_cut [] [] cuts old new end (same, cut) =
+      ap (λ l. cut_point l end 0) cut
+      ∙ ap (λ (w : WriterState M). length (state w.medium).past) (sym same)
+  end_cut [] (answer ∷ answers) cuts old new end runs = absurd runs
+  end_cut (step ∷ steps) [] cuts old new end runs = absurd runs
+  end_cut (step ∷ steps) (answer ∷ answers) [] old new end runs = absurd runs
+  end_cut (step ∷ steps) (answer ∷ answers) (cut ∷ cuts) old new end (mid, at, takes, rest) =
+      end_cut steps answers cuts mid new end rest
+
   -- before the data nothing but the two sizes changes at any moment of a run, where that is so of
   -- its end
   pub sizes_at_each : (steps : List Step) (answers : List (Result (Unit {0}) Error))

@@ -1,5 +1,5 @@
 -- A whole run, from its beginning to its end.
-use Rattle.std.proofs.Common.{◌≡◌, ℕ, zero, suc, ◌+◌, ◌-◌, ◌/◌, ◌%◌, ◌==◌, ◌<◌, ◌≤◌, not, if◌then◌else◌, Bool, List, [], Option, Some, None, ◌++◌, length, take, drop, map, Result, Ok, Err, OnOk, IsTrue, inl, inr, refl, sym, ◌∙◌, ap, subst, arith, length-append, length-drop}
+use Rattle.std.proofs.Common.{◌≡◌, ℕ, zero, suc, ◌+◌, ◌-◌, ◌/◌, ◌%◌, ◌==◌, ◌<◌, ◌≤◌, not, if◌then◌else◌, Bool, List, [], ◌∷◌, Option, Some, None, ◌++◌, length, take, drop, map, Result, Ok, Err, OnOk, IsTrue, inl, inr, refl, sym, ◌∙◌, ap, subst, arith, length-append, length-drop}
 use Rattle.std.proofs.lemmas.List.{take_all, length-take-le}
 use Rattle.std.proofs.lemmas.Nat.{mul-le}
 use Rattle.std.proofs.Math.Nat.{div-mul-le_self}
@@ -13,8 +13,9 @@ use Rattle.hound_spec.proofs.HeaderLemmas.{data_start_least, length-canonical, l
 use Rattle.hound_sample.specs.Container.{containers}
 use Rattle.hound_medium.specs.State.{MediumState, WhereTells, WhereKeeps}
 use Rattle.hound_medium.specs.Bytes.{moment, placed, overlay}
-use Rattle.hound_medium.proofs.Overlays.{overlay_is}
+use Rattle.hound_medium.proofs.Overlays.{length-placed, overlay_is}
 use Rattle.hound_medium.proofs.Spans.{moment_last}
+use Rattle.hound_durable.specs.Losses.{Ascends, SurvivesLoss}
 use Rattle.hound_reader.specs.declared.fault.Cause.{Cause}
 use Rattle.hound_reader.specs.declared.fault.Cause.TheVariants.{Format}
 use Rattle.hound_reader.specs.declared.fault.Reason.TheVariants.{DataLength, FrameLength}
@@ -35,13 +36,13 @@ use Rattle.hound.specs.declared.session.Begin.{Begin}
 use Rattle.hound.specs.declared.session.Begin.TheVariants.{New, Append}
 use Rattle.hound.specs.declared.session.End.{End}
 use Rattle.hound.specs.declared.session.End.TheVariants.{Finalize, Drop}
-use Rattle.hound.specs.Headline.{CanonicalAtEnd, CountedAfterLoss}
-use Rattle.hound.specs.Run.{Begins, Ends, IsNotBegun, Leaves, LeavesAtEach, NoFault, Ran, Runs}
-use Rattle.hound.specs.Steps.{accepted_by_all}
+use Rattle.hound.specs.Headline.{CanonicalAtEnd, CountedAfterLoss, accepted_after}
+use Rattle.hound.specs.Run.{Begins, Ends, IsNotBegun, IsSession, Leaves, LeavesAtEach, NoFault, Ran, Runs}
+use Rattle.hound.specs.Steps.{accepted_by, accepted_by_all}
 use Rattle.hound.proofs.Leading.{Leads, leads, grows_told, no_fault_parts, length-concat-append}
 use Rattle.hound.proofs.AfterLoss.{counted_after_loss, wide_containers}
 use Rattle.hound.proofs.Losing.{moments_grow}
-use Rattle.hound.proofs.Moments.{counted, first_cut, later_then, published, run_later, same_moment, sizes_at_each, span_later, stored}
+use Rattle.hound.proofs.Moments.{counted, end_cut, first_cut, last_cut, later_then, published, run_later, same_moment, sizes_at_each, span_later, stored}
 
 -- the writer that a run begins with
 first_sound : {M : Type 0} (tells keeps : Bool) (state : M → MediumState) (begin : Begin) (old : M)
@@ -420,3 +421,117 @@ module _ {M : Type 0} (tells keeps : Bool) (state : M → MediumState) (s : WavS
       go : (P : Type 0) (answer : Result (Unit {0}) Error) → OnPublished answer P → OnOk answer P
       go P (Ok x) here = here
       go P (Err e) here = tt
+
+-- all steps accepted what their marks say
+accepted_whole : (s : WavSpecEx) (steps : List Step) (marks : List Bool)
+    → accepted_by_all s (take (length steps) steps) (take (length steps) marks) ≡ accepted_by_all s
+    steps marks
+accepted_whole s [] marks = refl
+accepted_whole s (step ∷ steps) [] = refl
+accepted_whole s (step ∷ steps) (mark ∷ marks) =
+    ap (λ l. accepted_by s step mark ++ l) (accepted_whole s steps marks)
+
+-- A run over a new file, where the bytes that were put after its header was flushed, at f, went to
+-- ascending places: what a loss of power leaves counts.
+module _ {M : Type 0} (tells keeps : Bool) (state : M → MediumState) (told : IsTrue tells)
+    (kept : IsTrue keeps) (replays : (m : M)
+    → (state m).contents ≡ overlay (state m).start (state m).past) (s : WavSpecEx)
+    (steps : List Step) (marks : List Bool) (end : End) (old : M) (answer : Result (Unit {0}) Error)
+    (medium : M) (begin : Begin) (is_new : begin ≡ New s) (unused : (state old).past ≡ [])
+    (f : ℕ) (begun : data_start s ≤ f) (within : f ≤ length (state medium).past)
+    (ascends : Ascends (state medium).past f (length (state medium).past))
+    (sector : ℕ) (some : 1 ≤ sector)
+    (one : (data_start s - 4) / sector ≡ (data_start s - 1) / sector)
+    (contents : List ℕ)
+    (lost : SurvivesLoss sector (state medium).start (state medium).past f
+    (length (state medium).past) contents) where
+  not_run : (e : Error) → IsNotBegun tells keeps state (New s) old medium e
+      → Counts s (data_start s) (accepted_by_all s steps marks) contents
+  not_run e (inl (not, is, same)) =
+      absurd (omega (
+        arith,
+        begun,
+        within,
+        ap (λ m. length (state m).past) same,
+        ap length unused,
+        data_start_least s,
+      ))
+  not_run e (inr (writable, io, failed)) =
+      let p = failed told in
+      let h = take p.count (header s 0 0) in
+      absurd (omega (
+        arith,
+        begun,
+        within,
+        ap length (p.takes.past kept),
+        length-append (state old).past (placed (state old).place h),
+        ap length unused,
+        length-placed (state old).place h,
+        length-take-le p.count (header s 0 0) p.within,
+        p.part,
+        length-header s 0 0,
+      ))
+
+  was_run : Ran tells keeps state (New s) steps marks end old answer medium
+      → Counts s (data_start s) (accepted_by_all s steps marks) contents
+  was_run r =
+      let b = r.begins.begun in
+      let file = r.begins.file told in
+      let first = state r.first.medium in
+      let e = ended tells keeps state end r.last answer medium r.ends in
+      let half = (e.1.moments told kept).half in
+      let header_put : length first.past ≡ data_start s =
+      omega (
+        arith,
+        ap length (file.puts.past kept),
+        length-append (state old).past
+            (placed (state old).place (take (length (header r.first.spec_ex 0 0))
+            (header r.first.spec_ex 0 0))),
+        ap length unused,
+        length-placed (state old).place
+            (take (length (header r.first.spec_ex 0 0)) (header r.first.spec_ex 0 0)),
+        length-take-le (length (header r.first.spec_ex 0 0)) (header r.first.spec_ex 0 0)
+            (omega arith),
+        length-header r.first.spec_ex 0 0,
+        ap data_start b.spec,
+      ) in
+      let counted : Counts r.first.spec_ex r.first.data_start
+      (accepted_after r.first.spec_ex (accepted_samples state r.first) steps marks
+      (length steps)) contents =
+      ((r.moments told kept).after_loss file.whole (length steps) f (length (state medium).past)
+      sector contents (omega arith)
+      (omega (
+        arith,
+        begun,
+        header_put,
+        first_cut tells keeps state told kept replays steps r.answers r.cuts r.first r.last
+            (state medium) r.runs,
+      )) within (omega arith)
+      (omega (
+        arith,
+        end_cut tells keeps state told kept replays steps r.answers r.cuts r.first r.last
+            (state medium) r.runs,
+        ap length half.past,
+        length-append (state r.last.medium).past half.added,
+      ))
+      (omega (
+        arith,
+        last_cut tells keeps state told kept replays steps r.answers r.cuts r.first r.last
+            (state medium) r.runs,
+      )) ascends some
+      (ap (λ n. (n - 4) / sector) b.start ∙ one ∙ ap (λ n. (n - 1) / sector) (sym b.start))
+      lost).0 in
+      let none = none_accepted state r.first b.sound b.none_waits b.none_out in
+      subst (λ (x : WavSpecEx × (ℕ × List (List ℕ))). Counts x.0 x.1.0 x.1.1 contents)
+      (λ i. (
+        b.spec i,
+        (b.start i, ((λ j. none j ++ accepted_by_all (b.spec j) (take (length steps) steps)
+            (take (length steps) marks)) ∙ accepted_whole s steps marks) i),
+      )) counted
+
+  pub counts_after_loss : IsSession tells keeps state begin steps marks end old answer medium
+      → Counts s (data_start s) (accepted_by_all s steps marks) contents
+  counts_after_loss (inl n) =
+      not_run n.error (subst (λ b. IsNotBegun tells keeps state b old medium n.error) is_new n.why)
+  counts_after_loss (inr r) =
+      was_run (subst (λ b. Ran tells keeps state b steps marks end old answer medium) is_new r)

@@ -16,7 +16,7 @@ use Rattle.hound.specs.declared.session.Step.{Step}
 use Rattle.hound.specs.declared.session.Step.TheVariants.{Flush}
 use Rattle.hound.specs.declared.session.End.{End}
 use Rattle.hound.specs.declared.session.End.TheVariants.{Finalize, Drop}
-use Rattle.hound.specs.Losses.{Ascends, SurvivesLoss}
+use Rattle.hound_durable.specs.Losses.{Ascends, SurvivesLoss}
 use Rattle.hound.specs.Steps.{accepted_by_all, HoldsNoFlush}
 
 -- the accepted samples once i steps have returned: those that were found, and those of the steps

@@ -57,7 +57,6 @@ pub use Rattle.hound_writer.specs.Storing
 pub use Rattle.hound_writer.specs.Writer
 pub mod FirstError
 pub mod Headline
-pub mod Losses
 pub mod Run
 pub mod Sessions
 pub mod Steps
