@@ -1,3 +1,3 @@
-pub mod Counts
-pub mod Places
+pub mod Ascending
 pub mod Reading
+pub mod Facts

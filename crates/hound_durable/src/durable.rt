@@ -205,7 +205,7 @@ impl<M: Medium> Medium for Durable<M> {
             (λ _. synced self.new ≡ synced self.old)) }
         ensures fault { WhereTells M.tells (IsItsFault result (within self.old) (within self.new)) }
     {
-        match self.inner.flush() {
+        match Medium::flush(&mut self.inner) {
             Ok(()) => {
                 self.end = 0;
                 self.flushed = self.taken;
