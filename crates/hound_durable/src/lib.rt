@@ -6,5 +6,7 @@
 #![tactic(auto)]
 
 mod durable;
+mod file;
 
 pub use durable::Durable;
+pub use file::SyncedFile;
