@@ -9,11 +9,11 @@ use Rattle.hound_medium.specs.Bytes.{moment, put_at, overlay}
 use Rattle.hound_medium.proofs.Overlays.{front_part, length-put_at, overlay-append, overlay_more, take_overlay_before}
 use Rattle.hound_medium.proofs.Inside.{drop_behind}
 use Rattle.hound_reader.specs.Chunks.{Head}
-use Rattle.hound_writer.specs.Publishing.{place_of}
+
 use Rattle.hound_writer.specs.Sizes.{ChangesSizesOnly, field}
 use Rattle.hound_writer.proofs.Counted.{samples_le}
 use Rattle.hound_writer.proofs.Heads.{head_with}
-use Rattle.hound_durable.specs.Losses.{Ascends, SurvivesLoss}
+use Rattle.hound_durable.specs.Losses.{Ascends, SurvivesLoss, place_of}
 
 -- a byte of two parts that are the same
 byte_in : (p q n : ℕ) (c d : List ℕ) (i : ℕ) → i < n → take n (drop p c) ≡ take n (drop q d)
