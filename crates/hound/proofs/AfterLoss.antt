@@ -1,7 +1,7 @@
 -- What a loss of power leaves of a run's file.
-use Rattle.std.proofs.Common.{◌≡◌, ℕ, zero, suc, ◌+◌, ◌-◌, ◌*◌, ◌/◌, ◌%◌, ◌<◌, ◌≤◌, inl, inr, Bool, List, [], ◌∷◌, ◌++◌, length, take, drop, refl, sym, ◌∙◌, ap, subst, arith, append_assoc, length-append, length-drop, take-append-drop}
+use Rattle.std.proofs.Common.{◌≡◌, ℕ, zero, suc, ◌+◌, ◌-◌, ◌*◌, ◌/◌, ◌%◌, ◌≤◌, inl, inr, Bool, List, [], ◌∷◌, ◌++◌, length, take, drop, refl, sym, ◌∙◌, ap, subst, arith, append_assoc, length-append, length-drop, take-append-drop}
 use Rattle.std.proofs.lemmas.Bool.{cases_lt}
-use Rattle.std.proofs.lemmas.List.{append-nil, length-take-le, take-take, take-append-le}
+use Rattle.std.proofs.lemmas.List.{length-take-le, take-take, take-append-le}
 use Rattle.std.proofs.lemmas.Nat.{div-add-mod', div_below, div-mul-add, mod-mul-add, mod_below, mul-le}
 use Rattle.std.specs.List.{concat, AllByRecursion}
 use Rattle.hound_spec.specs.declared.spec.WavSpecEx.{WavSpecEx}
@@ -17,7 +17,6 @@ use Rattle.hound_writer.proofs.Counted.{counts_more, counts_standing}
 use Rattle.hound_writer.proofs.Heads.{head_behind}
 use Rattle.hound.specs.declared.session.Step.{Step}
 use Rattle.hound.specs.Headline.{CountedAtEach, CountedAfterLoss, StoredAtEach, accepted_after, cut_point}
-use Rattle.hound_durable.specs.Losses.{Ascends, SurvivesLoss}
 use Rattle.hound.specs.Steps.{accepted_by, accepted_by_all}
 use Rattle.hound.proofs.Leading.{concat-append}
 use Rattle.hound.proofs.Losing.{few_after, head_after, says_chosen, stored_after}

@@ -525,8 +525,11 @@ module _ {M : Type 0} (tells keeps : Bool) (state : M → MediumState) (told : I
       subst (λ (x : WavSpecEx × (ℕ × List (List ℕ))). Counts x.0 x.1.0 x.1.1 contents)
       (λ i. (
         b.spec i,
-        (b.start i, ((λ j. none j ++ accepted_by_all (b.spec j) (take (length steps) steps)
-            (take (length steps) marks)) ∙ accepted_whole s steps marks) i),
+        (
+          b.start i,
+          ((λ j. none j ++ accepted_by_all (b.spec j) (take (length steps) steps)
+              (take (length steps) marks)) ∙ accepted_whole s steps marks) i,
+        ),
       )) counted
 
   pub counts_after_loss : IsSession tells keeps state begin steps marks end old answer medium
