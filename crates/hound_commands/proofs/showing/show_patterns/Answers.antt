@@ -1,4 +1,4 @@
-use Rattle.std.proofs.Common.{◌≡◌, ◌+◌, ◌∙◌, ap}
+use Rattle.std.proofs.Common.{◌+◌, ◌∙◌, ap}
 use Rattle.hound.specs.Meaning.{float_refusal, pattern}
 use Rattle.hound_text.specs.Writing.{pattern_line}
 use Rattle.hound_commands.proofs.ShowAnswers.{patterns_line, patterns_refusal, sample_shown}
