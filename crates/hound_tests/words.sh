@@ -7,7 +7,7 @@ cat <<'END'
 ghost use Rattle.std.specs.Prelude.{◌≡◌};
 END
 # A struct for the definitions of each crate, and one for its variants.
-for crate in number spec sample medium reader writer session; do
+for crate in number spec sample medium durable reader writer session; do
     prefix="Rattle.hound_$crate.specs." files="../hound/src/*.rt ../hound_[a-su-z]*/src/*.rt"
     # Those on whole runs are of the root crate.
     [ $crate != session ] || prefix="Rattle.hound.specs." files="../hound/src/*.rt"

@@ -1,7 +1,9 @@
 pub mod Stepping
 pub mod Running
 pub mod Leading
+pub mod Losing
 pub mod Moments
+pub mod AfterLoss
 pub mod Whole
 pub mod Answering
 pub mod Batching

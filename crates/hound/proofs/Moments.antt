@@ -16,8 +16,9 @@ use Rattle.hound_writer.specs.Accepting.{AddsAtEach}
 use Rattle.hound_writer.specs.Answers.{mark_of}
 use Rattle.hound_writer.specs.Counts.{Counts}
 use Rattle.hound_writer.specs.Publishing.{Checkpoints}
-use Rattle.hound_writer.specs.Sizes.{field}
+use Rattle.hound_writer.specs.Sizes.{ChangesSizesOnly, field}
 use Rattle.hound_writer.specs.Storing.{IsStored, KeepsStored}
+use Rattle.hound_writer.proofs.Sizes.{sizes_then}
 use Rattle.hound_writer.proofs.Storing.{stored_fewer, stored_join}
 use Rattle.hound_writer.specs.Writer.{WriterState, IsWhole, accepted_samples, data_length}
 use Rattle.hound.specs.declared.session.Step.{Step}
@@ -26,7 +27,7 @@ use Rattle.hound.specs.Headline.{CountedAtEach, PublishedByFlushes, StoredAtEach
 use Rattle.hound.specs.Run.{Takes, Runs}
 use Rattle.hound.specs.Steps.{accepted_by, accepted_by_all, HoldsNoFlush}
 use Rattle.hound.proofs.Leading.{concat-append, length-concat-append}
-use Rattle.hound.proofs.Stepping.{did, step_span, step_stored}
+use Rattle.hound.proofs.Stepping.{did, step_sizes, step_span, step_stored}
 
 -- from one state of a medium to a later one bytes were put after the past
 pub record Later (old new : MediumState) : Type 0 where
@@ -37,7 +38,7 @@ pub record Later (old new : MediumState) : Type 0 where
 later_still : (a : MediumState) → Later a a
 later_still a = record { start = refl; added = []; past = sym (append-nil a.past) }
 
-later_then : (a b c : MediumState) → Later a b → Later b c → Later a c
+pub later_then : (a b c : MediumState) → Later a b → Later b c → Later a c
 later_then a b c first then = record {
   start = then.start ∙ first.start;
   added = first.added ++ then.added;
@@ -51,7 +52,7 @@ span_later At split old new span =
     record { start = span.start; added = span.added; past = span.past }
 
 -- an earlier moment stays what it was
-same_moment : (old new : MediumState) (k : ℕ) → Later old new → k ≤ length old.past
+pub same_moment : (old new : MediumState) (k : ℕ) → Later old new → k ≤ length old.past
     → moment old.start old.past k ≡ moment new.start new.past k
 same_moment old new k later before =
     sym (moment_before old.start old.past later.added k before)
@@ -61,7 +62,7 @@ module _ {M : Type 0} (tells keeps : Bool) (state : M → MediumState) (told : I
     (kept : IsTrue keeps) (replays : (m : M)
     → (state m).contents ≡ overlay (state m).start (state m).past) where
   -- the first cut point is where the first step begins
-  first_cut : (steps : List Step) (answers : List (Result (Unit {0}) Error)) (cuts : List ℕ)
+  pub first_cut : (steps : List Step) (answers : List (Result (Unit {0}) Error)) (cuts : List ℕ)
       (old new : WriterState M) (end : MediumState)
       → Runs tells keeps state steps answers cuts old new
       → cut_point cuts end 0 ≡ length (state old.medium).past
@@ -71,7 +72,7 @@ module _ {M : Type 0} (tells keeps : Bool) (state : M → MediumState) (told : I
   first_cut (step ∷ steps) (answer ∷ answers) [] old new end runs = absurd runs
   first_cut (step ∷ steps) (answer ∷ answers) (cut ∷ cuts) old new end (mid, at, takes, rest) = at
 
-  run_later : (steps : List Step) (answers : List (Result (Unit {0}) Error)) (cuts : List ℕ)
+  pub run_later : (steps : List Step) (answers : List (Result (Unit {0}) Error)) (cuts : List ℕ)
       (old new : WriterState M) → Runs tells keeps state steps answers cuts old new
       → IsWhole state old → Later (state old.medium) (state new.medium)
   run_later [] [] cuts old new (same, cut) whole =
@@ -87,6 +88,77 @@ module _ {M : Type 0} (tells keeps : Bool) (state : M → MediumState) (told : I
       (step_span tells keeps state told kept step answer old mid takes whole))
       (run_later steps answers cuts mid new runs
       ((did tells keeps state told step answer old mid takes).whole whole))
+
+  -- the last cut point is where the run's end begins, and after it comes the end of the past
+  pub last_cut : (steps : List Step) (answers : List (Result (Unit {0}) Error)) (cuts : List ℕ)
+      (old new : WriterState M) (end : MediumState)
+      → Runs tells keeps state steps answers cuts old new
+      → cut_point cuts end (suc (length steps)) ≡ length end.past
+  last_cut [] [] cuts old new end (same, cut) = ap (λ l. cut_point l end 1) cut
+  last_cut [] (answer ∷ answers) cuts old new end runs = absurd runs
+  last_cut (step ∷ steps) [] cuts old new end runs = absurd runs
+  last_cut (step ∷ steps) (answer ∷ answers) [] old new end runs = absurd runs
+  last_cut (step ∷ steps) (answer ∷ answers) (cut ∷ cuts) old new end (mid, at, takes, rest) =
+      last_cut steps answers cuts mid new end rest
+
+  -- and it lies within the past
+  pub end_cut : (steps : List Step) (answers : List (Result (Unit {0}) Error)) (cuts : List ℕ)
+      (old new : WriterState M) (end : MediumState)
+      → Runs tells keeps state steps answers cuts old new
+      → cut_point cuts end (length steps) ≡ length (state new.medium).past
+  end_cut [] [] cuts old new end (same, cut) =
+      ap (λ l. cut_point l end 0) cut
+      ∙ ap (λ (w : WriterState M). length (state w.medium).past) (sym same)
+  end_cut [] (answer ∷ answers) cuts old new end runs = absurd runs
+  end_cut (step ∷ steps) [] cuts old new end runs = absurd runs
+  end_cut (step ∷ steps) (answer ∷ answers) [] old new end runs = absurd runs
+  end_cut (step ∷ steps) (answer ∷ answers) (cut ∷ cuts) old new end (mid, at, takes, rest) =
+      end_cut steps answers cuts mid new end rest
+
+  -- before the data nothing but the two sizes changes at any moment of a run, where that is so of
+  -- its end
+  pub sizes_at_each : (steps : List Step) (answers : List (Result (Unit {0}) Error))
+      (cuts : List ℕ) (old new : WriterState M) (end : MediumState)
+      → Runs tells keeps state steps answers cuts old new → Later (state new.medium) end
+      → ((k : ℕ) → length (state new.medium).past ≤ k → k ≤ length end.past
+      → ChangesSizesOnly new.data_start (state new.medium).contents
+      (moment end.start end.past k))
+      → 4 ≤ old.data_start → IsWhole state old
+      → (k : ℕ) → length (state old.medium).past ≤ k → k ≤ length end.past
+      → ChangesSizesOnly old.data_start (state old.medium).contents
+      (moment end.start end.past k)
+  sizes_at_each [] [] cuts old new end (same, cut) later tail behind whole k from to =
+      subst (λ (w : WriterState M). ChangesSizesOnly w.data_start (state w.medium).contents
+      (moment end.start end.past k)) same
+      (tail k (omega (arith, from, ap (λ (w : WriterState M). length (state w.medium).past) same)) to)
+  sizes_at_each [] (answer ∷ answers) cuts old new end runs later tail behind whole k from to =
+      absurd runs
+  sizes_at_each (step ∷ steps) [] cuts old new end runs later tail behind whole k from to =
+      absurd runs
+  sizes_at_each (step ∷ steps)
+      (answer ∷ answers) [] old new end runs later tail behind whole k from to = absurd runs
+  sizes_at_each (step ∷ steps) (answer ∷ answers) (cut ∷ cuts) old new end
+      (mid, at, takes, runs) later tail behind whole k from to =
+      let t = did tells keeps state told step answer old mid takes in
+      let h = old.data_start in
+      let then =
+      later_then (state mid.medium) (state new.medium) end
+      (run_later steps answers cuts mid new runs (t.whole whole)) later in
+      elim (cases_lt (length (state mid.medium).past) k) [
+        | inr within ↦
+            subst (ChangesSizesOnly h (state old.medium).contents)
+            (same_moment (state mid.medium) end k then within)
+            (step_sizes tells keeps state told kept step answer old mid takes behind whole k from
+            within)
+        | inl after ↦
+            let rest =
+            sizes_at_each steps answers cuts mid new end runs later tail
+            (omega (arith, behind, t.data_start)) (t.whole whole) k (omega (arith, after)) to in
+            sizes_then h (state old.medium).contents (state mid.medium).contents
+            (moment end.start end.past k) (t.front behind)
+            (subst (λ n. ChangesSizesOnly n (state mid.medium).contents
+            (moment end.start end.past k)) t.data_start rest)
+      ]
 
   -- what counts from the last step's return on counts at each of these moments, and so do the
   -- samples before each step

@@ -4,10 +4,11 @@ use Rattle.std.proofs.lemmas.List.{append-nil}
 use Rattle.std.specs.List.{concat}
 use Rattle.hound_spec.specs.declared.error.Error.{Error}
 use Rattle.hound_spec.specs.Header.{data_start, header}
+use Rattle.hound_medium.specs.Bytes.{moment}
 use Rattle.hound_medium.specs.Spans.{Span}
 use Rattle.hound_medium.specs.State.{MediumState}
 use Rattle.hound_sample.specs.Container.{Refusal}
-use Rattle.hound_writer.specs.Accepting.{Accepts}
+use Rattle.hound_writer.specs.Accepting.{Accepts, AddsAtEach}
 use Rattle.hound_writer.specs.Answers.{UnlessFailed, faults_told, if_marked, mark_of}
 use Rattle.hound_writer.specs.Counts.{Counts}
 use Rattle.hound_writer.specs.Publishing.{Checkpoints}
@@ -15,7 +16,7 @@ use Rattle.hound_writer.specs.Sizes.{ChangesSizesOnly}
 use Rattle.hound_writer.specs.Storing.{KeepsStored}
 use Rattle.hound_writer.specs.Writer.{WriterState, HasHeader, IsWhole, IsBegun, IsCounted, accepted_samples, data_length, padded_end}
 use Rattle.hound_writer.proofs.Answers.{unless_failed, unless_then}
-use Rattle.hound_writer.proofs.Sizes.{header_front, sizes_front}
+use Rattle.hound_writer.proofs.Sizes.{header_front, sizes_front, take_front}
 use Rattle.hound.specs.declared.session.Step.{Step}
 use Rattle.hound.specs.declared.session.Step.TheVariants.{Whole, Bits, Batch, Flush}
 use Rattle.hound.specs.Run.{Takes}
@@ -141,6 +142,33 @@ module _ {M : Type 0} (tells keeps : Bool) (state : M → MediumState) (told : I
   step_span kept (Bits bits) answer old new t whole = (t.moments told kept).counts whole
   step_span kept (Batch values) answer old new t whole = (t.0.moments told kept).counts whole
   step_span kept Flush answer old new t whole = (t.moments told kept).counts whole
+
+  -- before the data nothing but the two sizes changes at any of its moments
+  step_sizes_front : (old new : WriterState M) (at_each : AddsAtEach state old (state new.medium))
+      → 4 ≤ old.data_start → IsWhole state old
+      → (k : ℕ) → length (state old.medium).past ≤ k → k ≤ length (state new.medium).past
+      → ChangesSizesOnly old.data_start (state old.medium).contents
+      (moment (state new.medium).start (state new.medium).past k)
+  step_sizes_front old new at_each behind whole k from to =
+      let c = moment (state new.medium).start (state new.medium).past k in
+      sizes_front old.data_start (state old.medium).contents c behind
+      (take_front old.data_start (old.data_start + old.out) (state old.medium).contents c
+      (omega arith) ((at_each.front whole).each k from to))
+
+  pub step_sizes : IsTrue keeps
+      → (step : Step) (answer : Result (Unit {0}) Error) (old new : WriterState M)
+      → Takes tells keeps state step answer old new → 4 ≤ old.data_start → IsWhole state old
+      → (k : ℕ) → length (state old.medium).past ≤ k → k ≤ length (state new.medium).past
+      → ChangesSizesOnly old.data_start (state old.medium).contents
+      (moment (state new.medium).start (state new.medium).past k)
+  step_sizes kept (Whole value) answer old new t behind whole k from to =
+      step_sizes_front old new (t.moments told kept) behind whole k from to
+  step_sizes kept (Bits bits) answer old new t behind whole k from to =
+      step_sizes_front old new (t.moments told kept) behind whole k from to
+  step_sizes kept (Batch values) answer old new t behind whole k from to =
+      step_sizes_front old new (t.0.moments told kept) behind whole k from to
+  step_sizes kept Flush answer old new t behind whole k from to =
+      ((t.moments told kept).half.each k from to).front
 
   -- what stays stored of the samples that were accepted before it
   pub step_stored : IsTrue keeps

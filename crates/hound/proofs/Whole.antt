@@ -1,7 +1,9 @@
 -- A whole run, from its beginning to its end.
-use Rattle.std.proofs.Common.{◌≡◌, ℕ, zero, suc, ◌+◌, ◌/◌, ◌<◌, ◌≤◌, Bool, List, [], ◌++◌, length, take, drop, map, Result, Ok, Err, OnOk, IsTrue, inl, inr, refl, sym, ◌∙◌, ap, subst, arith, length-append, length-drop}
+use Rattle.std.proofs.Common.{◌≡◌, ℕ, zero, suc, ◌+◌, ◌-◌, ◌/◌, ◌%◌, ◌==◌, ◌<◌, ◌≤◌, not, if◌then◌else◌, Bool, List, [], ◌∷◌, Option, Some, None, ◌++◌, length, take, drop, map, Result, Ok, Err, OnOk, IsTrue, inl, inr, refl, sym, ◌∙◌, ap, subst, arith, length-append, length-drop}
 use Rattle.std.proofs.lemmas.List.{take_all, length-take-le}
-use Rattle.std.specs.List.{concat}
+use Rattle.std.proofs.lemmas.Nat.{mul-le}
+use Rattle.std.proofs.Math.Nat.{div-mul-le_self}
+use Rattle.std.specs.List.{concat, AllByRecursion}
 use Rattle.std.specs.Io.{StartsWith}
 use Rattle.hound_spec.specs.declared.error.Error.{Error}
 use Rattle.hound_spec.specs.declared.error.Error.TheVariants.{IoError, UnfinishedSample}
@@ -10,33 +12,103 @@ use Rattle.hound_spec.specs.Header.{header, data_start, canonical}
 use Rattle.hound_spec.proofs.HeaderLemmas.{data_start_least, length-canonical, length-header}
 use Rattle.hound_sample.specs.Container.{containers}
 use Rattle.hound_medium.specs.State.{MediumState, WhereTells, WhereKeeps}
-use Rattle.hound_medium.specs.Bytes.{placed, overlay}
-use Rattle.hound_medium.proofs.Overlays.{overlay_is}
+use Rattle.hound_medium.specs.Bytes.{moment, placed, overlay}
+use Rattle.hound_medium.proofs.Overlays.{length-placed, overlay_is}
+use Rattle.hound_medium.proofs.Spans.{moment_last}
+use Rattle.hound_durable.specs.Losses.{Ascends, SurvivesLoss}
+use Rattle.hound_reader.specs.declared.fault.Cause.{Cause}
+use Rattle.hound_reader.specs.declared.fault.Cause.TheVariants.{Format}
+use Rattle.hound_reader.specs.declared.fault.Reason.TheVariants.{DataLength, FrameLength}
+use Rattle.hound_reader.specs.Chunks.{Head, data_fault}
 use Rattle.hound_writer.specs.Answers.{IsPublishing, OnPublished, faults_told, mark_of}
-use Rattle.hound_writer.specs.Counts.{Counts}
+use Rattle.hound_writer.specs.Counts.{Counts, ReadsFirst}
 use Rattle.hound_writer.specs.Publishing.{Finishes}
-use Rattle.hound_writer.specs.Sizes.{ChangesSizesOnly}
-use Rattle.hound_writer.specs.Writer.{WriterState, IsSound, IsWhole, IsBegun, accepted_samples, data_length}
+use Rattle.hound_writer.specs.Sizes.{ChangesSizesOnly, field}
+use Rattle.hound_writer.specs.Writer.{WriterState, IsSound, IsWhole, IsBegun, accepted_bytes, accepted_samples, data_length}
 use Rattle.hound_writer.proofs.Accepting.{length_overlay_max}
 use Rattle.hound_writer.proofs.Answers.{on_published_then}
-use Rattle.hound_writer.proofs.Samples.{concat-samples, length_out, samples_out}
+use Rattle.hound_writer.proofs.Containers.{none_whole}
+use Rattle.hound_writer.proofs.Heads.{head_inside}
+use Rattle.hound_writer.proofs.Samples.{concat-samples, length-out, length_out, samples_out}
 use Rattle.hound_writer.proofs.Sizes.{sizes_then}
 use Rattle.hound.specs.declared.session.Step.{Step}
 use Rattle.hound.specs.declared.session.Begin.{Begin}
 use Rattle.hound.specs.declared.session.Begin.TheVariants.{New, Append}
 use Rattle.hound.specs.declared.session.End.{End}
 use Rattle.hound.specs.declared.session.End.TheVariants.{Finalize, Drop}
-use Rattle.hound.specs.Headline.{CanonicalAtEnd}
-use Rattle.hound.specs.Run.{Begins, Ends, IsNotBegun, Leaves, LeavesAtEach, NoFault, Ran, Runs}
-use Rattle.hound.specs.Steps.{accepted_by_all}
+use Rattle.hound.specs.Headline.{CanonicalAtEnd, CountedAfterLoss, accepted_after}
+use Rattle.hound.specs.Run.{Begins, Ends, IsNotBegun, IsSession, Leaves, LeavesAtEach, NoFault, Ran, Runs}
+use Rattle.hound.specs.Steps.{accepted_by, accepted_by_all}
 use Rattle.hound.proofs.Leading.{Leads, leads, grows_told, no_fault_parts, length-concat-append}
-use Rattle.hound.proofs.Moments.{counted, published, span_later, stored}
+use Rattle.hound.proofs.AfterLoss.{counted_after_loss, wide_containers}
+use Rattle.hound.proofs.Losing.{moments_grow}
+use Rattle.hound.proofs.Moments.{counted, end_cut, first_cut, last_cut, later_then, published, run_later, same_moment, sizes_at_each, span_later, stored}
 
 -- the writer that a run begins with
 first_sound : {M : Type 0} (tells keeps : Bool) (state : M → MediumState) (begin : Begin) (old : M)
     (w : WriterState M) → Begins tells keeps state begin old w → IsSound w × (w.waiting ≡ [])
 first_sound tells keeps state (New s) old w begins = (begins.begun.sound, begins.begun.none_waits)
 first_sound tells keeps state Append old w begins = (begins.sound, begins.none_waits)
+
+zero_div : (w : ℕ) → 0 / w ≡ 0
+zero_div zero = refl
+zero_div (suc w) = omega arith
+
+-- nothing is accepted in a new file
+pub none_accepted : {M : Type 0} (state : M → MediumState) (w : WriterState M) → IsSound w
+    → w.waiting ≡ [] → w.out ≡ 0 → accepted_samples state w ≡ []
+none_accepted state w sound none empty =
+    let bytes = drop w.data_start (state w.medium).contents in
+    samples_out state w none sound
+    ∙ ap (λ n. containers w.spec_ex.bytes_per_sample n bytes)
+    (ap (λ n. n / w.spec_ex.bytes_per_sample) empty ∙ zero_div w.spec_ex.bytes_per_sample)
+
+-- no data are whole frames
+none_fault : (s : WavSpecEx) → data_fault s 0 ≡ None
+none_fault s =
+    let w = s.bytes_per_sample in
+    let n = s.spec.channels in
+    let pick : ℕ → ℕ → Option Cause =
+    λ samples frames. if not (samples == 0) then Some (Format DataLength)
+    else if not (frames == 0) then Some (Format FrameLength)
+    else None in
+    let frames : (0 / w) % n ≡ 0 = ap (λ m. m % n) (zero_div w) ∙ none_whole n in
+    λ i. pick (none_whole w i) (frames i)
+
+read_head : (s : WavSpecEx) (h n : ℕ) (accepted : List (List ℕ)) (contents : List ℕ) → n ≡ 0
+    → ReadsFirst (data_fault s n) s h n accepted contents → (len : ℕ) × Head contents s len h
+read_head s h n accepted contents none reads =
+    let r : ReadsFirst None s h n accepted contents =
+    subst (λ fault. ReadsFirst fault s h n accepted contents)
+    (ap (data_fault s) none ∙ none_fault s) reads in
+    (r.0.len, r.0.head)
+
+-- the head of its file
+head_of_begun : {M : Type 0} (tells keeps : Bool) (state : M → MediumState) (begin : Begin)
+    (old : M) (w : WriterState M) → IsTrue tells → Begins tells keeps state begin old w
+    → IsWhole state w
+    → (len : ℕ) × Head (state w.medium).contents w.spec_ex len w.data_start
+head_of_begun tells keeps state (New s) old w told begins whole =
+    let b = begins.begun in
+    let c = (begins.file told).counts in
+    let none : field (w.data_start - 4) (state w.medium).contents ≡ 0 =
+    omega (
+      arith,
+      c.covers,
+      mul-le c.samples w.spec_ex.bytes_per_sample 0 w.spec_ex.bytes_per_sample
+          (omega (
+            arith,
+            c.among,
+            ap length (none_accepted state w b.sound b.none_waits b.none_out),
+          )) (omega arith),
+    ) in
+    read_head w.spec_ex w.data_start (field (w.data_start - 4) (state w.medium).contents)
+    (accepted_samples state w) (state w.medium).contents none c.reads
+head_of_begun tells keeps state Append old w told begins whole =
+    let f = begins.file told in (
+      data_length w,
+      subst (λ c. Head c w.spec_ex (data_length w) w.data_start) (sym f.puts.stays.contents) f.head,
+    )
 
 -- its accepted samples, joined, have the length that it counts
 pub sized : {M : Type 0} (state : M → MediumState) (w : WriterState M) → IsSound w → w.waiting ≡ []
@@ -170,6 +242,71 @@ module _ {M : Type 0} (tells keeps : Bool) (state : M → MediumState) (begin : 
             );
       }
 
+  -- its accepted samples all have the width of its spec
+  all_wide : IsTrue tells → IsWhole state first
+      → AllByRecursion (λ c. length c ≡ first.spec_ex.bytes_per_sample)
+      (accepted_samples state first ++ accepted_by_all first.spec_ex steps (map mark_of answers))
+  all_wide told whole =
+      let l = leads tells keeps state told steps answers cuts first last behind runs in
+      let w = last.spec_ex.bytes_per_sample in
+      let bytes = accepted_bytes state last in
+      let held = take last.out (drop last.data_start (state last.medium).contents) in
+      let size : length bytes ≡ data_length last =
+      length-append held last.waiting
+      ∙ ap (λ n. n + length last.waiting) (length-out state last (l.whole whole)) in
+      subst (λ (x : ℕ × List (List ℕ)). AllByRecursion (λ c. length c ≡ x.0) x.1)
+      (λ i. ((l.spec_ex i).bytes_per_sample, l.accepted whole i))
+      (wide_containers w (data_length last / w) bytes
+      (omega (arith, size, div-mul-le_self (data_length last) w)))
+
+  after_loss :
+      ((m : M)
+      → WhereKeeps tells keeps ((state m).contents ≡ overlay (state m).start (state m).past))
+      → IsTrue tells → IsTrue keeps → IsWhole state first
+      → CountedAfterLoss first.spec_ex first.data_start (accepted_samples state first) steps
+      (map mark_of answers) cuts (state medium)
+  after_loss replays told kept whole =
+      let law = λ (m : M). replays m told kept in
+      let l = lead told in
+      let e = ended tells keeps state end last answer medium ends in
+      let at_each = e.1.moments told kept in
+      let h = first.data_start in
+      let base = (state first.medium).contents in
+      let last_whole = l.whole whole in
+      let span = at_each.counts last_whole in
+      let after =
+      span_later (λ _. Counts last.spec_ex last.data_start (accepted_samples state last)) 0
+      (state last.medium) (state medium) span in
+      let later =
+      later_then (state first.medium) (state last.medium) (state medium)
+      (run_later tells keeps state told kept law steps answers cuts first last runs whole) after in
+      let begins_at =
+      first_cut tells keeps state told kept law steps answers cuts first last (state medium) runs in
+      let same : moment (state medium).start (state medium).past
+      (length (state first.medium).past) ≡ base =
+      sym (same_moment (state first.medium) (state medium) (length (state first.medium).past) later
+      (omega arith)) ∙ moment_last (state first.medium) (law first.medium) in
+      let head = head_of_begun tells keeps state begin old first told begins whole in
+      let tall = head_inside base first.spec_ex head.0 h head.1 in
+      counted_after_loss first.spec_ex h head.0 (accepted_samples state first) steps
+      (map mark_of answers) cuts (state medium) base facts.0.width
+      (counted tells keeps state told kept law steps answers cuts first last (state medium) runs
+      after (λ k from to. span.each k from to) whole)
+      (stored tells keeps state told kept law steps answers cuts first last (state medium) runs
+      after (at_each.stored last_whole) whole)
+      (λ k from to.
+      sizes_at_each tells keeps state told kept law steps answers cuts first last (state medium)
+      runs after (λ j since until. (at_each.half.each j since until).front) behind whole k
+      (omega (arith, from, begins_at)) to)
+      (λ k from to.
+      omega (
+        arith,
+        tall,
+        ap length same,
+        moments_grow (state medium).start (state medium).past (length (state first.medium).past) k
+            (omega (arith, from, begins_at)),
+      )) head.1 tall (all_wide told whole)
+
   moments :
       ((m : M)
       → WhereKeeps tells keeps ((state m).contents ≡ overlay (state m).start (state m).past))
@@ -195,6 +332,8 @@ module _ {M : Type 0} (tells keeps : Bool) (state : M → MediumState) (begin : 
             λ whole. stored tells keeps state told kept
             (λ m. replays m told kept) steps answers cuts first last (state medium) runs
             (later whole) ((e.1.moments told kept).stored (l.whole whole)) whole;
+        after_loss =
+            λ whole. after_loss replays told kept whole;
       } in
       subst (λ b. LeavesAtEach state steps b cuts first medium) (sym marked) all
 
@@ -214,19 +353,6 @@ module _ {M : Type 0} (tells keeps : Bool) (state : M → MediumState) (begin : 
     leaves = leaves;
     moments = moments replays;
   }
-
--- nothing is accepted in a new file
-pub none_accepted : {M : Type 0} (state : M → MediumState) (w : WriterState M) → IsSound w
-    → w.waiting ≡ [] → w.out ≡ 0 → accepted_samples state w ≡ []
-none_accepted state w sound none empty =
-    let bytes = drop w.data_start (state w.medium).contents in
-    samples_out state w none sound
-    ∙ ap (λ n. containers w.spec_ex.bytes_per_sample n bytes)
-    (ap (λ n. n / w.spec_ex.bytes_per_sample) empty ∙ zero_div w.spec_ex.bytes_per_sample)
-  where
-    zero_div : (w : ℕ) → 0 / w ≡ 0
-    zero_div zero = refl
-    zero_div (suc w) = omega arith
 
 -- a run over a new file
 module _ {M : Type 0} (tells keeps : Bool) (state : M → MediumState) (s : WavSpecEx)
@@ -295,3 +421,120 @@ module _ {M : Type 0} (tells keeps : Bool) (state : M → MediumState) (s : WavS
       go : (P : Type 0) (answer : Result (Unit {0}) Error) → OnPublished answer P → OnOk answer P
       go P (Ok x) here = here
       go P (Err e) here = tt
+
+-- all steps accepted what their marks say
+accepted_whole : (s : WavSpecEx) (steps : List Step) (marks : List Bool)
+    → accepted_by_all s (take (length steps) steps) (take (length steps) marks) ≡ accepted_by_all s
+    steps marks
+accepted_whole s [] marks = refl
+accepted_whole s (step ∷ steps) [] = refl
+accepted_whole s (step ∷ steps) (mark ∷ marks) =
+    ap (λ l. accepted_by s step mark ++ l) (accepted_whole s steps marks)
+
+-- A run over a new file, where the bytes that were put after its header was flushed, at f, went to
+-- ascending places: what a loss of power leaves counts.
+module _ {M : Type 0} (tells keeps : Bool) (state : M → MediumState) (told : IsTrue tells)
+    (kept : IsTrue keeps) (replays : (m : M)
+    → (state m).contents ≡ overlay (state m).start (state m).past) (s : WavSpecEx)
+    (steps : List Step) (marks : List Bool) (end : End) (old : M) (answer : Result (Unit {0}) Error)
+    (medium : M) (begin : Begin) (is_new : begin ≡ New s) (unused : (state old).past ≡ [])
+    (f : ℕ) (begun : data_start s ≤ f) (within : f ≤ length (state medium).past)
+    (ascends : Ascends (state medium).past f (length (state medium).past))
+    (sector : ℕ) (some : 1 ≤ sector)
+    (one : (data_start s - 4) / sector ≡ (data_start s - 1) / sector)
+    (contents : List ℕ)
+    (lost : SurvivesLoss sector (state medium).start (state medium).past f
+    (length (state medium).past) contents) where
+  not_run : (e : Error) → IsNotBegun tells keeps state (New s) old medium e
+      → Counts s (data_start s) (accepted_by_all s steps marks) contents
+  not_run e (inl (not, is, same)) =
+      absurd (omega (
+        arith,
+        begun,
+        within,
+        ap (λ m. length (state m).past) same,
+        ap length unused,
+        data_start_least s,
+      ))
+  not_run e (inr (writable, io, failed)) =
+      let p = failed told in
+      let h = take p.count (header s 0 0) in
+      absurd (omega (
+        arith,
+        begun,
+        within,
+        ap length (p.takes.past kept),
+        length-append (state old).past (placed (state old).place h),
+        ap length unused,
+        length-placed (state old).place h,
+        length-take-le p.count (header s 0 0) p.within,
+        p.part,
+        length-header s 0 0,
+      ))
+
+  was_run : Ran tells keeps state (New s) steps marks end old answer medium
+      → Counts s (data_start s) (accepted_by_all s steps marks) contents
+  was_run r =
+      let b = r.begins.begun in
+      let file = r.begins.file told in
+      let first = state r.first.medium in
+      let e = ended tells keeps state end r.last answer medium r.ends in
+      let half = (e.1.moments told kept).half in
+      let header_put : length first.past ≡ data_start s =
+      omega (
+        arith,
+        ap length (file.puts.past kept),
+        length-append (state old).past
+            (placed (state old).place (take (length (header r.first.spec_ex 0 0))
+            (header r.first.spec_ex 0 0))),
+        ap length unused,
+        length-placed (state old).place
+            (take (length (header r.first.spec_ex 0 0)) (header r.first.spec_ex 0 0)),
+        length-take-le (length (header r.first.spec_ex 0 0)) (header r.first.spec_ex 0 0)
+            (omega arith),
+        length-header r.first.spec_ex 0 0,
+        ap data_start b.spec,
+      ) in
+      let counted : Counts r.first.spec_ex r.first.data_start
+      (accepted_after r.first.spec_ex (accepted_samples state r.first) steps marks
+      (length steps)) contents =
+      ((r.moments told kept).after_loss file.whole (length steps) f (length (state medium).past)
+      sector contents (omega arith)
+      (omega (
+        arith,
+        begun,
+        header_put,
+        first_cut tells keeps state told kept replays steps r.answers r.cuts r.first r.last
+            (state medium) r.runs,
+      )) within (omega arith)
+      (omega (
+        arith,
+        end_cut tells keeps state told kept replays steps r.answers r.cuts r.first r.last
+            (state medium) r.runs,
+        ap length half.past,
+        length-append (state r.last.medium).past half.added,
+      ))
+      (omega (
+        arith,
+        last_cut tells keeps state told kept replays steps r.answers r.cuts r.first r.last
+            (state medium) r.runs,
+      )) ascends some
+      (ap (λ n. (n - 4) / sector) b.start ∙ one ∙ ap (λ n. (n - 1) / sector) (sym b.start))
+      lost).0 in
+      let none = none_accepted state r.first b.sound b.none_waits b.none_out in
+      subst (λ (x : WavSpecEx × (ℕ × List (List ℕ))). Counts x.0 x.1.0 x.1.1 contents)
+      (λ i. (
+        b.spec i,
+        (
+          b.start i,
+          ((λ j. none j ++ accepted_by_all (b.spec j) (take (length steps) steps)
+              (take (length steps) marks)) ∙ accepted_whole s steps marks) i,
+        ),
+      )) counted
+
+  pub counts_after_loss : IsSession tells keeps state begin steps marks end old answer medium
+      → Counts s (data_start s) (accepted_by_all s steps marks) contents
+  counts_after_loss (inl n) =
+      not_run n.error (subst (λ b. IsNotBegun tells keeps state b old medium n.error) is_new n.why)
+  counts_after_loss (inr r) =
+      was_run (subst (λ b. Ran tells keeps state b steps marks end old answer medium) is_new r)

@@ -1,6 +1,6 @@
 -- What a run of a writer promises, whatever failed: counted at each moment, published at a flush,
 -- canonical at the end.
-use Rattle.std.specs.Prelude.{◌≡◌, ℕ, suc, ◌+◌, ◌-◌, ◌<◌, ◌≤◌, ⊤, Bool, true, false, List, ◌++◌, length, take, drop, slice_index_or, Result}
+use Rattle.std.specs.Prelude.{◌≡◌, ℕ, suc, ◌+◌, ◌-◌, ◌/◌, ◌<◌, ◌≤◌, ⊤, Bool, true, false, List, ◌++◌, length, take, drop, slice_index_or, Result}
 use Rattle.std.specs.List.{concat}
 use Rattle.std.specs.Io.{StartsWith}
 use Rattle.hound_spec.specs.declared.error.Error.{Error}
@@ -16,6 +16,7 @@ use Rattle.hound.specs.declared.session.Step.{Step}
 use Rattle.hound.specs.declared.session.Step.TheVariants.{Flush}
 use Rattle.hound.specs.declared.session.End.{End}
 use Rattle.hound.specs.declared.session.End.TheVariants.{Finalize, Drop}
+use Rattle.hound_durable.specs.Losses.{Ascends, SurvivesLoss}
 use Rattle.hound.specs.Steps.{accepted_by_all, HoldsNoFlush}
 
 -- the accepted samples once i steps have returned: those that were found, and those of the steps
@@ -61,6 +62,25 @@ StoredAtEach s start found steps marks cuts medium = (i a len k m : ℕ) → i �
     (moment medium.start medium.past k) →
     IsStored start (concat (accepted_after s found steps marks i)) a len
     (moment medium.start medium.past m)
+
+-- A loss of power leaves a file that counts. Of a medium that was flushed when f bytes had been put,
+-- the header among them, and that then put bytes at ascending places alone, a loss after k bytes may
+-- leave any mixture of sectors (`SurvivesLoss`). Where the length field lies within one sector, it
+-- counts no more than the samples accepted by then that these contents hold, and reading gives
+-- exactly the first ones it counts or refuses a length of no whole frames; and it is the length
+-- field of a state from f to k.
+abbrev pub CountedAfterLoss : WavSpecEx → ℕ → List (List ℕ) → List Step → List Bool → List ℕ →
+    MediumState → Type 0
+CountedAfterLoss s start found steps marks cuts medium =
+    (i f k sector : ℕ) (contents : List ℕ) → i ≤ length steps → cut_point cuts medium 0 ≤ f →
+    f ≤ k → k ≤ length medium.past → cut_point cuts medium i ≤ k →
+    k ≤ cut_point cuts medium (suc i) → Ascends medium.past f k → 1 ≤ sector →
+    (start - 4) / sector ≡ (start - 1) / sector →
+    SurvivesLoss sector medium.start medium.past f k contents →
+    Counts s start (accepted_after s found steps marks i) contents
+    × ((j : ℕ) × (f ≤ j) × (j ≤ k)
+    × (field (start - 4) contents
+    ≡ field (start - 4) (moment medium.start medium.past j)))
 
 -- P, where all was published at the end of a run, as its answer tells
 abbrev pub OnFinalized : End → Result (Unit {0}) Error → Type 0 → Type 0

@@ -20,6 +20,9 @@ pub use Rattle.hound_medium.specs.Bytes
 pub use Rattle.hound_medium.specs.Spans
 pub use Rattle.hound_medium.specs.State
 pub use Rattle.hound_medium.specs.Journal
+pub use Rattle.hound_durable.specs.Losses
+pub use Rattle.hound_durable.specs.Own
+pub use Rattle.hound_durable.specs.Durables
 pub use Rattle.hound_reader.specs.Fmt
 pub use Rattle.hound_reader.specs.Chunks
 pub use Rattle.hound_reader.specs.Outcome

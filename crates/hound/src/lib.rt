@@ -65,12 +65,15 @@
 //! behind it.
 #![tactic(auto)]
 
+mod durable;
 mod laws;
 mod runs;
 mod session;
 mod sessions;
 mod steps;
 
+pub use durable::run_durable_session;
+pub use hound_durable::{Durable, SyncedFile};
 pub use hound_medium::{Journal, Medium, Placed, Source, Tape};
 pub use hound_reader::{
     WavIntoSamples, WavReader, WavSamples, a_block_is_its_items, a_reader_stands_as_counted,

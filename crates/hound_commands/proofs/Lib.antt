@@ -1,1 +1,2 @@
 pub mod PackAnswers
+pub mod ShowAnswers

@@ -2,3 +2,4 @@ pub mod Commands
 pub mod Failing
 pub mod Packing
 pub mod Session
+pub mod Showing

@@ -4,12 +4,14 @@ ghost use Rattle.hound.specs.Writable.{with_default_width};
 ghost use Rattle.hound.specs.declared.SampleFormat.TheVariants.{Int};
 ghost use Rattle.hound.specs.declared.WavSpec.{WavSpec};
 ghost use Rattle.hound_commands.specs.Commands.{IsCommand, IsNotPacked, IsPackCommand, IsShowCommand, Packs, SaySpec};
+ghost use Rattle.hound_commands.specs.Showing.{Shows};
 ghost use Rattle.hound_commands.specs.declared.failure.Failure.TheVariants.{InputOrOutput};
 
 use crate::failure::Failure;
 use crate::packing::file_of;
-use hound::{FloatBits, SampleFormat, Tape, WavReader, WavSpec, WavWriter};
-use hound_text::{Ahead, Lines, digits, read_numbers};
+use crate::showing::show;
+use hound::{SampleFormat, Tape, WavSpec, WavWriter};
+use hound_text::{digits, read_numbers};
 use std::alloc::Global;
 use std::fmt::Display;
 use std::io::Write;
@@ -43,6 +45,8 @@ pub fn run<R: io::Read, O: io::Write, E: io::Write>(
         ⊎ ((spec : WavSpec) × IsPackCommand words.now spec
         × Packs (with_default_width spec) (R.remaining input.old) (O.contents output.old)
         (O.contents output.new)) }
+    ensures shown { result ≡ 0 → IsShowCommand words.now → Shows (R.remaining input.old)
+        (O.contents output.old) (O.contents output.new) }
     ensures kept { result ≡ 2 → output.new ≡ output.old }
 {
     let result = match words {
@@ -151,85 +155,4 @@ fn append<R: io::Read>(
     }
     writer.finalize()?;
     Ok(())
-}
-
-// The lines of a file, as far as it can be read.
-fn show<R: io::Read, O: io::Write>(input: &mut R, output: &mut O) -> Result<(), Failure> {
-    let mut ahead = Ahead::new(input);
-    let result = show_lines(&mut ahead, output);
-    let flushed = output.flush();
-    if ahead.has_failed() {
-        return Err(Failure::InputOrOutput);
-    }
-    result?;
-    flushed?;
-    Ok(())
-}
-
-fn show_lines<R: io::Read, O: io::Write>(input: &mut R, output: &mut O) -> Result<(), Failure> {
-    let mut reader = WavReader::new(input)?;
-    show_spec(reader.spec(), reader.len(), output)?;
-    let mut lines = Lines::new();
-    let result = match reader.spec().sample_format {
-        SampleFormat::Int => show_integers(&mut reader, &mut lines, output),
-        SampleFormat::Float => show_patterns(&mut reader, &mut lines, output),
-    };
-
-    // Those before a fault are shown.
-    let written = lines.write_to(output);
-    result?;
-    written?;
-    Ok(())
-}
-
-fn show_integers<R: io::Read, O: io::Write>(
-    reader: &mut WavReader<&mut R>,
-    lines: &mut Lines,
-    output: &mut O,
-) -> Result<(), Failure> {
-    // A `for` over the samples keeps a copy more of each, which has a hundred bytes.
-    let count = reader.len();
-    let mut samples = reader.samples::<i32>();
-    for _ in 0..count {
-        match samples.next() {
-            Some(Ok(number)) => {
-                if !lines.has_room() {
-                    lines.write_to(output)?;
-                }
-                lines.push_integer(number);
-            }
-            Some(Err(error)) => return Err(Failure::from(error)),
-            None => break,
-        }
-    }
-    Ok(())
-}
-
-fn show_patterns<R: io::Read, O: io::Write>(
-    reader: &mut WavReader<&mut R>,
-    lines: &mut Lines,
-    output: &mut O,
-) -> Result<(), Failure> {
-    for sample in reader.samples::<FloatBits>() {
-        let FloatBits(pattern) = sample?;
-        if !lines.has_room() {
-            lines.write_to(output)?;
-        }
-        lines.push_pattern(pattern);
-    }
-    Ok(())
-}
-
-fn show_spec<O: io::Write>(spec: WavSpec, samples: u32, output: &mut O) -> io::Result<()> {
-    let channels = spec.channels;
-    let rate = spec.sample_rate;
-    let bits = spec.bits_per_sample;
-    let format = match spec.sample_format {
-        SampleFormat::Float => "float",
-        SampleFormat::Int => "int",
-    };
-    writeln!(
-        output,
-        "channels {channels} rate {rate} bits {bits} format {format} samples {samples}"
-    )
 }

@@ -5,5 +5,6 @@
 mod commands;
 mod failure;
 mod packing;
+mod showing;
 
 pub use commands::{run, run_append};

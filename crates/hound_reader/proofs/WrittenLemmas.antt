@@ -233,13 +233,15 @@ header_head s size len rest w fits = elim (cases_Bool (is_short s)) [
   | inr e ↦ rw e (long_head s size len rest w e fits)
 ]
 
-length-concat : (w : ℕ) (list : List (List ℕ)) → AllByRecursion (λ c. length c ≡ w) list
+-- containers of one width, joined
+pub length-concat : (w : ℕ) (list : List (List ℕ)) → AllByRecursion (λ c. length c ≡ w) list
     → length (concat list) ≡ length list * w
 length-concat w [] each = omega arith
 length-concat w (c ∷ list) (one, each) = let more = length-concat w list each in
     omega (arith, one, more, length-append c (concat list))
 
-containers-concat : (w : ℕ) (list : List (List ℕ)) (rest : List ℕ)
+-- are these containers
+pub containers-concat : (w : ℕ) (list : List (List ℕ)) (rest : List ℕ)
     → AllByRecursion (λ c. length c ≡ w) list
     → containers w (length list) (concat list ++ rest) ≡ list
 containers-concat w [] rest each = refl

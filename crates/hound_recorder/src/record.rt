@@ -1,5 +1,5 @@
 // What is recorded.
-use hound::{Result, SampleFormat, WavSpec, WavWriter};
+use hound::{Medium, Result, SampleFormat, WavSpec, WavWriter};
 use std::io;
 use std::path::Path;
 
@@ -21,7 +21,8 @@ fn sample_behind(accepted: u32, bits: u16) -> i16 {
     }
 }
 
-/// Writes a mono file of so many bits, in so many lots of so many samples, each of them published.
+/// Writes a mono file of so many bits, in so many lots of so many samples, each of them published:
+/// over a file that waits for the disk at each of these, where `is_durable`.
 ///
 /// The samples count up from 0, and begin anew at 32768, or at 128 where they have eight bits.
 /// After each lot that was published the output has a line with the number of samples that the
@@ -32,6 +33,7 @@ pub fn record<O: io::Write>(
     rt: &HostRuntime,
     path: Path<'_>,
     bits: u16,
+    is_durable: bool,
     lots: u32,
     length: u32,
     output: &mut O,
@@ -42,7 +44,22 @@ pub fn record<O: io::Write>(
         bits_per_sample: bits,
         sample_format: SampleFormat::Int,
     };
-    let mut writer = WavWriter::create(rt, rt.alloc(), path, spec)?;
+    if is_durable {
+        let writer = WavWriter::create_durable(rt, rt.alloc(), path, spec)?;
+        return record_into(writer, bits, lots, length, output);
+    }
+    let writer = WavWriter::create(rt, rt.alloc(), path, spec)?;
+    record_into(writer, bits, lots, length, output)
+}
+
+// Writes the lots, and ends the file.
+fn record_into<W: Medium, O: io::Write>(
+    mut writer: WavWriter<W>,
+    bits: u16,
+    lots: u32,
+    length: u32,
+    output: &mut O,
+) -> Result<Recorded> {
     let mut accepted = 0u32;
     let mut is_whole = true;
     for _ in 0..lots {

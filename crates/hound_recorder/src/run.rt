@@ -5,10 +5,10 @@ use crate::record::record;
 use std::io;
 use std::path::Path;
 
-const USAGE: &str = "usage: hound_recorder FILE LOTS LENGTH [BITS]";
+const USAGE: &str = "usage: hound_recorder FILE LOTS LENGTH [BITS [durable]]";
 
 /// Carries out the words `FILE LOTS LENGTH`, with the bits of a sample behind them where they
-/// aren't sixteen, and answers the status: 0 where each call was Ok, 1 where one failed, 2 for
+/// aren't sixteen, and the word `durable` after these for a file that waits for the disk, and answers the status: 0 where each call was Ok, 1 where one failed, 2 for
 /// words that it doesn't know.
 ///
 /// The output has a line for each lot that was published, and at the end, where a call failed, one
@@ -22,9 +22,10 @@ pub fn run<O: io::Write, E: io::Write>(
 ) -> u8
     ensures { result ≤ 2 }
 {
-    let (file, lots, length, bits) = match words {
-        [file, lots, length] => (*file, *lots, *length, "16"),
-        [file, lots, length, bits] => (*file, *lots, *length, *bits),
+    let (file, lots, length, bits, is_durable) = match words {
+        [file, lots, length] => (*file, *lots, *length, "16", false),
+        [file, lots, length, bits] => (*file, *lots, *length, *bits, false),
+        [file, lots, length, bits, "durable"] => (*file, *lots, *length, *bits, true),
         _ => {
             let _ = writeln!(errors, "{USAGE}");
             return 2;
@@ -34,7 +35,7 @@ pub fn run<O: io::Write, E: io::Write>(
         let _ = writeln!(errors, "{USAGE}");
         return 2;
     };
-    match record(rt, Path::new(file), bits, lots, length, output) {
+    match record(rt, Path::new(file), bits, is_durable, lots, length, output) {
         Ok(recorded) if recorded.is_whole => 0,
         Ok(recorded) => {
             let accepted = recorded.accepted;

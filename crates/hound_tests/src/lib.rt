@@ -7,6 +7,8 @@ mod answers;
 #[cfg(test)]
 mod calling;
 #[cfg(test)]
+mod durable;
+#[cfg(test)]
 mod files;
 #[cfg(test)]
 mod helpers;

@@ -70,7 +70,21 @@ impl MediumWords {
     ghost use Rattle.hound.specs.Bytes.{moment, overlay, placed};
     ghost use Rattle.hound.specs.Journal.{FailsAt, IsNumbered, calls, greatest_count};
     ghost use Rattle.hound.specs.Spans.{Span};
-    ghost use Rattle.hound.specs.State.{Flushes, Gets, Goes, MediumState, Puts, PutsAll, Shifts, WhereKeeps, WhereTells, faults_after, one_more, unknown};
+    ghost use Rattle.hound.specs.State.{Flushes, Gets, Goes, MediumState, Puts, PutsAll, Shifts, Stays, WhereKeeps, WhereTells, faults_after, one_more, unknown};
+
+    fn read() -> bool
+        ensures { result ≡ result }
+    {
+        true
+    }
+}
+
+struct DurableWords;
+
+impl DurableWords {
+    ghost use Rattle.hound.specs.Durables.{synced, within};
+    ghost use Rattle.hound.specs.Losses.{Ascends, SurvivesLoss};
+    ghost use Rattle.hound.specs.Own.{IsBelow, IsItsFault, LeadsBack, OnlySyncs, left_of, left_own, own, replays_own};
 
     fn read() -> bool
         ensures { result ≡ result }
@@ -131,6 +145,7 @@ impl WriterWords {
     ghost use Rattle.hound.specs.Batch.{IsSameFile, batch_bytes, batch_lender, batch_writer, remaining};
     ghost use Rattle.hound.specs.Beginning.{Begins, HasBegun, IsNotBegun};
     ghost use Rattle.hound.specs.Block.{GoesOut, IsLimit, all_out, answer_of, or_fault};
+    ghost use Rattle.hound.specs.Counts.{Counts};
     ghost use Rattle.hound.specs.Fields.{IsConsistent, bytes_kept, of_fields};
     ghost use Rattle.hound.specs.Many.{AcceptsEach, all_containers, containers_in, joined_containers, outcome_of, sample_bytes};
     ghost use Rattle.hound.specs.Parts.{HasSize, IsPatched, IsStanding, IsTold, Patches, PatchesAtEach, PutsAt};

@@ -21,7 +21,8 @@ use Rattle.hound_spec.specs.declared.error.Error.{Error}
 use Rattle.hound_writer.specs.Counts.{Counts}
 use Rattle.hound_writer.specs.Parts.{HasSize, IsPatched, Patches, PatchesAtEach, PutsAt, IsStanding, IsTold}
 use Rattle.hound_writer.specs.Answers.{IsPublishing}
-use Rattle.hound_writer.specs.Publishing.{Checkpoints, Finishes, Publishes, IsHalfPublished, IsOldOrNew, PublishesAtEach, PutsLast, place_of}
+use Rattle.hound_durable.specs.Losses.{place_of}
+use Rattle.hound_writer.specs.Publishing.{Checkpoints, Finishes, Publishes, IsHalfPublished, IsOldOrNew, PublishesAtEach, PutsLast}
 use Rattle.hound_writer.specs.Sizes.{field}
 use Rattle.hound_writer.specs.Writer.{WriterState, AreFrames, IsPadded, IsSound, IsWhole, accepted_samples, data_length, data_end, sample_count}
 use Rattle.hound_writer.proofs.Answers.{on_published_then, published}

@@ -20,7 +20,8 @@ use Rattle.hound_spec.specs.Header.{canonical, padded, padding, riff_size}
 use Rattle.hound_writer.specs.Answers.{OnPublished, faults_told}
 use Rattle.hound_writer.specs.Block.{GoesAtEach, GoesOut, StaysAround, after_out}
 use Rattle.hound_writer.specs.Counts.{Counts}
-use Rattle.hound_writer.specs.Publishing.{Checkpoints, Finishes, IsHalfPublished, IsOldOrNew, OncePutBefore, Publishes, PublishesAtEach, ReadsAs, place_of}
+use Rattle.hound_durable.specs.Losses.{place_of}
+use Rattle.hound_writer.specs.Publishing.{Checkpoints, Finishes, IsHalfPublished, IsOldOrNew, OncePutBefore, Publishes, PublishesAtEach, ReadsAs}
 use Rattle.hound_writer.specs.Sizes.{ChangesSizesOnly, field}
 use Rattle.hound_writer.specs.Storing.{KeepsStored}
 use Rattle.hound_writer.specs.Writer.{WriterState, IsBegun, IsPadded, IsSound, HasHeader, accepted_samples, data_length, padded_end}

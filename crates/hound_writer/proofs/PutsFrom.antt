@@ -4,7 +4,8 @@ use Rattle.std.proofs.Math.Seq.{get_or-append_right}
 use Rattle.hound_medium.specs.Bytes.{placed}
 use Rattle.hound_medium.specs.State.{MediumState}
 use Rattle.hound_medium.proofs.Overlays.{length-placed}
-use Rattle.hound_writer.specs.Publishing.{PutsFrom, place_of}
+use Rattle.hound_durable.specs.Losses.{place_of}
+use Rattle.hound_writer.specs.Publishing.{PutsFrom}
 
 -- each went to the next place
 pub place_placed : (at : ℕ) (bytes : List ℕ) (j : ℕ) → j < length bytes

@@ -9,7 +9,7 @@ use Rattle.hound_medium.specs.State.{MediumState}
 use Rattle.hound_medium.proofs.Overlays.{front_part, length-placed}
 use Rattle.hound_medium.proofs.Spans.{moment_before}
 use Rattle.hound_sample.specs.Container.{containers}
-use Rattle.hound_writer.specs.Publishing.{place_of}
+use Rattle.hound_durable.specs.Losses.{place_of}
 use Rattle.hound_writer.specs.Storing.{IsStored, KeepsStored, StaysTrue}
 use Rattle.hound_writer.specs.Writer.{WriterState, IsSound, IsWhole, accepted_bytes, accepted_samples, data_length}
 use Rattle.hound_writer.proofs.Containers.{joined_bytes}

@@ -1,5 +1,5 @@
 -- What a call leaves that publishes the accepted samples.
-use Rattle.std.specs.Prelude.{◌≡◌, ◌⊎◌, ℕ, ◌+◌, ◌-◌, ◌<◌, ◌≤◌, max, Bool, List, length, take, drop, slice_index_or, Result, OnOk}
+use Rattle.std.specs.Prelude.{◌≡◌, ◌⊎◌, ℕ, ◌+◌, ◌-◌, ◌<◌, ◌≤◌, max, Bool, List, length, take, drop, Result, OnOk}
 use Rattle.std.specs.List.{concat}
 use Rattle.std.specs.Io.{StartsWith}
 use Rattle.hound_number.specs.Number.{mix}
@@ -10,6 +10,7 @@ use Rattle.hound_sample.specs.Container.{containers}
 use Rattle.hound_medium.specs.Bytes.{moment}
 use Rattle.hound_medium.specs.State.{MediumState, WhereTells, WhereKeeps}
 use Rattle.hound_medium.specs.Spans.{Span}
+use Rattle.hound_durable.specs.Losses.{place_of}
 use Rattle.hound_reader.specs.Chunks.{Readable}
 use Rattle.hound_writer.specs.Answers.{IsPublishing, OnPublished, faults_told}
 use Rattle.hound_writer.specs.Counts.{Counts}
@@ -68,10 +69,6 @@ pub record IsHalfPublished {W : Type 0} (w : WriterState W) (first : List ℕ) (
       take w.out (drop w.data_start contents) ≡ take w.out (drop w.data_start first)
   pub length_is : field (w.data_start - 4) contents
       ≡ mix j (field (w.data_start - 4) first) (data_length w)
-
--- the place of the byte with this number among all that were put, from 0
-abbrev pub place_of : List (ℕ × ℕ) → ℕ → ℕ
-place_of past i = let x : ℕ × ℕ = slice_index_or past i (0, 0) in x.0
 
 -- no byte was put before this place
 abbrev pub PutsFrom : ℕ → MediumState → MediumState → Type 0

@@ -8,6 +8,7 @@ ghost use Rattle.hound_writer.specs.Writer.{IsSound};
 
 use crate::WavWriter;
 use crate::append::append_at;
+use hound_durable::{Durable, SyncedFile};
 use hound_reader::{error_of, read_until_data};
 use hound_spec::{Error, Result, WavSpec};
 use std::alloc::Global;
@@ -82,6 +83,59 @@ impl WavWriter<io::BufWriter<fs::File>> {
             Err(error) => return Err(error_of(error)),
         };
         let writer = buffered(alloc, reader.into_inner())?;
+        match append_at(writer, head) {
+            Ok(writer) => Ok(writer),
+            Err((_, error)) => Err(error),
+        }
+    }
+}
+
+impl WavWriter<Durable<SyncedFile>> {
+    /// As [`WavWriter::create`], with a file whose samples survive a loss of power from an Ok
+    /// `flush` on: that call waits for the disk, which takes the sizes only once it has the samples
+    /// that they count. The folder isn't synced.
+    ///
+    /// The refusals and their order are those of `create`.
+    pub fn create_durable(
+        rt: &impl Files<File = fs::File>,
+        alloc: Global,
+        path: Path<'_>,
+        spec: WavSpec,
+    ) -> Result<WavWriter<Durable<SyncedFile>>>
+        ensures { MatchResult result (HasBegun (with_default_width spec))
+            (λ e. (IsIoError e ⊎ (e ≡ OutOfMemory)) ⊎ ((e ≡ Unsupported) × (IsWritable (with_default_width spec) → ⊥))) }
+    {
+        let file = fs::create(rt, path)?;
+        let file = SyncedFile::new(alloc, file)?;
+        WavWriter::new(Durable::new(file), spec)
+    }
+
+    /// As [`WavWriter::append`], with a file whose samples survive a loss of power as those of
+    /// [`WavWriter::create_durable`] do.
+    ///
+    /// The refusals and their order are those of `append`.
+    pub fn append_durable(
+        rt: &impl Files<File = fs::File>,
+        alloc: Global,
+        path: Path<'_>,
+    ) -> Result<WavWriter<Durable<SyncedFile>>>
+        ensures sound { IfOk result (λ w. IsSound w) }
+    {
+        let mut file = fs::OpenOptions::new()
+            .read(true)
+            .write(true)
+            .open(rt, path)?;
+
+        // A pipe or a terminal has no place, and a read of it may wait for ever.
+        file.stream_position()?;
+        let Ok(mut reader) = io::BufReader::new(alloc, file) else {
+            return Err(Error::OutOfMemory);
+        };
+        let head = match read_until_data(&mut reader) {
+            Ok(head) => head,
+            Err(error) => return Err(error_of(error)),
+        };
+        let writer = Durable::new(SyncedFile::new(alloc, reader.into_inner())?);
         match append_at(writer, head) {
             Ok(writer) => Ok(writer),
             Err((_, error)) => Err(error),

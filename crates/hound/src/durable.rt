@@ -1,0 +1,61 @@
+// A whole run over a medium that a loss of power may tear.
+ghost use Rattle.std.specs.Prelude.{◌≡◌, ◌-◌, ◌/◌, ◌≤◌, ℕ, List, [], OnOk, length};
+ghost use Rattle.std.specs.Io.{StartsWith};
+ghost use Rattle.hound_spec.specs.declared.spec.WavSpecEx.{WavSpecEx};
+ghost use Rattle.hound_spec.specs.Header.{canonical, data_start};
+ghost use Rattle.hound_medium.specs.State.{WhereTells, WhereKeeps};
+ghost use Rattle.hound_durable.specs.Losses.{SurvivesLoss};
+ghost use Rattle.hound_writer.specs.Counts.{Counts};
+ghost use Rattle.hound.specs.declared.session.Begin.TheVariants.{New};
+ghost use Rattle.hound.specs.declared.session.End.TheVariants.{Finalize};
+ghost use Rattle.hound.specs.Steps.{accepted_by_all};
+
+use crate::runs::run_session;
+use crate::session::{Begin, End, Step};
+use hound_durable::Durable;
+use hound_medium::{Medium, Source};
+use hound_spec::Result;
+use std::alloc::Global;
+
+/// Runs a session as [`run_session`] does, over the medium within a [`Durable`], and hands the
+/// medium back.
+///
+/// Whenever the power goes after the header was flushed, which the first `Flush` does, the file
+/// counts no more than what it holds: whatever sectors keep what was put since the last flush that
+/// was Ok, reading gives exactly the first samples that its length counts, or refuses a length of
+/// no whole frames. A machine that loses power is a medium each of whose calls fails from then on,
+/// so it is said of the medium as the run left it, whatever failed. Sizes are in bytes; a sector
+/// has to hold the four bytes of the length, as one of 128 bytes or more does.
+///
+/// The medium is new: it stands at 0, and where it keeps its past nothing was put yet.
+pub fn run_durable_session<M: Source + Medium>(
+    alloc: Global,
+    medium: M,
+    begin: Begin,
+    steps: &[Step],
+    marks: &mut [bool],
+    end: End,
+) -> (M, Result<()>)
+    requires place { WhereTells M.tells ((M.state medium).place ≡ 0) }
+    requires past { WhereKeeps M.tells M.keeps ((M.state medium).past ≡ []) }
+    requires flushed { WhereKeeps M.tells M.keeps ((M.state medium).flushed ≡ 0) }
+    requires size { length steps.now ≡ length marks.old }
+    ensures size { length marks.new ≡ length marks.old }
+
+    // A new file that was finalized is the canonical one of what was accepted.
+    ensures canonical { WhereTells M.tells ((spec_ex : WavSpecEx) → begin ≡ New spec_ex
+        → end ≡ Finalize →
+        OnOk result.1 (StartsWith (M.state result.0).contents (canonical spec_ex (accepted_by_all spec_ex steps.now marks.new)))) }
+
+    // Of a new file whose header was flushed, whatever a loss of power leaves counts.
+    ensures after_loss { WhereKeeps M.tells M.keeps ((spec_ex : WavSpecEx) → begin ≡ New spec_ex
+        → (M.state medium).contents ≡ []
+        → data_start spec_ex ≤ (M.state result.0).flushed → (sector : ℕ) → 1 ≤ sector
+        → (data_start spec_ex - 4) / sector ≡ (data_start spec_ex - 1) / sector
+        → (contents : List ℕ) → (let s = M.state result.0 in
+        SurvivesLoss sector s.start s.past s.flushed (length s.past) contents) →
+        Counts spec_ex (data_start spec_ex) (accepted_by_all spec_ex steps.now marks.new) contents) }
+{
+    let (durable, answer) = run_session(alloc, Durable::new(medium), begin, steps, marks, end);
+    (durable.into_inner(), answer)
+}

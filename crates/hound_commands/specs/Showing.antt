@@ -1,0 +1,70 @@
+-- What `show` writes of a file: the line of its spec, and then a line for each sample.
+use Rattle.std.specs.Prelude.{◌≡◌, ℕ, ◌*◌, ◌<◌, ◌≤◌, IfSome, List, [], ◌∷◌, ◌++◌, codes, decimal, drop, length, Option, None}
+use Rattle.std.specs.Io.KnownBytes.{Appends}
+use Rattle.std.specs.List.{flat_map}
+use Rattle.hound.specs.Chunks.{Readable}
+use Rattle.hound.specs.Container.{containers}
+use Rattle.hound.specs.Meaning.{ReadRefusal, float_refusal, int_meaning, int_refusal, pattern}
+use Rattle.hound.specs.declared.SampleFormat.{SampleFormat}
+use Rattle.hound.specs.declared.SampleFormat.TheVariants.{Float, Int}
+use Rattle.hound.specs.declared.WavSpec.{WavSpec}
+use Rattle.hound.specs.declared.WavSpecEx.{WavSpecEx}
+use Rattle.hound_text.specs.Writing.{integer_line, pattern_line}
+
+-- the word of a format
+abbrev pub format_word : SampleFormat → List ℕ
+format_word Int = codes "int"
+format_word Float = codes "float"
+
+-- the line of a spec, with the number of samples
+abbrev pub spec_line : WavSpec → ℕ → List ℕ
+spec_line spec samples =
+    codes "channels " ++ (decimal spec.channels ++ (codes " rate " ++ (decimal spec.sample_rate
+    ++ (codes " bits " ++ (decimal spec.bits_per_sample ++ (codes " format "
+    ++ (format_word spec.sample_format ++ (codes " samples " ++ (decimal samples ++ 10 ∷ [])))))))))
+
+-- the line of a container of a format, with so many bytes and used bits
+abbrev pub line_for : SampleFormat → ℕ → ℕ → List ℕ → List ℕ
+line_for Int width bits container = integer_line (int_meaning width bits container)
+line_for Float width bits container = pattern_line (pattern container)
+
+-- the line of a container in a file of this spec
+abbrev pub sample_line : WavSpecEx → List ℕ → List ℕ
+sample_line s container =
+    line_for s.spec.sample_format s.bytes_per_sample s.spec.bits_per_sample container
+
+-- the lines of the first samples of data, so many, in order
+abbrev pub sample_lines : WavSpecEx → ℕ → List ℕ → List ℕ
+sample_lines s count bytes = flat_map (sample_line s) (containers s.bytes_per_sample count bytes)
+
+-- why samples of a format, of so many bytes and used bits, aren't shown, if they aren't
+abbrev pub refusal_for : SampleFormat → ℕ → ℕ → Option ReadRefusal
+refusal_for Int width bits = int_refusal 4 Int width bits
+refusal_for Float width bits = float_refusal Float width bits
+
+-- why the samples of a spec aren't shown, if they aren't
+abbrev pub show_refusal : WavSpecEx → Option ReadRefusal
+show_refusal s = refusal_for s.spec.sample_format s.bytes_per_sample s.spec.bits_per_sample
+
+-- The first samples of data, so many, are there, and of bytes and bits that are shown.
+pub record AreShowable (s : WavSpecEx) (count : ℕ) (bytes : List ℕ) : Type 0 where
+  pub there : count * s.bytes_per_sample ≤ length bytes
+  pub shown : 0 < count → show_refusal s ≡ None
+
+-- the output got the lines of so many samples of the data that are left
+abbrev pub ShowsSamples : WavSpecEx → ℕ → Option (List ℕ) → Option (List ℕ) → Option (List ℕ) → Type 0
+ShowsSamples s count left old new =
+    IfSome left (λ bytes. AreShowable s count bytes × Appends old new (sample_lines s count bytes))
+
+-- The bytes are a file that is shown whole, and this is the text.
+pub record IsShown (bytes text : List ℕ) : Type 0 where
+  pub s : WavSpecEx
+  pub samples : ℕ
+  pub start : ℕ
+  pub readable : Readable bytes s samples start
+  pub showable : AreShowable s samples (drop start bytes)
+  pub text_is : text ≡ spec_line s.spec samples ++ sample_lines s samples (drop start bytes)
+
+-- the output got the lines of the file that the input's bytes are, all of them, and no other byte
+abbrev pub Shows : Option (List ℕ) → Option (List ℕ) → Option (List ℕ) → Type 0
+Shows input old new = IfSome input (λ bytes. (text : List ℕ) × IsShown bytes text × Appends old new text)

@@ -1,0 +1,91 @@
+-- Bytes that are put after all that isn't flushed go on ascending.
+use Rattle.std.proofs.Common.{◌≡◌, ℕ, zero, suc, ◌+◌, ◌-◌, ◌<◌, ◌≤◌, List, [], ◌∷◌, ◌++◌, length, ◌∙◌, ap, arith, length-append, inl, inr}
+use Rattle.std.proofs.lemmas.Bool.{cases_lt}
+use Rattle.std.proofs.lemmas.List.{get_or_append_left}
+use Rattle.std.proofs.Math.Seq.{get_or-append_right}
+use Rattle.hound_medium.specs.Bytes.{placed}
+use Rattle.hound_medium.proofs.Overlays.{length-placed}
+use Rattle.hound_durable.specs.Losses.{place_of, Ascends}
+use Rattle.hound_durable.specs.Own.{IsBelow}
+
+-- each of the bytes of one put went to the next place
+pub place_placed : (at : ℕ) (bytes : List ℕ) (j : ℕ) → j < length bytes
+    → place_of (placed at bytes) j ≡ at + j
+place_placed at [] j few = absurd (omega (arith, few))
+place_placed at (b ∷ bytes) zero few = omega arith
+place_placed at (b ∷ bytes) (suc j) few =
+    place_placed (suc at) bytes j (omega (arith, few)) ∙ omega arith
+
+-- the place of a byte that was put before
+pub place_before : (past added : List (ℕ × ℕ)) (i : ℕ) → i < length past
+    → place_of (past ++ added) i ≡ place_of past i
+place_before past added i before =
+    ap (λ (x : ℕ × ℕ). x.0) (get_or_append_left past added (0, 0) i before)
+
+-- the place of a byte of the last put
+pub place_after : (past : List (ℕ × ℕ)) (at : ℕ) (bytes : List ℕ) (i : ℕ) → length past ≤ i
+    → i < length past + length bytes
+    → place_of (past ++ placed at bytes) i ≡ at + (i - length past)
+place_after past at bytes i from to =
+    ap (λ (x : ℕ × ℕ). x.0) (get_or-append_right past (placed at bytes) i (0, 0) from)
+    ∙ place_placed at bytes (i - length past) (omega (arith, from, to))
+
+pub length_put : (past : List (ℕ × ℕ)) (at : ℕ) (bytes : List ℕ)
+    → length (past ++ placed at bytes) ≡ length past + length bytes
+length_put past at bytes =
+    length-append past (placed at bytes) ∙ ap (λ n. length past + n) (length-placed at bytes)
+
+module _ (past : List (ℕ × ℕ)) (at end f : ℕ) (bytes : List ℕ) (below : IsBelow end past f)
+    (after : end ≤ at) where
+  pub below_more : IsBelow (at + length bytes) (past ++ placed at bytes) f
+  below_more i from to =
+      elim (cases_lt i (length past)) [
+        | inl before ↦
+            omega (
+              arith,
+              place_before past (placed at bytes) i before,
+              below i from before,
+              after,
+            )
+        | inr later ↦
+            omega (
+              arith,
+              length_put past at bytes,
+              to,
+              place_after past at bytes i later (omega (arith, to, length_put past at bytes)),
+            )
+      ]
+
+  pub ascends_more : Ascends past f (length past)
+      → Ascends (past ++ placed at bytes) f (length (past ++ placed at bytes))
+  ascends_more ascends i j from less to =
+      let size = length_put past at bytes in
+      elim (cases_lt j (length past)) [
+        | inl before ↦
+            omega (
+              arith,
+              place_before past (placed at bytes) j before,
+              place_before past (placed at bytes) i (omega (arith, less, before)),
+              ascends i j from less before,
+            )
+        | inr later ↦
+            let there = place_after past at bytes j later (omega (arith, to, size)) in
+            elim (cases_lt i (length past)) [
+              | inl sooner ↦
+                  omega (
+                    arith,
+                    there,
+                    place_before past (placed at bytes) i sooner,
+                    below i from sooner,
+                    after,
+                  )
+              | inr too ↦
+                  omega (
+                    arith,
+                    there,
+                    less,
+                    later,
+                    place_after past at bytes i too (omega (arith, to, less, size)),
+                  )
+            ]
+      ]

@@ -1,0 +1,3 @@
+pub mod Ascending
+pub mod Reading
+pub mod Facts

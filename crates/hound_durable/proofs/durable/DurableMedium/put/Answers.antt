@@ -1,0 +1,53 @@
+use Rattle.std.proofs.Common.{◌≡◌, ◌++◌, ap, sym, ◌+◌, length, take, arith, subst, length-take-le}
+use Rattle.hound_medium.specs.Bytes.{placed}
+use Rattle.hound_durable.specs.Losses.{Ascends}
+use Rattle.hound_durable.specs.Own.{IsBelow}
+use Rattle.hound_durable.proofs.Ascending.{length_put, below_more, ascends_more}
+use Rattle.hound_durable.proofs.durable.DurableMedium.put.Goals as goal
+
+pub invariant_of-self-in-Ok-clause-counts : goal.invariant_of-self-in-Ok-clause-counts
+invariant_of-self-in-Ok-clause-counts g c tells keeps =
+    let d = c.args.self.now in
+    let old = g.M.Placed.state d.inner in
+    let bytes = take c.in-Ok.n c.args.bytes.now in
+    omega (
+      arith,
+      ap length ((c.in-Ok.ensures.puts tells).takes.past keeps),
+      length_put old.past old.place bytes,
+      length-take-le c.in-Ok.n c.args.bytes.now c.in-Ok.ensures.bound.1,
+      d.counts tells keeps,
+    )
+
+pub invariant_of-self-in-Ok-clause-covered : goal.invariant_of-self-in-Ok-clause-covered
+invariant_of-self-in-Ok-clause-covered g c tells keeps =
+    let d = c.args.self.now in
+    let old = g.M.Placed.state d.inner in
+    let new = g.M.Placed.state c.put.new.self in
+    let puts = c.in-Ok.ensures.puts tells in
+    let bytes = take c.in-Ok.n c.args.bytes.now in
+    let end : old.place + length bytes ≡ d.place + c.in-Ok.n =
+    omega (
+      arith,
+      d.is_there tells,
+      length-take-le c.in-Ok.n c.args.bytes.now c.in-Ok.ensures.bound.1,
+    ) in
+    subst (λ e. IsBelow e new.past new.flushed) end
+    (subst (λ past. IsBelow (old.place + length bytes) past new.flushed)
+    (sym (puts.takes.past keeps))
+    (subst (λ f. IsBelow (old.place + length bytes) (old.past ++ placed old.place bytes) f)
+    (sym puts.takes.flushed)
+    (below_more old.past old.place d.end old.flushed bytes (d.covered tells keeps)
+    (omega (arith, d.after, d.is_there tells)))))
+
+pub invariant_of-self-in-Ok-clause-ascends : goal.invariant_of-self-in-Ok-clause-ascends
+invariant_of-self-in-Ok-clause-ascends g c tells keeps =
+    let d = c.args.self.now in
+    let old = g.M.Placed.state d.inner in
+    let new = g.M.Placed.state c.put.new.self in
+    let puts = c.in-Ok.ensures.puts tells in
+    let bytes = take c.in-Ok.n c.args.bytes.now in
+    subst (λ past. Ascends past new.flushed (length past)) (sym (puts.takes.past keeps))
+    (subst (λ f. let past = old.past ++ placed old.place bytes in Ascends past f (length past))
+    (sym puts.takes.flushed)
+    (ascends_more old.past old.place d.end old.flushed bytes (d.covered tells keeps)
+    (omega (arith, d.after, d.is_there tells)) (d.ascends tells keeps)))

@@ -1,0 +1,52 @@
+-- What contracts see of a medium that flushes another one before it goes back.
+use Rattle.std.specs.Prelude.{◌≡◌, ◌⊎◌, ℕ, ◌<◌, ◌≤◌, List, [], length, drop, Option, Some, None, Bool, IsTrue, cond, Result, OnErr}
+use Rattle.std.proofs.Common.{ap, sym, ◌∙◌}
+use Rattle.std.proofs.lemmas.Bool.{cond-true}
+use Rattle.hound_medium.specs.Bytes.{overlay}
+use Rattle.hound_medium.specs.State.{MediumState, one_more}
+use Rattle.hound_durable.specs.Losses.{place_of}
+
+-- the state of the medium within, with these counts in place of its own; where it doesn't keep its
+-- past there is none
+abbrev pub own : Bool → MediumState → ℕ → ℕ → MediumState
+own keeps s faults flushed = record {
+  contents = s.contents;
+  place = s.place;
+  faults = faults;
+  start = s.start;
+  past = cond keeps s.past [];
+  flushed = cond keeps flushed 0;
+}
+
+-- the bytes that are left to be read, where they are known
+abbrev pub left_of : Bool → MediumState → Option (List ℕ)
+left_of tells s = cond tells (Some (drop s.place s.contents)) None
+
+-- each byte that was put after the first f has a place below the end
+abbrev pub IsBelow : ℕ → List (ℕ × ℕ) → ℕ → Type 0
+IsBelow end past f = (i : ℕ) → f ≤ i → i < length past → place_of past i < end
+
+-- some byte that was put after the first f is at this place or after it
+abbrev pub LeadsBack : ℕ → List (ℕ × ℕ) → ℕ → Type 0
+LeadsBack to past f = (i : ℕ) × (f ≤ i) × (i < length past) × (to ≤ place_of past i)
+
+-- a later state of the medium within: it has been flushed no further, or up to all that was put
+pub record OnlySyncs (old new : MediumState) : Type 0 where
+  pub grows : old.flushed ≤ new.flushed
+  pub is : (new.flushed ≡ old.flushed) ⊎ (new.flushed ≡ length new.past)
+
+-- an Err comes from the medium within, which has counted a fault
+abbrev pub IsItsFault : {T E : Type 0} → Result T E → MediumState → MediumState → Type 0
+IsItsFault result old new = OnErr result (new.faults ≡ one_more old.faults)
+
+-- a law of the state with counts of its own
+pub replays_own : (keeps : Bool) (s : MediumState) (faults flushed : ℕ) → IsTrue keeps
+    → s.contents ≡ overlay s.start s.past
+    → let o = own keeps s faults flushed in o.contents ≡ overlay o.start o.past
+replays_own keeps s faults flushed is law =
+    law ∙ ap (overlay s.start) (sym (cond-true keeps s.past _ is))
+
+-- a law of what is left to be read
+pub left_own : (tells : Bool) (s : MediumState) → IsTrue tells
+    → left_of tells s ≡ Some (drop s.place s.contents)
+left_own tells s is = cond-true tells (Some (drop s.place s.contents)) None is

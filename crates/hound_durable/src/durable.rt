@@ -1,0 +1,266 @@
+// A medium around another that flushes it before it goes back.
+ghost use Rattle.std.specs.Prelude.{◌≡◌, ◌⊎◌, ◌+◌, ◌^◌, ◌<◌, ◌≤◌, ◌+ℤ◌, pos, [], length, IfOk, OnOk, OnErr, MatchResult, cond, IsErr};
+ghost use Rattle.std.specs.Int.{FitsUnsigned, w64};
+ghost use Rattle.std.specs.Io.{ReadsAtMost};
+ghost use Rattle.std.specs.Io.KnownBytes.{ReadConsumes};
+ghost use Rattle.hound_medium.specs.State.{Goes, Shifts, Gets, Puts, Flushes, Stays, WhereTells, WhereKeeps, one_more};
+ghost use Rattle.hound_durable.specs.Losses.{Ascends};
+ghost use Rattle.hound_durable.specs.Own.{IsBelow, IsItsFault, LeadsBack, OnlySyncs, own, left_of, replays_own, left_own};
+
+use hound_medium::{Medium, Placed, Source};
+use std::io;
+use std::io::ErrorKind;
+
+/// A medium around another one, which it flushes before each step to or before a byte that has been
+/// put since the last flush.
+///
+/// A `WavWriter` puts samples after all that the file has, and then the sizes before them. So over
+/// a `Durable` the samples are flushed before the sizes are put, and again after them, and a loss
+/// of power at any time leaves a length that counts no more samples than the file has.
+///
+/// Where the medium within `tells`, so does this one, with the same bytes. Its counts of faults and
+/// of flushed bytes are its own: a flush that comes before a step back counts as part of it. If that
+/// flush fails, the step is the one fault, and nothing has moved.
+#[derive(Drop)]
+pub struct Durable<M: Medium> {
+    inner: M,
+    place: u64,
+    // After the highest of the bytes that were put since the last flush of the medium within.
+    end: u64,
+    taken: u64,
+    flushed: u64,
+    faults: u64,
+    ghost is_there: { WhereTells M.tells ((M.state inner).place ≡ place) },
+    ghost counts: { WhereKeeps M.tells M.keeps (length (M.state inner).past ≡ taken) },
+    ghost after: { end ≤ place },
+    ghost covered: { WhereKeeps M.tells M.keeps
+        (IsBelow end (M.state inner).past (M.state inner).flushed) },
+    ghost ascends: { WhereKeeps M.tells M.keeps
+        (Ascends (M.state inner).past (M.state inner).flushed (length (M.state inner).past)) },
+    ghost marked: { WhereKeeps M.tells M.keeps (flushed ≤ (M.state inner).flushed) },
+    ghost known: { WhereKeeps M.tells M.keeps
+        ((M.state inner).flushed ≤ length (M.state inner).past) },
+}
+
+impl<M: Medium> Durable<M> {
+    ghost use Rattle.hound_durable.specs.Durables.{within, synced};
+
+    /// A medium around a new one, at its place 0, into which nothing has been put yet.
+    pub fn new(inner: M) -> Durable<M>
+        requires place { WhereTells M.tells ((M.state inner).place ≡ 0) }
+        requires past { WhereKeeps M.tells M.keeps ((M.state inner).past ≡ []) }
+        requires flushed { WhereKeeps M.tells M.keeps ((M.state inner).flushed ≡ 0) }
+        ensures contents { (⟦<Durable<M> as Placed>⟧.state result).contents ≡ (M.state inner).contents }
+        ensures place { (⟦<Durable<M> as Placed>⟧.state result).place ≡ (M.state inner).place }
+        ensures faults { (⟦<Durable<M> as Placed>⟧.state result).faults ≡ 0 }
+        ensures start { (⟦<Durable<M> as Placed>⟧.state result).start ≡ (M.state inner).start }
+        ensures past { WhereKeeps M.tells M.keeps ((⟦<Durable<M> as Placed>⟧.state result).past ≡ []) }
+        ensures flushed { WhereKeeps M.tells M.keeps ((⟦<Durable<M> as Placed>⟧.state result).flushed ≡ 0) }
+        ensures within { within result ≡ M.state inner }
+    {
+        Durable {
+            inner,
+            place: 0,
+            end: 0,
+            taken: 0,
+            flushed: 0,
+            faults: 0,
+        }
+    }
+
+    /// The medium within, as it is.
+    pub fn into_inner(self) -> M
+        ensures { M.state result ≡ within self }
+    {
+        let Durable { inner, .. } = self;
+        inner
+    }
+
+    // Flushes the medium within, where a place lies below the end of what isn't flushed.
+    fn flush_before(&mut self, to: u64) -> io::Result<()>
+        ensures same { WhereTells M.tells (Goes (within self.old).place result
+            (⟦<Durable<M> as Placed>⟧.state self.old) (⟦<Durable<M> as Placed>⟧.state self.new)) }
+        ensures stays { WhereTells M.tells (Stays (within self.old) (within self.new)) }
+        ensures end { OnOk result (self.new.end ≤ to) }
+        ensures syncs { WhereKeeps M.tells M.keeps (to < self.old.end →
+            OnOk result (synced self.new ≡ length (within self.new).past)) }
+        ensures only_syncs { WhereKeeps M.tells M.keeps (OnlySyncs (within self.old) (within self.new)) }
+        ensures fault { WhereTells M.tells (MatchResult result
+            (λ _. (within self.new).faults ≡ (within self.old).faults)
+            (λ _. (within self.new).faults ≡ one_more (within self.old).faults)) }
+    {
+        if self.end <= to {
+            return Ok(());
+        }
+        match self.inner.flush() {
+            Ok(()) => {
+                self.end = 0;
+                Ok(())
+            }
+            Err(e) => {
+                self.faults = self.faults.saturating_add(1);
+                Err(e)
+            }
+        }
+    }
+}
+
+impl<M: Medium> Placed for Durable<M> {
+    ghost use Rattle.hound_durable.specs.Durables.{within, synced};
+
+    ghost tells = { M.tells };
+
+    ghost keeps = { M.keeps };
+
+    ghost state = { λ d. own M.keeps (M.state d.inner) d.faults d.flushed };
+
+    ghost bytes = { λ d. M.bytes d.inner };
+
+    fn go(&mut self, to: u64) -> io::Result<()>
+        ensures goes { let state = ⟦<Durable<M> as Placed>⟧.state in
+            WhereTells M.tells (Goes to result (state self.old) (state self.new)) }
+        ensures barrier { WhereKeeps M.tells M.keeps
+            (LeadsBack to (within self.old).past (synced self.old)
+            → OnOk result (synced self.new ≡ length (within self.new).past)) }
+        ensures only_syncs { WhereKeeps M.tells M.keeps (OnlySyncs (within self.old) (within self.new)) }
+        ensures fault { WhereTells M.tells (IsItsFault result (within self.old) (within self.new)) }
+    {
+        self.flush_before(to)?;
+        match self.inner.go(to) {
+            Ok(()) => {
+                self.place = to;
+                Ok(())
+            }
+            Err(e) => {
+                self.faults = self.faults.saturating_add(1);
+                Err(e)
+            }
+        }
+    }
+
+    fn shift(&mut self, by: i64) -> io::Result<()>
+        ensures shifts { let state = ⟦<Durable<M> as Placed>⟧.state in
+            WhereTells M.tells (Shifts by result (state self.old) (state self.new)) }
+        ensures barrier { WhereKeeps M.tells M.keeps
+            (LeadsBack (within self.new).place (within self.old).past (synced self.old)
+            → OnOk result (synced self.new ≡ length (within self.new).past)) }
+        ensures only_syncs { WhereKeeps M.tells M.keeps (OnlySyncs (within self.old) (within self.new)) }
+        ensures fault { WhereTells M.tells
+            (FitsUnsigned w64 (pos (within self.old).place +ℤ by)
+            → IsItsFault result (within self.old) (within self.new)) }
+    {
+        match self.place.checked_add_signed(by) {
+            Some(to) => self.go(to),
+            None => {
+                self.faults = self.faults.saturating_add(1);
+                Err(io::Error::from(ErrorKind::InvalidInput))
+            }
+        }
+    }
+}
+
+impl<M: Medium> Medium for Durable<M> {
+    ghost use Rattle.hound_durable.specs.Durables.{within, synced};
+
+    ghost replays = { λ d tells keeps.
+        replays_own M.keeps (M.state d.inner) d.faults d.flushed keeps (M.replays d.inner tells keeps) };
+
+    /// As that of the medium within. It is an `Err` of kind `OutOfMemory` too where the end of the
+    /// bytes, or the count of all that were put, would pass `u64::MAX`.
+    fn put(&mut self, bytes: &[u8]) -> io::Result<usize>
+        requires { 0 < length bytes.now }
+        ensures bound { IfOk result (λ n. (1 ≤ n) × (n ≤ length bytes.now)) }
+        ensures puts { let state = ⟦<Durable<M> as Placed>⟧.state in
+            WhereTells M.tells (Puts M.keeps bytes.now result (state self.old) (state self.new)) }
+        ensures synced { WhereKeeps M.tells M.keeps (synced self.new ≡ synced self.old) }
+        ensures fault { WhereKeeps M.tells M.keeps
+            ((within self.old).place + length bytes.now < 2 ^ 64
+            → length (within self.old).past + length bytes.now < 2 ^ 64
+            → IsItsFault result (within self.old) (within self.new)) }
+    {
+        let room = (u64::MAX - self.place).min(u64::MAX - self.taken);
+        if room < bytes.len() as u64 {
+            self.faults = self.faults.saturating_add(1);
+            return Err(io::Error::from(ErrorKind::OutOfMemory));
+        }
+        match self.inner.put(bytes) {
+            Ok(n) => {
+                self.place += n as u64;
+                self.taken += n as u64;
+                self.end = self.place;
+                Ok(n)
+            }
+            Err(e) => {
+                self.faults = self.faults.saturating_add(1);
+                Err(e)
+            }
+        }
+    }
+
+    fn flush(&mut self) -> io::Result<()>
+        ensures flushes { let state = ⟦<Durable<M> as Placed>⟧.state in
+            WhereTells M.tells (Flushes result (state self.old) (state self.new)) }
+        ensures syncs { WhereKeeps M.tells M.keeps (MatchResult result
+            (λ _. synced self.new ≡ length (within self.new).past)
+            (λ _. synced self.new ≡ synced self.old)) }
+        ensures fault { WhereTells M.tells (IsItsFault result (within self.old) (within self.new)) }
+    {
+        match Medium::flush(&mut self.inner) {
+            Ok(()) => {
+                self.end = 0;
+                self.flushed = self.taken;
+                Ok(())
+            }
+            Err(e) => {
+                self.faults = self.faults.saturating_add(1);
+                Err(e)
+            }
+        }
+    }
+}
+
+impl<M: Medium + Source> io::Read for Durable<M> {
+    ghost remaining = { λ d. left_of M.tells (M.state d.inner) };
+
+    #[inline]
+    fn read(&mut self, buf: &mut [u8]) -> io::Result<usize>
+        ensures bound { ReadsAtMost result buf.new }
+        ensures bytes { ReadConsumes (⟦<Durable<M> as io::Read>⟧.remaining self.old)
+            (⟦<Durable<M> as io::Read>⟧.remaining self.new) result buf.new }
+        ensures gets { let state = ⟦<Durable<M> as Placed>⟧.state in
+            WhereTells M.tells (Gets buf.new result (state self.old) (state self.new)) }
+    {
+        self.get(buf)
+    }
+}
+
+impl<M: Medium + Source> Source for Durable<M> {
+    ghost use Rattle.hound_durable.specs.Durables.{within, synced};
+
+    ghost left = { λ d tells. left_own M.tells (M.state d.inner) tells };
+
+    #[inline]
+    fn get(&mut self, buf: &mut [u8]) -> io::Result<usize>
+        ensures bound { IfOk result (λ n. n ≤ length buf.new) }
+        ensures gets { let state = ⟦<Durable<M> as Placed>⟧.state in
+            WhereTells M.tells (Gets buf.new result (state self.old) (state self.new)) }
+        ensures synced { WhereKeeps M.tells M.keeps (synced self.new ≡ synced self.old) }
+        ensures fault { WhereTells M.tells ((within self.old).place + length buf.old < 2 ^ 64
+            → IsItsFault result (within self.old) (within self.new)) }
+    {
+        if u64::MAX - self.place < buf.len() as u64 {
+            self.faults = self.faults.saturating_add(1);
+            return Err(io::Error::from(ErrorKind::InvalidInput));
+        }
+        match Source::get(&mut self.inner, buf) {
+            Ok(n) => {
+                self.place += n as u64;
+                Ok(n)
+            }
+            Err(e) => {
+                self.faults = self.faults.saturating_add(1);
+                Err(e)
+            }
+        }
+    }
+}

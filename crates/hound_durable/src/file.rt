@@ -1,0 +1,75 @@
+// Files on disk whose flush waits for the disk, of whose bytes contracts know nothing.
+ghost use Rattle.std.specs.Prelude.{◌≡◌, false, IfErr};
+ghost use Rattle.std.proofs.lemmas.Bool.{false≢true};
+ghost use Rattle.hound_medium.specs.State.{unknown};
+
+use hound_medium::{Medium, Placed};
+use hound_spec::{Error, Result};
+use std::alloc::Global;
+use std::io::{BufWriter, Write};
+use std::{fs, io};
+
+// How many bytes are kept back in memory.
+const KEPT_BACK: usize = 65536;
+
+/// A file on disk whose `flush` returns when the disk has what was put.
+///
+/// Bytes are kept back in memory until there are 64 KiB, or until a `go`, a `shift` or a `flush`.
+/// The first `flush` syncs the file with all that the file system knows of it, later ones with what
+/// is needed to read it.
+#[derive(Drop)]
+pub struct SyncedFile {
+    writer: BufWriter<fs::File>,
+    has_synced: bool,
+}
+
+impl SyncedFile {
+    /// A medium over this file, which has to be at its place 0. `OutOfMemory` where there is none
+    /// for the buffer.
+    pub fn new(alloc: Global, file: fs::File) -> Result<SyncedFile>
+        ensures { IfErr result (λ e. e ≡ Error.OutOfMemory) }
+    {
+        match BufWriter::with_capacity(alloc, KEPT_BACK, file) {
+            Ok(writer) => Ok(SyncedFile {
+                writer,
+                has_synced: false,
+            }),
+            Err(_) => Err(Error::OutOfMemory),
+        }
+    }
+}
+
+impl Placed for SyncedFile {
+    ghost tells = { false };
+
+    ghost state = { λ _. unknown };
+
+    ghost bytes = { λ _ tells. Prim.absurd (false≢true tells) };
+
+    fn go(&mut self, to: u64) -> io::Result<()> {
+        Placed::go(&mut self.writer, to)
+    }
+
+    fn shift(&mut self, by: i64) -> io::Result<()> {
+        Placed::shift(&mut self.writer, by)
+    }
+}
+
+impl Medium for SyncedFile {
+    ghost replays = { λ _ tells. Prim.absurd (false≢true tells) };
+
+    #[inline(always)]
+    fn put(&mut self, bytes: &[u8]) -> io::Result<usize> {
+        self.writer.put(bytes)
+    }
+
+    fn flush(&mut self) -> io::Result<()> {
+        Write::flush(&mut self.writer)?;
+        if self.has_synced {
+            return self.writer.get_ref().sync_data();
+        }
+        self.writer.get_ref().sync_all()?;
+        self.has_synced = true;
+        Ok(())
+    }
+}

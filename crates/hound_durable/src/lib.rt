@@ -1,0 +1,12 @@
+//! A medium whose flushed bytes survive a loss of power.
+//!
+//! A loss of power may keep any of the writes since the last flush and lose any other, sector by
+//! sector. [`Durable`] wraps a medium and flushes it before each step back, so that between two
+//! flushes the bytes are put at ascending places.
+#![tactic(auto)]
+
+mod durable;
+mod file;
+
+pub use durable::Durable;
+pub use file::SyncedFile;
