@@ -95,7 +95,9 @@ impl<W: Medium> WavWriter<W> {
             result old self.new }
         ensures buffer { self.new.buffer ≡ memory.items }
     {
-        let accepted = self.output.accept_batch(&memory[..num_bytes], &mut self.fault);
+        let accepted = self
+            .output
+            .accept_batch(&memory[..num_bytes], &mut self.fault);
         self.output.keep(memory);
         accepted
     }
