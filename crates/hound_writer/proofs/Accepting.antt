@@ -20,7 +20,7 @@ use Rattle.hound_writer.specs.Block.{all_out}
 use Rattle.hound_writer.specs.Counts.{Counts}
 use Rattle.hound_writer.specs.Parts.{PutsAt, IsStanding}
 use Rattle.hound_writer.specs.Writer.{WriterState, HasRoom, IsCounted, IsSound, IsWhole, accepted_samples, data_length}
-use Rattle.hound_writer.proofs.Answers.{accept_as, on_refused, unless_failed}
+use Rattle.hound_writer.proofs.Answers.{accept_as, on_refused, refused_then, unless_failed}
 use Rattle.hound_writer.proofs.Containers.{containers_append, containers_front, count_append, count_bytes, joined_bytes, whole_more}
 use Rattle.hound_writer.proofs.Storing.{stored_same, stored_still}
 use Rattle.hound_writer.proofs.Samples.{concat-samples, counts_at, samples_out, samples_same, whole_out}
@@ -483,6 +483,39 @@ accepts_swapped tells keeps state memory asked answer a b c d before after faile
             counts = f.counts;
           };
       moments = λ told kept. let at_each = inner.moments told kept in
+          record { counts = at_each.counts; front = at_each.front; stored = at_each.stored };
+    }
+
+-- the same of writers that keep other memory, which the call leaves as it is
+pub accepts_beside : {W : Type 0} (tells keeps : Bool) (state : W → MediumState)
+    (asked : Result (List (List ℕ)) Refusal) (answer : Result (Unit {0}) Error)
+    (a b : WriterState W) (memory : List ℕ) → Accepts tells keeps state false asked answer a b
+    → Accepts tells keeps state false asked answer (record a { buffer = memory })
+    (record b { buffer = memory })
+accepts_beside tells keeps state asked answer a b memory accepts =
+    let adds = accepts.adds in
+    record {
+      adds = record {
+        answers = accept_as false false asked answer a (record a { buffer = memory })
+            (λ wants. wants) refl refl adds.answers;
+        refused = refused_then answer
+            (ap (λ (w : WriterState _). record w { buffer = memory })) adds.refused;
+        spec_ex = adds.spec_ex;
+        data_start = adds.data_start;
+        data_length = adds.data_length;
+        kept = omega arith;
+      };
+      file = λ told. let f = accepts.file told in
+          record {
+            faults = f.faults;
+            front = f.front;
+            rest = f.rest;
+            reach = f.reach;
+            whole = f.whole;
+            accepted = f.accepted;
+            counts = f.counts;
+          };
+      moments = λ told kept. let at_each = accepts.moments told kept in
           record { counts = at_each.counts; front = at_each.front; stored = at_each.stored };
     }
 

@@ -17,6 +17,12 @@ on_refused (Ok x) here = tt
 on_refused (Err (IoError e)) here = tt
 on_refused (Err e) here = here
 
+pub refused_then : {T P Q : Type 0} (answer : Result T Error) → (P → Q) → OnRefused answer P
+    → OnRefused answer Q
+refused_then (Ok x) f here = tt
+refused_then (Err (IoError e)) f here = tt
+refused_then (Err e) f here = f here
+
 pub unless_failed : {T P : Type 0} (answer : Result T Error) → P → UnlessFailed answer P
 unless_failed (Ok x) here = here
 unless_failed (Err (IoError e)) here = tt

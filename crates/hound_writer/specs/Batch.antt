@@ -2,6 +2,7 @@
 use Rattle.std.specs.Prelude.{◌≡◌, ℕ, List, take}
 use Rattle.std.specs.Borrow.{GName}
 use Rattle.hound_medium.specs.declared.medium.Placed.{Ghosts}
+use Rattle.hound_writer.specs.declared.memory.BatchMemory.{Ghosts as MemoryGhosts}
 use Rattle.hound_writer.specs.Writer.{WriterState}
 use Rattle.hound_writer.specs.declared.batch.SampleWriter16.{SampleWriter16}
 
@@ -13,19 +14,19 @@ pub record IsSameFile {W : Type 0} (old new : WriterState W) : Type 0 where
   pub out : new.out ≡ old.out
   pub waiting : new.waiting ≡ old.waiting
 
-module _ {W : Type 0} {medium : Ghosts W} where
-  -- the writer that a batch goes to, as it is now
-  abbrev pub batch_writer : SampleWriter16 W medium → WriterState W
-  batch_writer batch = batch.parent.now
+module _ {W B : Type 0} {medium : Ghosts W} {memory : MemoryGhosts B} where
+  -- the writer that a batch goes to, as it is now, with the memory that the batch has of it
+  abbrev pub batch_writer : SampleWriter16 W B medium memory → WriterState W
+  batch_writer batch = record batch.parent.now { buffer = memory.bytes batch.memory }
 
   -- the ghost name of the reference to it
-  abbrev pub batch_lender : SampleWriter16 W medium → GName
+  abbrev pub batch_lender : SampleWriter16 W B medium memory → GName
   batch_lender batch = batch.parent.ghost_name
 
   -- the bytes of the samples that were written to a batch
-  abbrev pub batch_bytes : SampleWriter16 W medium → List ℕ
+  abbrev pub batch_bytes : SampleWriter16 W B medium memory → List ℕ
   batch_bytes batch = take batch.written (batch_writer batch).buffer
 
   -- how many samples are still to be written
-  abbrev pub remaining : SampleWriter16 W medium → ℕ
+  abbrev pub remaining : SampleWriter16 W B medium memory → ℕ
   remaining batch = batch.left

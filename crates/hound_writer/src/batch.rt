@@ -2,6 +2,7 @@
 ghost use Rattle.std.specs.Prelude.{◌≡◌, ◌+◌, ◌*◌, ◌%◌, ◌^◌, ◌≤◌, ◌<◌, length};
 
 use crate::WavWriter;
+use crate::memory::BatchMemory;
 use hound_medium::Medium;
 use hound_spec::Result;
 
@@ -9,9 +10,12 @@ use hound_spec::Result;
 ///
 /// [`WavWriter::get_i16_writer`] makes it, for a number of samples; each is written, and then
 /// [`SampleWriter16::flush`] ends it. Dropped without that nothing is accepted.
-pub struct SampleWriter16<'parent, W: Medium> {
-    // The writer that the batch goes to, in whose memory it is put together.
+pub struct SampleWriter16<'parent, W: Medium, B: BatchMemory = Vec<u8>> {
+    // The writer that the batch goes to.
     pub(crate) parent: &'parent mut WavWriter<W>,
+
+    // The writer's memory for batches, which goes back to it at the end of the batch.
+    pub(crate) memory: B,
 
     // The bytes of the samples that were written.
     pub(crate) written: usize,
@@ -19,13 +23,13 @@ pub struct SampleWriter16<'parent, W: Medium> {
     // How many samples are still to be written.
     pub(crate) left: usize,
 
-    ghost memory: { written + 2 * left ≤ length parent.now.buffer },
+    ghost long: { written + 2 * left ≤ length (B.bytes memory) },
     ghost few: { written + 2 * left < 2 ^ 33 },
     ghost whole: { written % 2 ≡ 0 },
     ghost width: { parent.now.spec_ex.bytes_per_sample ≡ 2 },
 }
 
-impl<W: Medium> SampleWriter16<'_, W> {
+impl<W: Medium, B: BatchMemory> SampleWriter16<'_, W, B> {
     ghost use Rattle.std.specs.Prelude.{◌/◌, Ok, false};
     ghost use Rattle.hound_sample.specs.Container.{containers};
     ghost use Rattle.hound_writer.specs.Accepting.{Accepts};
@@ -36,6 +40,7 @@ impl<W: Medium> SampleWriter16<'_, W> {
     ///
     /// The batch must be full: [`SampleWriter16::remaining`] is 0, so ask it. The one error is
     /// `IoError`, where the medium failed: none of the batch is accepted, and the writer may go on.
+    #[inline]
     pub fn flush(self) -> Result<()>
         requires { remaining self ≡ 0 }
         ensures accepts { let old = batch_writer self.entry in Accepts W.tells W.keeps W.state false
@@ -45,25 +50,27 @@ impl<W: Medium> SampleWriter16<'_, W> {
     {
         let SampleWriter16 {
             parent,
+            memory,
             written,
             left: _,
         } = self;
-        parent.output.accept_batch(written, &mut parent.fault)
+        parent.accept_batch(memory.into_vec(), written)
     }
 }
 
-impl<W: Medium> Drop for SampleWriter16<'_, W> {
+impl<W: Medium, B: BatchMemory> Drop for SampleWriter16<'_, W, B> {
     ghost use Rattle.hound_writer.specs.Batch.{batch_writer};
 
-    // Leaves the writer as it is: nothing is accepted.
+    // Gives the writer its memory back, and leaves it as it is: nothing is accepted.
     fn drop(self)
         ensures { self.exit.0.now ≡ batch_writer self.entry }
     {
         let SampleWriter16 {
             parent,
+            memory,
             written: _,
             left: _,
         } = self;
-        let _ = parent;
+        parent.output.keep(memory.into_vec());
     }
 }

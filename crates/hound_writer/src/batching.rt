@@ -10,6 +10,7 @@ ghost use Rattle.hound_writer.specs.Batch.{IsSameFile, batch_writer, batch_lende
 ghost use Rattle.hound_writer.specs.Room.{IsSixteen};
 ghost use Rattle.hound_writer.specs.Writer.{HasRoom};
 
+use crate::memory::BatchMemory;
 use crate::output::Output;
 use crate::{SampleWriter16, WavWriter};
 use hound_medium::Medium;
@@ -20,21 +21,48 @@ use std::alloc::Global;
 use std::io;
 
 impl<W: Medium> Output<W> {
-    // Has memory for so many bytes.
-    fn keep(&mut self, alloc: Global, num_bytes: usize) -> Result<()>
+    // Hands out the memory for batches, with at least so many bytes.
+    fn lend_memory(&mut self, alloc: Global, num_bytes: usize) -> Result<Vec<u8>>
         ensures stays { self.new ≡ record self.old { buffer = self.new.buffer } }
-        ensures kept { OnOk result (length self.new.buffer
+        ensures lent { OnOk result (self.new.buffer ≡ []) }
+        ensures length { IfOk result (λ memory. length memory.items
             ≡ max (length self.old.buffer) num_bytes) }
         ensures refused { IfErr result (λ e. (e ≡ OutOfMemory) × (self.new ≡ self.old)
             × (length self.old.buffer < num_bytes)) }
     {
-        let mut buffer = match self.buffer.take() {
-            Some(buffer) => buffer,
+        let mut memory = match self.buffer.take() {
+            Some(memory) => memory,
             None => Vec::new(alloc),
         };
-        let grown = grow(&mut buffer, num_bytes);
-        self.buffer = Some(buffer);
-        grown
+        match grow(&mut memory, num_bytes) {
+            Ok(()) => Ok(memory),
+            Err(error) => {
+                self.buffer = Some(memory);
+                Err(error)
+            }
+        }
+    }
+
+    /// Keeps memory for later batches.
+    pub(crate) fn keep(&mut self, memory: Vec<u8>)
+        ensures { self.new ≡ record self.old { buffer = memory.items } }
+    {
+        self.buffer = Some(memory);
+    }
+
+    // Accepts whole containers, all of them or none.
+    fn accept_batch(&mut self, bytes: &[u8], fault: &mut io::Error) -> Result<()>
+        requires few { length bytes.now ≤ 2 ^ 33 }
+        requires whole { length bytes.now % self.old.spec_ex.bytes_per_sample ≡ 0 }
+        ensures accepts { Accepts W.tells W.keeps W.state false
+            (Ok (containers self.old.spec_ex.bytes_per_sample (length bytes.now / self.old.spec_ex.bytes_per_sample) bytes.now))
+            result self.old self.new }
+        ensures buffer { self.new.buffer ≡ self.old.buffer }
+    {
+        if !self.has_room(bytes.len() as u64) {
+            return Err(Error::TooLong);
+        }
+        self.accept_all(bytes, fault)
     }
 }
 
@@ -53,57 +81,27 @@ fn grow(buffer: &mut Vec<u8>, num_bytes: usize) -> Result<()>
     }
 }
 
-// Puts two bytes into a buffer.
-#[inline(always)]
-fn store(buffer: &mut Vec<u8>, index: usize, pair: [u8; 2])
-    requires { index + 2 ≤ length buffer.old.items }
-    ensures written { take (index + 2) buffer.new.items ≡ take index buffer.old.items ++ pair }
-    ensures kept { length buffer.new.items ≡ length buffer.old.items }
-{
-    buffer[index..index + 2].copy_from_slice(&pair);
-}
-
-impl<W: Medium> Output<W> {
-    // Puts a sample of sixteen bits into the memory.
-    #[inline(always)]
-    fn store_sample(&mut self, index: usize, value: i16)
-        requires { index + 2 ≤ length self.old.buffer }
-        ensures stays { self.new ≡ record self.old { buffer = self.new.buffer } }
-        ensures written { take (index + 2) self.new.buffer ≡ take index self.old.buffer
-            ++ signed_bytes_of 2 value }
-        ensures kept { length self.new.buffer ≡ length self.old.buffer }
-    {
-        if let Some(buffer) = &mut self.buffer {
-            store(buffer, index, le_i16(value));
-        }
-    }
-
-    /// Accepts the samples in the first bytes of the memory, or none of them.
-    pub(crate) fn accept_batch(&mut self, num_bytes: usize, fault: &mut io::Error) -> Result<()>
-        requires memory { num_bytes ≤ length self.old.buffer }
+impl<W: Medium> WavWriter<W> {
+    /// Accepts the samples in the first bytes of the memory of a batch, or none of them, and keeps
+    /// the memory.
+    pub(crate) fn accept_batch(&mut self, memory: Vec<u8>, num_bytes: usize) -> Result<()>
+        requires long { num_bytes ≤ length memory.items }
         requires few { num_bytes ≤ 2 ^ 33 }
         requires whole { num_bytes % self.old.spec_ex.bytes_per_sample ≡ 0 }
-        ensures accepts { let bytes = take num_bytes self.old.buffer in
+        ensures accepts { let bytes = take num_bytes memory.items in
+            let old = record self.old { buffer = memory.items } in
             Accepts W.tells W.keeps W.state false
-            (Ok (containers self.old.spec_ex.bytes_per_sample (length bytes / self.old.spec_ex.bytes_per_sample) bytes))
-            result self.old self.new }
-        ensures buffer { self.new.buffer ≡ self.old.buffer }
+            (Ok (containers old.spec_ex.bytes_per_sample (length bytes / old.spec_ex.bytes_per_sample) bytes))
+            result old self.new }
+        ensures buffer { self.new.buffer ≡ memory.items }
     {
-        if !self.has_room(num_bytes as u64) {
-            return Err(Error::TooLong);
-        }
-        match self.buffer.take() {
-            Some(buffer) => {
-                let accepted = self.accept_all(&buffer[..num_bytes], fault);
-                self.buffer = Some(buffer);
-                accepted
-            }
-            None => self.accept_all(&[], fault),
-        }
+        let accepted = self
+            .output
+            .accept_batch(&memory[..num_bytes], &mut self.fault);
+        self.output.keep(memory);
+        accepted
     }
-}
 
-impl<W: Medium> WavWriter<W> {
     /// A batch of so many samples of sixteen bits, which are accepted by one call. They are
     /// samples, not frames: the channels of a frame follow one another. There may be 0.
     ///
@@ -136,16 +134,17 @@ impl<W: Medium> WavWriter<W> {
         if !self.output.has_room(num_bytes) {
             return Err(Error::TooLong);
         }
-        self.output.keep(alloc, num_bytes as usize)?;
+        let memory = self.output.lend_memory(alloc, num_bytes as usize)?;
         Ok(SampleWriter16 {
             parent: self,
+            memory,
             written: 0,
             left: num_samples as usize,
         })
     }
 }
 
-impl<'parent, W: Medium> SampleWriter16<'parent, W> {
+impl<'parent, W: Medium, B: BatchMemory> SampleWriter16<'parent, W, B> {
     /// Writes a sample to the batch: its lowest sixteen bits, as a signed number.
     ///
     /// The batch must have room for it: [`SampleWriter16::remaining`] is above 0, so ask it, or
@@ -166,8 +165,7 @@ impl<'parent, W: Medium> SampleWriter16<'parent, W> {
         let index = self.written;
         self.written = index + 2;
         self.left -= 1;
-        let parent = &mut *self.parent;
-        parent.output.store_sample(index, sample.as_i16());
+        self.memory.store(index, le_i16(sample.as_i16()));
     }
 
     /// Does what [`SampleWriter16::write_sample`] does, which is safe and checks nothing, under the

@@ -9,6 +9,7 @@ mod block;
 mod file;
 mod laws;
 mod many;
+mod memory;
 mod outcome;
 mod output;
 mod patch;
