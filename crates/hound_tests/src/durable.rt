@@ -15,11 +15,20 @@ fn a_durable_session_leaves_the_file(rt: HostRuntime) -> Result<(), Fail> {
     ];
     let mut marks = [false; 4];
     let begin = Begin::New(integers(1, 44100, 16, 2));
-    let (journal, answer) =
-        run_durable_session(alloc, journal, begin, &steps, &mut marks, End::Finalize);
+    let (journal, answer) = run_durable_session(
+        alloc,
+        journal,
+        begin,
+        &steps,
+        &mut marks,
+        End::Finalize,
+    );
     answer?;
     let taken = journal.taken();
     let is_whole = journal.bytes_after(alloc, taken)?.as_slice() == FOUR_SAMPLES.as_slice();
-    assert_eq!(rt; (marks, is_whole, journal.flushed() == taken), ([true; 4], true, true));
+    assert_eq!(rt;
+        (marks, is_whole, journal.flushed() == taken),
+        ([true; 4], true, true)
+    );
     Ok(())
 }
