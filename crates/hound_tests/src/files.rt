@@ -24,6 +24,10 @@ enum Deed {
     CreateBlock(&'static [i16]),
     // A writer appends these samples by one call and is finalized.
     AppendBlock(&'static [i16]),
+    // A durable writer makes it, of one channel, and is finalized after these samples.
+    CreateDurable(&'static [i16]),
+    // A durable writer appends these samples, flushes and is dropped.
+    AppendDurable(&'static [i16]),
     // The first samples are read at a checkpoint, before the same writer appends the second.
     Checkpoint(&'static [i16], &'static [i16]),
     // The program's `append` over this input: its status and its line of errors.
@@ -93,6 +97,16 @@ const ROWS: &[Row] = &[
             (Deed::AppendBlock(&[23, 29]), "done"),
             (Deed::AppendBlock(&[]), "done"),
             (Deed::HasBlock(&[11, 13, 17, 19, 23, 29]), "done"),
+            (Deed::HasBytes(&SIX_SAMPLES), "done"),
+        ],
+        is_left: true,
+    },
+    Row {
+        name: "a durable file is made, appended to and read",
+        deeds: &[
+            (Deed::CreateDurable(&[11, 13, 17]), "done"),
+            (Deed::AppendDurable(&[19, 23, 29]), "done"),
+            (Deed::HasSamples(&[11, 13, 17, 19, 23, 29]), "done"),
             (Deed::HasBytes(&SIX_SAMPLES), "done"),
         ],
         is_left: true,
@@ -226,6 +240,20 @@ fn append_block(rt: &HostRuntime, path: Path<'_>, samples: &[i16]) -> hound::Res
     Ok(true)
 }
 
+fn create_durable(rt: &HostRuntime, path: Path<'_>, samples: &[i16]) -> hound::Result<bool> {
+    let mut writer = WavWriter::create_durable(rt, rt.alloc(), path, sixteen(1))?;
+    write_all(&mut writer, samples)?;
+    writer.finalize()?;
+    Ok(true)
+}
+
+fn append_durable(rt: &HostRuntime, path: Path<'_>, samples: &[i16]) -> hound::Result<bool> {
+    let mut writer = WavWriter::append_durable(rt, rt.alloc(), path)?;
+    write_all(&mut writer, samples)?;
+    writer.flush()?;
+    Ok(true)
+}
+
 fn has_block(rt: &HostRuntime, path: Path<'_>, samples: &[i16]) -> hound::Result<bool> {
     let mut reader = WavReader::open(rt, rt.alloc(), path)?;
     let mut block = [0i16; 64];
@@ -274,6 +302,8 @@ fn does(rt: &HostRuntime, path: Path<'_>, deed: Deed) -> hound::Result<bool> {
         Deed::AppendOne(sample) => append_one(rt, path, sample),
         Deed::CreateBlock(samples) => create_block(rt, path, samples),
         Deed::AppendBlock(samples) => append_block(rt, path, samples),
+        Deed::CreateDurable(samples) => create_durable(rt, path, samples),
+        Deed::AppendDurable(samples) => append_durable(rt, path, samples),
         Deed::Checkpoint(first, second) => checkpoint(rt, path, first, second),
         Deed::AppendText(text, status, line) => Ok(append_text(rt, path, text, status, line)),
         Deed::Example(sum) => Ok(record_and_read(rt, path, sixteen(1))? == sum),
