@@ -20,14 +20,14 @@ use std::alloc::Global;
 /// Runs a session as [`run_session`] does, over the medium within a [`Durable`], and hands the
 /// medium back.
 ///
-/// Whenever the power goes after the header was flushed, which the first `Flush` does, the file
-/// counts no more than what it holds: whatever sectors keep what was put since the last flush that
+/// If the power goes after the header was flushed, which the first `Flush` does, the file counts no
+/// more than what it holds: whatever sectors keep what was put since the last flush that
 /// was Ok, reading gives exactly the first samples that its length counts, or refuses a length of
 /// no whole frames. A machine that loses power is a medium each of whose calls fails from then on,
 /// so it is said of the medium as the run left it, whatever failed. Sizes are in bytes; a sector
 /// has to hold the four bytes of the length, as one of 128 bytes or more does.
 ///
-/// The medium is new: it stands at 0, and where it keeps its past nothing was put yet.
+/// The medium is new: its place is 0, and nothing has been written to it yet.
 pub fn run_durable_session<M: Source + Medium>(
     alloc: Global,
     medium: M,

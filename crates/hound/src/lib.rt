@@ -5,9 +5,10 @@
 //! as their patterns; there are up to 65535 channels. Places and sizes count bytes, a sample is of
 //! one channel, and a frame has a sample of each.
 //!
-//! To write a file: [`WavWriter`] (`create` on disk, `new` into any [`Medium`], `append` and
+//! To write a file: [`WavWriter`] (`create` on disk, `create_durable` where its checkpoints have to
+//! survive a loss of power, `new` into any [`Medium`], `append` and
 //! `new_append` to go on with one), `write_sample`, `write_samples` of a slice or a batch of
-//! `get_i16_writer`, `flush` for a checkpoint, and `finalize`. A whole run as one call: [`run_session`], [`run_sessions`].
+//! `get_i16_writer`, `flush` for a checkpoint, and `finalize`. A whole run as one call: [`run_session`], [`run_sessions`], [`run_durable_session`].
 //!
 //! To read one: [`WavReader`] (`open`, or `new` over any reader), `samples` or `into_samples`,
 //! `read_samples` for many at once, `seek`; [`read_wave_header`] for the first twelve bytes alone.
