@@ -1,9 +1,9 @@
 // A medium around another that flushes it before it goes back.
-ghost use Rattle.std.specs.Prelude.{◌≡◌, ◌⊎◌, ◌+◌, ◌^◌, ◌<◌, ◌≤◌, ◌+ℤ◌, pos, [], length, IfOk, OnOk, OnErr, MatchResult, cond, IsErr};
+ghost use Rattle.std.specs.Prelude.{◌≡◌, ◌⊎◌, ◌+◌, ◌^◌, ◌<◌, ◌≤◌, ◌+ℤ◌, nat_lt, pos, [], length, IfOk, OnOk, OnErr, MatchResult, cond, IsErr};
 ghost use Rattle.std.specs.Int.{FitsUnsigned, w64};
 ghost use Rattle.std.specs.Io.{ReadsAtMost};
 ghost use Rattle.std.specs.Io.KnownBytes.{ReadConsumes};
-ghost use Rattle.hound_medium.specs.State.{Goes, Shifts, Gets, Puts, Flushes, Stays, WhereTells, WhereKeeps, one_more};
+ghost use Rattle.hound_medium.specs.State.{Goes, Shifts, Gets, Puts, Flushes, Stays, WhereTells, WhereKeeps, one_more, faults_after};
 ghost use Rattle.hound_durable.specs.Losses.{Ascends};
 ghost use Rattle.hound_durable.specs.Own.{IsBelow, IsItsFault, LeadsBack, OnlySyncs, own, left_of, replays_own, left_own};
 
@@ -76,23 +76,28 @@ impl<M: Medium> Durable<M> {
         inner
     }
 
-    // Flushes the medium within, where a place lies below the end of what isn't flushed.
-    fn flush_before(&mut self, to: u64) -> io::Result<()>
-        ensures same { WhereTells M.tells (Goes (within self.old).place result
-            (⟦<Durable<M> as Placed>⟧.state self.old) (⟦<Durable<M> as Placed>⟧.state self.new)) }
-        ensures stays { WhereTells M.tells (Stays (within self.old) (within self.new)) }
-        ensures end { OnOk result (self.new.end ≤ to) }
-        ensures syncs { WhereKeeps M.tells M.keeps (to < self.old.end →
-            OnOk result (synced self.new ≡ length (within self.new).past)) }
-        ensures only_syncs { WhereKeeps M.tells M.keeps (OnlySyncs (within self.old) (within self.new)) }
-        ensures fault { WhereTells M.tells (MatchResult result
-            (λ _. (within self.new).faults ≡ (within self.old).faults)
-            (λ _. (within self.new).faults ≡ one_more (within self.old).faults)) }
+    // Whether a place lies before the end of what isn't flushed.
+    fn leads_back(&self, to: u64) -> bool
+        ensures { result ≡ nat_lt to self.now.end }
     {
-        if self.end <= to {
-            return Ok(());
-        }
-        match self.inner.flush() {
+        to < self.end
+    }
+
+    // Flushes the medium within.
+    fn sync(&mut self) -> io::Result<()>
+        ensures stays { WhereTells M.tells (Stays (within self.old) (within self.new)) }
+        ensures place { WhereTells M.tells ((within self.new).place ≡ (within self.old).place) }
+        ensures taken { self.new.taken ≡ self.old.taken }
+        ensures flushed { self.new.flushed ≡ self.old.flushed }
+        ensures faults { self.new.faults ≡ faults_after result self.old.faults }
+        ensures end { OnOk result (self.new.end ≡ 0) }
+        ensures syncs { WhereTells M.tells (MatchResult result
+            (λ _. synced self.new ≡ length (within self.new).past)
+            (λ _. synced self.new ≡ synced self.old)) }
+        ensures fault { WhereTells M.tells
+            ((within self.new).faults ≡ faults_after result (within self.old).faults) }
+    {
+        match Medium::flush(&mut self.inner) {
             Ok(()) => {
                 self.end = 0;
                 Ok(())
@@ -125,7 +130,9 @@ impl<M: Medium> Placed for Durable<M> {
         ensures only_syncs { WhereKeeps M.tells M.keeps (OnlySyncs (within self.old) (within self.new)) }
         ensures fault { WhereTells M.tells (IsItsFault result (within self.old) (within self.new)) }
     {
-        self.flush_before(to)?;
+        if self.leads_back(to) {
+            self.sync()?;
+        }
         match self.inner.go(to) {
             Ok(()) => {
                 self.place = to;
@@ -205,17 +212,9 @@ impl<M: Medium> Medium for Durable<M> {
             (λ _. synced self.new ≡ synced self.old)) }
         ensures fault { WhereTells M.tells (IsItsFault result (within self.old) (within self.new)) }
     {
-        match Medium::flush(&mut self.inner) {
-            Ok(()) => {
-                self.end = 0;
-                self.flushed = self.taken;
-                Ok(())
-            }
-            Err(e) => {
-                self.faults = self.faults.saturating_add(1);
-                Err(e)
-            }
-        }
+        self.sync()?;
+        self.flushed = self.taken;
+        Ok(())
     }
 }
 

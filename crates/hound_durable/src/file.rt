@@ -24,8 +24,8 @@ pub struct SyncedFile {
 }
 
 impl SyncedFile {
-    /// A medium over this file, which has to be at its place 0. `OutOfMemory` where there is none
-    /// for the buffer.
+    /// A medium over this file, at the file's place. `OutOfMemory` where there is none for the
+    /// buffer.
     pub fn new(alloc: Global, file: fs::File) -> Result<SyncedFile>
         ensures { IfErr result (λ e. e ≡ Error.OutOfMemory) }
     {

@@ -7,6 +7,8 @@
 
 mod durable;
 mod file;
+mod laws;
 
 pub use durable::Durable;
 pub use file::SyncedFile;
+pub use laws::a_durable_medium_ascends;

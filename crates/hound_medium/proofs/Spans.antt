@@ -1,11 +1,11 @@
 -- What holds at each moment, call after call.
-use Rattle.std.proofs.Common.{◌≡◌, ℕ, ◌+◌, ◌-◌, ◌≤◌, List, [], ◌++◌, length, take, sym, ◌∙◌, ap, subst, arith, append_assoc, length-append, ⊎_elim}
+use Rattle.std.proofs.Common.{◌≡◌, ℕ, ◌+◌, ◌-◌, ◌≤◌, List, [], ◌++◌, length, take, Result, Ok, Err, sym, ◌∙◌, ap, subst, arith, inl, inr, append_assoc, length-append, ⊎_elim}
 use Rattle.std.proofs.lemmas.Bool.{cases_lt}
 use Rattle.std.proofs.lemmas.List.{append-nil, take-append-le, take_all}
 use Rattle.std.proofs.Math.Seq.{take-append-add}
 use Rattle.hound_medium.specs.Bytes.{placed, overlay, moment}
-use Rattle.hound_medium.specs.State.{MediumState, Stays}
-use Rattle.hound_medium.specs.Spans.{Span}
+use Rattle.hound_medium.specs.State.{MediumState, Flushes, Stays}
+use Rattle.hound_medium.specs.Spans.{Span, FlushedSince}
 use Rattle.hound_medium.proofs.Overlays.{overlay-append, length-placed, take-placed}
 
 -- a moment of a past stays what it was, however the past goes on
@@ -25,16 +25,29 @@ pub moment_last : (s : MediumState) → s.contents ≡ overlay s.start s.past
 moment_last s replays =
     ap (overlay s.start) (take_all (length s.past) s.past (omega arith)) ∙ sym replays
 
+-- one flush and then another
+pub flushed_then : (a b c : MediumState) → length a.past ≤ length b.past → FlushedSince a b
+    → FlushedSince b c → FlushedSince a c
+flushed_then a b c le (inl same) (inl still) = inl (still ∙ same)
+flushed_then a b c le (inr since) (inl still) = inr (omega (arith, since, still))
+flushed_then a b c le first (inr since) = inr (omega (arith, le, since))
+
+-- what a call of flush leaves
+pub flushed_since : {T E : Type 0} (result : Result T E) (a b : MediumState) → Flushes result a b
+    → FlushedSince a b
+flushed_since (Ok x) a b flushes = inr (omega (arith, flushes.flushed, ap length flushes.stays.past))
+flushed_since (Err e) a b flushes = inl flushes.flushed
+
 module _ (At : ℕ → List ℕ → Type 0) (split : ℕ) where
   -- bytes are put at a place, all at once or by several calls: at its level is what the first k of
   -- them leave
   pub span_puts : (old new : MediumState) (at : ℕ) (bytes : List ℕ)
       → old.contents ≡ overlay old.start old.past → new.start ≡ old.start
-      → new.past ≡ old.past ++ placed at bytes
+      → new.past ≡ old.past ++ placed at bytes → FlushedSince old new
       → ((k : ℕ) → k ≤ length bytes
       → At (length old.past + k - split) (overlay old.contents (placed at (take k bytes))))
       → Span At split old new
-  span_puts old new at bytes replays start past each =
+  span_puts old new at bytes replays start past flushed each =
       let size : length new.past ≡ length old.past + length bytes =
       ap length past ∙ length-append old.past (placed at bytes)
       ∙ ap (λ n. length old.past + n) (length-placed at bytes) in
@@ -42,6 +55,7 @@ module _ (At : ℕ → List ℕ → Type 0) (split : ℕ) where
         start = start;
         added = placed at bytes;
         past = past;
+        flushed = flushed;
         each = λ k from to.
             let n = k - length old.past in
             let is_k : length old.past + n ≡ k = omega arith in
@@ -57,10 +71,10 @@ module _ (At : ℕ → List ℕ → Type 0) (split : ℕ) where
 
   -- nothing is put
   pub span_still : (old new : MediumState) → old.contents ≡ overlay old.start old.past
-      → new.start ≡ old.start → new.past ≡ old.past → At (length old.past - split) old.contents
-      → Span At split old new
-  span_still old new replays start past at =
-      span_puts old new 0 [] replays start (past ∙ sym (append-nil old.past))
+      → new.start ≡ old.start → new.past ≡ old.past → FlushedSince old new
+      → At (length old.past - split) old.contents → Span At split old new
+  span_still old new replays start past flushed at =
+      span_puts old new 0 [] replays start (past ∙ sym (append-nil old.past)) flushed
       (λ k within. let none : length old.past ≡ length old.past + k = omega (arith, within) in
       subst (λ l. At (length old.past + k - split) (overlay old.contents (placed 0 l)))
       (sym (take_all k [] (omega arith))) (subst (λ m. At (m - split) old.contents) none at))
@@ -72,6 +86,9 @@ module _ (At : ℕ → List ℕ → Type 0) (split : ℕ) where
     added = first.added ++ then.added;
     past = then.past ∙ ap (λ (l : List (ℕ × ℕ)). l ++ then.added) first.past
         ∙ append_assoc a.past first.added then.added;
+    flushed = flushed_then a b c
+        (omega (arith, ap length first.past, length-append a.past first.added)) first.flushed
+        then.flushed;
     each = λ k from to. ⊎_elim
         (λ later. then.each k (omega arith) to)
         (λ sooner.
@@ -94,9 +111,10 @@ module _ (At : ℕ → List ℕ → Type 0) (split : ℕ) where
 
   -- a span, and then a call that puts nothing
   pub and_still : (a b c : MediumState) → Span At split a b → b.contents ≡ overlay b.start b.past
-      → Stays b c → Span At split a c
-  and_still a b c span replays stays =
-      join a b c span (span_still b c replays stays.start stays.past (span_end a b replays span))
+      → Stays b c → FlushedSince b c → Span At split a c
+  and_still a b c span replays stays flushed =
+      join a b c span
+      (span_still b c replays stays.start stays.past flushed (span_end a b replays span))
 
 -- what holds at the end of a span that is at level 0 throughout
 pub span_end_zero : (At : ℕ → List ℕ → Type 0) (old new : MediumState)
@@ -113,5 +131,6 @@ span_weaker At Bt split old new weaker span = record {
   start = span.start;
   added = span.added;
   past = span.past;
+  flushed = span.flushed;
   each = λ k from to. weaker (k - split) (moment new.start new.past k) (span.each k from to);
 }

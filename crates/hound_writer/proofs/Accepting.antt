@@ -1,5 +1,5 @@
 -- What bytes after the accepted ones change.
-use Rattle.std.proofs.Common.{◌≡◌, ℕ, zero, suc, ◌+◌, ◌*◌, ◌-◌, ◌/◌, ◌%◌, ◌≤◌, max, nat_le, Bool, true, false, List, [], ◌∷◌, ◌++◌, length, take, drop, replicate, Result, Ok, Err, IfErr, IsTrue, refl, sym, subst, ◌∙◌, ap, arith, length-append, length-take, le-leb}
+use Rattle.std.proofs.Common.{◌≡◌, ℕ, zero, suc, ◌+◌, ◌*◌, ◌-◌, ◌/◌, ◌%◌, ◌≤◌, max, nat_le, Bool, true, false, List, [], ◌∷◌, ◌++◌, length, take, drop, replicate, Result, Ok, Err, IfErr, IsTrue, inl, refl, sym, subst, ◌∙◌, ap, arith, length-append, length-take, le-leb}
 use Rattle.std.proofs.lemmas.List.{take_at, take_all, drop_at, drop-drop, append-nil, length-take-le}
 use Rattle.std.proofs.lemmas.Bool.{false≢true}
 use Rattle.std.specs.List.{concat}
@@ -93,9 +93,9 @@ accepts_refused tells keeps state w memory asked e counts replays mark faults an
         counts =
             λ whole. span_still
             (λ _. Counts w.spec_ex w.data_start (accepted_samples state w)) 0 old old
-            (replays told kept) refl refl (counts told whole);
+            (replays told kept) refl refl (inl refl) (counts told whole);
         front = λ whole. span_still (λ _ c. take end c ≡ take end old.contents) 0 old old
-            (replays told kept) refl refl refl;
+            (replays told kept) refl refl (inl refl) refl;
         stored = λ _. stored_still w.data_start (concat (accepted_samples state w)) old;
       };
     }
@@ -196,7 +196,7 @@ module _ {W : Type 0} (tells keeps : Bool) (state : W → MediumState) (w : Writ
         let bs = take puts.count bytes in
         span_puts
         (λ _ c. take w.data_start c ≡ take w.data_start old.contents) 0 old new end bs replays
-        puts.start (puts.past kept)
+        puts.start (puts.past kept) (inl puts.flushed)
         (λ k within. take_overlay_before (take k bs) w.data_start end old.contents
         (omega arith) there)
 
@@ -210,12 +210,13 @@ module _ {W : Type 0} (tells keeps : Bool) (state : W → MediumState) (w : Writ
         → Span (λ _ c. take end c ≡ take end old.contents) 0 old new =
         λ whole. span_puts
         (λ _ c. take end c ≡ take end old.contents) 0 old new end bs replays puts.start
-        (puts.past kept) (λ k within. same whole k) in
+        (puts.past kept) (inl puts.flushed) (λ k within. same whole k) in
         record {
           counts =
               λ whole. span_puts
               (λ _. Counts w.spec_ex w.data_start
               (accepted_samples state w)) 0 old new end bs replays puts.start (puts.past kept)
+              (inl puts.flushed)
               (λ k within. counts_front told whole (overlay old.contents (placed end (take k bs)))
               (same whole k));
           front = fixed;

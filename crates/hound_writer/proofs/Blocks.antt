@@ -1,6 +1,6 @@
 -- What the block of accepted samples changes: samples that join it, and what waits in it when it
 -- goes out.
-use Rattle.std.proofs.Common.{◌≡◌, ℕ, zero, suc, ◌+◌, ◌/◌, ◌%◌, ◌≤◌, Bool, true, false, IsTrue, List, [], ◌++◌, length, take, drop, Result, Ok, refl, sym, subst, ◌∙◌, ap, arith, length-append, length-drop}
+use Rattle.std.proofs.Common.{◌≡◌, ℕ, zero, suc, ◌+◌, ◌/◌, ◌%◌, ◌≤◌, Bool, true, false, IsTrue, List, [], ◌++◌, length, take, drop, Result, Ok, inl, refl, sym, subst, ◌∙◌, ap, arith, length-append, length-drop}
 use Rattle.std.proofs.lemmas.List.{append-nil, length-take-le, nil_from_length}
 use Rattle.std.specs.List.{concat}
 use Rattle.hound_medium.specs.Bytes.{overlay}
@@ -103,10 +103,10 @@ module _ {W : Type 0} (tells keeps : Bool) (state : W → MediumState) (w : Writ
           counts =
               λ whole. span_still
               (λ _. Counts w.spec_ex w.data_start (accepted_samples state w)) 0 old old
-              (replays told kept) refl refl
+              (replays told kept) refl refl (inl refl)
               (counts_at state w sound known.whole_out old.contents whole (known.stands told) refl);
           front = λ whole. span_still (λ _ c. take reach c ≡ take reach old.contents) 0 old old
-              (replays told kept) refl refl refl;
+              (replays told kept) refl refl (inl refl) refl;
           stored = λ _. stored_still w.data_start (concat (accepted_samples state w)) old;
         };
       }
@@ -353,13 +353,13 @@ goes_out_nothing tells keeps state far w moved limit known replays none =
           counts =
               λ whole. span_still
               (λ _. Counts w.spec_ex w.data_start (accepted_samples state w)) 0 old old
-              (replays told kept) refl refl (counts told whole);
+              (replays told kept) refl refl (inl refl) (counts told whole);
           front = λ whole. span_still (λ _ c. take end c ≡ take end old.contents) 0 old old
-              (replays told kept) refl refl refl;
+              (replays told kept) refl refl (inl refl) refl;
           stored = λ _. stored_still w.data_start (concat (accepted_samples state w)) old;
         };
         front = span_still (λ _ c. take w.data_start c ≡ take w.data_start old.contents) 0 old old
-            (replays told kept) refl refl refl;
+            (replays told kept) refl refl (inl refl) refl;
         behind = λ i from to. absurd (omega (arith, from, to));
       };
     }

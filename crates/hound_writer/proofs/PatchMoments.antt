@@ -12,7 +12,7 @@ use Rattle.hound_medium.specs.Bytes.{placed, overlay, moment}
 use Rattle.hound_medium.specs.State.{MediumState, Stays, WhereTells, WhereKeeps}
 use Rattle.hound_spec.specs.Header.{riff_size, padding}
 use Rattle.hound_sample.specs.Container.{containers}
-use Rattle.hound_medium.specs.Spans.{Span}
+use Rattle.hound_medium.specs.Spans.{Span, FlushedSince}
 use Rattle.hound_medium.proofs.Outcomes.{from_ok}
 use Rattle.hound_medium.proofs.Overlays.{length-placed}
 use Rattle.hound_medium.proofs.Spans.{span_puts, join, and_still}
@@ -83,7 +83,7 @@ module _ {T E : Type 0} (keeps : Bool) (p new : ℕ) (base : List ℕ) (result :
       ap length (puts.past kept) ∙ length-append a.past (placed 4 bytes)
       ∙ ap (λ k. length a.past + k) (length-placed 4 bytes) in
       span_puts (IsPatched p base new) (length b.past) a b 4 bytes replays puts.start
-      (puts.past kept)
+      (puts.past kept) (inl puts.flushed)
       (λ k within. let none : 0 ≡ length a.past + k - length b.past = omega (arith, within, long) in
       subst (λ j. IsPatched p base new j (overlay a.contents (placed 4 (take k bytes)))) none
       (patched_riff p new base a.contents has small so_far (take k bytes)
@@ -97,7 +97,7 @@ module _ {T E : Type 0} (keeps : Bool) (p new : ℕ) (base : List ℕ) (result :
       let long : length bytes ≡ puts.count =
       length-take-le puts.count (bytes_of 4 new) puts.within in
       span_puts (IsPatched p base new) (length a.past) a b p bytes replays puts.start
-      (puts.past kept)
+      (puts.past kept) (inl puts.flushed)
       (λ k within. let level : k ≡ length a.past + k - length a.past = omega arith in
       let first : take k (bytes_of 4 new) ≡ take k bytes =
       sym (take-take k puts.count (bytes_of 4 new) (omega (arith, within, long))) in
@@ -158,13 +158,14 @@ patches_both keeps p new result answer a b c kept first second puts all =
 
 -- a patch, and then a call that puts nothing
 pub patches_still : {T E V F : Type 0} (p new : ℕ) (result : Result T E) (answer : Result V F)
-    (a b c : MediumState) → b.contents ≡ overlay b.start b.past → Stays b c
+    (a b c : MediumState) → b.contents ≡ overlay b.start b.past → Stays b c → FlushedSince b c
     → OnOk answer (IsOk result) → PatchesAtEach p new result a b → PatchesAtEach p new answer a c
-patches_still p new result answer a b c replays stays all patches =
+patches_still p new result answer a b c replays stays flushed all patches =
     let same : length c.past ≡ length b.past = ap length stays.past in
     record {
       split = patches.split;
-      span = and_still (IsPatched p a.contents new) patches.split a b c patches.span replays stays;
+      span = and_still (IsPatched p a.contents new) patches.split a b c patches.span replays stays
+          flushed;
       puts = record {
         later = patches.puts.later;
         within = omega (arith, same, patches.puts.within);
@@ -176,12 +177,11 @@ patches_still p new result answer a b c replays stays all patches =
           + 4 = from_ok result ok patches.whole in omega (arith, same, all_put)) all;
     }
 
--- where the four bytes of the field went out one after the other, it has the old or the new number
--- at each moment but those between them
+-- the field has the old or the new number at each moment but those between its four bytes
 old_or_new : (p new split : ℕ) (a b : MediumState) → HasSize p a.contents → new < 2 ^ 32
     → Span (IsPatched p a.contents new) split a b → PutsLast p split a b
     → IsOldOrNew p (field p a.contents) new a b
-old_or_new p new split a b has small span puts whole k from to outside =
+old_or_new p new split a b has small span puts k from to outside =
     let at = span.each k from to in
     let old = field p a.contents in
     elim (cases_lt split k) [
@@ -246,6 +246,7 @@ publishes_at_each state w none sound stands padded small end patched are_frames 
             start = span.start;
             added = span.added;
             past = span.past;
+            flushed = span.flushed;
             each = λ k from to.
                 counts whole (k - split) (moment (state end).start (state end).past k)
                 (span.each k from to);
@@ -255,6 +256,7 @@ publishes_at_each state w none sound stands padded small end patched are_frames 
         start = span.start;
         added = span.added;
         past = span.past;
+        flushed = span.flushed;
         each = λ k from to. half (k - split) (moment (state end).start (state end).past k)
             (span.each k from to);
       };

@@ -87,6 +87,7 @@ module _ {W : Type 0} (state : W → MediumState) (a : WriterState W) (sound : I
       start = goes.front.start;
       added = goes.front.added;
       past = goes.front.past;
+      flushed = goes.front.flushed;
       each = λ k from to.
           let c = moment m.start m.past k in
           let same = goes.front.each k from to in
@@ -144,7 +145,7 @@ module _ {W : Type 0} (tells keeps : Bool) (state : W → MediumState) (a : Writ
         };
         whole = tt;
         old_or_new =
-            λ each k from to outside.
+            λ k from to outside.
             inl (field_of state a out.sound (moment (state m).start (state m).past k)
             (goes.front.each k from to));
         padded =
@@ -297,12 +298,11 @@ module _ {W : Type 0} (tells keeps : Bool) (state : W → MediumState) (a : Writ
 
       old_or_new_later : IsOldOrNew (a.data_start - 4) (field (a.data_start - 4) old)
           (data_length a) (state a.medium) (state end)
-      old_or_new_later each k from to outside =
+      old_or_new_later k from to outside =
           let sooner = longer state a sound small (state m) (out.file told).around goes in
           elim (cases_lt (length (state m).past) k) [
             | inl later ↦
-                elim (g.old_or_new (λ i low high. each i (omega (arith, low, sooner)) high) k
-                (omega (arith, later)) to
+                elim (g.old_or_new k (omega (arith, later)) to
                 (λ i low high. outside i (omega (arith, low, sooner)) high)) [
                   | inl is ↦ inl (is ∙ field_same)
                   | inr is ↦ inr (is ∙ same_length)

@@ -1,19 +1,12 @@
 -- Where the bytes of one put went.
-use Rattle.std.proofs.Common.{◌≡◌, ℕ, zero, suc, ◌+◌, ◌-◌, ◌<◌, ◌≤◌, List, [], ◌∷◌, ◌++◌, length, ◌∙◌, ap, arith, length-append}
+use Rattle.std.proofs.Common.{◌≡◌, ℕ, ◌+◌, ◌-◌, ◌<◌, ◌≤◌, List, ◌++◌, length, ◌∙◌, ap, arith, length-append}
 use Rattle.std.proofs.Math.Seq.{get_or-append_right}
 use Rattle.hound_medium.specs.Bytes.{placed}
 use Rattle.hound_medium.specs.State.{MediumState}
 use Rattle.hound_medium.proofs.Overlays.{length-placed}
 use Rattle.hound_durable.specs.Losses.{place_of}
+use Rattle.hound_durable.proofs.Ascending.{place_placed}
 use Rattle.hound_writer.specs.Publishing.{PutsFrom}
-
--- each went to the next place
-pub place_placed : (at : ℕ) (bytes : List ℕ) (j : ℕ) → j < length bytes
-    → place_of (placed at bytes) j ≡ at + j
-place_placed at [] j few = absurd (omega (arith, few))
-place_placed at (b ∷ bytes) zero few = omega arith
-place_placed at (b ∷ bytes) (suc j) few =
-    place_placed (suc at) bytes j (omega (arith, few)) ∙ omega arith
 
 -- none went before the first
 pub puts_from : (p at : ℕ) (bytes : List ℕ) (old new : MediumState) → p ≤ at

@@ -13,7 +13,7 @@ use Rattle.hound_durable.specs.Losses.{place_of}
 use Rattle.hound_writer.specs.Storing.{IsStored, KeepsStored, StaysTrue}
 use Rattle.hound_writer.specs.Writer.{WriterState, IsSound, IsWhole, accepted_bytes, accepted_samples, data_length}
 use Rattle.hound_writer.proofs.Containers.{joined_bytes}
-use Rattle.hound_writer.proofs.PutsFrom.{place_placed}
+use Rattle.hound_durable.proofs.Ascending.{place_placed}
 
 -- the byte with this number among all that were put
 abbrev byte_of : List (ℕ × ℕ) → ℕ → ℕ

@@ -87,26 +87,16 @@ pub record PutsLast (p split : ℕ) (before after : MediumState) : Type 0 where
   pub within : length after.past ≤ split + 4
   pub first : split < length after.past → place_of after.past split ≡ p
 
--- each byte that was put at p was followed by three at the next places: no fault cut the put of the
--- field
-abbrev pub EachWhole : ℕ → MediumState → MediumState → Type 0
-EachWhole p old new =
-    (i : ℕ) → length old.past ≤ i → i < length new.past → place_of new.past i ≡ p →
-    (i + 3 < length new.past) × (place_of new.past (i + 1) ≡ p + 1)
-    × (place_of new.past (i + 2) ≡ p + 2) × (place_of new.past (i + 3) ≡ p + 3)
-
--- the moment is not between such four bytes
+-- the moment is not between four bytes of the field at p
 abbrev pub IsOutside : ℕ → MediumState → MediumState → ℕ → Type 0
 IsOutside p old new k =
     (i : ℕ) → length old.past ≤ i → i < length new.past → place_of new.past i ≡ p → i < k →
     i + 4 ≤ k
 
--- where no fault cut the put of the field at p, it has the one number or the other at each moment
--- that is not between its four bytes
+-- the field at p has the one number or the other at each moment that is not between its four bytes
 abbrev pub IsOldOrNew : ℕ → ℕ → ℕ → MediumState → MediumState → Type 0
 IsOldOrNew p before after old new =
-    EachWhole p old new → (k : ℕ) → length old.past ≤ k → k ≤ length new.past →
-    IsOutside p old new k →
+    (k : ℕ) → length old.past ≤ k → k ≤ length new.past → IsOutside p old new k →
     (field p (moment new.start new.past k) ≡ before)
     ⊎ (field p (moment new.start new.past k) ≡ after)
 

@@ -30,6 +30,21 @@ fn buffered(alloc: Global, file: fs::File) -> Result<io::BufWriter<fs::File>>
     }
 }
 
+// Waits until the disk has the name of this file, which its folder holds.
+fn sync_folder(rt: &impl Files<File = fs::File>, path: Path<'_>) -> Result<()>
+    ensures { IfErr result (λ e. IsIoError e) }
+{
+    let folder = match path.parent() {
+        Some(folder) if !folder.as_str().is_empty() => folder,
+        _ => Path::new("."),
+    };
+    fs::OpenOptions::new()
+        .read(true)
+        .open(rt, folder)?
+        .sync_all()?;
+    Ok(())
+}
+
 impl WavWriter<io::BufWriter<fs::File>> {
     /// Makes a file, or empties the one that is there, and begins it with this spec, as
     /// [`WavWriter::new`] does. `rt` is what `main` and each test are given, `alloc` is
@@ -91,11 +106,13 @@ impl WavWriter<io::BufWriter<fs::File>> {
 }
 
 impl WavWriter<Durable<SyncedFile>> {
-    /// As [`WavWriter::create`], with a file whose samples survive a loss of power from an Ok
-    /// `flush` on: that call waits for the disk, which takes the sizes only once it has the samples
-    /// that they count. The folder isn't synced.
+    /// Creates a file as [`WavWriter::create`] does, and waits for the disk: here until it has the
+    /// file's name, and at each `flush` first for the samples, then for the sizes that count them.
     ///
-    /// The refusals and their order are those of `create`.
+    /// What a loss of power leaves is proved of a [`Durable`] medium whose bytes are known to
+    /// contracts; of a real file the order of the calls is tested, and nothing is proved but the
+    /// errors. They are those of `create`, in the same order, and after the file was made `IoError`
+    /// where its folder can't be opened or synced.
     pub fn create_durable(
         rt: &impl Files<File = fs::File>,
         alloc: Global,
@@ -106,14 +123,15 @@ impl WavWriter<Durable<SyncedFile>> {
             (λ e. (IsIoError e ⊎ (e ≡ OutOfMemory)) ⊎ ((e ≡ Unsupported) × (IsWritable (with_default_width spec) → ⊥))) }
     {
         let file = fs::create(rt, path)?;
+        sync_folder(rt, path)?;
         let file = SyncedFile::new(alloc, file)?;
         WavWriter::new(Durable::new(file), spec)
     }
 
-    /// As [`WavWriter::append`], with a file whose samples survive a loss of power as those of
-    /// [`WavWriter::create_durable`] do.
+    /// Appends to a file as [`WavWriter::append`] does, and waits for the disk as
+    /// [`WavWriter::create_durable`] does.
     ///
-    /// The refusals and their order are those of `append`.
+    /// The errors are those of `append`, in the same order.
     pub fn append_durable(
         rt: &impl Files<File = fs::File>,
         alloc: Global,

@@ -17,4 +17,6 @@ mod write;
 
 pub use batch::SampleWriter16;
 pub use laws::{a_block_is_its_samples, one_append_answer};
+pub use output::riff_size;
+pub use patch::patch as patch_sizes;
 pub use write::WavWriter;

@@ -57,7 +57,7 @@ impl<W: Medium> Model for Output<W> {
 
 /// The RIFF size of a file whose data begin here and are so many bytes, with their pad byte.
 #[inline(always)]
-pub(crate) fn riff_size(data_start: u64, data_length: u64) -> u64
+pub fn riff_size(data_start: u64, data_length: u64) -> u64
     requires behind { 8 ≤ data_start }
     requires small { data_start ≤ 2 ^ 33 }
     requires few { data_length ≤ 2 ^ 35 }

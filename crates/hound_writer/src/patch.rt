@@ -88,7 +88,7 @@ fn put_data_length<M: Medium>(medium: &mut M, at: u64, data_length: u32) -> io::
 
 /// Puts both sizes, the RIFF size first, and flushes the medium, which then stands after the data
 /// length. It ends at the first fault.
-pub(crate) fn patch<M: Medium>(
+pub fn patch<M: Medium>(
     medium: &mut M,
     data_len_offset: u64,
     riff_size: u32,

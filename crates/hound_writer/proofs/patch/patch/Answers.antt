@@ -1,7 +1,7 @@
 use Rattle.std.proofs.Common.{rules, ◌∙◌, ap, refl}
 use Rattle.hound_medium.specs.State.{one_more}
 use Rattle.hound_medium.proofs.Outcomes.{on_ok, on_ok_self}
-use Rattle.hound_medium.proofs.Spans.{span_end_zero}
+use Rattle.hound_medium.proofs.Spans.{span_end_zero, flushed_since}
 use Rattle.hound_writer.specs.Parts.{HasSize, IsPatched}
 use Rattle.hound_writer.proofs.Patching.{cut_first, cut_second, patched}
 use Rattle.hound_writer.proofs.PatchMoments.{patched_first, patches_none, patches_both, patches_still}
@@ -104,4 +104,5 @@ returns-clause-moments g c tells keeps =
     let flush = c.flush.ensures tells in
     patches_still p n c.flush.result c.flush.result old done _
     (g.met.M.Medium.replays c.put_data_length.new.medium tells keeps) flush.stays
+    (flushed_since c.flush.result done _ flush)
     (on_ok_self c.flush.result) sizes
