@@ -6,7 +6,7 @@ cat <<'END'
 -- that clauses name and that the root of this crate doesn't give; those that it gives are
 -- `Rattle.hound.specs.declared.TYPE`. The file is made by `modules.sh`.
 END
-for crate in number spec sample medium durable reader writer; do
+for crate in number spec sample medium durable reader writer repair; do
     # `Rows` serves tests alone.
     sed -n "s/^pub mod /pub use Rattle.hound_$crate.specs./p" ../hound_$crate/specs/Lib.antt | grep -v '\.Rows$'
     case $crate in

@@ -4,6 +4,7 @@ pub mod Leading
 pub mod Losing
 pub mod Moments
 pub mod AfterLoss
+pub mod Lasting
 pub mod Whole
 pub mod Answering
 pub mod Batching

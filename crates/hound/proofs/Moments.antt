@@ -1,5 +1,5 @@
 -- A run at each moment.
-use Rattle.std.proofs.Common.{◌≡◌, ℕ, zero, suc, ◌+◌, ◌-◌, ◌≤◌, Bool, true, List, [], ◌∷◌, ◌++◌, length, take, map, Result, Ok, Err, IsTrue, refl, sym, ◌∙◌, ap, subst, arith, inl, inr, append_assoc}
+use Rattle.std.proofs.Common.{◌≡◌, ℕ, zero, suc, ◌+◌, ◌-◌, ◌≤◌, Bool, true, List, [], ◌∷◌, ◌++◌, length, take, map, Result, Ok, Err, IsTrue, refl, sym, ◌∙◌, ap, subst, arith, inl, inr, append_assoc, length-append}
 use Rattle.std.proofs.lemmas.Bool.{cases_lt, false≢true}
 use Rattle.std.proofs.lemmas.List.{append-nil}
 use Rattle.std.specs.List.{concat}
@@ -9,9 +9,9 @@ use Rattle.hound_spec.specs.declared.error.Error.TheVariants.{UnfinishedSample}
 use Rattle.hound_spec.specs.declared.spec.WavSpecEx.{WavSpecEx}
 use Rattle.hound_medium.specs.Bytes.{moment, overlay}
 use Rattle.hound_medium.specs.State.{MediumState}
-use Rattle.hound_medium.specs.Spans.{Span}
+use Rattle.hound_medium.specs.Spans.{Span, FlushedSince}
 use Rattle.hound_medium.proofs.Overlays.{front_part}
-use Rattle.hound_medium.proofs.Spans.{moment_before, moment_last}
+use Rattle.hound_medium.proofs.Spans.{flushed_then, moment_before, moment_last}
 use Rattle.hound_writer.specs.Accepting.{AddsAtEach}
 use Rattle.hound_writer.specs.Answers.{mark_of}
 use Rattle.hound_writer.specs.Counts.{Counts}
@@ -34,9 +34,11 @@ pub record Later (old new : MediumState) : Type 0 where
   pub start : new.start ≡ old.start
   pub added : List (ℕ × ℕ)
   pub past : new.past ≡ old.past ++ added
+  pub flushed : FlushedSince old new
 
-later_still : (a : MediumState) → Later a a
-later_still a = record { start = refl; added = []; past = sym (append-nil a.past) }
+pub later_still : (a : MediumState) → Later a a
+later_still a =
+    record { start = refl; added = []; past = sym (append-nil a.past); flushed = inl refl }
 
 pub later_then : (a b c : MediumState) → Later a b → Later b c → Later a c
 later_then a b c first then = record {
@@ -44,12 +46,15 @@ later_then a b c first then = record {
   added = first.added ++ then.added;
   past = then.past ∙ ap (λ (l : List (ℕ × ℕ)). l ++ then.added) first.past
       ∙ append_assoc a.past first.added then.added;
+  flushed = flushed_then a b c
+      (omega (arith, ap length first.past, length-append a.past first.added)) first.flushed
+      then.flushed;
 }
 
 pub span_later : (At : ℕ → List ℕ → Type 0) (split : ℕ) (old new : MediumState)
     → Span At split old new → Later old new
 span_later At split old new span =
-    record { start = span.start; added = span.added; past = span.past }
+    record { start = span.start; added = span.added; past = span.past; flushed = span.flushed }
 
 -- an earlier moment stays what it was
 pub same_moment : (old new : MediumState) (k : ℕ) → Later old new → k ≤ length old.past
@@ -347,7 +352,7 @@ module _ {M : Type 0} (tells keeps : Bool) (state : M → MediumState) (told : I
             (omega (arith, behind)) ((at_each.front whole).each k from to)),
       )
 
-  writes : (step : Step) (answer : Result (Unit {0}) Error) (old new : WriterState M)
+  pub writes : (step : Step) (answer : Result (Unit {0}) Error) (old new : WriterState M)
       → Takes tells keeps state step answer old new → HoldsNoFlush (step ∷ []) → 4 ≤ old.data_start
       → IsWhole state old
       → (field (old.data_start - 4) (state new.medium).contents ≡ field (old.data_start - 4)
@@ -433,7 +438,7 @@ module _ {M : Type 0} (tells keeps : Bool) (state : M → MediumState) (told : I
       ]
 
   -- a flush with a mark has put the length of all that was accepted
-  says : (answer : Result (Unit {0}) Error) (old new : WriterState M) → mark_of answer ≡ true
+  pub says : (answer : Result (Unit {0}) Error) (old new : WriterState M) → mark_of answer ≡ true
       → Checkpoints tells keeps state answer old new
       → field (old.data_start - 4) (state new.medium).contents ≡ data_length old
   says (Ok x) old new marked t = (t.publishes told).length_says

@@ -1,10 +1,12 @@
 -- A whole run, from its beginning to its end.
-use Rattle.std.proofs.Common.{◌≡◌, ℕ, zero, suc, ◌+◌, ◌-◌, ◌/◌, ◌%◌, ◌==◌, ◌<◌, ◌≤◌, not, if◌then◌else◌, Bool, List, [], ◌∷◌, Option, Some, None, ◌++◌, length, take, drop, map, Result, Ok, Err, OnOk, IsTrue, inl, inr, refl, sym, ◌∙◌, ap, subst, arith, length-append, length-drop}
+use Rattle.std.proofs.Common.{◌≡◌, ◌⊎◌, slice_index_or, replicate, true, false, ℕ, zero, suc, ◌+◌, ◌-◌, ◌/◌, ◌%◌, ◌==◌, ◌<◌, ◌≤◌, not, if◌then◌else◌, Bool, List, [], ◌∷◌, Option, Some, None, ◌++◌, length, take, drop, map, Result, Ok, Err, OnOk, IsTrue, inl, inr, refl, sym, ◌∙◌, ap, subst, arith, length-append, length-drop}
 use Rattle.std.proofs.lemmas.List.{take_all, length-take-le}
 use Rattle.std.proofs.lemmas.Nat.{mul-le}
 use Rattle.std.proofs.Math.Nat.{div-mul-le_self}
 use Rattle.std.specs.List.{concat, AllByRecursion}
 use Rattle.std.specs.Io.{StartsWith}
+use Rattle.std.proofs.lemmas.Bool.{false≢true}
+use Rattle.hound.specs.declared.session.Step.TheVariants.{Flush}
 use Rattle.hound_spec.specs.declared.error.Error.{Error}
 use Rattle.hound_spec.specs.declared.error.Error.TheVariants.{IoError, UnfinishedSample}
 use Rattle.hound_spec.specs.declared.spec.WavSpecEx.{WavSpecEx}
@@ -36,9 +38,10 @@ use Rattle.hound.specs.declared.session.Begin.{Begin}
 use Rattle.hound.specs.declared.session.Begin.TheVariants.{New, Append}
 use Rattle.hound.specs.declared.session.End.{End}
 use Rattle.hound.specs.declared.session.End.TheVariants.{Finalize, Drop}
-use Rattle.hound.specs.Headline.{CanonicalAtEnd, CountedAfterLoss, accepted_after}
+use Rattle.hound.specs.Headline.{AppendedSurvives, CanonicalAtEnd, CountedAfterLoss, LosesNothing, accepted_after, cut_point}
 use Rattle.hound.specs.Run.{Begins, Ends, IsNotBegun, IsSession, Leaves, LeavesAtEach, NoFault, Ran, Runs}
 use Rattle.hound.specs.Steps.{accepted_by, accepted_by_all}
+use Rattle.hound.proofs.Lasting.{kept_after_loss, later_cut, never_less, stays_flushed}
 use Rattle.hound.proofs.Leading.{Leads, leads, grows_told, no_fault_parts, length-concat-append}
 use Rattle.hound.proofs.AfterLoss.{counted_after_loss, wide_containers}
 use Rattle.hound.proofs.Losing.{moments_grow}
@@ -319,6 +322,14 @@ module _ {M : Type 0} (tells keeps : Bool) (state : M → MediumState) (begin : 
       λ (whole : IsWhole state first).
       span_later (λ _. Counts last.spec_ex last.data_start (accepted_samples state last)) 0
       (state last.medium) (state medium) (span whole) in
+      let law = λ (m : M). replays m told kept in
+      let never = λ (whole : IsWhole state first).
+      never_less tells keeps state told kept law (last.data_start - 4) steps answers cuts first last
+      (state medium) runs (later whole) (e.1.moments told kept).old_or_new
+      (ap (λ n. n - 4) l.data_start) behind whole (sized state first facts.0 facts.1 whole) in
+      let flushed = λ (whole : IsWhole state first).
+      stays_flushed tells keeps state told kept law (last.data_start - 4) steps answers cuts first
+      last (state medium) runs (later whole) whole in
       let all : LeavesAtEach state steps (map mark_of answers) cuts first medium = record {
         counted =
             λ whole. counted tells keeps state told kept
@@ -328,12 +339,26 @@ module _ {M : Type 0} (tells keeps : Bool) (state : M → MediumState) (begin : 
             λ whole. published tells keeps state told kept
             (λ m. replays m told kept) steps answers cuts first last (state medium) runs
             (later whole) behind whole (sized state first facts.0 facts.1 whole);
+        never_less = never;
+        flushed = flushed;
         stored =
             λ whole. stored tells keeps state told kept
             (λ m. replays m told kept) steps answers cuts first last (state medium) runs
             (later whole) ((e.1.moments told kept).stored (l.whole whole)) whole;
         after_loss =
             λ whole. after_loss replays told kept whole;
+        kept_after_loss =
+            λ whole. kept_after_loss first.spec_ex first.data_start (accepted_samples state first)
+            steps (map mark_of answers) cuts (state medium)
+            (omega (
+              arith,
+              end_cut tells keeps state told kept law steps answers cuts first last (state medium)
+                  runs,
+              ap length (later whole).past,
+              length-append (state last.medium).past (later whole).added,
+            ))
+            (last_cut tells keeps state told kept law steps answers cuts first last (state medium)
+            runs) (after_loss replays told kept whole) (never whole) (flushed whole);
       } in
       subst (λ b. LeavesAtEach state steps b cuts first medium) (sym marked) all
 
@@ -431,6 +456,57 @@ accepted_whole s (step ∷ steps) [] = refl
 accepted_whole s (step ∷ steps) (mark ∷ marks) =
     ap (λ l. accepted_by s step mark ++ l) (accepted_whole s steps marks)
 
+-- a file whose header was flushed was begun
+not_begun : {M : Type 0} (tells keeps : Bool) (state : M → MediumState) (told : IsTrue tells)
+    (kept : IsTrue keeps) (s : WavSpecEx) (old medium : M) → (state old).past ≡ [] → (f : ℕ)
+    → data_start s ≤ f → f ≤ length (state medium).past → (e : Error)
+    → IsNotBegun tells keeps state (New s) old medium e → ⊥
+not_begun tells keeps state told kept s old medium unused f begun within e (inl (not, is, same)) =
+    omega (
+      arith,
+      begun,
+      within,
+      ap (λ m. length (state m).past) same,
+      ap length unused,
+      data_start_least s,
+    )
+not_begun tells keeps state told kept s old medium unused f begun within e
+    (inr (writable, io, failed)) =
+    let p = failed told in
+    let h = take p.count (header s 0 0) in
+    omega (
+      arith,
+      begun,
+      within,
+      ap length (p.takes.past kept),
+      length-append (state old).past (placed (state old).place h),
+      ap length unused,
+      length-placed (state old).place h,
+      length-take-le p.count (header s 0 0) p.within,
+      p.part,
+      length-header s 0 0,
+    )
+
+-- the header of a new file was put first
+header_end : {M : Type 0} (tells keeps : Bool) (state : M → MediumState) (told : IsTrue tells)
+    (kept : IsTrue keeps) (s : WavSpecEx) (steps : List Step) (marks : List Bool) (end : End)
+    (old : M) (answer : Result (Unit {0}) Error) (medium : M) → (state old).past ≡ []
+    → (r : Ran tells keeps state (New s) steps marks end old answer medium)
+    → length (state r.first.medium).past ≡ data_start s
+header_end tells keeps state told kept s steps marks end old answer medium unused r =
+    let file = r.begins.file told in
+    let h = header r.first.spec_ex 0 0 in
+    omega (
+      arith,
+      ap length (file.puts.past kept),
+      length-append (state old).past (placed (state old).place (take (length h) h)),
+      ap length unused,
+      length-placed (state old).place (take (length h) h),
+      length-take-le (length h) h (omega arith),
+      length-header r.first.spec_ex 0 0,
+      ap data_start r.begins.begun.spec,
+    )
+
 -- A run over a new file, where the bytes that were put after its header was flushed, at f, went to
 -- ascending places: what a loss of power leaves counts.
 module _ {M : Type 0} (tells keeps : Bool) (state : M → MediumState) (told : IsTrue tells)
@@ -445,56 +521,15 @@ module _ {M : Type 0} (tells keeps : Bool) (state : M → MediumState) (told : I
     (contents : List ℕ)
     (lost : SurvivesLoss sector (state medium).start (state medium).past f
     (length (state medium).past) contents) where
-  not_run : (e : Error) → IsNotBegun tells keeps state (New s) old medium e
-      → Counts s (data_start s) (accepted_by_all s steps marks) contents
-  not_run e (inl (not, is, same)) =
-      absurd (omega (
-        arith,
-        begun,
-        within,
-        ap (λ m. length (state m).past) same,
-        ap length unused,
-        data_start_least s,
-      ))
-  not_run e (inr (writable, io, failed)) =
-      let p = failed told in
-      let h = take p.count (header s 0 0) in
-      absurd (omega (
-        arith,
-        begun,
-        within,
-        ap length (p.takes.past kept),
-        length-append (state old).past (placed (state old).place h),
-        ap length unused,
-        length-placed (state old).place h,
-        length-take-le p.count (header s 0 0) p.within,
-        p.part,
-        length-header s 0 0,
-      ))
-
   was_run : Ran tells keeps state (New s) steps marks end old answer medium
       → Counts s (data_start s) (accepted_by_all s steps marks) contents
   was_run r =
       let b = r.begins.begun in
       let file = r.begins.file told in
-      let first = state r.first.medium in
       let e = ended tells keeps state end r.last answer medium r.ends in
       let half = (e.1.moments told kept).half in
-      let header_put : length first.past ≡ data_start s =
-      omega (
-        arith,
-        ap length (file.puts.past kept),
-        length-append (state old).past
-            (placed (state old).place (take (length (header r.first.spec_ex 0 0))
-            (header r.first.spec_ex 0 0))),
-        ap length unused,
-        length-placed (state old).place
-            (take (length (header r.first.spec_ex 0 0)) (header r.first.spec_ex 0 0)),
-        length-take-le (length (header r.first.spec_ex 0 0)) (header r.first.spec_ex 0 0)
-            (omega arith),
-        length-header r.first.spec_ex 0 0,
-        ap data_start b.spec,
-      ) in
+      let header_put =
+      header_end tells keeps state told kept s steps marks end old answer medium unused r in
       let counted : Counts r.first.spec_ex r.first.data_start
       (accepted_after r.first.spec_ex (accepted_samples state r.first) steps marks
       (length steps)) contents =
@@ -535,6 +570,206 @@ module _ {M : Type 0} (tells keeps : Bool) (state : M → MediumState) (told : I
   pub counts_after_loss : IsSession tells keeps state begin steps marks end old answer medium
       → Counts s (data_start s) (accepted_by_all s steps marks) contents
   counts_after_loss (inl n) =
-      not_run n.error (subst (λ b. IsNotBegun tells keeps state b old medium n.error) is_new n.why)
+      absurd (not_begun tells keeps state told kept s old medium unused f begun within n.error
+      (subst (λ b. IsNotBegun tells keeps state b old medium n.error) is_new n.why))
   counts_after_loss (inr r) =
       was_run (subst (λ b. Ran tells keeps state b steps marks end old answer medium) is_new r)
+
+-- and no published sample is lost, where f is a flush of the medium's own or a later one
+module _ {M : Type 0} (tells keeps : Bool) (state : M → MediumState) (told : IsTrue tells)
+    (kept : IsTrue keeps) (replays : (m : M)
+    → (state m).contents ≡ overlay (state m).start (state m).past) (s : WavSpecEx)
+    (steps : List Step) (marks : List Bool) (end : End) (old : M) (answer : Result (Unit {0}) Error)
+    (medium : M) (begin : Begin) (is_new : begin ≡ New s) (unused : (state old).past ≡ [])
+    (f : ℕ) (later : (state medium).flushed ≤ f) (begun : data_start s ≤ f)
+    (within : f ≤ length (state medium).past)
+    (ascends : Ascends (state medium).past f (length (state medium).past)) where
+  abbrev flushed_at : MediumState
+  flushed_at = record (state medium) { flushed = f }
+
+  abbrev Kept : WavSpecEx → ℕ → List (List ℕ) → List ℕ → Type 0
+  Kept spec start found cuts = (sector : ℕ) (contents : List ℕ) → 1 ≤ sector
+      → (start - 4) / sector ≡ (start - 1) / sector
+      → SurvivesLoss sector (state medium).start (state medium).past f (length (state medium).past)
+      contents
+      → LosesNothing spec start found steps marks cuts flushed_at contents
+
+  kept_run : Ran tells keeps state (New s) steps marks end old answer medium
+      → (cuts : List ℕ) × Kept s (data_start s) [] cuts
+  kept_run r =
+      let b = r.begins.begun in
+      let file = r.begins.file told in
+      let m = r.moments told kept in
+      let e = ended tells keeps state end r.last answer medium r.ends in
+      let half = (e.1.moments told kept).half in
+      let header_put =
+      header_end tells keeps state told kept s steps marks end old answer medium unused r in
+      let first =
+      first_cut tells keeps state told kept replays steps r.answers r.cuts r.first r.last
+      (state medium) r.runs in
+      let all : Kept r.first.spec_ex r.first.data_start (accepted_samples state r.first) r.cuts =
+      λ sector contents some one lost.
+      kept_after_loss r.first.spec_ex r.first.data_start (accepted_samples state r.first) steps
+      marks r.cuts flushed_at
+      (omega (
+        arith,
+        end_cut tells keeps state told kept replays steps r.answers r.cuts r.first r.last
+            (state medium) r.runs,
+        ap length half.past,
+        length-append (state r.last.medium).past half.added,
+      ))
+      (last_cut tells keeps state told kept replays steps r.answers r.cuts r.first r.last
+      (state medium) r.runs) (m.after_loss file.whole) (m.never_less file.whole)
+      (λ i inside is marked. omega (arith, m.flushed file.whole i inside is marked, later))
+      sector contents (omega (arith, begun, header_put, first)) within ascends some one lost in (
+        r.cuts,
+        subst (λ (x : WavSpecEx × (ℕ × List (List ℕ))). Kept x.0 x.1.0 x.1.1 r.cuts)
+            (λ i. (
+              b.spec i,
+              (b.start i, none_accepted state r.first b.sound b.none_waits b.none_out i),
+            )) all,
+      )
+
+  pub loses_nothing : IsSession tells keeps state begin steps marks end old answer medium
+      → (cuts : List ℕ) × Kept s (data_start s) [] cuts
+  loses_nothing (inl n) =
+      absurd (not_begun tells keeps state told kept s old medium unused f begun within n.error
+      (subst (λ b. IsNotBegun tells keeps state b old medium n.error) is_new n.why))
+  loses_nothing (inr r) =
+      kept_run (subst (λ b. Ran tells keeps state b steps marks end old answer medium) is_new r)
+
+-- no mark is true of a run that didn't begin
+none_marked : (n i : ℕ) → slice_index_or (replicate n false) i false ≡ true → ⊥
+none_marked zero i is = false≢true is
+none_marked (suc n) zero is = false≢true is
+none_marked (suc n) (suc i) is = none_marked n i is
+
+-- a flush with a mark has flushed the header of a new file
+pub header_flushed : {M : Type 0} (tells keeps : Bool) (state : M → MediumState)
+    (told : IsTrue tells) (kept : IsTrue keeps) (replays : (m : M)
+    → (state m).contents ≡ overlay (state m).start (state m).past) (s : WavSpecEx)
+    (steps : List Step) (marks : List Bool) (end : End) (old : M) (answer : Result (Unit {0}) Error)
+    (medium : M) (begin : Begin) → begin ≡ New s → (state old).past ≡ []
+    → IsSession tells keeps state begin steps marks end old answer medium
+    → (i : ℕ) → i < length steps → slice_index_or steps i Flush ≡ Flush
+    → slice_index_or marks i false ≡ true → data_start s ≤ (state medium).flushed
+header_flushed tells keeps state told kept replays s steps marks end old answer medium begin is_new
+    unused (inl n) i inside is marked =
+    absurd (none_marked (length steps) i
+    (ap (λ l. slice_index_or l i false) (sym n.marked) ∙ marked))
+header_flushed {M} tells keeps state told kept replays s steps marks end old answer medium begin
+    is_new unused (inr ran) i inside is marked =
+    let r : Ran tells keeps state (New s) steps marks end old answer medium =
+    subst (λ b. Ran tells keeps state b steps marks end old answer medium) is_new ran in
+    let file = r.begins.file told in
+    omega (
+      arith,
+      header_end tells keeps state told kept s steps marks end old answer medium unused r,
+      later_cut tells keeps state told kept replays (r.last.data_start - 4) steps r.answers r.cuts
+          r.first r.last (state medium) r.runs file.whole i inside,
+      (r.moments told kept).flushed file.whole i inside is marked,
+    )
+
+-- and so it is of a file that was appended to
+module _ {M : Type 0} (tells keeps : Bool) (state : M → MediumState) (told : IsTrue tells)
+    (kept : IsTrue keeps) (replays : (m : M)
+    → (state m).contents ≡ overlay (state m).start (state m).past)
+    (steps : List Step) (marks : List Bool) (end : End) (old : M) (answer : Result (Unit {0}) Error)
+    (medium : M) (begin : Begin) (is_append : begin ≡ Append) (unused : (state old).past ≡ [])
+    (f : ℕ) (later : (state medium).flushed ≤ f) (within : f ≤ length (state medium).past)
+    (ascends : Ascends (state medium).past f (length (state medium).past)) where
+  abbrev last_flushed : MediumState
+  last_flushed = record (state medium) { flushed = f }
+
+  appended_run : Ran tells keeps state Append steps marks end old answer medium
+      → AppendedSurvives steps marks (state old).contents last_flushed
+  appended_run r =
+      let w = r.first in
+      let file = r.begins.file told in
+      let m = r.moments told kept in
+      let before = (state old).contents in
+      let width = w.spec_ex.bytes_per_sample in
+      let e = ended tells keeps state end r.last answer medium r.ends in
+      let half = (e.1.moments told kept).half in
+      let out : w.out ≡ data_length w = sym (length_out state w r.begins.none_waits) in
+      let stays : (state w.medium).contents ≡ before = file.puts.stays.contents in
+      let found_is : accepted_samples state w
+      ≡ containers width (data_length w / width) (drop w.data_start before) =
+      samples_out state w r.begins.none_waits r.begins.sound
+      ∙ (λ i. containers width (out i / width) (drop w.data_start (stays i))) in
+      let begins_at : cut_point r.cuts (state medium) 0 ≡ 0 =
+      first_cut tells keeps state told kept replays steps r.answers r.cuts w r.last (state medium)
+      r.runs ∙ ap length (file.puts.stays.past ∙ unused) in
+      let last =
+      end_cut tells keeps state told kept replays steps r.answers r.cuts w r.last (state medium)
+      r.runs in
+      let after =
+      last_cut tells keeps state told kept replays steps r.answers r.cuts w r.last (state medium)
+      r.runs in
+      let long : length (state r.last.medium).past ≤ length (state medium).past =
+      omega (arith, ap length half.past, length-append (state r.last.medium).past half.added) in
+      record {
+        spec_ex = w.spec_ex;
+        data_length = data_length w;
+        start = w.data_start;
+        cuts = r.cuts;
+        head = file.head;
+        after_loss = λ there sector contents some one lost.
+            let whole : IsWhole state w = omega (arith, there, out, ap length stays) in
+            let counted : Counts w.spec_ex w.data_start
+            (accepted_after w.spec_ex (accepted_samples state w) steps marks (length steps))
+            contents =
+            (m.after_loss whole (length steps) f (length (state medium).past) sector contents
+            (omega arith) (omega (arith, begins_at)) within (omega arith)
+            (omega (arith, last, long)) (omega (arith, after)) ascends some one lost).0 in
+            let all =
+            ap (λ l. accepted_samples state w ++ l) (accepted_whole w.spec_ex steps marks)
+            ∙ ap (λ l. l ++ accepted_by_all w.spec_ex steps marks) found_is in (
+              subst (λ l. Counts w.spec_ex w.data_start l contents) all counted,
+              subst (λ l. LosesNothing w.spec_ex w.data_start l steps marks r.cuts last_flushed
+                  contents) found_is
+                  (kept_after_loss w.spec_ex w.data_start (accepted_samples state w) steps
+                  marks r.cuts last_flushed (omega (arith, last, long)) after (m.after_loss whole)
+                  (m.never_less whole)
+                  (λ i inside is marked. omega (arith, m.flushed whole i inside is marked, later))
+                  sector contents (omega (arith, begins_at)) within ascends some one lost),
+            );
+      }
+
+  pub appended : IsSession tells keeps state begin steps marks end old answer medium
+      → ((state medium).past ≡ []) ⊎ AppendedSurvives steps marks (state old).contents last_flushed
+  appended (inl n) =
+      let why : IsNotBegun tells keeps state Append old medium n.error =
+      subst (λ b. IsNotBegun tells keeps state b old medium n.error) is_append n.why in
+      inl ((why told).puts.stays.past ∙ unused)
+  appended (inr r) =
+      inr (appended_run (subst (λ b. Ran tells keeps state b steps marks end old answer medium)
+      is_append r))
+
+-- what survives depends on the past and the last flush alone
+pub appended_over : (steps : List Step) (marks : List Bool) (before same : List ℕ)
+    (a b : MediumState) → before ≡ same → a.start ≡ b.start → a.past ≡ b.past
+    → a.flushed ≡ b.flushed → AppendedSurvives steps marks before a
+    → AppendedSurvives steps marks same b
+appended_over steps marks before same a b is start past flushed survives =
+    let seen : (List ℕ × List (ℕ × ℕ)) × ℕ → MediumState =
+    λ x. record { contents = []; place = 0; faults = 0; start = x.0.0; past = x.0.1; flushed = x.1 } in
+    let s = survives.spec_ex in
+    let h = survives.start in
+    let width = s.bytes_per_sample in
+    record {
+      spec_ex = s;
+      data_length = survives.data_length;
+      start = h;
+      cuts = survives.cuts;
+      head = subst (λ c. Head c s survives.data_length h) is survives.head;
+      after_loss =
+          subst (λ (x : List ℕ × ((List ℕ × List (ℕ × ℕ)) × ℕ)).
+          h + survives.data_length ≤ length x.0
+          → (sector : ℕ) (contents : List ℕ) → 1 ≤ sector → (h - 4) / sector ≡ (h - 1) / sector
+          → SurvivesLoss sector (seen x.1).start (seen x.1).past (seen x.1).flushed
+          (length (seen x.1).past) contents
+          → Counts s h (containers width (survives.data_length / width) (drop h x.0) ++ accepted_by_all s steps marks) contents
+          × LosesNothing s h (containers width (survives.data_length / width) (drop h x.0)) steps marks survives.cuts (seen x.1) contents)
+          (λ i. (is i, ((start i, past i), flushed i))) survives.after_loss;
+    }

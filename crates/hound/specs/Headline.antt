@@ -8,6 +8,8 @@ use Rattle.hound_spec.specs.declared.spec.WavSpecEx.{WavSpecEx}
 use Rattle.hound_spec.specs.Header.{canonical}
 use Rattle.hound_medium.specs.Bytes.{moment}
 use Rattle.hound_medium.specs.State.{MediumState}
+use Rattle.hound_sample.specs.Container.{containers}
+use Rattle.hound_reader.specs.Chunks.{Head}
 use Rattle.hound_writer.specs.Answers.{OnPublished}
 use Rattle.hound_writer.specs.Counts.{Counts}
 use Rattle.hound_writer.specs.Sizes.{field}
@@ -16,7 +18,7 @@ use Rattle.hound.specs.declared.session.Step.{Step}
 use Rattle.hound.specs.declared.session.Step.TheVariants.{Flush}
 use Rattle.hound.specs.declared.session.End.{End}
 use Rattle.hound.specs.declared.session.End.TheVariants.{Finalize, Drop}
-use Rattle.hound_durable.specs.Losses.{Ascends, SurvivesLoss}
+use Rattle.hound_durable.specs.Losses.{Ascends, SurvivesLoss, place_of}
 use Rattle.hound.specs.Steps.{accepted_by_all, HoldsNoFlush}
 
 -- the accepted samples once i steps have returned: those that were found, and those of the steps
@@ -50,6 +52,32 @@ PublishedByFlushes s start found steps marks cuts medium = (i m k : ℕ) → i <
     field (start - 4) (moment medium.start medium.past k)
     ≡ length (concat (accepted_after s found steps marks i))
 
+-- No put of the field at p is cut in the state after k bytes: in n calls that begin at these cut
+-- points and in the one after them, each byte put at p before k was followed by three more, within
+-- the same call and before k.
+abbrev pub IsUncut : ℕ → ℕ → List ℕ → MediumState → ℕ → Type 0
+IsUncut p n cuts medium k = (j i : ℕ) → j ≤ n → cut_point cuts medium j ≤ i →
+    i < cut_point cuts medium (suc j) → i < k → place_of medium.past i ≡ p →
+    (i + 4 ≤ cut_point cuts medium (suc j)) × (i + 4 ≤ k)
+
+-- What a flush has published is never undercut: from the return of a flush with a mark to the end of
+-- the run, the length field counts at least the samples that were accepted before the flush, at each
+-- state in which no put of it since then is cut.
+abbrev pub NeverLess : WavSpecEx → ℕ → List (List ℕ) → List Step → List Bool → List ℕ →
+    MediumState → Type 0
+NeverLess s start found steps marks cuts medium = (i k : ℕ) → i < length steps →
+    slice_index_or steps i Flush ≡ Flush → slice_index_or marks i false ≡ true →
+    cut_point (drop (suc i) cuts) medium 0 ≤ k → k ≤ length medium.past →
+    IsUncut (start - 4) (length (drop (suc i) steps)) (drop (suc i) cuts) medium k →
+    length (concat (accepted_after s found steps marks i))
+    ≤ field (start - 4) (moment medium.start medium.past k)
+
+-- What a flush with a mark has flushed stays so: the medium was flushed at its return or later.
+abbrev pub FlushedByFlushes : List Step → List Bool → List ℕ → MediumState → Type 0
+FlushedByFlushes steps marks cuts medium = (i : ℕ) → i < length steps →
+    slice_index_or steps i Flush ≡ Flush → slice_index_or marks i false ≡ true →
+    cut_point (drop (suc i) cuts) medium 0 ≤ medium.flushed
+
 -- What is stored of the accepted samples stays stored: from the return of the first i steps on, each
 -- part of the samples that were accepted by then that is stored at its place at a moment is stored
 -- there at each later one, to the end.
@@ -81,6 +109,50 @@ CountedAfterLoss s start found steps marks cuts medium =
     × ((j : ℕ) × (f ≤ j) × (j ≤ k)
     × (field (start - 4) contents
     ≡ field (start - 4) (moment medium.start medium.past j)))
+
+-- These contents, which a loss of power left, have lost no published sample: their length field is
+-- that of a state since the medium was last flushed, and where no put of it is cut in that state, it
+-- counts at least the samples that were accepted before each flush with a mark.
+abbrev pub LosesNothing : WavSpecEx → ℕ → List (List ℕ) → List Step → List Bool → List ℕ →
+    MediumState → List ℕ → Type 0
+LosesNothing s start found steps marks cuts medium contents =
+    (k : ℕ) × (medium.flushed ≤ k) × (k ≤ length medium.past)
+    × (field (start - 4) contents ≡ field (start - 4) (moment medium.start medium.past k))
+    × ((i : ℕ) → i < length steps → slice_index_or steps i Flush ≡ Flush →
+    slice_index_or marks i false ≡ true →
+    IsUncut (start - 4) (length (drop (suc i) steps)) (drop (suc i) cuts) medium k →
+    length (concat (accepted_after s found steps marks i)) ≤ field (start - 4) contents)
+
+-- So it is of a medium that has put bytes at ascending places alone since it was last flushed, the
+-- header before that, where the power is lost at the end of the run. A run that ends in calls that
+-- all fail is one that lost its power there.
+abbrev pub KeptAfterLoss : WavSpecEx → ℕ → List (List ℕ) → List Step → List Bool → List ℕ →
+    MediumState → Type 0
+KeptAfterLoss s start found steps marks cuts medium =
+    (sector : ℕ) (contents : List ℕ) → cut_point cuts medium 0 ≤ medium.flushed →
+    medium.flushed ≤ length medium.past →
+    Ascends medium.past medium.flushed (length medium.past) → 1 ≤ sector →
+    (start - 4) / sector ≡ (start - 1) / sector →
+    SurvivesLoss sector medium.start medium.past medium.flushed (length medium.past) contents →
+    LosesNothing s start found steps marks cuts medium contents
+
+-- What a loss of power at the end of a run leaves of a file that it appended to, whose data were all
+-- there, counts, and has lost no published sample.
+pub record AppendedSurvives (steps : List Step) (marks : List Bool) (before : List ℕ)
+    (medium : MediumState) : Type 0 where
+  pub spec_ex : WavSpecEx
+  pub data_length : ℕ
+  pub start : ℕ
+  pub cuts : List ℕ
+  pub head : Head before spec_ex data_length start
+  pub after_loss : start + data_length ≤ length before →
+      (sector : ℕ) (contents : List ℕ) → 1 ≤ sector →
+      (start - 4) / sector ≡ (start - 1) / sector →
+      SurvivesLoss sector medium.start medium.past medium.flushed (length medium.past) contents →
+      let width = spec_ex.bytes_per_sample in
+      let found = containers width (data_length / width) (drop start before) in
+      Counts spec_ex start (found ++ accepted_by_all spec_ex steps marks) contents
+      × LosesNothing spec_ex start found steps marks cuts medium contents
 
 -- P, where all was published at the end of a run, as its answer tells
 abbrev pub OnFinalized : End → Result (Unit {0}) Error → Type 0 → Type 0

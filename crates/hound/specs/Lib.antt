@@ -58,6 +58,10 @@ pub use Rattle.hound_writer.specs.Room
 pub use Rattle.hound_writer.specs.Sizes
 pub use Rattle.hound_writer.specs.Storing
 pub use Rattle.hound_writer.specs.Writer
+pub use Rattle.hound_repair.specs.Held
+pub use Rattle.hound_repair.specs.Following
+pub use Rattle.hound_repair.specs.Repairing
+pub use Rattle.hound_repair.specs.Damages
 pub mod FirstError
 pub mod Headline
 pub mod Run

@@ -18,7 +18,7 @@ use Rattle.hound.specs.declared.session.Begin.{Begin}
 use Rattle.hound.specs.declared.session.Begin.TheVariants.{New, Append}
 use Rattle.hound.specs.declared.session.End.{End}
 use Rattle.hound.specs.declared.session.End.TheVariants.{Finalize, Drop}
-use Rattle.hound.specs.Headline.{CanonicalAtEnd, CountedAfterLoss, CountedAtEach, PublishedByFlushes, StoredAtEach}
+use Rattle.hound.specs.Headline.{CanonicalAtEnd, CountedAfterLoss, CountedAtEach, FlushedByFlushes, KeptAfterLoss, NeverLess, PublishedByFlushes, StoredAtEach}
 use Rattle.hound.specs.Steps.{OnBatched, accepted_by_all, step_containers, wants_memory}
 
 -- What a step does to its writer, by its answer: a flush publishes, and any other step is asked to
@@ -108,12 +108,19 @@ pub record LeavesAtEach {M : Type 0} (state : M → MediumState) (steps : List S
   pub published : IsWhole state first →
       PublishedByFlushes first.spec_ex first.data_start
       (accepted_samples state first) steps marks cuts (state medium)
+  pub never_less : IsWhole state first →
+      NeverLess first.spec_ex first.data_start (accepted_samples state first) steps marks cuts
+      (state medium)
+  pub flushed : IsWhole state first → FlushedByFlushes steps marks cuts (state medium)
   pub stored : IsWhole state first →
       StoredAtEach first.spec_ex first.data_start (accepted_samples state first) steps marks cuts
       (state medium)
   pub after_loss : IsWhole state first →
       CountedAfterLoss first.spec_ex first.data_start (accepted_samples state first) steps marks
       cuts (state medium)
+  pub kept_after_loss : IsWhole state first →
+      KeptAfterLoss first.spec_ex first.data_start (accepted_samples state first) steps marks cuts
+      (state medium)
 
 -- A run that began, took every step and ended.
 pub record Ran {M : Type 0} (tells keeps : Bool) (state : M → MediumState) (begin : Begin)

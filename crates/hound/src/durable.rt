@@ -1,13 +1,15 @@
 // A whole run over a medium that a loss of power may tear.
-ghost use Rattle.std.specs.Prelude.{◌≡◌, ◌-◌, ◌/◌, ◌≤◌, ℕ, List, [], OnOk, length};
+ghost use Rattle.std.specs.Prelude.{◌≡◌, ◌⊎◌, ◌<◌, false, true, slice_index_or, ◌-◌, ◌/◌, ◌≤◌, ℕ, List, [], OnOk, length};
 ghost use Rattle.std.specs.Io.{StartsWith};
 ghost use Rattle.hound_spec.specs.declared.spec.WavSpecEx.{WavSpecEx};
 ghost use Rattle.hound_spec.specs.Header.{canonical, data_start};
 ghost use Rattle.hound_medium.specs.State.{WhereTells, WhereKeeps};
 ghost use Rattle.hound_durable.specs.Losses.{SurvivesLoss};
 ghost use Rattle.hound_writer.specs.Counts.{Counts};
-ghost use Rattle.hound.specs.declared.session.Begin.TheVariants.{New};
+ghost use Rattle.hound.specs.declared.session.Begin.TheVariants.{New, Append};
 ghost use Rattle.hound.specs.declared.session.End.TheVariants.{Finalize};
+ghost use Rattle.hound.specs.declared.session.Step.TheVariants.{Flush};
+ghost use Rattle.hound.specs.Headline.{AppendedSurvives, LosesNothing};
 ghost use Rattle.hound.specs.Steps.{accepted_by_all};
 
 use crate::runs::run_session;
@@ -20,12 +22,12 @@ use std::alloc::Global;
 /// Runs a session as [`run_session`] does, over the medium within a [`Durable`], and hands the
 /// medium back.
 ///
-/// If the power goes after the header was flushed, which the first `Flush` does, the file counts no
-/// more than what it holds: whatever sectors keep what was put since the last flush that
-/// was Ok, reading gives exactly the first samples that its length counts, or refuses a length of
-/// no whole frames. A machine that loses power is a medium each of whose calls fails from then on,
-/// so it is said of the medium as the run left it, whatever failed. Sizes are in bytes; a sector
-/// has to hold the four bytes of the length, as one of 128 bytes or more does.
+/// A new file on an empty medium that loses power after its header was flushed, which the first
+/// `Flush` does, counts no more than what it holds: whatever sectors keep what was put since the
+/// last flush that was Ok, reading gives exactly the first samples that its length counts, or
+/// refuses a length of no whole frames. A machine that loses power is a medium each of whose calls
+/// fails from then on, so this is said of the medium as the run left it, whatever failed. Sizes are
+/// in bytes; a sector has to hold the four bytes of the length, as one of 128 bytes or more does.
 ///
 /// The medium is new: its place is 0, and nothing has been written to it yet.
 pub fn run_durable_session<M: Source + Medium>(
@@ -55,6 +57,27 @@ pub fn run_durable_session<M: Source + Medium>(
         → (contents : List ℕ) → (let s = M.state result.0 in
         SurvivesLoss sector s.start s.past s.flushed (length s.past) contents) →
         Counts spec_ex (data_start spec_ex) (accepted_by_all spec_ex steps.now marks.new) contents) }
+
+    // A flush with a mark has flushed the header.
+    ensures header { WhereKeeps M.tells M.keeps ((spec_ex : WavSpecEx) → begin ≡ New spec_ex
+        → (i : ℕ) → i < length steps.now → slice_index_or steps.now i Flush ≡ Flush
+        → slice_index_or marks.new i false ≡ true →
+        data_start spec_ex ≤ (M.state result.0).flushed) }
+
+    // And what is left has lost no sample that such a flush has published.
+    ensures kept_after_loss { WhereKeeps M.tells M.keeps ((spec_ex : WavSpecEx) → begin ≡ New spec_ex
+        → (M.state medium).contents ≡ []
+        → data_start spec_ex ≤ (M.state result.0).flushed → (cuts : List ℕ)
+        × ((sector : ℕ) (contents : List ℕ) → 1 ≤ sector
+        → (data_start spec_ex - 4) / sector ≡ (data_start spec_ex - 1) / sector
+        → (let s = M.state result.0 in
+        SurvivesLoss sector s.start s.past s.flushed (length s.past) contents) →
+        LosesNothing spec_ex (data_start spec_ex) [] steps.now marks.new cuts (M.state result.0) contents)) }
+
+    // The same of a file that was appended to, where a byte was written at all.
+    ensures appended { WhereKeeps M.tells M.keeps (begin ≡ Append
+        → ((M.state result.0).past ≡ [])
+        ⊎ AppendedSurvives steps.now marks.new (M.state medium).contents (M.state result.0)) }
 {
     let (durable, answer) = run_session(alloc, Durable::new(medium), begin, steps, marks, end);
     (durable.into_inner(), answer)

@@ -1,10 +1,14 @@
 // What holds of every run.
-ghost use Rattle.std.specs.Prelude.{◌≡◌, ◌<◌, ◌≤◌, [], Ok, length, map};
+ghost use Rattle.std.specs.Prelude.{◌≡◌, ◌<◌, ◌≤◌, ℕ, List, [], Ok, Result, length, map};
+ghost use Rattle.hound_spec.specs.declared.error.Error.{Error};
 ghost use Rattle.hound_spec.specs.Header.{canonical};
 ghost use Rattle.hound_medium.specs.State.{WhereTells};
+ghost use Rattle.hound_writer.specs.Answers.{mark_of};
 ghost use Rattle.hound_writer.specs.Writer.{WriterState, IsWhole, accepted_samples, data_length};
 ghost use Rattle.hound.specs.declared.session.Step.TheVariants.{Whole, Batch};
-ghost use Rattle.hound.specs.Run.{Takes};
+ghost use Rattle.hound.specs.declared.session.Begin.{Begin};
+ghost use Rattle.hound.specs.declared.session.End.{End};
+ghost use Rattle.hound.specs.Run.{Begins, Ends, Ran, Runs, Takes};
 ghost use Rattle.hound.specs.Sessions.{AreSessions, RunsOk, all_steps};
 ghost use Rattle.hound.specs.Steps.{containers_of};
 
@@ -20,6 +24,20 @@ pub fn a_batch_is_its_values<M: Medium>(values: &[i16])
     ensures { WhereTells M.tells ((a b c : WriterState M) → 4 ≤ a.data_start → IsWhole M.state a →
         Takes M.tells M.keeps M.state (Batch values.entry) (Ok tt) a b → RunsOk M.tells M.keeps M.state (map (λ v. Whole v) values.now) a c →
         (accepted_samples M.state b ≡ accepted_samples M.state c) × (data_length b ≡ data_length c)) }
+{}
+
+/// Calls that are made one by one leave what a run leaves: a constructor that is Ok, steps, and an
+/// end.
+///
+/// So what [`run_session`](crate::run_session) says of each intermediate state, of checkpoints and
+/// of a loss of power holds of these calls too, over every medium.
+pub fn calls_are_a_run<M: Medium>(steps: &[Step])
+    ensures { (begin : Begin) (end : End) (old medium : M) (first last : WriterState M)
+        (answers : List (Result Unit Error)) (cuts : List ℕ) (answer : Result Unit Error)
+        → Begins M.tells M.keeps M.state begin old first
+        → Runs M.tells M.keeps M.state steps.now answers cuts first last
+        → Ends M.tells M.keeps M.state end last answer medium →
+        Ran M.tells M.keeps M.state begin steps.now (map mark_of answers) end old answer medium }
 {}
 
 /// Sessions that were all Ok leave the file of one session of all their steps.

@@ -1,17 +1,20 @@
 //! WAV audio, written and read: a port of the crate `hound` with every function proved.
 //!
-//! Read are PCMWAVEFORMAT, WAVEFORMATEX and WAVEFORMATEXTENSIBLE; written are the first and the
-//! third. Integers have 8, 16, 24 (in three bytes or in four) or 32 bits, floats 32, which are kept
-//! as their patterns; there are up to 65535 channels. Places and sizes count bytes, a sample is of
-//! one channel, and a frame has a sample of each.
+//! Reads PCMWAVEFORMAT, WAVEFORMATEX and WAVEFORMATEXTENSIBLE; writes the first and the third.
+//! Integers have 8, 16, 24 (in three bytes or in four) or 32 bits, floats 32, which are kept as
+//! their patterns; there are up to 65535 channels. Places and sizes count bytes, a sample is of one
+//! channel, and a frame has a sample of each.
 //!
-//! To write a file: [`WavWriter`] (`create` on disk, `create_durable` where its checkpoints have to
-//! survive a loss of power, `new` into any [`Medium`], `append` and
-//! `new_append` to go on with one), `write_sample`, `write_samples` of a slice or a batch of
-//! `get_i16_writer`, `flush` for a checkpoint, and `finalize`. A whole run as one call: [`run_session`], [`run_sessions`], [`run_durable_session`].
+//! To write a file: [`WavWriter`] (`create` on disk, `create_durable` where each `flush` has to
+//! wait for the disk, `new` into any [`Medium`], `append` and `new_append` to append to one),
+//! `write_sample`, `write_samples` of a slice or a batch of `get_i16_writer`, `flush` for a
+//! checkpoint, and `finalize`. A whole run as one call: [`run_session`], [`run_sessions`],
+//! [`run_durable_session`].
 //!
 //! To read one: [`WavReader`] (`open`, or `new` over any reader), `samples` or `into_samples`,
 //! `read_samples` for many at once, `seek`; [`read_wave_header`] for the first twelve bytes alone.
+//!
+//! To mend a file whose recording was cut off: [`repair`]; [`find_damage`] only looks.
 //!
 //! A recorder that has to know which samples came through gives a whole run as one call:
 //!
@@ -74,19 +77,20 @@ mod sessions;
 mod steps;
 
 pub use durable::run_durable_session;
-pub use hound_durable::{Durable, SyncedFile};
+pub use hound_durable::{Durable, SyncedFile, a_durable_medium_ascends};
 pub use hound_medium::{Journal, Medium, Placed, Source, Tape};
 pub use hound_reader::{
     WavIntoSamples, WavReader, WavSamples, a_block_is_its_items, a_reader_stands_as_counted,
     a_seek_leads_to_its_frame, an_iterator_gives_what_it_hints, items_are_of_the_file, one_answer,
     read_wave_header, written_is_head, written_is_read,
 };
+pub use hound_repair::{Repair, RepairState, find_damage, repair, repair_to_end};
 pub use hound_sample::{FloatBits, Sample, integers_come_back, short_integers_are_kept};
 pub use hound_spec::{
     Error, Result, SampleFormat, WavSpec, WavSpecEx, extensions_come_back, fields_come_back,
 };
 pub use hound_writer::{SampleWriter16, WavWriter, a_block_is_its_samples, one_append_answer};
-pub use laws::{a_batch_is_its_values, sessions_leave_one_file};
+pub use laws::{a_batch_is_its_values, calls_are_a_run, sessions_leave_one_file};
 pub use runs::run_session;
 pub use session::{Begin, End, Step};
 pub use sessions::run_sessions;

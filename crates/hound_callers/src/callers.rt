@@ -1,20 +1,27 @@
 // Functions of a user of the library, whose contracts follow from its public ones.
-ghost use Rattle.std.specs.Prelude.{◌≡◌, ℕ, ◌+◌, ◌++◌, List, length, [], ◌∷◌, Ok, OnOk};
+ghost use Rattle.std.specs.Prelude.{◌≡◌, ℕ, ◌+◌, ◌-◌, ◌/◌, ◌≤◌, ◌++◌, Bool, true, List, length, [], ◌∷◌, Ok, OnOk};
 ghost use Rattle.hound.specs.Batch.{IsSameFile};
 ghost use Rattle.hound.specs.Container.{containers};
 ghost use Rattle.hound.specs.Containers.{AreContainers};
-ghost use Rattle.hound.specs.Header.{canonical};
+ghost use Rattle.hound.specs.Counts.{Counts};
+ghost use Rattle.hound.specs.Header.{canonical, data_start};
+ghost use Rattle.hound.specs.Losses.{SurvivesLoss};
 ghost use Rattle.hound.specs.Many.{containers_in};
 ghost use Rattle.hound.specs.Publishing.{ReadsAs};
 ghost use Rattle.hound.specs.Reader.{samples_left};
 ghost use Rattle.hound.specs.Refusals.{OpensAs};
 ghost use Rattle.hound.specs.Room.{IsSixteen};
-ghost use Rattle.hound.specs.State.{WhereTells};
+ghost use Rattle.hound.specs.State.{WhereKeeps, WhereTells};
+ghost use Rattle.hound.specs.Steps.{accepted_by_all};
+ghost use Rattle.hound.specs.declared.session.Step.TheVariants.{Batch, Flush};
 ghost use Rattle.hound.specs.Writable.{IsWritable};
 ghost use Rattle.hound.specs.Writer.{IsWhole, accepted_samples, sample_count};
 ghost use Rattle.hound.specs.declared.WavSpecEx.{WavSpecEx};
 
-use hound::{Medium, Sample, WavReader, WavWriter, one_answer, written_is_read};
+use hound::{
+    Begin, End, Medium, Sample, Source, Step, WavReader, WavSpecEx, WavWriter, one_answer,
+    run_durable_session, written_is_read,
+};
 use std::alloc::Global;
 use std::io;
 
@@ -63,6 +70,32 @@ pub fn record_blocks<S: Sample + Copy, M: Medium>(
         done += count;
     }
     writer.flush()
+}
+
+/// Records a batch and a checkpoint after it over a medium that may lose its power, and says whether
+/// the checkpoint was made: whatever a loss of power then leaves counts no more than it holds.
+pub fn record_through_a_loss<M: Source + Medium>(
+    alloc: Global,
+    medium: M,
+    spec_ex: WavSpecEx,
+    samples: &[i16],
+) -> (M, bool)
+    requires place { WhereTells M.tells ((M.state medium).place ≡ 0) }
+    requires past { WhereKeeps M.tells M.keeps ((M.state medium).past ≡ []) }
+    requires flushed { WhereKeeps M.tells M.keeps ((M.state medium).flushed ≡ 0) }
+    requires empty { (M.state medium).contents ≡ [] }
+    ensures { WhereKeeps M.tells M.keeps (result.1 ≡ true → (mark : Bool)
+        × ((sector : ℕ) (contents : List ℕ) → 1 ≤ sector
+        → (data_start spec_ex - 4) / sector ≡ (data_start spec_ex - 1) / sector
+        → (let s = M.state result.0 in
+        SurvivesLoss sector s.start s.past s.flushed (length s.past) contents) →
+        Counts spec_ex (data_start spec_ex) (accepted_by_all spec_ex (Batch samples.entry ∷ Flush ∷ []) (mark ∷ true ∷ [])) contents)) }
+{
+    let steps = [Step::Batch(samples), Step::Flush];
+    let mut marks = [false; 2];
+    let begin = Begin::New(spec_ex);
+    let (medium, _) = run_durable_session(alloc, medium, begin, &steps, &mut marks, End::Drop);
+    (medium, marks[1])
 }
 
 /// Writes all samples that a reader has left, whatever the widths of the two are.

@@ -8,4 +8,8 @@ mod errors;
 #[cfg(test)]
 mod head;
 #[cfg(test)]
+mod losses;
+#[cfg(test)]
 mod media;
+#[cfg(test)]
+mod repair;

@@ -13,6 +13,8 @@ mod files;
 #[cfg(test)]
 mod helpers;
 #[cfg(test)]
+mod losses;
+#[cfg(test)]
 mod memory;
 #[cfg(test)]
 mod words;

@@ -151,6 +151,7 @@ impl WriterWords {
     ghost use Rattle.hound.specs.Parts.{HasSize, IsPatched, IsStanding, IsTold, Patches, PatchesAtEach, PutsAt};
     ghost use Rattle.hound.specs.Publishing.{Checkpoints, Finishes};
     ghost use Rattle.hound.specs.Room.{IsSixteen};
+    ghost use Rattle.hound.specs.Sizes.{field};
     ghost use Rattle.hound.specs.Writer.{AreFrames, HasRoom, IsCounted, IsPadded, IsSound, IsWhole, WriterState, accepted_samples, data_end, data_length, padded_end, sample_count};
 
     fn read() -> bool
@@ -164,9 +165,12 @@ struct SessionWords;
 
 impl SessionWords {
     ghost use Rattle.hound.specs.FirstError.{IsAnswered};
+    ghost use Rattle.hound.specs.Headline.{AppendedSurvives, LosesNothing};
     ghost use Rattle.hound.specs.Run.{Begins, Ends, IsNotBegun, IsSession, NoFault, Ran, Runs, Takes};
     ghost use Rattle.hound.specs.Sessions.{AreSessions, RunsAgain, RunsOk, RunsOn, RunsOnce, StopsIn, StopsShort, all_steps};
     ghost use Rattle.hound.specs.Steps.{OnBatched, accepted_by_all, batch_containers, containers_of, is_sixteen, wants_memory};
+    ghost use Rattle.hound.specs.declared.Begin.{Begin};
+    ghost use Rattle.hound.specs.declared.End.{End};
 
     fn read() -> bool
         ensures { result ≡ result }
@@ -178,9 +182,9 @@ impl SessionWords {
 struct SessionVariants;
 
 impl SessionVariants {
-    ghost use Rattle.hound.specs.declared.Begin.TheVariants.{New};
+    ghost use Rattle.hound.specs.declared.Begin.TheVariants.{Append, New};
     ghost use Rattle.hound.specs.declared.End.TheVariants.{Finalize};
-    ghost use Rattle.hound.specs.declared.Step.TheVariants.{Batch, Whole};
+    ghost use Rattle.hound.specs.declared.Step.TheVariants.{Batch, Flush, Whole};
 
     fn read() -> bool
         ensures { result ≡ result }

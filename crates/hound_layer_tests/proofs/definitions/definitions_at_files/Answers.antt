@@ -1,4 +1,4 @@
-use Rattle.std.proofs.Common.{◌≡◌, ℕ, [], ◌∷◌, List, inr, refl, arith}
+use Rattle.std.proofs.Common.{ℕ, [], ◌∷◌, List, inr, refl, arith}
 use Rattle.hound_spec.specs.Header.{fmt_tag}
 use Rattle.hound_reader.specs.Chunks.{Chunk, spec_after, chunk_fault, content_fault}
 use Rattle.hound_reader.specs.Fmt.{fmt_said, wave_format, by_tag, wave_format_pcm, wave_format_extensible}

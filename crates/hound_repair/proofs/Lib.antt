@@ -1,0 +1,6 @@
+pub mod Dividing
+pub mod Looking
+pub mod Chunking
+pub mod Measuring
+pub mod Mending
+pub mod RightSizes

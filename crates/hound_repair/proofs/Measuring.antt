@@ -1,0 +1,145 @@
+-- What a head is found as, by what the file holds.
+use Rattle.std.proofs.Common.{◌≡◌, ℕ, ◌+◌, ◌*◌, ◌/◌, ◌≤◌, ◌<◌, ◌^◌, Bool, true, false, cond, min, nat_lt, drop, Option, Some, None, inl, inr, Err, refl, sym, ap, ◌∙◌, subst, arith}
+use Rattle.std.proofs.lemmas.Bool.Decides.{nat_tests}
+use Rattle.std.proofs.lemmas.Bool.{cases_lt}
+use Rattle.std.proofs.Math.Nat.{lt-div-mul-add, le-mul_of_pos_right}
+use Rattle.hound_spec.specs.declared.error.Error.{Error}
+use Rattle.hound_spec.specs.declared.spec.WavSpecEx.{WavSpecEx}
+use Rattle.hound_spec.specs.FmtChunk.{greatest_u32}
+use Rattle.hound_spec.specs.Header.{riff_size}
+use Rattle.hound_spec.specs.Writable.{is_pair}
+use Rattle.hound_medium.specs.State.{MediumState, one_more}
+use Rattle.hound_reader.specs.declared.chunks.FileHead.{FileHead}
+use Rattle.hound_reader.specs.declared.fault.HeadError.{HeadError}
+use Rattle.hound_reader.specs.declared.fault.HeadError.TheVariants.{Failed, Refused}
+use Rattle.hound_reader.specs.declared.fault.Cause.TheVariants.{Unsupported}
+use Rattle.hound_reader.specs.Chunks.{Head, Refused as RefusedFor}
+use Rattle.hound_reader.specs.Fmt.{IsSoundSpec}
+use Rattle.hound_reader.specs.Refusals.{ReportsError}
+use Rattle.hound_reader.specs.Sources.{FindsData}
+use Rattle.hound_writer.specs.Answers.{IsIoError}
+use Rattle.hound_writer.specs.Appending.{AppendFault, by_bytes, too_long, FailsCheck, NamesFault, PutsNothing}
+use Rattle.hound_writer.proofs.Appending.{walk_puts_nothing}
+use Rattle.hound_repair.specs.Damages.{IsNotMeasured}
+use Rattle.hound_repair.specs.Held.{data_held, ends_with_pad, frame_length, held, right_length}
+use Rattle.hound_repair.specs.Repairing.{IsNotFound, repair_fault, size_fault}
+
+-- where two bytes and more follow the data length all that is held is data
+pub no_pad : (f len n : ℕ) → len + 1 < n → data_held f len n ≡ n
+unfolding data_held ends_with_pad
+no_pad f len n more = grind (arith, nat_tests)
+
+-- more than 2^33 bytes are too many
+too_many : (s : WavSpecEx) (len start n : ℕ) → IsSoundSpec s → len < 2 ^ 32 → 20 ≤ start
+    → 2 ^ 33 ≤ n → greatest_u32 < riff_size start (right_length s len n)
+too_many s len start n sound small after many =
+    let f = frame_length s in
+    let all : data_held f len n ≡ n = no_pad f len n (omega (arith, small, many)) in
+    let some : 0 < f = positive s.spec.channels s.bytes_per_sample sound.0 sound.1 in
+    let most = lt-div-mul-add {a = n} {b = f} some in
+    let same : right_length s len n ≡ n / f * f = ap (λ k. k / f * f) all in
+    omega (arith, same, most, sound.2, many, after)
+  where
+    positive : (a b : ℕ) → 0 < a → 0 < b → 0 < a * b
+    positive a b x y = omega (arith, x, le-mul_of_pos_right {m = b} a y)
+
+-- so what is counted up to there is all, where the RIFF size fits
+pub is_all : (s : WavSpecEx) (len start n m : ℕ) → IsSoundSpec s → len < 2 ^ 32 → 20 ≤ start
+    → m ≡ min n (2 ^ 33) → riff_size start (right_length s len m) ≤ greatest_u32 → m ≡ n
+is_all s len start n m sound small after is fits = elim (cases_lt n (2 ^ 33)) [
+  | inl few ↦ omega (arith, is, few)
+  | inr many ↦ absurd (omega (arith, fits, too_many s len start m sound small after (omega (arith, is, many))))
+]
+
+-- and the check fails for both or for none
+pub same_fault : (s : WavSpecEx) (len start n m : ℕ) → IsSoundSpec s → len < 2 ^ 32 → 20 ≤ start
+    → m ≡ min n (2 ^ 33) → size_fault s len start m ≡ size_fault s len start n
+unfolding size_fault
+same_fault s len start n m sound small after is = elim (cases_lt n (2 ^ 33)) [
+  | inl few ↦ ap (size_fault s len start) (let e : m ≡ n = omega (arith, is, few) in e)
+  | inr many ↦
+      fails m (too_many s len start m sound small after (omega (arith, is, many)))
+      ∙ sym (fails n (too_many s len start n sound small after many))
+]
+  where
+    first : (b : Bool) → b ≡ true → cond b (Some too_long) None ≡ Some too_long
+    first true e = refl
+    first false e = cc
+
+    fails : (k : ℕ) → greatest_u32 < riff_size start (right_length s len k)
+        → size_fault s len start k ≡ Some too_long
+    fails k more = first (nat_lt greatest_u32 (riff_size start (right_length s len k))) (grind (arith, nat_tests))
+
+-- a spec that is written leaves the check of the size
+pub written : (s : WavSpecEx) (len start n : ℕ)
+    → is_pair s.spec.sample_format s.spec.bits_per_sample s.bytes_per_sample ≡ true
+    → repair_fault s len start n ≡ size_fault s len start n
+unfolding repair_fault
+written s len start n pair = rw pair
+
+-- one that isn't is refused
+pub not_written : (s : WavSpecEx) (len start n : ℕ)
+    → is_pair s.spec.sample_format s.spec.bits_per_sample s.bytes_per_sample ≡ false
+    → repair_fault s len start n ≡ Some (by_bytes Unsupported)
+unfolding repair_fault
+not_written s len start n pair = rw pair
+
+-- the fault that a check answers
+pub fails_for : (T : Type 0) (e : Error) (o : Option AppendFault) → FailsCheck {T = T} (Err e) o
+    → (fault : AppendFault) × (o ≡ Some fault) × NamesFault e fault
+fails_for T e None fails = absurd fails
+fails_for T e (Some fault) fails = (fault, refl, fails)
+
+-- a walk that found no head
+pub walk_fails : (error : HeadError) (e : Error) (old new : MediumState) → old.place ≡ 0
+    → ReportsError error e → FindsData (Err error) old new → IsNotFound old new e
+walk_fails (Failed x) e old new begins told finds = record {
+  puts = walk_puts_nothing (Err (Failed x)) old new finds;
+  why = inr (subst IsIoError (sym told) tt, finds.faults);
+}
+walk_fails (Refused cause) e old new begins told finds = record {
+  puts = walk_puts_nothing (Err (Refused cause)) old new finds;
+  why = inl (
+    by_bytes cause,
+    inl (cause, refl, subst (λ n. RefusedFor (drop n old.contents) cause) begins finds.answer),
+    told,
+    finds.faults,
+  );
+}
+
+-- two calls that put nothing, one after the other
+pub puts_then : (a b c : MediumState) → PutsNothing a b → PutsNothing b c → PutsNothing a c
+puts_then a b c first then = record {
+  stays = record {
+    contents = then.stays.contents ∙ first.stays.contents;
+    start = then.stays.start ∙ first.stays.start;
+    past = then.stays.past ∙ first.stays.past;
+  };
+  flushed = then.flushed ∙ first.flushed;
+}
+
+-- a head that fails a check is a fault of the bytes
+pub not_found : (head : FileHead) (first old new : MediumState) (e : Error)
+    → PutsNothing first old → old.faults ≡ first.faults
+    → Head first.contents head.spec_ex head.data_length head.data_start
+    → IsNotMeasured head old new e → IsNotFound first new e
+not_found head first old new e walked faults at measured = record {
+  puts = puts_then first old new walked measured.puts;
+  why = elim measured.why [
+    | inl (fault, is, names, same) ↦
+        inl (
+          fault,
+          inr (
+            head.spec_ex,
+            head.data_length,
+            head.data_start,
+            at,
+            ap (λ l. repair_fault head.spec_ex head.data_length head.data_start (held head.data_start l))
+                (sym walked.stays.contents) ∙ is,
+          ),
+          names,
+          same ∙ faults,
+        )
+    | inr (is, more) ↦ inr (is, more ∙ ap one_more faults)
+  ];
+}

@@ -1,0 +1,29 @@
+use Rattle.std.proofs.Common.{inr, subst, sym}
+use Rattle.hound_repair.specs.Repairing.{Repairs}
+use Rattle.hound_repair.proofs.Mending.{found_of, half_is, repairs_cut}
+use Rattle.hound_repair.proofs.mend.mend_cut.Goals as goal
+
+pub returns-in-Ok : goal.returns-in-Ok
+returns-in-Ok g c told looks at =
+    let old = g.M.Placed.state c.args.medium in
+    let new = g.M.Placed.state c.put_sizes.new.medium in
+    subst (λ r. Repairs looks old r new) (sym c.repair.ensures)
+    (repairs_cut looks old c.args.damage at c.requires.sound.spec new _ c.requires.cut
+    (c.in-Ok.ensures told))
+
+pub returns-in-Err : goal.returns-in-Err
+returns-in-Err g c told looks at =
+    let puts = c.in-Err.ensures told in
+    record {
+      why = inr (
+        tt,
+        inr (
+          _,
+          c.args.damage.head.data_length,
+          c.args.damage.head.data_start,
+          found_of looks _ c.args.damage at,
+          half_is looks _ c.args.damage at c.requires.cut _ puts.half,
+        ),
+        puts.faults,
+      );
+    }

@@ -1,0 +1,25 @@
+use Rattle.std.proofs.Common.{◌+◌, arith}
+use Rattle.hound_repair.proofs.Mending.{missing_none, missing_one, put_both, put_cut, put_sizes_only}
+use Rattle.hound_repair.proofs.mend.put_sizes.Goals as goal
+use Rattle.hound_repair.proofs.mend.put_sizes.Goals.{else-damage-length-via-then-damage-length+else-length-eq1, else-damage-length-via-else-damage-length}
+
+pub returns-in_err-patch : goal.returns-in_err-patch
+returns-in_err-patch g c told =
+    put_cut c.args.damage _ c.from_residual.result _ _ c.from_residual.ensures.0
+    (c.in_err-patch.ensures.patches told)
+
+pub returns-then-length-eq1 : goal.returns-then-length-eq1
+returns-then-length-eq1 g c told =
+    put_both g.M.Placed.keeps c.args.damage _ c.put_pad.result _ _ _
+    (c.args.damage.head.data_start + c.args.damage.held) (c.requires.ends told)
+    (missing_one c.args.damage.sizes.data_length c.args.damage.held (omega arith) (omega arith))
+    (c.in_ok-patch.ensures.patches told) (c.put_pad.ensures told)
+
+pub returns : goal.returns
+returns g c told =
+    put_sizes_only c.args.damage _ _ _
+    (missing_none c.args.damage.sizes.data_length c.args.damage.held
+    (λ same. elim c.else-damage-length.branch [
+      | else-damage-length-via-then-damage-length+else-length-eq1 w ↦ omega arith
+      | else-damage-length-via-else-damage-length w ↦ absurd (omega (arith, same))
+    ])) (c.in_ok-patch.ensures.patches told)

@@ -1,0 +1,4 @@
+pub mod Held
+pub mod Following
+pub mod Repairing
+pub mod Damages

@@ -1,0 +1,156 @@
+-- What a file is found as, and what repairing it leaves.
+use Rattle.std.specs.Prelude.{◌≡◌, ℕ, ◌-◌, ◌*◌, ◌/◌, ◌%◌, ◌≤◌, ◌⊎◌, Bool, true, false, ◌&&◌, not, nat_lt, if◌then◌else◌, ⊤, List, ◌++◌, length, drop, Option, Some, None, Result}
+use Rattle.hound_spec.specs.declared.error.Error.{Error}
+use Rattle.hound_spec.specs.declared.spec.WavSpecEx.{WavSpecEx}
+use Rattle.hound_spec.specs.FmtChunk.{greatest_u32}
+use Rattle.hound_spec.specs.Header.{riff_size}
+use Rattle.hound_spec.specs.Writable.{is_pair}
+use Rattle.hound_number.specs.Number.{mix}
+use Rattle.hound_medium.specs.State.{MediumState, faults_after, one_more}
+use Rattle.hound_reader.specs.declared.fault.Cause.{Cause}
+use Rattle.hound_reader.specs.declared.fault.Cause.TheVariants.{Unsupported}
+use Rattle.hound_reader.specs.Chunks.{Head, Readable, Refused}
+use Rattle.hound_writer.specs.Answers.{IsIoError}
+use Rattle.hound_writer.specs.Appending.{AppendFault, by_bytes, too_long, NamesFault, PutsNothing}
+use Rattle.hound_writer.specs.Sizes.{SameButSizes, field, with_sizes}
+use Rattle.hound_repair.specs.Following.{is_followed}
+use Rattle.hound_repair.specs.Held.{are_right, frame_length, frames_held, held, mended, right_length, torn_bytes}
+use Rattle.hound_repair.specs.declared.sizes.Repair.{Repair}
+use Rattle.hound_repair.specs.declared.sizes.RepairState.{RepairState}
+use Rattle.hound_repair.specs.declared.sizes.RepairState.TheVariants.{Whole, CutOff, HasChunksAfterData}
+
+-- the fault of a head that holds so many bytes, of samples that are written: the RIFF size of its
+-- whole frames doesn't fit
+unfoldable pub size_fault : WavSpecEx → ℕ → ℕ → ℕ → Option AppendFault
+size_fault s len start n =
+    if nat_lt greatest_u32 (riff_size start (right_length s len n)) then Some too_long else None
+
+-- The first check that a head fails which holds so many bytes: samples that are written, a RIFF
+-- size that fits.
+unfoldable pub repair_fault : WavSpecEx → ℕ → ℕ → ℕ → Option AppendFault
+repair_fault s len start n =
+    if not (is_pair s.spec.sample_format s.spec.bits_per_sample s.bytes_per_sample)
+    then Some (by_bytes Unsupported)
+    else size_fault s len start n
+
+-- the bytes have this fault: they have no head for this cause, or their head fails a check
+abbrev pub IsRepairFault : List ℕ → AppendFault → Type 0
+IsRepairFault bytes fault =
+    ((cause : Cause) × (fault ≡ by_bytes cause) × Refused bytes cause)
+    ⊎ ((s : WavSpecEx) × (len : ℕ) × (start : ℕ) × Head bytes s len start
+    × (repair_fault s len start (held start bytes) ≡ Some fault))
+
+-- how a file is found, by whether both sizes are right and whether chunks follow the data
+abbrev pub state_of : Bool → Bool → RepairState
+state_of true followed = Whole
+state_of false true = HasChunksAfterData
+state_of false false = CutOff
+
+-- the frames, and the bytes of a torn one, that are reported: those that are held, or where chunks
+-- follow the data those that the data length says
+abbrev pub frames_found : RepairState → WavSpecEx → ℕ → ℕ → ℕ
+frames_found HasChunksAfterData s len n = len / frame_length s
+frames_found _ s len n = frames_held s len n
+
+abbrev pub torn_found : RepairState → WavSpecEx → ℕ → ℕ → ℕ
+torn_found HasChunksAfterData s len n = len % frame_length s
+torn_found _ s len n = torn_bytes s len n
+
+-- What is found of contents with this head: a spec that is written, sizes that fit, how they were,
+-- and so many frames. Chunks after the data are looked for, or all that is held is taken for data.
+pub record IsFoundAt (looks : Bool) (contents : List ℕ) (found : Repair) (len start : ℕ) : Type 0
+  where
+    pub head : Head contents found.spec_ex len start
+    pub check : repair_fault found.spec_ex len start (held start contents) ≡ None
+    pub was : found.was
+        ≡ state_of (are_right found.spec_ex start len (field 4 contents) (held start contents))
+        (looks && is_followed len (drop start contents))
+    pub frames : found.frames
+        ≡ frames_found found.was found.spec_ex len (held start contents)
+    pub left_over : found.left_over
+        ≡ torn_found found.was found.spec_ex len (held start contents)
+
+-- something looked at a medium: nothing was put, and a call that failed counts one fault
+pub record Looks {T E : Type 0} (result : Result T E) (old new : MediumState) : Type 0 where
+  pub puts : PutsNothing old new
+  pub faults : new.faults ≡ faults_after result old.faults
+
+-- a file that is looked at: what is found, and nothing is put
+pub record Finds (looks : Bool) (old : MediumState) (found : Repair) (new : MediumState) : Type 0
+  where
+    pub len : ℕ
+    pub start : ℕ
+    pub is : IsFoundAt looks old.contents found len start
+    pub puts : PutsNothing old new
+    pub faults : new.faults ≡ old.faults
+
+-- A file that is looked at and not found, for a fault that its bytes have, or since the medium
+-- failed.
+pub record IsNotFound (old new : MediumState) (e : Error) : Type 0 where
+  pub puts : PutsNothing old new
+  pub why : ((fault : AppendFault) × IsRepairFault old.contents fault × NamesFault e fault
+      × (new.faults ≡ old.faults))
+      ⊎ (IsIoError e × (new.faults ≡ one_more old.faults))
+
+-- the data length of the frames that were found
+abbrev pub found_length : Repair → ℕ
+found_length found = found.frames * frame_length found.spec_ex
+
+-- what is left in a medium by how its file was found: where it was cut off the mended contents,
+-- flushed, else what there was
+abbrev pub LeavesFor : RepairState → Repair → ℕ → MediumState → MediumState → Type 0
+LeavesFor CutOff found start old new =
+    (new.contents ≡ mended start (found_length found) old.contents)
+    × (new.flushed ≡ length new.past)
+LeavesFor _ found start old new = PutsNothing old new
+
+-- Contents with the right sizes for these frames: they are read with this spec, with exactly these
+-- frames.
+pub record HasRightSizes (found : Repair) (start : ℕ) (contents : List ℕ) : Type 0 where
+  pub length_says : field (start - 4) contents ≡ found_length found
+  pub riff_says : field 4 contents ≡ riff_size start (found_length found)
+  pub readable : Readable contents found.spec_ex (found.frames * found.spec_ex.spec.channels) start
+
+-- P, unless chunks follow the data
+abbrev pub UnlessFollowed : RepairState → Type 0 → Type 0
+UnlessFollowed HasChunksAfterData P = ⊤
+UnlessFollowed _ P = P
+
+-- What an Ok `repair` leaves: what was found, and where the file was cut off the right sizes, and
+-- nothing else but a pad byte after all that the file held. Unless chunks follow the data the file is
+-- read with exactly the frames that were found.
+pub record Repairs (looks : Bool) (old : MediumState) (found : Repair) (new : MediumState) : Type 0
+  where
+    pub len : ℕ
+    pub start : ℕ
+    pub is : IsFoundAt looks old.contents found len start
+    pub leaves : LeavesFor found.was found start old new
+    pub sizes : UnlessFollowed found.was (HasRightSizes found start new.contents)
+    pub faults : new.faults ≡ old.faults
+
+-- The contents while a file is mended: of the data length the k low bytes are new, the RIFF size may
+-- be torn, and nothing else has changed but that a pad byte may have been put at the end, once both
+-- sizes were.
+pub record HalfMended (start data_length : ℕ) (old new : List ℕ) : Type 0 where
+  pub sizes : List ℕ
+  pub k : ℕ
+  pub within : k ≤ 4
+  pub same : SameButSizes (start - 4) old sizes
+  pub torn : field (start - 4) sizes ≡ mix k (field (start - 4) old) data_length
+  pub pad : List ℕ
+  pub one : length pad ≤ 1
+  pub is : new ≡ sizes ++ pad
+  pub last : 1 ≤ length pad → sizes ≡ with_sizes (start - 4) (riff_size start data_length) data_length old
+
+-- what is left where the medium failed: all, or a file that is half mended
+abbrev pub LeavesHalf : Bool → MediumState → MediumState → Type 0
+LeavesHalf looks old new = PutsNothing old new
+    ⊎ ((found : Repair) × (len : ℕ) × (start : ℕ) × IsFoundAt looks old.contents found len start
+    × HalfMended start (found_length found) old.contents new.contents)
+
+-- A file that isn't repaired, for a fault that its bytes have, and then nothing was put; or since
+-- the medium failed.
+pub record IsNotRepaired (looks : Bool) (old new : MediumState) (e : Error) : Type 0 where
+  pub why : ((fault : AppendFault) × IsRepairFault old.contents fault × NamesFault e fault
+      × PutsNothing old new × (new.faults ≡ old.faults))
+      ⊎ (IsIoError e × LeavesHalf looks old new × (new.faults ≡ one_more old.faults))

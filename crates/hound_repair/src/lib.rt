@@ -1,0 +1,14 @@
+//! Repair of WAV files whose recording was cut off.
+//!
+//! The two sizes of such a file say less than it holds, nothing, or are torn, and half a frame may
+//! be at its end, so no reader takes it. [`repair`] gives back every whole frame that the file
+//! holds; [`find_damage`] says what it would do and writes nothing.
+#![tactic(auto)]
+
+mod look;
+mod mend;
+mod sizes;
+
+pub use look::find_damage;
+pub use mend::{repair, repair_to_end};
+pub use sizes::{Repair, RepairState};

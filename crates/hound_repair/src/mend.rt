@@ -1,0 +1,122 @@
+// The right sizes, put into a file.
+ghost use Rattle.std.specs.Prelude.{◌≡◌, ◌+◌, ◌≤◌, true, false, Bool, MatchResult, length};
+ghost use Rattle.hound_repair.specs.declared.sizes.RepairState.{RepairState};
+ghost use Rattle.hound_medium.specs.State.{WhereTells};
+ghost use Rattle.hound_repair.specs.Damages.{IsDamage, IsSoundDamage, PutsPad, PutsSizes};
+ghost use Rattle.hound_repair.specs.Repairing.{IsNotRepaired, Repairs};
+
+use crate::look::{Damage, look};
+use crate::sizes::{Repair, RepairState};
+use hound_medium::{Medium, Source, put_all};
+use hound_spec::Error;
+use hound_writer::patch_sizes;
+use std::{io, result};
+
+// Puts a pad byte at the end, and flushes the medium.
+fn put_pad<M: Medium>(medium: &mut M, end: u64) -> io::Result<()>
+    ensures { WhereTells M.tells (PutsPad M.keeps end result (M.state medium.old) (M.state medium.new)) }
+{
+    medium.go(end)?;
+    put_all(medium, &[0])?;
+    medium.flush()
+}
+
+// Puts the right sizes, the RIFF size first, and then the pad byte where it is missing. The medium
+// is flushed after the sizes and after the pad byte.
+fn put_sizes<M: Medium>(medium: &mut M, damage: Damage) -> io::Result<()>
+    requires sound { IsSoundDamage damage.head damage }
+    requires ends { WhereTells M.tells
+        (damage.head.data_start + damage.held ≡ length (M.state medium.old).contents) }
+    ensures { WhereTells M.tells (PutsSizes damage result (M.state medium.old) (M.state medium.new)) }
+{
+    let start = damage.head.data_start;
+    let length = damage.sizes.data_length;
+    patch_sizes(medium, start - 4, damage.sizes.riff_size, length)?;
+    if damage.held == length as u64 && length % 2 == 1 {
+        return put_pad(medium, start + damage.held);
+    }
+    Ok(())
+}
+
+// Mends a file that was cut off.
+fn mend_cut<M: Medium>(medium: M, damage: Damage) -> result::Result<(M, Repair), (M, Error)>
+    requires sound { IsSoundDamage damage.head damage }
+    requires cut { damage.was ≡ RepairState.CutOff }
+    requires found { WhereTells M.tells ((looks : Bool) × IsDamage looks (M.state medium).contents damage) }
+    ensures { WhereTells M.tells ((looks : Bool) → IsDamage looks (M.state medium).contents damage →
+        MatchResult result
+        (λ done. Repairs looks (M.state medium) done.1 (M.state done.0))
+        (λ refused. IsNotRepaired looks (M.state medium) (M.state refused.0) refused.1)) }
+{
+    let mut medium = medium;
+    match put_sizes(&mut medium, damage) {
+        Ok(()) => Ok((medium, damage.repair())),
+        Err(error) => Err((medium, Error::IoError(error))),
+    }
+}
+
+// Mends a file that was found like this, if it was cut off.
+fn mend<M: Medium>(medium: M, damage: Damage) -> result::Result<(M, Repair), (M, Error)>
+    requires sound { IsSoundDamage damage.head damage }
+    requires found { WhereTells M.tells ((looks : Bool) × IsDamage looks (M.state medium).contents damage) }
+    ensures { WhereTells M.tells ((looks : Bool) → IsDamage looks (M.state medium).contents damage →
+        MatchResult result
+        (λ done. Repairs looks (M.state medium) done.1 (M.state done.0))
+        (λ refused. IsNotRepaired looks (M.state medium) (M.state refused.0) refused.1)) }
+{
+    match damage.was {
+        RepairState::CutOff => mend_cut(medium, damage),
+        RepairState::Whole => Ok((medium, damage.repair())),
+        RepairState::HasChunksAfterData => Ok((medium, damage.repair())),
+    }
+}
+
+// Repairs a file: chunks after its data are looked for, or all that it holds is taken for data.
+fn repair_with<M: Source + Medium>(
+    medium: M,
+    looks: bool,
+) -> result::Result<(M, Repair), (M, Error)>
+    requires { WhereTells M.tells ((M.state medium).place ≡ 0) }
+    ensures { WhereTells M.tells (MatchResult result
+        (λ done. Repairs looks (M.state medium) done.1 (M.state done.0))
+        (λ refused. IsNotRepaired looks (M.state medium) (M.state refused.0) refused.1)) }
+{
+    let (medium, damage) = look(medium, looks);
+    match damage {
+        Ok(damage) => mend(medium, damage),
+        Err(error) => Err((medium, error)),
+    }
+}
+
+/// Repairs a file in a medium that stands at its beginning, whose recording was cut off: every whole
+/// frame that it holds is read again.
+///
+/// Where both sizes are right, nothing is written. Where the data length is followed by chunks with
+/// printable tags, to the end of the file, it wasn't cut off: that is reported, and nothing is
+/// written ([`repair_to_end`] repairs it all the same). Else the two sizes become those of the whole
+/// frames from the data on, the RIFF size first, and the medium is flushed. A pad byte is put where
+/// data of an odd length end with the file, and the medium is flushed again. No other byte changes.
+///
+/// The errors, in their order: those of a reader's walk to the data, by the bytes; `Unsupported`,
+/// for samples that are not written with these bits, bytes and format; `TooLong`, where the RIFF
+/// size would pass 4294967295; at these nothing is written. `IoError`, where the medium failed; a
+/// size may be torn then, and another call mends it.
+pub fn repair<M: Source + Medium>(medium: M) -> result::Result<(M, Repair), (M, Error)>
+    requires { WhereTells M.tells ((M.state medium).place ≡ 0) }
+    ensures { WhereTells M.tells (MatchResult result
+        (λ done. Repairs true (M.state medium) done.1 (M.state done.0))
+        (λ refused. IsNotRepaired true (M.state medium) (M.state refused.0) refused.1)) }
+{
+    repair_with(medium, true)
+}
+
+/// Repairs a file as [`repair`] does, and takes all bytes from the data on for samples, also where
+/// they look like chunks. Errors are the same.
+pub fn repair_to_end<M: Source + Medium>(medium: M) -> result::Result<(M, Repair), (M, Error)>
+    requires { WhereTells M.tells ((M.state medium).place ≡ 0) }
+    ensures { WhereTells M.tells (MatchResult result
+        (λ done. Repairs false (M.state medium) done.1 (M.state done.0))
+        (λ refused. IsNotRepaired false (M.state medium) (M.state refused.0) refused.1)) }
+{
+    repair_with(medium, false)
+}

@@ -1,0 +1,101 @@
+// The sizes that a file should have, by what it holds.
+ghost use Rattle.std.specs.Prelude.{◌≡◌, ◌+◌, ◌*◌, ◌/◌, ◌%◌, ◌<◌, ◌≤◌, ◌^◌, IfOk};
+ghost use Rattle.hound_spec.specs.FmtChunk.{greatest_u32};
+ghost use Rattle.hound_spec.specs.Header.{riff_size};
+ghost use Rattle.hound_reader.specs.Chunks.{IsDataPlace};
+ghost use Rattle.hound_reader.specs.Fmt.{IsSoundSpec};
+ghost use Rattle.hound_writer.specs.Appending.{FailsCheck};
+ghost use Rattle.hound_repair.specs.Held.{data_held, frame_length, frames_held, right_length, torn_bytes};
+ghost use Rattle.hound_repair.specs.Repairing.{size_fault};
+
+use hound_reader::FileHead;
+use hound_spec::{Error, Result, WavSpecEx};
+use hound_writer::riff_size;
+
+/// What a file was found as.
+#[derive(Clone, Copy, Debug, PartialEq, Eq)]
+pub enum RepairState {
+    /// Both sizes are right: those of the whole frames that the file holds.
+    Whole,
+
+    /// A size is wrong, as where a recording was cut off.
+    CutOff,
+
+    /// The data length is followed by chunks with printable tags, to the end of the file: it wasn't
+    /// cut off.
+    HasChunksAfterData,
+}
+
+/// What a file holds, and how it was found.
+#[derive(Clone, Copy)]
+pub struct Repair {
+    /// The spec of the last fmt chunk.
+    pub spec_ex: WavSpecEx,
+
+    /// The number of whole frames: samples for each channel.
+    pub frames: u32,
+
+    /// How many bytes of a torn frame follow them.
+    pub left_over: u32,
+
+    /// How the file was found.
+    pub was: RepairState,
+}
+
+/// The sizes that a file should have, in bytes, and what they count.
+#[derive(Clone, Copy)]
+pub(crate) struct Sizes {
+    pub(crate) riff_size: u32,
+    pub(crate) data_length: u32,
+    pub(crate) frames: u32,
+    pub(crate) left_over: u32,
+}
+
+// How many of the bytes held are data: all, but for a pad byte that the data length tells of.
+#[tactic(auto, unfolding(crate::specs::Held::data_held, crate::specs::Held::ends_with_pad))]
+fn data_held(frame: u64, length: u64, held: u64) -> u64
+    requires some { 0 < frame }
+    requires small { length < 2 ^ 32 }
+    requires few { held ≤ 2 ^ 33 }
+    ensures data { result ≡ data_held frame length held }
+    ensures few { result ≤ 2 ^ 33 }
+{
+    if held == length + 1 && length % 2 == 1 && length % frame == 0 {
+        return length;
+    }
+    held
+}
+
+/// The right sizes of a file with this head that holds so many bytes from the data on.
+#[tactic(auto, using(crate::proofs::Dividing::whole_le, crate::proofs::Dividing::times_le), unfolding(crate::specs::Repairing::size_fault))]
+pub(crate) fn right_sizes(head: FileHead, held: u64) -> Result<Sizes>
+    requires sound { IsSoundSpec head.spec_ex }
+    requires start { IsDataPlace head.data_start }
+    requires few { held ≤ 2 ^ 33 }
+    ensures check { FailsCheck result (size_fault head.spec_ex head.data_length head.data_start held) }
+    ensures riff { IfOk result (λ sizes. sizes.riff_size
+        ≡ riff_size head.data_start (right_length head.spec_ex head.data_length held)) }
+    ensures data { IfOk result (λ sizes. sizes.data_length
+        ≡ right_length head.spec_ex head.data_length held) }
+    ensures frames { IfOk result (λ sizes. sizes.frames
+        ≡ frames_held head.spec_ex head.data_length held) }
+    ensures torn { IfOk result (λ sizes. sizes.left_over
+        ≡ torn_bytes head.spec_ex head.data_length held) }
+    ensures fits { IfOk result (λ sizes. riff_size head.data_start
+        (right_length head.spec_ex head.data_length held) ≤ greatest_u32) }
+{
+    let frame = head.spec_ex.spec.channels as u64 * head.spec_ex.bytes_per_sample as u64;
+    let data = data_held(frame, head.data_length as u64, held);
+    let frames = data / frame;
+    let length = frames * frame;
+    let riff = riff_size(head.data_start, length);
+    if riff > u32::MAX as u64 {
+        return Err(Error::TooLong);
+    }
+    Ok(Sizes {
+        riff_size: riff as u32,
+        data_length: length as u32,
+        frames: frames as u32,
+        left_over: (data % frame) as u32,
+    })
+}

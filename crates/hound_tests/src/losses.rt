@@ -1,0 +1,134 @@
+// Losses of power over a medium in memory. A machine that loses power is a medium whose calls all
+// fail from then on; of what was written since the last flush any sector may be kept or lost.
+use crate::helpers::integers;
+use hound::{Begin, End, Journal, Step, WavReader, run_durable_session};
+use std::alloc::Global;
+use std::test::Fail;
+
+// The samples count up from 1, and a flush follows three of them.
+const STEPS: [Step<'static>; 16] = [
+    Step::Whole(1),
+    Step::Whole(2),
+    Step::Whole(3),
+    Step::Flush,
+    Step::Whole(4),
+    Step::Whole(5),
+    Step::Whole(6),
+    Step::Flush,
+    Step::Whole(7),
+    Step::Whole(8),
+    Step::Whole(9),
+    Step::Flush,
+    Step::Whole(10),
+    Step::Whole(11),
+    Step::Whole(12),
+    Step::Flush,
+];
+
+const HEADER: usize = 44;
+
+// How many samples these marks say are accepted, and how many of them were published.
+fn counted(marks: &[bool]) -> (u32, u32) {
+    let mut accepted = 0u32;
+    let mut published = 0;
+    for (i, mark) in marks.iter().enumerate() {
+        if *mark && i % 4 == 3 {
+            published = accepted;
+        } else if *mark {
+            accepted = accepted.wrapping_add(1);
+        }
+    }
+    (accepted, published)
+}
+
+// The contents at each state since the last flush.
+fn states_since_flush(alloc: Global, journal: &Journal) -> Result<Vec<Vec<u8>>, Fail> {
+    let flushed = journal.flushed();
+    let taken = journal.taken();
+    let mut states = Vec::new(alloc);
+    for k in 0..taken {
+        if flushed <= k {
+            states.push(journal.bytes_after(alloc, k)?)?;
+        }
+    }
+    states.push(journal.bytes_after(alloc, taken)?)?;
+    Ok(states)
+}
+
+// One of the states, by the next number of a sequence.
+fn pick<'a>(states: &'a [Vec<u8>], seed: &mut u32) -> &'a [u8] {
+    *seed = seed.wrapping_mul(1_664_525).wrapping_add(1_013_904_223);
+    match states.get((*seed >> 16) as usize % states.len().max(1)) {
+        Some(state) => state.as_slice(),
+        None => &[],
+    }
+}
+
+// Contents as long as one of the states, each sector of four bytes from one of them.
+fn mixture(alloc: Global, states: &[Vec<u8>], seed: &mut u32) -> Result<Vec<u8>, Fail> {
+    let length = pick(states, seed).len();
+    let mut contents = Vec::new(alloc);
+    let mut state = pick(states, seed);
+    for i in 0..length {
+        if i % 4 == 0 {
+            state = pick(states, seed);
+        }
+        contents.push(state.get(i).copied().unwrap_or(0))?;
+    }
+    Ok(contents)
+}
+
+// Whether a reader finds the first samples, at least the published ones and no more than were
+// accepted.
+fn has_the_first(contents: &[u8], accepted: u32, published: u32) -> bool {
+    let Ok(reader) = WavReader::new(contents) else {
+        return false;
+    };
+    let length = reader.len();
+    let mut found = 0u32;
+    for sample in reader.into_samples::<i16>() {
+        match sample {
+            Ok(sample) if sample as u32 == found.wrapping_add(1) => found = sample as u32,
+            _ => return false,
+        }
+    }
+    found == length && published <= found && found <= accepted
+}
+
+#[test]
+fn a_loss_of_power_loses_no_published_sample(rt: HostRuntime) -> Result<(), Fail> {
+    let alloc = rt.alloc();
+    let begin = Begin::New(integers(1, 44100, 16, 2));
+    let mut seed = 1;
+    let mut losses = 0u32;
+    let mut wrong = 0u32;
+    let mut all = 0;
+    for calls in 1..100u64 {
+        let mut journal = Journal::new(alloc, Vec::new(alloc))?;
+        journal.fail(calls, u64::MAX);
+        let mut marks = [false; 16];
+        let (journal, _) = run_durable_session(
+            alloc,
+            journal,
+            begin,
+            &STEPS,
+            &mut marks,
+            End::Drop,
+        );
+        if journal.flushed() < HEADER {
+            continue;
+        }
+        let (accepted, published) = counted(&marks);
+        all = published;
+        let states = states_since_flush(alloc, &journal)?;
+        for _ in 0..50 {
+            let contents = mixture(alloc, &states, &mut seed)?;
+            losses = losses.wrapping_add(1);
+            if !has_the_first(&contents, accepted, published) {
+                wrong = wrong.wrapping_add(1);
+            }
+        }
+    }
+    assert_eq!(rt; (wrong, all, 4000 < losses), (0, 12, true));
+    Ok(())
+}
