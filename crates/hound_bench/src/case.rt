@@ -88,6 +88,12 @@ pub enum Case {
     SeekFile,
     /// A file in memory of its full size, published again and again while it is written.
     FlushMemory,
+    /// A file on disk, published again and again while it is written.
+    FlushFile,
+    /// The same, with a file that waits for the disk.
+    FlushDurable,
+    /// A file on disk that waits for the disk, written a sample at a time.
+    WriteDurable,
     /// A small file in memory, opened as often.
     OpenMemory,
 }
@@ -119,6 +125,9 @@ impl Case {
             "seek_f32_mem" => Case::SeekMemory,
             "seek_f32_file" => Case::SeekFile,
             "flush_i16_mem" => Case::FlushMemory,
+            "flush_i16_file" => Case::FlushFile,
+            "flush_i16_durable" => Case::FlushDurable,
+            "write_i16_durable" => Case::WriteDurable,
             "open_mem" => Case::OpenMemory,
             _ => return Case::of_blocks(name),
         };
@@ -150,6 +159,7 @@ impl Case {
     pub fn needs_file(self) -> bool {
         match self {
             Case::WriteFile(_) | Case::BatchFile | Case::ReadFile(_) | Case::SeekFile => true,
+            Case::FlushFile | Case::FlushDurable | Case::WriteDurable => true,
             Case::ReadBlocks(blocks) | Case::WriteBlocks(blocks) => {
                 matches!(blocks.place, Place::Disk)
             }

@@ -65,6 +65,9 @@ pub fn measure(rt: &HostRuntime, case: Case, count: u32, path: Path<'_>) -> Resu
         Case::SeekMemory => seek_memory(rt, count),
         Case::SeekFile => seek_file(rt, count, path),
         Case::FlushMemory => flush_memory(rt, count),
+        Case::FlushFile => flush_file(rt, count, path),
+        Case::FlushDurable => flush_durable(rt, count, path),
+        Case::WriteDurable => write_durable(rt, count, path),
         Case::OpenMemory => open_memory(rt, count),
     }
 }
@@ -129,6 +132,30 @@ fn write_file<P: Pattern>(
     let start = Instant::now(rt)?;
     let writer = WavWriter::create(rt, rt.alloc(), path, P::spec(channels))?;
     write_all::<P, _>(writer, count)?;
+    let time = start.elapsed(rt)?;
+    Ok(written(&fs::read(rt, path)?, time.as_nanos()))
+}
+
+fn flush_file(rt: &HostRuntime, count: u32, path: Path<'_>) -> Result<Measured> {
+    let start = Instant::now(rt)?;
+    let writer = WavWriter::create(rt, rt.alloc(), path, Sixteen::spec(1))?;
+    write_flushing::<Sixteen, _>(writer, count)?;
+    let time = start.elapsed(rt)?;
+    Ok(written(&fs::read(rt, path)?, time.as_nanos()))
+}
+
+fn flush_durable(rt: &HostRuntime, count: u32, path: Path<'_>) -> Result<Measured> {
+    let start = Instant::now(rt)?;
+    let writer = WavWriter::create_durable(rt, rt.alloc(), path, Sixteen::spec(1))?;
+    write_flushing::<Sixteen, _>(writer, count)?;
+    let time = start.elapsed(rt)?;
+    Ok(written(&fs::read(rt, path)?, time.as_nanos()))
+}
+
+fn write_durable(rt: &HostRuntime, count: u32, path: Path<'_>) -> Result<Measured> {
+    let start = Instant::now(rt)?;
+    let writer = WavWriter::create_durable(rt, rt.alloc(), path, Sixteen::spec(1))?;
+    write_all::<Sixteen, _>(writer, count)?;
     let time = start.elapsed(rt)?;
     Ok(written(&fs::read(rt, path)?, time.as_nanos()))
 }

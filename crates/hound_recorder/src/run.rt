@@ -7,9 +7,9 @@ use std::path::Path;
 
 const USAGE: &str = "usage: hound_recorder FILE LOTS LENGTH [BITS [durable]]";
 
-/// Carries out the words `FILE LOTS LENGTH`, with the bits of a sample behind them where they
-/// aren't sixteen, and the word `durable` after these for a file that waits for the disk, and answers the status: 0 where each call was Ok, 1 where one failed, 2 for
-/// words that it doesn't know.
+/// Carries out the words `FILE LOTS LENGTH`, after which come the bits of a sample where they aren't
+/// sixteen, and then the word `durable` for a file that waits for the disk. The status is 0 where
+/// each call was Ok, 1 where one failed, and 2 for words that it doesn't know.
 ///
 /// The output has a line for each lot that was published, and at the end, where a call failed, one
 /// with the word `accepted` and the number of samples that were. A file that can't be made has one
