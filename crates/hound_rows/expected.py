@@ -821,7 +821,7 @@ def swept(options, run):
     calls, runs, begun, crc = int(options["calls"]), 0, 0, 0
     for first in range(1, calls + 1):
         for last in range(first, calls + 1):
-            words, has_begun = run({**options, "fail": f"{first}..{last}", "moments": ""})
+            words, has_begun = run({"moments": "", **options, "fail": f"{first}..{last}"})
             runs += 1
             begun += has_begun
             crc = zlib.crc32(" ".join(words).encode() + b"\n", crc)
@@ -939,7 +939,7 @@ def first_moment(spec):
 def write(how, word, options, acts, end, first):
     """The words of a writer, its medium, and what was accepted, if there was a writer."""
     medium = medium_of(options)
-    moments = lambda: [":", *moments_of(medium, first)] if "moments" in options else []
+    moments = lambda: [":", *moments_of(medium, first, options["moments"])] if "moments" in options else []
     try:
         if "append" in how:
             writer = Writer.append(medium)
@@ -998,8 +998,9 @@ def reading_of(data):
     return READINGS[data]
 
 
-def moments_of(journal, first):
-    """What the file is after each byte that was put, where it isn't what it was before."""
+def moments_of(journal, first, how):
+    """What the file is after each byte that was put, as it is or once it is repaired, where it isn't
+    what it was before."""
     tape, answers, before = Tape(journal.begun), [], (None, 0)
     for count in range(len(journal.past) + 1):
         if count > 0:
@@ -1008,7 +1009,10 @@ def moments_of(journal, first):
             tape.put(bytes([byte]))
         if count < first or (before[0] and not is_read):
             continue
-        now = reading_of(bytes(tape.bytes))
+        if how == "repaired":
+            now = reading_of(repaired(bytes(tape.bytes)))[0], 2**64
+        else:
+            now = reading_of(bytes(tape.bytes))
         if now[0] != before[0]:
             answers.append(f"{count}={now[0]}")
         before = now
@@ -1024,7 +1028,7 @@ def session(word, options, steps, end):
     words = ["marks", str(len(marks)), *listed, ":", answer, ":", *medium.words()]
     if "moments" in options:
         first = 0 if word == "append" else len(spec_of(word).header(0, 0))
-        words += [":", *moments_of(medium, first)]
+        words += [":", *moments_of(medium, first, options["moments"])]
     return words, medium, marks, answer
 
 
@@ -1074,6 +1078,80 @@ def row_sweep(word, *words):
         return words, len(medium.past) >= len(spec.header(0, 0))
 
     return swept(options_of(options), run)
+
+
+class Damage:
+    """What a repair finds of a file: the frames that it holds, whatever its sizes say."""
+
+    def __init__(self, data, looks):
+        source = Source(Tape(data))
+        self.spec, length = head_of(source)
+        if not self.spec.is_pair():
+            raise Refused("Unsupported")
+        self.start, frame = source.took, self.spec.channels * self.spec.width
+        self.held = len(data) - self.start
+        # Whole frames of an odd length, as the length says, have a pad byte.
+        has_pad = length % 2 == 1 and length % frame == 0 and self.held == length + 1
+        self.frames, self.left = divmod(length if has_pad else self.held, frame)
+        self.length = self.frames * frame
+        self.size = self.start - 8 + self.length + self.length % 2
+        if self.size > GREATEST:
+            raise Refused("TooLong")
+        if (length, int.from_bytes(data[4:8], "little")) == (self.length, self.size):
+            self.was = "whole"
+        elif looks and are_chunks(data[self.start + length + length % 2 :]):
+            self.was = "followed"
+            self.frames, self.left = divmod(length, frame)
+        else:
+            self.was = "cut_off"
+
+    def words(self):
+        spec = [*self.spec.words(), str(self.spec.width)]
+        return [self.was, "frames", str(self.frames), "left", str(self.left), ":", *spec]
+
+    def mend(self, data):
+        if self.was != "cut_off":
+            return data
+        size, length = struct.pack("<I", self.size), struct.pack("<I", self.length)
+        pad = bytes(self.length % 2 if self.held == self.length else 0)
+        return data[:4] + size + data[8 : self.start - 4] + length + data[self.start :] + pad
+
+
+def are_chunks(data):
+    """Whether there are chunks with printable tags up to the end, and at least one."""
+    if not data:
+        return False
+    while data:
+        length = int.from_bytes(data[4:8], "little")
+        if len(data) < 8 + length or not all(32 <= byte < 127 for byte in data[:4]):
+            return False
+        data = data[8 + length + length % 2 :]
+    return True
+
+
+def repaired(data):
+    try:
+        return Damage(data, False).mend(data)
+    except Refused:
+        return data
+
+
+def row_repair(how, word, *options):
+    def run(data):
+        try:
+            found = Damage(data, how != "to_end")
+        except Refused as error:
+            return [str(error), ":", contents(data)], False
+        return [*found.words(), ":", contents(data if how == "look" else found.mend(data))], True
+
+    data, begun, crc = bytes_of(word), 0, 0
+    if "cuts" not in options:
+        return run(data)[0]
+    for length in range(len(data) + 1):
+        words, is_found = run(data[:length])
+        begun += is_found
+        crc = zlib.crc32(" ".join(words).encode() + b"\n", crc)
+    return ["runs", str(len(data) + 1), "begun", str(begun), "crc", f"{crc:08x}"]
 
 
 def run_sessions(medium, spec, sessions):
@@ -1188,6 +1266,7 @@ ROWS = {
     "session": row_session,
     "sweep": row_sweep,
     "sessions": row_sessions,
+    "repair": row_repair,
     "tool": row_tool,
 }
 

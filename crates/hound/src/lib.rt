@@ -14,7 +14,8 @@
 //! To read one: [`WavReader`] (`open`, or `new` over any reader), `samples` or `into_samples`,
 //! `read_samples` for many at once, `seek`; [`read_wave_header`] for the first twelve bytes alone.
 //!
-//! To mend a file whose recording was cut off: [`repair`]; [`find_damage`] only looks.
+//! To mend a file whose recording was cut off: [`repair_file`], or [`repair`] in any medium;
+//! [`find_damage_in_file`] and [`find_damage`] only look.
 //!
 //! A recorder that has to know which samples came through gives a whole run as one call:
 //!
@@ -84,7 +85,9 @@ pub use hound_reader::{
     a_seek_leads_to_its_frame, an_iterator_gives_what_it_hints, items_are_of_the_file, one_answer,
     read_wave_header, written_is_head, written_is_read,
 };
-pub use hound_repair::{Repair, RepairState, find_damage, repair, repair_to_end};
+pub use hound_repair::{
+    Repair, RepairState, find_damage, find_damage_in_file, repair, repair_file, repair_to_end,
+};
 pub use hound_sample::{FloatBits, Sample, integers_come_back, short_integers_are_kept};
 pub use hound_spec::{
     Error, Result, SampleFormat, WavSpec, WavSpecEx, extensions_come_back, fields_come_back,

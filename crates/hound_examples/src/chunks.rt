@@ -1,4 +1,4 @@
-// The chunks of a file, which `info` shows and `mend` goes by.
+// The chunks of a file, which `info` shows.
 use crate::failure::Failure;
 use std::alloc::Global;
 use std::io;

@@ -8,7 +8,7 @@ use thiserror::Error as DeriveError;
 #[derive(Debug, Drop, DeriveError)]
 pub enum Failure {
     /// No example has these words.
-    #[error("usage: hound_examples sine FILE | record FILE LOT | convert IN OUT BITS \
+    #[error("usage: hound_examples sine FILE | record FILE COUNT [durable] | convert IN OUT BITS \
         | join OUT IN.. | levels FILE | mulaw FILE | mend FILE [--yes] | info FILE")]
     Usage,
     /// What should be a number is none, or doesn't fit sixteen bits.
@@ -20,9 +20,6 @@ pub enum Failure {
     /// The files that are to be joined have more than one spec.
     #[error("the files differ in channels, rate, bits or format")]
     OtherSpec,
-    /// The file can't be mended, for this reason.
-    #[error("the file can't be mended: {0}")]
-    Unmendable(&'static str),
     /// The file can't be read, which shows before this byte.
     #[error("at byte {0}: {1}")]
     Unreadable(u64, Error),

@@ -6,7 +6,6 @@ mod convert;
 mod failure;
 mod info;
 mod join;
-mod layout;
 mod levels;
 mod mend;
 mod mulaw;

@@ -1,21 +1,27 @@
-// A recorder with checkpoints: `record FILE LOT`, with the samples as numbers on standard input.
+// A recorder with checkpoints: `record FILE COUNT [durable]`, with the samples as numbers on
+// standard input.
 //
-// A `flush` follows the header, and each lot of LOT samples. Whenever the program is killed after the
-// first one, the file can be read, and has all samples of the lots whose `flush` was Ok.
+// A `flush` follows the header, and each COUNT samples. If the program is killed after the first
+// one, the file can be read, and has all samples that an Ok `flush` has published; with `durable`
+// also if the power goes. If it was killed while it wrote the sizes, or samples follow those that
+// they count, `mend FILE --yes` gives back every whole frame.
+ghost use Rattle.std.specs.Prelude.{◌<◌};
+
 use crate::failure::Failure;
-use hound::{SampleFormat, WavSpec, WavWriter};
+use hound::{Medium, SampleFormat, WavSpec, WavWriter};
 use std::io;
 use std::io::{BufRead, BufReader};
 use std::path::Path;
 
-/// Records all numbers of the input; where one is none, or too large, those before it are kept.
+/// Records all numbers of the input; those before one that is none, or too large, are kept.
 pub fn record<I: io::Read>(
     rt: &HostRuntime,
     path: Path<'_>,
-    lot: &str,
+    count: &str,
+    is_durable: bool,
     input: &mut I,
 ) -> Result<(), Failure> {
-    let Ok(lot @ 1..) = lot.parse::<u32>() else {
+    let Ok(count @ 1..) = count.parse::<u32>() else {
         return Err(Failure::Usage);
     };
     let spec = WavSpec {
@@ -24,7 +30,24 @@ pub fn record<I: io::Read>(
         bits_per_sample: 16,
         sample_format: SampleFormat::Int,
     };
-    let mut writer = WavWriter::create(rt, rt.alloc(), path, spec)?;
+    if is_durable {
+        let writer = WavWriter::create_durable(rt, rt.alloc(), path, spec)?;
+        return record_into(rt, writer, count, input);
+    }
+    let writer = WavWriter::create(rt, rt.alloc(), path, spec)?;
+    record_into(rt, writer, count, input)
+}
+
+// Records into a file that was begun.
+fn record_into<W: Medium, I: io::Read>(
+    rt: &HostRuntime,
+    writer: WavWriter<W>,
+    count: u32,
+    input: &mut I,
+) -> Result<(), Failure>
+    requires some { 0 < count }
+{
+    let mut writer = writer;
     writer.flush()?; // The header leaves the buffer.
     for line in BufReader::new(rt.alloc(), input)?.lines(rt.alloc()) {
         for word in line?.split_whitespace() {
@@ -32,7 +55,7 @@ pub fn record<I: io::Read>(
                 return Err(Failure::BadNumber);
             };
             writer.write_sample(sample)?;
-            if writer.len() % lot == 0 {
+            if writer.len() % count == 0 {
                 writer.flush()?;
             }
         }

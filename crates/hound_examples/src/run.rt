@@ -48,7 +48,8 @@ fn carry_out<I: io::Read, O: io::Write>(
 ) -> Result<(), Failure> {
     match words {
         ["sine", file] => sine(rt, Path::new(file))?,
-        ["record", file, lot] => record(rt, Path::new(file), lot, input)?,
+        ["record", file, count] => record(rt, Path::new(file), count, false, input)?,
+        ["record", file, count, "durable"] => record(rt, Path::new(file), count, true, input)?,
         ["convert", from, to, bits] => convert(rt, from, to, bits, output)?,
         ["join", to, from @ ..] => join(rt, to, from)?,
         ["levels", file] => levels(rt, Path::new(file), output)?,

@@ -5,10 +5,12 @@
 //! holds; [`find_damage`] says what it would do and writes nothing.
 #![tactic(auto)]
 
+mod file;
 mod look;
 mod mend;
 mod sizes;
 
+pub use file::{find_damage_in_file, repair_file};
 pub use look::find_damage;
 pub use mend::{repair, repair_to_end};
 pub use sizes::{Repair, RepairState};

@@ -290,7 +290,8 @@ impl Damage {
 /// size of the frames would pass 4294967295; `IoError`, where the medium failed.
 pub fn find_damage<S: Source>(medium: S) -> result::Result<(S, Repair), (S, Error)>
     requires { WhereTells S.tells ((S.state medium).place ≡ 0) }
-    ensures { WhereTells S.tells (MatchResult result
+    ensures sound { IfOk result (λ found. IsSoundSpec found.1.spec_ex) }
+    ensures found { WhereTells S.tells (MatchResult result
         (λ found. Finds true (S.state medium) found.1 (S.state found.0))
         (λ refused. IsNotFound (S.state medium) (S.state refused.0) refused.1)) }
 {

@@ -1,5 +1,6 @@
 // The right sizes, put into a file.
-ghost use Rattle.std.specs.Prelude.{◌≡◌, ◌+◌, ◌≤◌, true, false, Bool, MatchResult, length};
+ghost use Rattle.std.specs.Prelude.{◌≡◌, ◌+◌, ◌≤◌, true, false, Bool, IfOk, MatchResult, length};
+ghost use Rattle.hound_reader.specs.Fmt.{IsSoundSpec};
 ghost use Rattle.hound_repair.specs.declared.sizes.RepairState.{RepairState};
 ghost use Rattle.hound_medium.specs.State.{WhereTells};
 ghost use Rattle.hound_repair.specs.Damages.{IsDamage, IsSoundDamage, PutsPad, PutsSizes};
@@ -43,7 +44,8 @@ fn mend_cut<M: Medium>(medium: M, damage: Damage) -> result::Result<(M, Repair),
     requires sound { IsSoundDamage damage.head damage }
     requires cut { damage.was ≡ RepairState.CutOff }
     requires found { WhereTells M.tells ((looks : Bool) × IsDamage looks (M.state medium).contents damage) }
-    ensures { WhereTells M.tells ((looks : Bool) → IsDamage looks (M.state medium).contents damage →
+    ensures sound { IfOk result (λ done. IsSoundSpec done.1.spec_ex) }
+    ensures repaired { WhereTells M.tells ((looks : Bool) → IsDamage looks (M.state medium).contents damage →
         MatchResult result
         (λ done. Repairs looks (M.state medium) done.1 (M.state done.0))
         (λ refused. IsNotRepaired looks (M.state medium) (M.state refused.0) refused.1)) }
@@ -59,7 +61,8 @@ fn mend_cut<M: Medium>(medium: M, damage: Damage) -> result::Result<(M, Repair),
 fn mend<M: Medium>(medium: M, damage: Damage) -> result::Result<(M, Repair), (M, Error)>
     requires sound { IsSoundDamage damage.head damage }
     requires found { WhereTells M.tells ((looks : Bool) × IsDamage looks (M.state medium).contents damage) }
-    ensures { WhereTells M.tells ((looks : Bool) → IsDamage looks (M.state medium).contents damage →
+    ensures sound { IfOk result (λ done. IsSoundSpec done.1.spec_ex) }
+    ensures repaired { WhereTells M.tells ((looks : Bool) → IsDamage looks (M.state medium).contents damage →
         MatchResult result
         (λ done. Repairs looks (M.state medium) done.1 (M.state done.0))
         (λ refused. IsNotRepaired looks (M.state medium) (M.state refused.0) refused.1)) }
@@ -77,7 +80,8 @@ fn repair_with<M: Source + Medium>(
     looks: bool,
 ) -> result::Result<(M, Repair), (M, Error)>
     requires { WhereTells M.tells ((M.state medium).place ≡ 0) }
-    ensures { WhereTells M.tells (MatchResult result
+    ensures sound { IfOk result (λ done. IsSoundSpec done.1.spec_ex) }
+    ensures repaired { WhereTells M.tells (MatchResult result
         (λ done. Repairs looks (M.state medium) done.1 (M.state done.0))
         (λ refused. IsNotRepaired looks (M.state medium) (M.state refused.0) refused.1)) }
 {
@@ -103,7 +107,8 @@ fn repair_with<M: Source + Medium>(
 /// size may be torn then, and another call mends it.
 pub fn repair<M: Source + Medium>(medium: M) -> result::Result<(M, Repair), (M, Error)>
     requires { WhereTells M.tells ((M.state medium).place ≡ 0) }
-    ensures { WhereTells M.tells (MatchResult result
+    ensures sound { IfOk result (λ done. IsSoundSpec done.1.spec_ex) }
+    ensures repaired { WhereTells M.tells (MatchResult result
         (λ done. Repairs true (M.state medium) done.1 (M.state done.0))
         (λ refused. IsNotRepaired true (M.state medium) (M.state refused.0) refused.1)) }
 {
@@ -114,7 +119,8 @@ pub fn repair<M: Source + Medium>(medium: M) -> result::Result<(M, Repair), (M, 
 /// they look like chunks. Errors are the same.
 pub fn repair_to_end<M: Source + Medium>(medium: M) -> result::Result<(M, Repair), (M, Error)>
     requires { WhereTells M.tells ((M.state medium).place ≡ 0) }
-    ensures { WhereTells M.tells (MatchResult result
+    ensures sound { IfOk result (λ done. IsSoundSpec done.1.spec_ex) }
+    ensures repaired { WhereTells M.tells (MatchResult result
         (λ done. Repairs false (M.state medium) done.1 (M.state done.0))
         (λ refused. IsNotRepaired false (M.state medium) (M.state refused.0) refused.1)) }
 {

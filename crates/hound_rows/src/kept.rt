@@ -15,8 +15,8 @@ pub trait Kept: Source + Medium {
     /// Shows it as it is.
     fn show(&self, row: &mut Row);
 
-    /// Shows what it held after each of its bytes from this one on.
-    fn show_past(&self, row: &mut Row, from: usize);
+    /// Shows what it held after each of its bytes from this one on, as it is or once it is repaired.
+    fn show_past(&self, row: &mut Row, from: usize, is_repaired: bool);
 }
 
 impl Kept for Tape {
@@ -26,7 +26,7 @@ impl Kept for Tape {
     }
 
     // A tape keeps no past.
-    fn show_past(&self, row: &mut Row, _from: usize) {
+    fn show_past(&self, row: &mut Row, _from: usize, _is_repaired: bool) {
         row.refuse();
     }
 }
@@ -43,8 +43,8 @@ impl Kept for Recorded {
         show_contents(row, &self.journal, self.journal.taken());
     }
 
-    fn show_past(&self, row: &mut Row, from: usize) {
-        show_moments(row, &self.journal, from);
+    fn show_past(&self, row: &mut Row, from: usize, is_repaired: bool) {
+        show_moments(row, &self.journal, from, is_repaired);
     }
 }
 

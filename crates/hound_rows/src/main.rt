@@ -14,6 +14,7 @@ mod moments;
 mod numbers;
 mod readers;
 mod recorded;
+mod repairs;
 mod row;
 mod samples;
 mod sessions;
@@ -49,6 +50,8 @@ fn answer(row: &mut Row, name: &str, words: &[&str]) {
         "session" | "sweep" => sessions::session(row, words),
         // sessions SPEC OPTION.. : STEP.. | STEP.. | ..
         "sessions" => sessions::sessions(row, words),
+        // repair HOW BYTES
+        "repair" => repairs::answer(row, words),
         // tool WORD.. : BYTES OPTION..
         "tool" => tool::tool(row, words),
         _ => answer_small(row, name, words),

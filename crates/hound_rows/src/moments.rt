@@ -2,19 +2,23 @@
 use crate::line::Line;
 use crate::media::bytes_after;
 use crate::readers::{Sum, left};
+use crate::repairs::repaired;
 use crate::row::Row;
 use hound::{Error, FloatBits, Journal, SampleFormat, Tape, WavReader};
 
-/// Shows what the file is after each byte from this one on, where that differs from what it was
-/// before.
-pub fn show_moments(row: &mut Row, journal: &Journal, from: usize) {
+/// Shows what the file is after each byte from this one on, as it is or once it is repaired, where
+/// that differs from what it was before.
+pub fn show_moments(row: &mut Row, journal: &Journal, from: usize, is_repaired: bool) {
     let mut before = Line::new(row.alloc);
     for k in from..journal.taken().saturating_add(1) {
         let Some(bytes) = bytes_after(row, journal, k) else {
             return;
         };
         let mut moment = Line::new(row.alloc);
-        put_moment(&mut moment, bytes);
+        put_moment(
+            &mut moment,
+            if is_repaired { repaired(bytes) } else { bytes },
+        );
         if moment.bytes() != before.bytes() {
             row.line.shown(k);
             row.line.put("=");

@@ -95,6 +95,11 @@ pub fn has_moments(options: &[&str]) -> bool {
     find(options, "moments").is_some() || find(options, "calls").is_some()
 }
 
+/// Whether each moment is shown as it is once it is repaired: `moments=repaired`.
+pub fn has_repaired(options: &[&str]) -> bool {
+    find(options, "moments") == Some("repaired")
+}
+
 /// How many bytes were put when a file has its whole header.
 pub fn first_moment(begin: Begin) -> usize {
     match begin {
@@ -193,7 +198,8 @@ fn run_over<M: Kept>(row: &mut Row, script: Script<'_>, medium: M) -> M
     show_end(row, &medium, answer);
     if has_moments(script.options) {
         row.line.word(":");
-        medium.show_past(row, first_moment(script.begin));
+        let first = first_moment(script.begin);
+        medium.show_past(row, first, has_repaired(script.options));
     }
     medium
 }

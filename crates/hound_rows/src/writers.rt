@@ -6,7 +6,7 @@ use crate::blocks::write_block;
 use crate::counting::Counted;
 use crate::kept::{Kept, recorded_of, tape_of};
 use crate::row::{Row, find, name_and_value, parts};
-use crate::sessions::{first_moment, has_moments};
+use crate::sessions::{first_moment, has_moments, has_repaired};
 use crate::sweep::Sweep;
 use crate::values::{Kind, Value, at_type};
 use hound::{
@@ -119,7 +119,7 @@ fn show<M: Kept>(row: &mut Row, script: Script<'_>, medium: &M) {
     if has_moments(script.options) {
         row.line.word(":");
         let first = first_moment(begin_of(row, script));
-        medium.show_past(row, first);
+        medium.show_past(row, first, has_repaired(script.options));
     }
 }
 

@@ -3,16 +3,16 @@ use Rattle.hound_repair.specs.Repairing.{Repairs}
 use Rattle.hound_repair.proofs.Mending.{found_of, half_is, repairs_cut}
 use Rattle.hound_repair.proofs.mend.mend_cut.Goals as goal
 
-pub returns-in-Ok : goal.returns-in-Ok
-returns-in-Ok g c told looks at =
+pub returns-in-Ok-clause-repaired : goal.returns-in-Ok-clause-repaired
+returns-in-Ok-clause-repaired g c told looks at =
     let old = g.M.Placed.state c.args.medium in
     let new = g.M.Placed.state c.put_sizes.new.medium in
     subst (λ r. Repairs looks old r new) (sym c.repair.ensures)
     (repairs_cut looks old c.args.damage at c.requires.sound.spec new _ c.requires.cut
     (c.in-Ok.ensures told))
 
-pub returns-in-Err : goal.returns-in-Err
-returns-in-Err g c told looks at =
+pub returns-in-Err-clause-repaired : goal.returns-in-Err-clause-repaired
+returns-in-Err-clause-repaired g c told looks at =
     let puts = c.in-Err.ensures told in
     record {
       why = inr (

@@ -1,0 +1,120 @@
+// Files on disk, repaired in place.
+ghost use Rattle.std.specs.Prelude.{◌≡◌, ◌⊎◌, false, IfOk};
+ghost use Rattle.std.proofs.lemmas.Bool.{false≢true};
+ghost use Rattle.hound_medium.specs.State.{unknown};
+ghost use Rattle.hound_reader.specs.Fmt.{IsSoundSpec};
+
+use crate::look::find_damage;
+use crate::mend::repair;
+use crate::sizes::Repair;
+use hound_medium::{Medium, Placed, Source};
+use hound_spec::{Error, Result};
+use std::alloc::Global;
+use std::io::{BufReader, Read, Seek, SeekFrom, Write};
+use std::path::Path;
+use std::rt::Files;
+use std::{fs, io};
+
+// A file that is read through a buffer and written without one.
+#[derive(Drop)]
+struct FileInPlace {
+    reader: BufReader<fs::File>,
+}
+
+impl Placed for FileInPlace {
+    ghost tells = { false };
+
+    ghost state = { λ _. unknown };
+
+    ghost bytes = { λ _ tells. Prim.absurd (false≢true tells) };
+
+    fn go(&mut self, to: u64) -> io::Result<()> {
+        Placed::go(&mut self.reader, to)
+    }
+
+    fn shift(&mut self, by: i64) -> io::Result<()> {
+        Placed::shift(&mut self.reader, by)
+    }
+}
+
+impl Read for FileInPlace {
+    fn read(&mut self, buf: &mut [u8]) -> io::Result<usize> {
+        self.reader.read(buf)
+    }
+}
+
+impl Source for FileInPlace {
+    ghost left = { λ _ tells. Prim.absurd (false≢true tells) };
+
+    fn get(&mut self, buf: &mut [u8]) -> io::Result<usize> {
+        self.reader.read(buf)
+    }
+}
+
+impl Medium for FileInPlace {
+    ghost replays = { λ _ tells. Prim.absurd (false≢true tells) };
+
+    // The seek drops what was read ahead, so the file is at the place of the next byte.
+    fn put(&mut self, bytes: &[u8]) -> io::Result<usize> {
+        let _ = self.reader.seek(SeekFrom::Current(0))?;
+        let n = self.reader.get_mut().write(bytes)?;
+        if n == 0 {
+            return Err(io::Error::from(io::ErrorKind::WriteZero));
+        }
+        Ok(n)
+    }
+
+    fn flush(&mut self) -> io::Result<()> {
+        self.reader.get_ref().sync_all()
+    }
+}
+
+// The file within a buffer, unless it is a pipe or a terminal, which have no place.
+fn buffered(alloc: Global, file: fs::File) -> Result<BufReader<fs::File>> {
+    let mut file = file;
+    file.stream_position()?;
+    match BufReader::new(alloc, file) {
+        Ok(reader) => Ok(reader),
+        Err(_) => Err(Error::OutOfMemory),
+    }
+}
+
+/// Repairs a file on disk as [`repair`] does, and waits for the disk where it wrote.
+///
+/// `rt` is what `main` and each test are given, `alloc` is `rt.alloc()`. The errors, in their order:
+/// `IoError` if the file can't be opened for reading and writing or has no place, as a pipe;
+/// `OutOfMemory` if there is none for the buffer; those of [`repair`].
+pub fn repair_file(
+    rt: &impl Files<File = fs::File>,
+    alloc: Global,
+    path: Path<'_>,
+) -> Result<Repair>
+    ensures sound { IfOk result (λ found. IsSoundSpec found.spec_ex) }
+{
+    let file = fs::OpenOptions::new()
+        .read(true)
+        .write(true)
+        .open(rt, path)?;
+    let reader = buffered(alloc, file)?;
+    match repair(FileInPlace { reader }) {
+        Ok((_, found)) => Ok(found),
+        Err((_, error)) => Err(error),
+    }
+}
+
+/// Looks at a file on disk as [`find_damage`] does, and writes nothing.
+///
+/// The errors are those of [`repair_file`], in the same order; the file is opened for reading only.
+pub fn find_damage_in_file(
+    rt: &impl Files<File = fs::File>,
+    alloc: Global,
+    path: Path<'_>,
+) -> Result<Repair>
+    ensures sound { IfOk result (λ found. IsSoundSpec found.spec_ex) }
+{
+    let reader = buffered(alloc, fs::open(rt, path)?)?;
+    match find_damage(reader) {
+        Ok((_, found)) => Ok(found),
+        Err((_, error)) => Err(error),
+    }
+}
