@@ -2,7 +2,7 @@
 use crate::helpers::{
     FOUR_SAMPLES, NO_SAMPLES, answer_of, read_all, seeks_everywhere, sixteen, write_all,
 };
-use hound::{WavReader, WavWriter};
+use hound::{RepairState, WavReader, WavWriter, find_damage_in_file, repair_file};
 use hound_callers::record_and_read;
 use hound_commands::run_append;
 use std::path::{Path, PathBuf};
@@ -28,6 +28,8 @@ enum Deed {
     CreateDurable(&'static [i16]),
     // A durable writer appends these samples, flushes and is dropped.
     AppendDurable(&'static [i16]),
+    // It is looked at, and then repaired, and has so many frames and bytes that are left over.
+    Repair(u32, u32),
     // The first samples are read at a checkpoint, before the same writer appends the second.
     Checkpoint(&'static [i16], &'static [i16]),
     // The program's `append` over this input: its status and its line of errors.
@@ -48,6 +50,14 @@ const SIX_SAMPLES: [u8; 56] = [
     0x10, 0x00, 0x00, 0x00, 0x01, 0x00, 0x01, 0x00, 0x44, 0xac, 0x00, 0x00, 0x88, 0x58, 0x01, 0x00,
     0x02, 0x00, 0x10, 0x00, 0x64, 0x61, 0x74, 0x61, 0x0c, 0x00, 0x00, 0x00, 0x0b, 0x00, 0x0d, 0x00,
     0x11, 0x00, 0x13, 0x00, 0x17, 0x00, 0x1d, 0x00,
+];
+
+// The same, cut off after half a sample more: its sizes say 0.
+const CUT_OFF: [u8; 57] = [
+    0x52, 0x49, 0x46, 0x46, 0x00, 0x00, 0x00, 0x00, 0x57, 0x41, 0x56, 0x45, 0x66, 0x6d, 0x74, 0x20,
+    0x10, 0x00, 0x00, 0x00, 0x01, 0x00, 0x01, 0x00, 0x44, 0xac, 0x00, 0x00, 0x88, 0x58, 0x01, 0x00,
+    0x02, 0x00, 0x10, 0x00, 0x64, 0x61, 0x74, 0x61, 0x00, 0x00, 0x00, 0x00, 0x0b, 0x00, 0x0d, 0x00,
+    0x11, 0x00, 0x13, 0x00, 0x17, 0x00, 0x1d, 0x00, 0x1f,
 ];
 
 // Mono, 44100 Hz, 16 bits: 11, 13, 17; and 19 and 23 after these.
@@ -111,6 +121,20 @@ const ROWS: &[Row] = &[
         ],
         is_left: true,
     },
+    Row {
+        name: "a file that was cut off is repaired",
+        deeds: &[
+            (Deed::Put(&CUT_OFF), "done"),
+            (Deed::Repair(6, 1), "done"),
+            (Deed::HasSamples(&[11, 13, 17, 19, 23, 29]), "done"),
+            (Deed::Append(&[31]), "done"),
+            (Deed::HasSamples(&[11, 13, 17, 19, 23, 29, 31]), "done"),
+            (Deed::Put(&BEGUN), "done"),
+            (Deed::Repair(0, 0), "IoError"),
+            (Deed::HasBytes(&BEGUN), "done"),
+        ],
+        is_left: true,
+    },
     // The numbers from 0 to 4799, and -1, 1 and -1.
     Row {
         name: "the first example adds up",
@@ -145,6 +169,7 @@ const ROWS: &[Row] = &[
         name: "a file that is missing stays so",
         deeds: &[
             (Deed::Append(&[]), "IoError"),
+            (Deed::Repair(0, 0), "IoError"),
             (Deed::HasSamples(&[]), "IoError"),
             (Deed::HasBlock(&[]), "IoError"),
             (Deed::HasBytes(&[]), "IoError"),
@@ -254,6 +279,15 @@ fn append_durable(rt: &HostRuntime, path: Path<'_>, samples: &[i16]) -> hound::R
     Ok(true)
 }
 
+fn repair(rt: &HostRuntime, path: Path<'_>, frames: u32, left_over: u32) -> hound::Result<bool> {
+    let looked = find_damage_in_file(rt, rt.alloc(), path)?;
+    let found = repair_file(rt, rt.alloc(), path)?;
+    let again = repair_file(rt, rt.alloc(), path)?;
+    let is_found = (found.frames, found.left_over) == (frames, left_over);
+    let is_same = looked.frames == frames && looked.was == found.was;
+    Ok(is_found && is_same && again.was == RepairState::Whole)
+}
+
 fn has_block(rt: &HostRuntime, path: Path<'_>, samples: &[i16]) -> hound::Result<bool> {
     let mut reader = WavReader::open(rt, rt.alloc(), path)?;
     let mut block = [0i16; 64];
@@ -304,6 +338,7 @@ fn does(rt: &HostRuntime, path: Path<'_>, deed: Deed) -> hound::Result<bool> {
         Deed::AppendBlock(samples) => append_block(rt, path, samples),
         Deed::CreateDurable(samples) => create_durable(rt, path, samples),
         Deed::AppendDurable(samples) => append_durable(rt, path, samples),
+        Deed::Repair(frames, left_over) => repair(rt, path, frames, left_over),
         Deed::Checkpoint(first, second) => checkpoint(rt, path, first, second),
         Deed::AppendText(text, status, line) => Ok(append_text(rt, path, text, status, line)),
         Deed::Example(sum) => Ok(record_and_read(rt, path, sixteen(1))? == sum),

@@ -88,7 +88,9 @@ fn has_the_first(contents: &[u8], accepted: u32, published: u32) -> bool {
     let mut found = 0u32;
     for sample in reader.into_samples::<i16>() {
         match sample {
-            Ok(sample) if sample as u32 == found.wrapping_add(1) => found = sample as u32,
+            Ok(sample) if i64::from(sample) == i64::from(found) + 1 => {
+                found = found.wrapping_add(1);
+            }
             _ => return false,
         }
     }
