@@ -37,7 +37,7 @@ abbrev pub after_out : {W : Type 0} → Bool → W → WriterState W → WriterS
 after_out true medium w = record w { medium = medium; out = data_length w; waiting = [] }
 after_out false medium w = record w { medium = medium }
 
--- What bytes after those in the medium, up to `end`, leave unchanged: the head is there, and nothing
+-- What bytes after those in the medium, up to `end`, leave as is: the head is there, and nothing
 -- before them nor after `end` has changed.
 pub record StaysAround {W : Type 0} (state : W → MediumState) (end : ℕ) (old : WriterState W)
     (new : MediumState) : Type 0 where

@@ -55,7 +55,7 @@ impl<W: Medium> Model for Output<W> {
         (bytes_kept (λ buffer. buffer.items) w.buffer)) w.may_have_moved w.limit };
 }
 
-/// The RIFF size of a file whose data begin at this place and have this length, with their pad byte.
+/// The RIFF size of a file whose data begin at this place and have this length, pad byte included.
 #[inline(always)]
 pub fn riff_size(data_start: u64, data_length: u64) -> u64
     requires behind { 8 ≤ data_start }
