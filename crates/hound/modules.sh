@@ -2,8 +2,8 @@
 # Prints specs/Lib.antt. Run it here, as: sh modules.sh > specs/Lib.antt
 cat <<'END'
 -- The modules of definitions of all crates, each under its own name: a crate over this one imports
--- their words as `Rattle.hound.specs.MODULE`. Behind those of a crate stand the types of its code
--- that clauses name and that the root of this crate doesn't give; those that it gives are
+-- their words as `Rattle.hound.specs.MODULE`. After those of a crate come the types of its code
+-- that clauses name and that the root of this crate doesn't export; those that it exports are
 -- `Rattle.hound.specs.declared.TYPE`. The file is made by `modules.sh`.
 END
 for crate in number spec sample medium durable reader writer repair; do

@@ -3,7 +3,7 @@
 # Run it here, as: sh words.sh > src/words.rt && rt fmt
 cat <<'END'
 // Each word that a clause of the library imports can be imported over `hound` alone. The file is
-// made by `words.sh`. The clauses have the imports read.
+// made by `words.sh`. The checker reads the imports because the clauses use them.
 ghost use Rattle.std.specs.Prelude.{◌≡◌};
 END
 # A struct for the definitions of each crate, and one for its variants.

@@ -49,7 +49,7 @@ wide_containers w (suc n) bytes le = (
   wide_containers w n (drop w bytes) (omega (arith, le, length-drop w bytes)),
 )
 
--- the bytes of whole containers that cover so many
+-- the bytes of whole containers that cover this many
 abbrev cover : ℕ → ℕ → ℕ
 cover w v = (v + (w - 1)) / w * w
 
@@ -62,7 +62,7 @@ le_cover : (w v : ℕ) → 1 ≤ w → v ≤ cover w v
 le_cover w v some =
     omega (arith, div-add-mod' (v + (w - 1)) w, mod_below (v + (w - 1)) w (omega (arith, some)), some)
 
--- where the head is there and so many containers are stored, the first of them are counted
+-- if the head is there and this many containers are stored, the first of them are counted
 counts_stored : (s : WavSpecEx) (h q : ℕ) (list : List (List ℕ)) (c : List ℕ)
     → 1 ≤ s.bytes_per_sample → AreWide s.bytes_per_sample list
     → Head c s (field (h - 4) c) h → field (h - 4) c ≤ q * s.bytes_per_sample
@@ -126,7 +126,7 @@ accepted_all s found steps marks i =
           ∙ sym (append_assoc found (accepted_by_all s (take i steps) (take i marks)) part.0),
     )
 
--- the step during which so many bytes had been put
+-- the step during which this many bytes had been written
 step_of : (n : ℕ) (cuts : List ℕ) (end : MediumState) (j : ℕ) → cut_point cuts end 0 ≤ j
     → j ≤ cut_point cuts end (suc n)
     → (i : ℕ) × (i ≤ n) × (cut_point cuts end i ≤ j) × (j ≤ cut_point cuts end (suc i))

@@ -1,4 +1,4 @@
--- What a writer answers, by its spec and by what it has accepted alone.
+-- What a writer returns, only by its spec and by what it has accepted.
 use Rattle.std.proofs.Common.{◌≡◌, ℕ, ◌*◌, ◌≤◌, Bool, false, IsTrue, nat_lt, lt-ltb, ltb-true, List, length, Result, Ok, ap, subst, arith}
 use Rattle.std.specs.List.{concat}
 use Rattle.hound_spec.specs.declared.error.Error.{Error}
@@ -15,7 +15,7 @@ use Rattle.hound.specs.FirstError.{AnswersStep, longest_with, writer_after}
 use Rattle.hound.specs.Run.{Takes}
 use Rattle.hound.specs.Steps.{step_containers, wants_memory}
 
--- a writer that answers as one of a file of this spec which has accepted these samples
+-- a writer that returns what one of a file of this spec does which has accepted these samples
 pub record IsAfter {W : Type 0} (s : WavSpecEx) (list : List (List ℕ))
     (w : WriterState W) : Type 0 where
   pub spec : w.spec_ex ≡ s
@@ -38,7 +38,7 @@ pub publishing_after : {W : Type 0} (s : WavSpecEx) (list : List (List ℕ)) (w 
 publishing_after s list w answer after is =
     publishing_as answer w (writer_after s list) after.spec (omega (arith, after.size)) is
 
--- a step's answer is that of a writer of the same samples
+-- a step's result is that of a writer of the same samples
 pub step_answers : {M : Type 0} (tells keeps : Bool) (state : M → MediumState) (s : WavSpecEx)
     (list : List (List ℕ)) (longest : ℕ) (step : Step) (answer : Result (Unit {0}) Error)
     (old new : WriterState M) → IsAfter s list old → 2 * longest ≤ length old.buffer
@@ -58,7 +58,7 @@ step_answers tells keeps state s list longest (Batch values) answer old new afte
 step_answers tells keeps state s list longest Flush answer old new after room t =
     publishing_after s list old answer after t.answers
 
--- the memory of a batch that was accepted is kept
+-- the memory of a batch that was accepted is reused
 pub room_with : {M : Type 0} (tells keeps : Bool) (state : M → MediumState) (longest : ℕ)
     (step : Step) (old new : WriterState M) → 2 * longest ≤ length old.buffer
     → Takes tells keeps state step (Ok tt) old new

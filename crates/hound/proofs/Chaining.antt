@@ -55,7 +55,7 @@ module _ {M : Type 0} (tells keeps : Bool) (state : M → MediumState) where
       (subst (λ r. RunsAgain tells keeps state (get_or sessions i d).now b r c) is again))) in
       subst (λ l. RunsOn tells keeps state l a (Err e) c) (take-append-drop (i + 1) sessions) stop
 
--- an answer that is no error
+-- a result that is no error
 pub is_ok : (answer : Result (Unit {0}) Error) → ((e : Error) → answer ≡ Err e → ⊥) → answer ≡ Ok tt
 is_ok (Ok x) fine = refl
 is_ok (Err e) fine = absurd (fine e refl)

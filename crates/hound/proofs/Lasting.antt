@@ -24,13 +24,13 @@ use Rattle.hound.proofs.Leading.{length-concat-append}
 use Rattle.hound.proofs.Moments.{Later, first_cut, later_still, later_then, run_later, same_moment, says, span_later, writes}
 use Rattle.hound.proofs.Stepping.{did, step_span}
 
--- a byte that was put keeps its place in a later past
+-- a byte that was written has the same place in a later past
 same_place : (a b : MediumState) (i : ℕ) → Later a b → i < length a.past
     → place_of b.past i ≡ place_of a.past i
 same_place a b i later before =
     ap (λ l. place_of l i) later.past ∙ place_before a.past later.added i before
 
--- a state of a run in which no put of the field is cut is so in one of its calls
+-- a state of a run in which no write of the field is cut is so in one of its calls
 outside_within : (p lo hi : ℕ) (a b end : MediumState) (k : ℕ) → Later b end
     → lo ≡ length a.past → hi ≡ length b.past
     → ((i : ℕ) → lo ≤ i → i < hi → i < k → place_of end.past i ≡ p
@@ -48,8 +48,8 @@ either v a b x old new (inr is) = omega (arith, new, is)
 module _ {M : Type 0} (tells keeps : Bool) (state : M → MediumState) (told : IsTrue tells)
     (kept : IsTrue keeps) (replays : (m : M)
     → (state m).contents ≡ overlay (state m).start (state m).past) (p v : ℕ) where
-  -- a step that writes leaves the field, and a flush that cuts no put of it gives it the length of
-  -- all that was accepted
+  -- a step that writes leaves the field, and a flush that cuts no write of it gives it the length
+  -- of all that was accepted
   step_lasts : (step : Step) (answer : Result (Unit {0}) Error) (old new : WriterState M)
       → Takes tells keeps state step answer old new → p ≡ old.data_start - 4
       → 4 ≤ old.data_start → IsWhole state old
@@ -226,7 +226,7 @@ module _ {M : Type 0} (tells keeps : Bool) (state : M → MediumState) (told : I
       (at ∙ ap (λ n. n - 4) (sym t.data_start)) (omega (arith, behind, t.data_start))
       (t.whole whole) sized i k (omega (arith, inside)) is marked) from to uncut
 
-  -- and what it has flushed stays so
+  -- and what it has flushed stays flushed
   pub stays_flushed : (steps : List Step) (answers : List (Result (Unit {0}) Error)) (cuts : List ℕ)
       (old new : WriterState M) (end : MediumState)
       → Runs tells keeps state steps answers cuts old new → Later (state new.medium) end

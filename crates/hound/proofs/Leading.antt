@@ -14,7 +14,7 @@ use Rattle.hound.specs.Steps.{accepted_by, accepted_by_all}
 use Rattle.hound_writer.proofs.Sizes.{sizes_then}
 use Rattle.hound.proofs.Stepping.{did, sizes_still}
 
--- faults only grow, up to the greatest count
+-- faults only grow, up to the largest count
 abbrev pub FaultsGrow : MediumState → MediumState → Type 0
 FaultsGrow old new =
     old.faults ≤ 18446744073709551615 → (old.faults ≤ new.faults)
@@ -48,7 +48,7 @@ no_fault_parts a b c first then (same, small) =
       (omega (arith, one.0, two.0, same), omega (arith, one.0, two.0, same, small)),
     )
 
--- what holds unless the medium failed holds where it didn't
+-- what holds unless the medium failed holds if it didn't
 pub unless_told : {P : Type 0} (answer : Result (Unit {0}) Error) (f : ℕ) → f < 18446744073709551615
     → faults_told answer f ≡ f → UnlessFailed answer P → P
 unless_told (Err (IoError e)) f small same here = absurd (omega (arith, small, same))

@@ -1,4 +1,4 @@
--- What a loss of power leaves, from what holds at each state that it may mix.
+-- What a loss of power leaves, from what holds in each state that it may mix.
 use Rattle.std.proofs.Common.{◌≡◌, ℕ, zero, suc, ◌+◌, ◌-◌, ◌/◌, ◌<◌, ◌≤◌, inl, inr, List, [], ◌∷◌, ◌++◌, length, get_or, take, drop, refl, sym, ◌∙◌, ap, subst, arith, length-drop, length-take, take-append-drop}
 use Rattle.std.proofs.lemmas.Bool.{cases_lt}
 use Rattle.std.proofs.lemmas.List.{length-take-le, take-take, get_or-take, get_or-drop, ext_get_or}
@@ -25,7 +25,7 @@ byte_in p q n c d i less same =
 length_part : (p n : ℕ) (c : List ℕ) → p + n ≤ length c → length (take n (drop p c)) ≡ n
 length_part p n c inside = length-take-le n (drop p c) (omega (arith, inside, length-drop p c))
 
--- parts of two lists are the same where their bytes are
+-- parts of two lists are the same if their bytes are
 same_part : (p q n : ℕ) (c d : List ℕ) → p + n ≤ length c → q + n ≤ length d
     → ((i : ℕ) → i < n → get_or c (p + i) 0 ≡ get_or d (q + i) 0)
     → take n (drop p c) ≡ take n (drop q d)
@@ -36,7 +36,7 @@ same_part p q n c d inside within each =
     get_or-take n (drop p c) i 0 less ∙ get_or-drop p c i 0 ∙ each i less
     ∙ sym (get_or-take n (drop q d) i 0 less ∙ get_or-drop q d i 0))
 
--- a byte before the data, but for the two sizes
+-- a byte before the data, except for the two sizes
 same_before : (h : ℕ) (c d : List ℕ) (i : ℕ) → 8 ≤ h → ChangesSizesOnly h c d → i < h - 4
     → (i < 4 → get_or d i 0 ≡ get_or c i 0) × (8 ≤ i → get_or d i 0 ≡ get_or c i 0)
 same_before h c d i behind changes less = (
@@ -51,7 +51,7 @@ same_before h c d i behind changes less = (
       (byte_in 8 8 (h - 4 - 8) d c j (omega (arith, less, high)) middle),
 )
 
--- contents get no shorter as bytes are put
+-- contents get no shorter as bytes are written
 length_overlay : (es : List (ℕ × ℕ)) (c : List ℕ) → length c ≤ length (overlay c es)
 length_overlay [] c = omega arith
 length_overlay (e ∷ es) c =
@@ -71,7 +71,7 @@ moments_grow start past i k le =
       ap length (overlay-append start first (drop i (take k past))),
     )
 
--- A file whose data begin at h, whose past put bytes at ascending places from f to k: at each of
+-- A file whose data begin at h, whose past has bytes at ascending places from f to k: in each of
 -- these states what the data length covers of these bytes is stored, and stays so.
 module _ (h : ℕ) (bytes base start : List ℕ) (past : List (ℕ × ℕ)) (cover : ℕ → ℕ) (f k : ℕ)
     (behind : 20 ≤ h) (within : k ≤ length past) (ascends : Ascends past f k)
@@ -87,7 +87,7 @@ module _ (h : ℕ) (bytes base start : List ℕ) (past : List (ℕ × ℕ)) (cov
   abbrev says : ℕ → ℕ
   says j = field (h - 4) (at j)
 
-  -- a state, and the byte that is put next
+  -- a state, and the byte that is written next
   next : (m : ℕ) → m < k
       → (b : ℕ) × (at (suc m) ≡ put_at (place_of past m) b (at m))
   next m less =
@@ -95,7 +95,7 @@ module _ (h : ℕ) (bytes base start : List ℕ) (past : List (ℕ × ℕ)) (cov
       let x : ℕ × ℕ = get_or past m (0, 0) in
       (x.1, ap at (sym e) ∙ overlay_more start past m (0, 0) (omega (arith, less, within)))
 
-  -- what a later state's data length covers was stored at each earlier one
+  -- what a later state's data length covers was stored in each earlier one
   earlier : (n j m : ℕ) → f ≤ m → m + n ≡ j → j ≤ k
       → (take (cover (says j)) (drop h (at m)) ≡ take (cover (says j)) bytes)
       × (((t : ℕ) → m ≤ t → t < j → h ≤ place_of past t) → says m ≡ says j)
@@ -133,7 +133,7 @@ module _ (h : ℕ) (bytes base start : List ℕ) (past : List (ℕ × ℕ)) (cov
             )
       ]
 
-  -- what the data length of any state covers is stored at each state
+  -- what the data length of any state covers is stored in each state
   anywhere : (j m : ℕ) → f ≤ j → j ≤ k → f ≤ m → m ≤ k
       → take (cover (says j)) (drop h (at m)) ≡ take (cover (says j)) bytes
   anywhere j m from to since until = elim (cases_lt m j) [
@@ -157,7 +157,7 @@ module _ (h : ℕ) (bytes base start : List ℕ) (past : List (ℕ × ℕ)) (cov
 
   module _ (sector : ℕ) (some : 1 ≤ sector) (one : (h - 4) / sector ≡ (h - 1) / sector)
       (c : List ℕ) (lost : SurvivesLoss sector start past f k c) where
-    -- the state of which the data length is
+    -- the state that the data length is from
     abbrev chosen : ℕ
     chosen = (lost.sectors ((h - 4) / sector)).0
 

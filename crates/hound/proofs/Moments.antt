@@ -1,4 +1,4 @@
--- A run at each moment.
+-- A run in each intermediate state.
 use Rattle.std.proofs.Common.{◌≡◌, ℕ, zero, suc, ◌+◌, ◌-◌, ◌≤◌, Bool, true, List, [], ◌∷◌, ◌++◌, length, take, map, Result, Ok, Err, IsTrue, refl, sym, ◌∙◌, ap, subst, arith, inl, inr, append_assoc, length-append}
 use Rattle.std.proofs.lemmas.Bool.{cases_lt, false≢true}
 use Rattle.std.proofs.lemmas.List.{append-nil}
@@ -29,7 +29,7 @@ use Rattle.hound.specs.Steps.{accepted_by, accepted_by_all, HoldsNoFlush}
 use Rattle.hound.proofs.Leading.{concat-append, length-concat-append}
 use Rattle.hound.proofs.Stepping.{did, step_sizes, step_span, step_stored}
 
--- from one state of a medium to a later one bytes were put after the past
+-- from one state of a medium to a later one bytes were appended to the past
 pub record Later (old new : MediumState) : Type 0 where
   pub start : new.start ≡ old.start
   pub added : List (ℕ × ℕ)
@@ -56,7 +56,7 @@ pub span_later : (At : ℕ → List ℕ → Type 0) (split : ℕ) (old new : Med
 span_later At split old new span =
     record { start = span.start; added = span.added; past = span.past; flushed = span.flushed }
 
--- an earlier moment stays what it was
+-- an earlier state stays what it was
 pub same_moment : (old new : MediumState) (k : ℕ) → Later old new → k ≤ length old.past
     → moment old.start old.past k ≡ moment new.start new.past k
 same_moment old new k later before =
@@ -106,7 +106,7 @@ module _ {M : Type 0} (tells keeps : Bool) (state : M → MediumState) (told : I
   last_cut (step ∷ steps) (answer ∷ answers) (cut ∷ cuts) old new end (mid, at, takes, rest) =
       last_cut steps answers cuts mid new end rest
 
-  -- and it lies within the past
+  -- and it is within the past
   pub end_cut : (steps : List Step) (answers : List (Result (Unit {0}) Error)) (cuts : List ℕ)
       (old new : WriterState M) (end : MediumState)
       → Runs tells keeps state steps answers cuts old new
@@ -120,8 +120,7 @@ module _ {M : Type 0} (tells keeps : Bool) (state : M → MediumState) (told : I
   end_cut (step ∷ steps) (answer ∷ answers) (cut ∷ cuts) old new end (mid, at, takes, rest) =
       end_cut steps answers cuts mid new end rest
 
-  -- before the data nothing but the two sizes changes at any moment of a run, where that is so of
-  -- its end
+  -- before the data only the two sizes change in any state of a run, if that is so for its end
   pub sizes_at_each : (steps : List Step) (answers : List (Result (Unit {0}) Error))
       (cuts : List ℕ) (old new : WriterState M) (end : MediumState)
       → Runs tells keeps state steps answers cuts old new → Later (state new.medium) end
@@ -165,7 +164,7 @@ module _ {M : Type 0} (tells keeps : Bool) (state : M → MediumState) (told : I
             (moment end.start end.past k)) t.data_start rest)
       ]
 
-  -- what counts from the last step's return on counts at each of these moments, and so do the
+  -- what counts from the last step's return on counts in each of these states, and so do the
   -- samples before each step
   pub counted : (steps : List Step) (answers : List (Result (Unit {0}) Error)) (cuts : List ℕ)
       (old new : WriterState M) (end : MediumState)
@@ -328,7 +327,7 @@ module _ {M : Type 0} (tells keeps : Bool) (state : M → MediumState) (told : I
       (stored steps answers cuts mid new end runs later tail (t.whole whole) i a len k m
       (omega (arith, inside)) from le to) within here
 
-  -- a step that writes samples leaves the data length, at each of its moments and when it has
+  -- a step that writes samples leaves the data length, in each of its states and when it has
   -- returned
   keeps_field : (old new : WriterState M) (at_each : AddsAtEach state old (state new.medium))
       → take old.data_start (state new.medium).contents ≡ take old.data_start
@@ -437,7 +436,7 @@ module _ {M : Type 0} (tells keeps : Bool) (state : M → MediumState) (told : I
             (state mid.medium).contents) t.data_start rest ∙ wrote.0
       ]
 
-  -- a flush with a mark has put the length of all that was accepted
+  -- a flush with a mark has written the length of all that was accepted
   pub says : (answer : Result (Unit {0}) Error) (old new : WriterState M) → mark_of answer ≡ true
       → Checkpoints tells keeps state answer old new
       → field (old.data_start - 4) (state new.medium).contents ≡ data_length old

@@ -1,4 +1,4 @@
--- A run goes on by one step.
+-- A run continues by one step.
 use Rattle.std.proofs.Common.{◌≡◌, ℕ, ℤ, zero, suc, ◌+◌, ◌<◌, List, [], ◌∷◌, ◌++◌, length, get_or, set, take, drop, replicate, map, Bool, Result, Ok, Err, refl, sym, ◌∙◌, ap, subst, arith, append_assoc, length-append, take-append-drop}
 use Rattle.std.proofs.lemmas.List.{take_more, take_more_set}
 use Rattle.hound_spec.specs.declared.error.Error.{Error}

@@ -22,11 +22,11 @@ use Rattle.hound.specs.declared.session.Step.TheVariants.{Whole, Bits, Batch, Fl
 use Rattle.hound.specs.Run.{Takes}
 use Rattle.hound.specs.Steps.{step_containers}
 
--- before the data nothing changed but the two sizes
+-- before the data only the two sizes changed
 pub sizes_still : (start : ℕ) (c : List ℕ) → ChangesSizesOnly start c c
 sizes_still start c = record { front = refl; middle = refl }
 
--- what stands before the data stays, so the header does
+-- what is before the data stays, so the header does
 begun_front : {M : Type 0} (state : M → MediumState) (old new : WriterState M)
     → new.spec_ex ≡ old.spec_ex → new.data_start ≡ old.data_start
     → take old.data_start (state new.medium).contents ≡ take old.data_start
@@ -39,7 +39,7 @@ begun_front state old new spec start front (has, at) = (
   start ∙ at ∙ ap data_start (sym spec),
 )
 
--- of a step that was asked to accept these containers, with this answer
+-- for a step with these containers and this result
 pub record Did {M : Type 0} (state : M → MediumState) (asked : Result (List (List ℕ)) Refusal)
     (answer : Result (Unit {0}) Error) (old new : WriterState M) : Type 0 where
   pub spec_ex : new.spec_ex ≡ old.spec_ex
@@ -132,7 +132,7 @@ module _ {M : Type 0} (tells keeps : Bool) (state : M → MediumState) (told : I
       accepts_did _ (step_containers old.spec_ex (Batch values)) answer old new t.0
   did Flush answer old new t = checkpoint_did answer old new t
 
-  -- what counts at each of its moments
+  -- what counts in each of its states
   pub step_span : IsTrue keeps
       → (step : Step) (answer : Result (Unit {0}) Error) (old new : WriterState M)
       → Takes tells keeps state step answer old new → IsWhole state old
@@ -143,7 +143,7 @@ module _ {M : Type 0} (tells keeps : Bool) (state : M → MediumState) (told : I
   step_span kept (Batch values) answer old new t whole = (t.0.moments told kept).counts whole
   step_span kept Flush answer old new t whole = (t.moments told kept).counts whole
 
-  -- before the data nothing but the two sizes changes at any of its moments
+  -- before the data only the two sizes change in any of its states
   step_sizes_front : (old new : WriterState M) (at_each : AddsAtEach state old (state new.medium))
       → 4 ≤ old.data_start → IsWhole state old
       → (k : ℕ) → length (state old.medium).past ≤ k → k ≤ length (state new.medium).past

@@ -153,7 +153,7 @@ short_of_header tells keeps state s old back e told place empty (inr (writable, 
       length-header s 0 0,
     )
 
--- what an end published, and its answer
+-- what an end published, and its result
 ended : {M : Type 0} (tells keeps : Bool) (state : M → MediumState) (end : End)
     (last : WriterState M) (answer : Result (Unit {0}) Error) (medium : M)
     → Ends tells keeps state end last answer medium → (a : Result (Unit {0}) Error)
@@ -183,7 +183,7 @@ module _ {M : Type 0} (tells keeps : Bool) (state : M → MediumState) (begin : 
       subst (λ l. Leads state steps l first last) (sym marked)
       (leads tells keeps state told steps answers cuts first last behind runs)
 
-  -- what holds of the last writer's file and samples holds of those of the run
+  -- what holds for the last writer's file and samples holds for those of the run
   as_last : IsTrue tells → IsWhole state first → (P : WavSpecEx → ℕ → List (List ℕ) → Type 0)
       → P last.spec_ex last.data_start (accepted_samples state last)
       → P first.spec_ex first.data_start
@@ -447,7 +447,7 @@ module _ {M : Type 0} (tells keeps : Bool) (state : M → MediumState) (s : WavS
       go P (Ok x) here = here
       go P (Err e) here = tt
 
--- all steps accepted what their marks say
+-- all steps accepted what their marks show
 accepted_whole : (s : WavSpecEx) (steps : List Step) (marks : List Bool)
     → accepted_by_all s (take (length steps) steps) (take (length steps) marks) ≡ accepted_by_all s
     steps marks
@@ -487,7 +487,7 @@ not_begun tells keeps state told kept s old medium unused f begun within e
       length-header s 0 0,
     )
 
--- the header of a new file was put first
+-- the header of a new file was written first
 header_end : {M : Type 0} (tells keeps : Bool) (state : M → MediumState) (told : IsTrue tells)
     (kept : IsTrue keeps) (s : WavSpecEx) (steps : List Step) (marks : List Bool) (end : End)
     (old : M) (answer : Result (Unit {0}) Error) (medium : M) → (state old).past ≡ []
@@ -507,7 +507,7 @@ header_end tells keeps state told kept s steps marks end old answer medium unuse
       ap data_start r.begins.begun.spec,
     )
 
--- A run over a new file, where the bytes that were put after its header was flushed, at f, went to
+-- A run over a new file, where the bytes written after its header was flushed, at f, went to
 -- ascending places: what a loss of power leaves counts.
 module _ {M : Type 0} (tells keeps : Bool) (state : M → MediumState) (told : IsTrue tells)
     (kept : IsTrue keeps) (replays : (m : M)
@@ -575,7 +575,7 @@ module _ {M : Type 0} (tells keeps : Bool) (state : M → MediumState) (told : I
   counts_after_loss (inr r) =
       was_run (subst (λ b. Ran tells keeps state b steps marks end old answer medium) is_new r)
 
--- and no published sample is lost, where f is a flush of the medium's own or a later one
+-- and no published sample is lost, if f is a flush of the medium's own or a later one
 module _ {M : Type 0} (tells keeps : Bool) (state : M → MediumState) (told : IsTrue tells)
     (kept : IsTrue keeps) (replays : (m : M)
     → (state m).contents ≡ overlay (state m).start (state m).past) (s : WavSpecEx)
@@ -638,7 +638,7 @@ module _ {M : Type 0} (tells keeps : Bool) (state : M → MediumState) (told : I
   loses_nothing (inr r) =
       kept_run (subst (λ b. Ran tells keeps state b steps marks end old answer medium) is_new r)
 
--- no mark is true of a run that didn't begin
+-- no mark is true in a run that didn't begin
 none_marked : (n i : ℕ) → slice_index_or (replicate n false) i false ≡ true → ⊥
 none_marked zero i is = false≢true is
 none_marked (suc n) zero is = false≢true is
@@ -670,7 +670,7 @@ header_flushed {M} tells keeps state told kept replays s steps marks end old ans
       (r.moments told kept).flushed file.whole i inside is marked,
     )
 
--- and so it is of a file that was appended to
+-- and the same for a file that was appended to
 module _ {M : Type 0} (tells keeps : Bool) (state : M → MediumState) (told : IsTrue tells)
     (kept : IsTrue keeps) (replays : (m : M)
     → (state m).contents ≡ overlay (state m).start (state m).past)
@@ -746,7 +746,7 @@ module _ {M : Type 0} (tells keeps : Bool) (state : M → MediumState) (told : I
       inr (appended_run (subst (λ b. Ran tells keeps state b steps marks end old answer medium)
       is_append r))
 
--- what survives depends on the past and the last flush alone
+-- what survives depends only on the past and the last flush
 pub appended_over : (steps : List Step) (marks : List Bool) (before same : List ℕ)
     (a b : MediumState) → before ≡ same → a.start ≡ b.start → a.past ≡ b.past
     → a.flushed ≡ b.flushed → AppendedSurvives steps marks before a

@@ -1,4 +1,4 @@
--- Sessions one after the other: the file that they leave, and what they answer.
+-- Sessions one after the other: the file that they leave, and what they return.
 use Rattle.std.proofs.Common.{◌≡◌, ℕ, ◌+◌, ◌-◌, ◌/◌, ◌%◌, ◌<◌, ◌≤◌, max, Bool, true, false, IsTrue, Bor, List, [], ◌∷◌, ◌*◌, ◌⊎◌, ◌++◌, length, take, drop, replicate, Some, None, Result, Ok, Err, OnOk, IfErr, refl, sym, ◌∙◌, ap, subst, arith, inl, inr, length-drop, length-take, append_assoc, le-ltb, eqb, not, cond, nat_le}
 use Rattle.std.proofs.lemmas.List.{append-nil, take_all}
 use Rattle.std.specs.List.{concat}
@@ -54,7 +54,7 @@ no_io : (e : Error) (f : ℕ) → f < 18446744073709551615 → faults_told {T = 
 no_io (IoError e) f small same io = absurd (omega (arith, small, same))
 no_io e f small same io = io
 
--- a step that is an error accepts nothing: no sample is unfinished, and a flush asks for nothing
+-- a step that is an error accepts nothing: no sample is unfinished, and a flush needs nothing
 accepts_none : {M : Type 0} (memory : Bool) (asked : Result (List (List ℕ)) Refusal)
     (w : WriterState M) (e : Error) → AcceptAnswer {T = Unit {0}} memory asked w (Err e)
     → if_marked (mark_of {T = Unit {0}} (Err e)) asked ≡ []
@@ -84,7 +84,7 @@ error_accepts_none tells keeps state Flush e old new t = nothing (mark_of {T = U
     nothing true = refl
     nothing false = refl
 
--- a head of whole samples and frames can be appended to, where its size fits
+-- a head of whole samples and frames can be appended to, if its size fits
 no_head_fault : (s : WavSpecEx) (len h : ℕ) → IsWritable s → data_fault s len ≡ None
     → riff_size h len ≤ greatest_u32 → head_fault s len h ≡ None
 unfolding head_fault
@@ -106,7 +106,7 @@ no_head_fault s len h writable none fits =
     go false b e = cc
 
 -- Contents that are the canonical file of these containers in whole frames, which can be appended
--- to, behind which nothing stands but what did at the start; and no fault was met since then.
+-- to, followed only by what was there at the start; and no fault was met since then.
 pub record HoldsFile (s : WavSpecEx) (list : List (List ℕ)) (start : MediumState)
     (contents : List ℕ) (faults : ℕ) : Type 0 where
   writable : IsWritable s
@@ -120,7 +120,7 @@ pub record HoldsFile (s : WavSpecEx) (list : List (List ℕ)) (start : MediumSta
   none : faults ≡ start.faults
   reach : length contents ≤ max (length start.contents) (length (canonical s list))
 
--- What sessions lead to which asked for all of these steps, of which so many are behind: an Ok, and
+-- What sessions with all of these steps lead to, of which this many are done: an Ok, and
 -- the file of these; or an error, and the file of the first of all, unless the medium failed.
 pub record Led (s : WavSpecEx) (behind all : List Step) (start now : MediumState)
     (answer : Result (Unit {0}) Error) : Type 0 where
@@ -137,7 +137,7 @@ led_failed s behind all start now answer e is faults =
       stopped = λ (same, small). absurd (omega (arith, faults, same, small));
     })
 
--- what a session answers, or that it wasn't begun
+-- what a session returns, or that it wasn't begun
 abbrev pub Answers : WavSpecEx → List (List ℕ) → List Step → Result (Unit {0}) Error → Type 0
 Answers s list steps answer =
     ((e : Error) × (answer ≡ Err e) × IsIoError e) ⊎ AnswersSession s list 0 steps answer
@@ -255,8 +255,8 @@ module _ {M : Type 0} (tells keeps : Bool) (state : M → MediumState) (told : I
         );
       }
 
-  -- What steps lead to that were all Ok, as P, and what is answered then: both hold where they do
-  -- of the writer behind the last of them.
+  -- What steps lead to that were all Ok, as P, and what is returned then: both hold if they do
+  -- for the writer after the last of them.
   ok_then : (P : Type 0) (s : WavSpecEx) (list all : List (List ℕ)) (start : MediumState)
       (longest : ℕ) (steps then : List Step) (answer : Result (Unit {0}) Error) (cuts : List ℕ)
       (first last : WriterState M) → all ≡ list ++ containers_of s steps
@@ -288,7 +288,7 @@ module _ {M : Type 0} (tells keeps : Bool) (state : M → MediumState) (told : I
         ),
       )
 
-  -- what an end leaves where no call of the medium failed
+  -- what an end leaves if no call of the medium failed
   file_there : (s : WavSpecEx) (list : List (List ℕ)) (last : WriterState M) (medium : M)
       (answer : Result (Unit {0}) Error) → IsWhole state last → IsBegun state last
       → last.spec_ex ≡ s → accepted_samples state last ≡ list
@@ -398,7 +398,7 @@ module _ {M : Type 0} (tells keeps : Bool) (state : M → MediumState) (told : I
           some_none fault (sym is
           ∙ (λ i. head_fault (sym agree.0 i) (sym agree.1 i) (sym agree.2 i)) ∙ file.check)
 
-  -- one session, behind which there are others
+  -- one session, followed by others
   once : (begin : Begin) (s : WavSpecEx) (behind steps rest : List Step) (start : MediumState)
       (old : M) (answer : Result (Unit {0}) Error) (medium : M)
       → IsReady begin s (containers_of s behind) start old
@@ -683,7 +683,7 @@ module _ {M : Type 0} (tells keeps : Bool) (state : M → MediumState) (told : I
   no_fault s (session ∷ sessions) old (Ok x) medium place are =
       (all_done s (session ∷ sessions) old medium place are (omega arith)).none
 
--- over every medium, a spec that can't be written is told so, and nothing is done
+-- over every medium, the error for a spec that can't be written is returned, and nothing is done
 module _ {M : Type 0} (tells keeps : Bool) (state : M → MediumState) (s : WavSpecEx)
     (refused : IsWritable s → ⊥) where
   unwritable_once : (steps : List Step) (old : M) (answer : Result (Unit {0}) Error) (medium : M)
@@ -705,7 +705,7 @@ module _ {M : Type 0} (tells keeps : Bool) (state : M → MediumState) (s : WavS
   unwritable (session ∷ sessions) old answer medium (inr (mid, runs, rest)) some =
       let is = (unwritable_once session.now old (Ok tt) mid runs).0 in cc
 
--- what the answer of sessions tells
+-- what the result of sessions shows
 pub sessions_answered : {M : Type 0} (tells keeps : Bool) (state : M → MediumState)
     → (IsTrue tells → (m : M) → AreBytes (state m).contents) → (s : WavSpecEx)
     → (sessions : List (Bor (List Step))) (old : M) (answer : Result (Unit {0}) Error) (medium : M)

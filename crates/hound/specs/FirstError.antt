@@ -1,4 +1,4 @@
--- What sessions answer: the error of the first step or end that isn't Ok, by spec and steps.
+-- What sessions return: the error of the first step or end that isn't Ok, by spec and steps.
 use Rattle.std.specs.Prelude.{◌≡◌, ℕ, ◌<◌, ◌⊎◌, OnOk, max, nat_lt, Bool, true, false, List, [], ◌∷◌, ◌++◌, length, Result, Ok, Err}
 use Rattle.std.specs.Borrow.{Bor}
 use Rattle.std.specs.List.{concat}
@@ -14,7 +14,7 @@ use Rattle.hound.specs.declared.session.Step.{Step}
 use Rattle.hound.specs.declared.session.Step.TheVariants.{Whole, Bits, Batch, Flush}
 use Rattle.hound.specs.Steps.{accepted_by, containers_of, step_containers}
 
--- a writer of a file of this spec that has accepted these samples, as far as answers see it
+-- a writer of a file of this spec that has accepted these samples, as far as results depend on it
 abbrev pub writer_after : WavSpecEx → List (List ℕ) → WriterState (Unit {0})
 writer_after s list = record {
   medium = tt;
@@ -25,8 +25,8 @@ writer_after s list = record {
   buffer = [];
 }
 
--- What such a writer answers to a step, whose longest batch so far had so many values: memory may
--- be wanted for a longer one only.
+-- What such a writer returns for a step, whose longest batch so far had this many values: only a
+-- longer one may need memory.
 abbrev pub AnswersStep : WavSpecEx → List (List ℕ) → ℕ → Step → Result (Unit {0}) Error → Type 0
 AnswersStep s list longest (Whole value) answer =
     AcceptAnswer false (step_containers s (Whole value)) (writer_after s list) answer
@@ -44,8 +44,8 @@ longest_with longest (Bits bits) = longest
 longest_with longest (Batch values) = max longest (length values.now)
 longest_with longest Flush = longest
 
--- what a session answers whose writer has accepted these samples: the error of the first step that
--- isn't Ok, else what its end answers
+-- what a session returns whose writer has accepted these samples: the error of the first step that
+-- isn't Ok, else what its end returns
 abbrev pub AnswersSession : WavSpecEx → List (List ℕ) → ℕ → List Step → Result (Unit {0}) Error →
     Type 0
 AnswersSession s list longest [] answer = IsPublishing answer (writer_after s list)
@@ -54,7 +54,7 @@ AnswersSession s list longest (step ∷ steps) answer =
     ⊎ (AnswersStep s list longest step (Ok tt)
     × AnswersSession s (list ++ accepted_by s step true) (longest_with longest step) steps answer)
 
--- what sessions answer after a file of these samples: the error of the first that isn't Ok, which
+-- what sessions return after a file of these samples: the error of the first that isn't Ok, which
 -- is that of the session or an `IoError` before it began
 abbrev pub AnswersAll : WavSpecEx → List (List ℕ) → List (Bor (List Step)) →
     Result (Unit {0}) Error → Type 0
@@ -64,7 +64,7 @@ AnswersAll s list (session ∷ sessions) answer =
     ⊎ (AnswersSession s list 0 session.now (Ok tt)
     × AnswersAll s (list ++ containers_of s session.now) sessions answer)
 
--- What the answer of sessions tells: over every medium, that the spec can't be written; else the
+-- What the result of sessions shows: over every medium, that the spec can't be written; else the
 -- first error; and at an Ok, that no call of the medium failed.
 pub record IsAnswered {M : Type 0} (tells : Bool) (state : M → MediumState) (s : WavSpecEx)
     (sessions : List (Bor (List Step))) (old : M) (answer : Result (Unit {0}) Error)

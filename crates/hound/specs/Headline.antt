@@ -1,4 +1,4 @@
--- What a run of a writer promises, whatever failed: counted at each moment, published at a flush,
+-- What a run of a writer promises, whatever failed: counted in each state, published at a flush,
 -- canonical at the end.
 use Rattle.std.specs.Prelude.{◌≡◌, ℕ, suc, ◌+◌, ◌-◌, ◌/◌, ◌<◌, ◌≤◌, ⊤, Bool, true, false, List, ◌++◌, length, take, drop, slice_index_or, Result}
 use Rattle.std.specs.List.{concat}
@@ -26,13 +26,13 @@ use Rattle.hound.specs.Steps.{accepted_by_all, HoldsNoFlush}
 abbrev pub accepted_after : WavSpecEx → List (List ℕ) → List Step → List Bool → ℕ → List (List ℕ)
 accepted_after s found steps marks i = found ++ accepted_by_all s (take i steps) (take i marks)
 
--- the moment when i steps had returned; behind the last of these cut points the end of the past
+-- the length of the past when i steps had returned; after the last of these cut points its end
 abbrev pub cut_point : List ℕ → MediumState → ℕ → ℕ
 cut_point cuts medium i = slice_index_or cuts i (length medium.past)
 
--- After each byte put out, the length field counts no more than the accepted samples that the
--- medium holds, and reading then gives exactly the first ones it counts or refuses a length of no
--- whole frames: at each moment from the return of the first i steps to that of the next one, or to
+-- After each byte written, the length field counts no more than the accepted samples that the
+-- medium holds, and reading then gives exactly the first ones it counts or rejects a length of no
+-- whole frames: in each state from the return of the first i steps to that of the next one, or to
 -- the end, these are the samples that were accepted by then.
 abbrev pub CountedAtEach : WavSpecEx → ℕ → List (List ℕ) → List Step → List Bool → List ℕ →
     MediumState → Type 0
@@ -52,9 +52,9 @@ PublishedByFlushes s start found steps marks cuts medium = (i m k : ℕ) → i <
     field (start - 4) (moment medium.start medium.past k)
     ≡ length (concat (accepted_after s found steps marks i))
 
--- No put of the field at p is cut in the state after k bytes: in n calls that begin at these cut
--- points and in the one after them, each byte put at p before k was followed by three more, within
--- the same call and before k.
+-- No write of the field at p is cut in the state after k bytes: in n calls that begin at these cut
+-- points and in the one after them, each byte written at p before k was followed by three more,
+-- within the same call and before k.
 abbrev pub IsUncut : ℕ → ℕ → List ℕ → MediumState → ℕ → Type 0
 IsUncut p n cuts medium k = (j i : ℕ) → j ≤ n → cut_point cuts medium j ≤ i →
     i < cut_point cuts medium (suc j) → i < k → place_of medium.past i ≡ p →
@@ -62,7 +62,7 @@ IsUncut p n cuts medium k = (j i : ℕ) → j ≤ n → cut_point cuts medium j 
 
 -- What a flush has published is never undercut: from the return of a flush with a mark to the end of
 -- the run, the length field counts at least the samples that were accepted before the flush, at each
--- state in which no put of it since then is cut.
+-- state in which no write of it since then is cut.
 abbrev pub NeverLess : WavSpecEx → ℕ → List (List ℕ) → List Step → List Bool → List ℕ →
     MediumState → Type 0
 NeverLess s start found steps marks cuts medium = (i k : ℕ) → i < length steps →
@@ -78,9 +78,9 @@ FlushedByFlushes steps marks cuts medium = (i : ℕ) → i < length steps →
     slice_index_or steps i Flush ≡ Flush → slice_index_or marks i false ≡ true →
     cut_point (drop (suc i) cuts) medium 0 ≤ medium.flushed
 
--- What is stored of the accepted samples stays stored: from the return of the first i steps on, each
--- part of the samples that were accepted by then that is stored at its place at a moment is stored
--- there at each later one, to the end.
+-- What is stored of the accepted samples stays stored: from the return of the first i steps on,
+-- each part of the samples accepted by then that is stored at its place in a state is stored there
+-- in each later one, to the end.
 abbrev pub StoredAtEach : WavSpecEx → ℕ → List (List ℕ) → List Step → List Bool → List ℕ →
     MediumState → Type 0
 StoredAtEach s start found steps marks cuts medium = (i a len k m : ℕ) → i ≤ length steps →
@@ -91,11 +91,11 @@ StoredAtEach s start found steps marks cuts medium = (i a len k m : ℕ) → i �
     IsStored start (concat (accepted_after s found steps marks i)) a len
     (moment medium.start medium.past m)
 
--- A loss of power leaves a file that counts. Of a medium that was flushed when f bytes had been put,
--- the header among them, and that then put bytes at ascending places alone, a loss after k bytes may
--- leave any mixture of sectors (`SurvivesLoss`). Where the length field lies within one sector, it
+-- A loss of power leaves a file that counts. If a medium was flushed when f bytes had been written,
+-- the header among them, and then wrote bytes only at ascending places, a loss after k bytes may
+-- leave any mixture of sectors (`SurvivesLoss`). If the length field is within one sector, it
 -- counts no more than the samples accepted by then that these contents hold, and reading gives
--- exactly the first ones it counts or refuses a length of no whole frames; and it is the length
+-- exactly the first ones it counts or rejects a length of no whole frames; and it is the length
 -- field of a state from f to k.
 abbrev pub CountedAfterLoss : WavSpecEx → ℕ → List (List ℕ) → List Step → List Bool → List ℕ →
     MediumState → Type 0
@@ -111,7 +111,7 @@ CountedAfterLoss s start found steps marks cuts medium =
     ≡ field (start - 4) (moment medium.start medium.past j)))
 
 -- These contents, which a loss of power left, have lost no published sample: their length field is
--- that of a state since the medium was last flushed, and where no put of it is cut in that state, it
+-- that of a state since the medium was last flushed, and if no write of it is cut in that state, it
 -- counts at least the samples that were accepted before each flush with a mark.
 abbrev pub LosesNothing : WavSpecEx → ℕ → List (List ℕ) → List Step → List Bool → List ℕ →
     MediumState → List ℕ → Type 0
@@ -123,8 +123,8 @@ LosesNothing s start found steps marks cuts medium contents =
     IsUncut (start - 4) (length (drop (suc i) steps)) (drop (suc i) cuts) medium k →
     length (concat (accepted_after s found steps marks i)) ≤ field (start - 4) contents)
 
--- So it is of a medium that has put bytes at ascending places alone since it was last flushed, the
--- header before that, where the power is lost at the end of the run. A run that ends in calls that
+-- The same for a medium that has written bytes only at ascending places since it was last flushed,
+-- the header before that, if the power is lost at the end of the run. A run that ends in calls that
 -- all fail is one that lost its power there.
 abbrev pub KeptAfterLoss : WavSpecEx → ℕ → List (List ℕ) → List Step → List Bool → List ℕ →
     MediumState → Type 0
@@ -136,8 +136,8 @@ KeptAfterLoss s start found steps marks cuts medium =
     SurvivesLoss sector medium.start medium.past medium.flushed (length medium.past) contents →
     LosesNothing s start found steps marks cuts medium contents
 
--- What a loss of power at the end of a run leaves of a file that it appended to, whose data were all
--- there, counts, and has lost no published sample.
+-- What a loss of power at the end of a run leaves of a file that it appended to, whose data were
+-- complete, counts, and has lost no published sample.
 pub record AppendedSurvives (steps : List Step) (marks : List Bool) (before : List ℕ)
     (medium : MediumState) : Type 0 where
   pub spec_ex : WavSpecEx
@@ -154,7 +154,7 @@ pub record AppendedSurvives (steps : List Step) (marks : List Bool) (before : Li
       Counts spec_ex start (found ++ accepted_by_all spec_ex steps marks) contents
       × LosesNothing spec_ex start found steps marks cuts medium contents
 
--- P, where all was published at the end of a run, as its answer tells
+-- P, if all was published at the end of a run, by its result
 abbrev pub OnFinalized : End → Result (Unit {0}) Error → Type 0 → Type 0
 OnFinalized Finalize answer P = OnPublished answer P
 OnFinalized Drop answer P = ⊤

@@ -1,6 +1,6 @@
 -- The modules of definitions of all crates, each under its own name: a crate over this one imports
--- their words as `Rattle.hound.specs.MODULE`. Behind those of a crate stand the types of its code
--- that clauses name and that the root of this crate doesn't give; those that it gives are
+-- their words as `Rattle.hound.specs.MODULE`. After those of a crate come the types of its code
+-- that clauses name and that the root of this crate doesn't export; those that it exports are
 -- `Rattle.hound.specs.declared.TYPE`. The file is made by `modules.sh`.
 pub use Rattle.hound_number.specs.Ending
 pub use Rattle.hound_number.specs.Input

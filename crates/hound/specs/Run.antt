@@ -21,8 +21,8 @@ use Rattle.hound.specs.declared.session.End.TheVariants.{Finalize, Drop}
 use Rattle.hound.specs.Headline.{CanonicalAtEnd, CountedAfterLoss, CountedAtEach, FlushedByFlushes, KeptAfterLoss, NeverLess, PublishedByFlushes, StoredAtEach}
 use Rattle.hound.specs.Steps.{OnBatched, accepted_by_all, step_containers, wants_memory}
 
--- What a step does to its writer, by its answer: a flush publishes, and any other step is asked to
--- accept its containers; the memory that a batch had is kept, also where the medium then failed.
+-- What a step does to its writer, by its result: a flush publishes, and any other step accepts its
+-- containers or not; the memory that a batch had is reused, also if the medium then failed.
 abbrev pub Takes : {M : Type 0} → Bool → Bool → (M → MediumState) → Step → Result (Unit {0}) Error →
     WriterState M → WriterState M → Type 0
 Takes tells keeps state (Whole value) answer old new =
@@ -35,7 +35,7 @@ Takes tells keeps state (Batch values) answer old new =
     × OnBatched answer (2 * length values.now ≤ length new.buffer)
 Takes tells keeps state Flush answer old new = Checkpoints tells keeps state answer old new
 
--- Steps in their order, each from where the one before it left off, with their answers. The cut
+-- Steps in their order, each from where the one before it ended, with their results. The cut
 -- points are the lengths of the medium's past before each step and after the last.
 abbrev pub Runs : {M : Type 0} → Bool → Bool → (M → MediumState) → List Step →
     List (Result (Unit {0}) Error) → List ℕ → WriterState M → WriterState M → Type 0
@@ -47,7 +47,7 @@ Runs {M} tells keeps state (step ∷ steps) (answer ∷ answers) (cut ∷ cuts) 
     × Runs tells keeps state steps answers cuts mid new
 Runs tells keeps state _ _ _ old new = ⊥
 
--- how a run begins: with a new file, or after the data of the one that is there
+-- how a run begins: with a new file, or after the data of the existing one
 abbrev pub Begins : {M : Type 0} → Bool → Bool → (M → MediumState) → Begin → M → WriterState M →
     Type 0
 Begins tells keeps state (New spec_ex) medium w =
@@ -62,7 +62,7 @@ IsNotBegun tells keeps state (New spec_ex) medium back e =
 IsNotBegun tells keeps state Append medium back e =
     WhereTells tells (IsNotAppended (state medium) (state back) e)
 
--- how a run ends: its answer is that of `finalize_into`, or Ok at a drop, which publishes too
+-- how a run ends: its result is that of `finalize_into`, or Ok at a drop, which publishes too
 abbrev pub Ends : {M : Type 0} → Bool → Bool → (M → MediumState) → End → WriterState M →
     Result (Unit {0}) Error → M → Type 0
 Ends tells keeps state Finalize last answer medium = Finishes tells keeps state last answer medium
@@ -70,8 +70,8 @@ Ends tells keeps state Drop last answer medium =
     (answer ≡ Ok tt) × (dropped : Result (Unit {0}) Error)
     × Finishes tells keeps state last dropped medium
 
--- no call of the medium failed between these; at the greatest count of faults one more can't be
--- told
+-- no call of the medium failed between these; past the largest count of faults one more isn't
+-- visible
 abbrev pub NoFault : MediumState → MediumState → Type 0
 NoFault old new = (new.faults ≡ old.faults) × (old.faults < 18446744073709551615)
 
@@ -98,7 +98,7 @@ pub record Leaves {M : Type 0} (state : M → MediumState) (steps : List Step) (
       StartsWith (state medium).contents file
       × (length (state medium).contents ≤ max (length (state first.medium).contents) (length file))
 
--- The same at each moment from the constructor's Ok to the end.
+-- The same in each state from the constructor's Ok to the end.
 pub record LeavesAtEach {M : Type 0} (state : M → MediumState) (steps : List Step)
     (marks : List Bool) (cuts : List ℕ)
     (first : WriterState M) (medium : M) : Type 0 where

@@ -36,7 +36,7 @@ pub record StopsIn {M : Type 0} (tells keeps : Bool) (state : M → MediumState)
   pub runs : RunsOk tells keeps state before old last
   pub takes : Takes tells keeps state step (Err e) last new
 
--- a session whose steps were all Ok, and which was finalized with this answer
+-- a session whose steps were all Ok, and which was finalized with this result
 pub record IsFinished {M : Type 0} (tells keeps : Bool) (state : M → MediumState) (begin : Begin)
     (steps : List Step)
     (old : M) (answer : Result (Unit {0}) Error) (medium : M) : Type 0 where
@@ -46,7 +46,7 @@ pub record IsFinished {M : Type 0} (tells keeps : Bool) (state : M → MediumSta
   pub runs : RunsOk tells keeps state steps first last
   pub ends : Finishes tells keeps state last answer medium
 
--- a session that stopped in a step, whose error is the answer, and whose writer was dropped
+-- a session that stopped in a step, whose error is the result, and whose writer was dropped
 pub record IsStopped {M : Type 0} (tells keeps : Bool) (state : M → MediumState) (begin : Begin)
     (steps : List Step)
     (old : M) (answer : Result (Unit {0}) Error) (medium : M) : Type 0 where
@@ -67,8 +67,7 @@ RunsOnce tells keeps state begin steps old answer medium =
     ⊎ (IsStopped tells keeps state begin steps old answer medium
     ⊎ IsFinished tells keeps state begin steps old answer medium)
 
--- one more session: the medium goes to its beginning, and the session appends to the file that is
--- there
+-- one more session: the medium goes to its beginning, and the session appends to the file
 abbrev pub RunsAgain : {M : Type 0} → Bool → Bool → (M → MediumState) → List Step → M →
     Result (Unit {0}) Error → M → Type 0
 RunsAgain {M} tells keeps state steps old answer medium =
@@ -78,8 +77,8 @@ RunsAgain {M} tells keeps state steps old answer medium =
     × WhereTells tells (Goes {T = Unit {0}} {E = IoFault} 0 (Ok tt) (state old) (state mid))
     × RunsOnce tells keeps state Append steps mid answer medium)
 
--- further sessions, each of which was Ok but perhaps the last one that was run, whose answer is
--- told
+-- further sessions, each of which was Ok except perhaps the last one that was run, whose result is
+-- returned
 abbrev pub RunsOn : {M : Type 0} → Bool → Bool → (M → MediumState) → List (Bor (List Step)) → M →
     Result (Unit {0}) Error → M → Type 0
 RunsOn tells keeps state [] old answer medium = (answer ≡ Ok tt) × (medium ≡ old)
@@ -88,8 +87,8 @@ RunsOn {M} tells keeps state (session ∷ sessions) old answer medium =
     ⊎ ((mid : M) × RunsAgain tells keeps state session.now old (Ok tt) mid
     × RunsOn tells keeps state sessions mid answer medium)
 
--- what `run_sessions` does: nothing where there are no sessions; else the first begins a file, and
--- the others go on with it
+-- what `run_sessions` does: nothing if there are no sessions; else the first begins a file, and
+-- the others append to it
 abbrev pub AreSessions : {M : Type 0} → Bool → Bool → (M → MediumState) → WavSpecEx →
     List (Bor (List Step)) → M → Result (Unit {0}) Error → M → Type 0
 AreSessions tells keeps state s [] old answer medium = (answer ≡ Ok tt) × (medium ≡ old)

@@ -1,4 +1,4 @@
--- The steps of a session, and what each asks a writer to accept.
+-- The steps of a session, and the containers of each.
 use Rattle.std.specs.Prelude.{ℕ, ℤ, ◌*◌, ◌&&◌, ◌==◌, ⊤, nat_lt, Bool, true, false, if◌then◌else◌, List, [], ◌∷◌, ◌++◌, length, map, Result, Ok, Err}
 use Rattle.hound_number.specs.Number.{signed_bytes_of}
 use Rattle.hound_spec.specs.declared.error.Error.{Error}
@@ -26,17 +26,17 @@ abbrev pub batch_containers : WavSpecEx → List ℤ → Result (List (List ℕ)
 batch_containers s values =
     if is_sixteen s.spec then Ok (map (signed_bytes_of 2) values) else Err unsupported
 
--- whether a batch of these values wants more memory than the writer keeps, two bytes for each
+-- whether a batch of these values needs more memory than the writer has, two bytes for each
 abbrev pub wants_memory : {M : Type 0} → List ℤ → WriterState M → Bool
 wants_memory values w = nat_lt (length w.buffer) (2 * length values)
 
--- P of a batch that had its memory: for an Ok and for an `IoError`
+-- P for a batch that had its memory: for an Ok and for an `IoError`
 abbrev pub OnBatched : {T : Type 0} → Result T Error → Type 0 → Type 0
 OnBatched (Ok x) P = P
 OnBatched (Err (IoError e)) P = P
 OnBatched (Err _) P = ⊤
 
--- the containers that a step asks to be accepted, one for each value of a batch, or why it has none
+-- the containers of a step, one for each value of a batch, or why it has none
 abbrev pub step_containers : WavSpecEx → Step → Result (List (List ℕ)) Refusal
 step_containers s (Whole value) =
     one (int_container value s.spec.bits_per_sample s.bytes_per_sample)

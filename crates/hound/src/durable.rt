@@ -19,17 +19,17 @@ use hound_medium::{Medium, Source};
 use hound_spec::Result;
 use std::alloc::Global;
 
-/// Runs a session as [`run_session`] does, over the medium within a [`Durable`], and hands the
+/// Runs a session as [`run_session`] does, over the medium within a [`Durable`], and returns the
 /// medium back.
 ///
 /// A new file on an empty medium that loses power after its header was flushed, which the first
-/// `Flush` does, counts no more than what it holds: whatever sectors keep what was put since the
-/// last flush that was Ok, reading gives exactly the first samples that its length counts, or
-/// refuses a length of no whole frames. A machine that loses power is a medium each of whose calls
-/// fails from then on, so this is said of the medium as the run left it, whatever failed. Sizes are
-/// in bytes; a sector has to hold the four bytes of the length, as one of 128 bytes or more does.
+/// `Flush` does, counts no more than what it holds: whatever sectors keep what was written since
+/// the last Ok flush, reading gives exactly the first samples that its length counts, or
+/// rejects a length of no whole frames. A machine that loses power is a medium whose calls all
+/// fail from then on, so this holds for the medium as the run left it, whatever failed. Sizes are
+/// in bytes; a sector must hold the four bytes of the length, as one of 128 bytes or more does.
 ///
-/// The medium is new: its place is 0, and nothing has been written to it yet.
+/// The medium must be new: its place is 0, and nothing has been written to it yet.
 pub fn run_durable_session<M: Source + Medium>(
     alloc: Global,
     medium: M,
@@ -49,7 +49,7 @@ pub fn run_durable_session<M: Source + Medium>(
         → end ≡ Finalize →
         OnOk result.1 (StartsWith (M.state result.0).contents (canonical spec_ex (accepted_by_all spec_ex steps.now marks.new)))) }
 
-    // Of a new file whose header was flushed, whatever a loss of power leaves counts.
+    // For a new file whose header was flushed, whatever a loss of power leaves counts.
     ensures after_loss { WhereKeeps M.tells M.keeps ((spec_ex : WavSpecEx) → begin ≡ New spec_ex
         → (M.state medium).contents ≡ []
         → data_start spec_ex ≤ (M.state result.0).flushed → (sector : ℕ) → 1 ≤ sector
@@ -74,7 +74,7 @@ pub fn run_durable_session<M: Source + Medium>(
         SurvivesLoss sector s.start s.past s.flushed (length s.past) contents) →
         LosesNothing spec_ex (data_start spec_ex) [] steps.now marks.new cuts (M.state result.0) contents)) }
 
-    // The same of a file that was appended to, where a byte was written at all.
+    // The same for a file that was appended to, if a byte was written at all.
     ensures appended { WhereKeeps M.tells M.keeps (begin ≡ Append
         → ((M.state result.0).past ≡ [])
         ⊎ AppendedSurvives steps.now marks.new (M.state medium).contents (M.state result.0)) }

@@ -1,4 +1,4 @@
-// What holds of every run.
+// What holds for every run.
 ghost use Rattle.std.specs.Prelude.{◌≡◌, ◌<◌, ◌≤◌, ℕ, List, [], Ok, Result, length, map};
 ghost use Rattle.hound_spec.specs.declared.error.Error.{Error};
 ghost use Rattle.hound_spec.specs.Header.{canonical};
@@ -18,8 +18,8 @@ use hound_spec::WavSpecEx;
 
 /// A batch accepts what its values do one by one: the same samples, and the same count of them.
 ///
-/// It is said of a medium that tells, from one writer whose accepted samples are there, where the
-/// batch and each step answered Ok.
+/// It holds over a medium whose bytes are known, from one writer whose accepted samples are there,
+/// if the batch and each step returned Ok.
 pub fn a_batch_is_its_values<M: Medium>(values: &[i16])
     ensures { WhereTells M.tells ((a b c : WriterState M) → 4 ≤ a.data_start → IsWhole M.state a →
         Takes M.tells M.keeps M.state (Batch values.entry) (Ok tt) a b → RunsOk M.tells M.keeps M.state (map (λ v. Whole v) values.now) a c →
@@ -28,8 +28,8 @@ pub fn a_batch_is_its_values<M: Medium>(values: &[i16])
 
 /// Calls that are made one by one leave what a run leaves: a constructor that is Ok, steps, and an
 /// end.
-///
-/// So what [`run_session`](crate::run_session) says of each intermediate state, of checkpoints and
+/// So what [`run_session`](crate::run_session) promises of each intermediate state, of checkpoints
+/// and of a loss of power holds for these calls too, over every medium.
 /// of a loss of power holds of these calls too, over every medium.
 pub fn calls_are_a_run<M: Medium>(steps: &[Step])
     ensures { (begin : Begin) (end : End) (old medium : M) (first last : WriterState M)
@@ -42,8 +42,8 @@ pub fn calls_are_a_run<M: Medium>(steps: &[Step])
 
 /// Sessions that were all Ok leave the file of one session of all their steps.
 ///
-/// It is said of an empty medium that tells, whichever calls made them: `run_sessions`, or for each
-/// session a constructor, steps and `finalize_into`.
+/// It holds for an empty medium whose bytes are known, whichever calls made them: `run_sessions`,
+/// or for each session a constructor, steps and `finalize_into`.
 pub fn sessions_leave_one_file<'a, M: Medium>(spec_ex: WavSpecEx, sessions: &'a [&'a [Step<'a>]])
     ensures { WhereTells M.tells ((old new : M) → (M.state old).place ≡ 0
         → (M.state old).contents ≡ [] → 0 < length sessions.now

@@ -1,23 +1,23 @@
 //! WAV audio, written and read: a port of the crate `hound` with every function proved.
 //!
 //! Reads PCMWAVEFORMAT, WAVEFORMATEX and WAVEFORMATEXTENSIBLE; writes the first and the third.
-//! Integers have 8, 16, 24 (in three bytes or in four) or 32 bits, floats 32, which are kept as
+//! Integers have 8, 16, 24 (in three bytes or in four) or 32 bits, floats 32, which stay as
 //! their patterns; there are up to 65535 channels. Places and sizes count bytes, a sample is of one
 //! channel, and a frame has a sample of each.
 //!
-//! To write a file: [`WavWriter`] (`create` on disk, `create_durable` where each `flush` has to
-//! wait for the disk, `new` into any [`Medium`], `append` and `new_append` to append to one),
+//! To write a file: [`WavWriter`] (`create` on disk, `create_durable` if each `flush` has to
+//! sync, `new` into any [`Medium`], `append` and `new_append` to append to one),
 //! `write_sample`, `write_samples` of a slice or a batch of `get_i16_writer`, `flush` for a
 //! checkpoint, and `finalize`. A whole run as one call: [`run_session`], [`run_sessions`],
 //! [`run_durable_session`].
 //!
 //! To read one: [`WavReader`] (`open`, or `new` over any reader), `samples` or `into_samples`,
-//! `read_samples` for many at once, `seek`; [`read_wave_header`] for the first twelve bytes alone.
+//! `read_samples` for many at once, `seek`; [`read_wave_header`] for only the first twelve bytes.
 //!
 //! To mend a file whose recording was cut off: [`repair_file`], or [`repair`] in any medium;
 //! [`find_damage_in_file`] and [`find_damage`] only look.
 //!
-//! A recorder that has to know which samples came through gives a whole run as one call:
+//! A recorder that needs to know which samples were accepted calls a whole run at once:
 //!
 //! ```
 //! use hound::{Begin, End, Step, Tape, run_session, run_sessions};
@@ -39,10 +39,10 @@
 //! }
 //! ```
 //!
-//! Where `SPEC` is mono, with 16 bits in two bytes, the marks are true, false, true and true, since
+//! If `SPEC` is mono, with 16 bits in two bytes, the marks are true, false, true and true, since
 //! 40000 is too wide, and the bytes are the file of 2, 5 and -7.
 //!
-//! A converter that has no use for half of a file takes [`run_sessions`], which ends at the first
+//! A converter that has no use for half of a file calls [`run_sessions`], which ends at the first
 //! error:
 //!
 //! ```
@@ -55,19 +55,19 @@
 //! ```
 //!
 //! The steps 2 and a batch of 5 and -7 give the file of 2, 5, -7, 2, 5 and -7; with 40000 among
-//! them the answer is `TooWide`.
+//! them the result is `TooWide`.
 //!
 //! What a file is: [`WavSpec`], [`WavSpecEx`], [`SampleFormat`]; what a sample is: [`Sample`], for
 //! `i8`, `i16`, `i32`, [`FloatBits`] and types of your own; why a call failed: [`Error`]. What
 //! takes memory takes an `alloc`, which is `rt.alloc()`, and what opens a file takes `rt`, which
-//! `main` is given.
+//! `main` gets.
 //!
-//! Memory to write into and to read from: [`Tape`]; the same with each moment of its past, and
-//! faults where a test asks for them: [`Journal`]. The traits that these and files have:
+//! Memory to write into and to read from: [`Tape`]; the same with every byte written recorded, and
+//! faults on request: [`Journal`]. The traits that these and files have:
 //! [`Placed`], [`Source`], [`Medium`].
 //!
 //! The functions without a body are laws: a call of one costs nothing, and what it ensures is known
-//! behind it.
+//! after it.
 #![tactic(auto)]
 
 mod durable;

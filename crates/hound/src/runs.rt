@@ -31,7 +31,7 @@ fn is_marked(answer: &Result<()>) -> bool
     }
 }
 
-// Begins a new file, or appends to the one that is there.
+// Begins a new file, or appends to the existing one.
 pub(crate) fn begin_writer<M: Source + Medium>(
     medium: M,
     begin: Begin,
@@ -46,7 +46,7 @@ pub(crate) fn begin_writer<M: Source + Medium>(
     }
 }
 
-// Takes all steps, whatever earlier ones answered, and marks them.
+// Takes all steps, whatever earlier ones returned, and marks them.
 fn take_steps<M: Medium>(
     alloc: Global,
     writer: &mut WavWriter<M>,
@@ -69,7 +69,7 @@ fn take_steps<M: Medium>(
     }
 }
 
-// Ends a run, and hands the medium back.
+// Ends a run, and returns the medium.
 fn end_writer<M: Medium>(writer: WavWriter<M>, end: End) -> (M, Result<()>)
     ensures { Ends M.tells M.keeps M.state end writer result.1 result.0 }
 {
@@ -79,15 +79,15 @@ fn end_writer<M: Medium>(writer: WavWriter<M>, end: End) -> (M, Result<()>)
     }
 }
 
-/// Runs a whole session of a writer, and hands the medium back.
+/// Runs a whole session of a writer, and returns the medium.
 ///
-/// It begins a file or appends to one, takes every step whatever earlier ones answered, and ends. A
-/// mark is true where a sample or a whole batch was accepted, or a flush published all that was,
-/// with an unfinished frame too. The answer is that of the constructor, where it refuses, and all
+/// It begins a file or appends to one, takes every step whatever earlier ones returned, and ends. A
+/// mark is true if a sample or a whole batch was accepted, or a flush published all that was,
+/// with an unfinished frame too. The result is that of the constructor, if it is an error, and all
 /// marks are false; else that of `finalize_into`, or Ok at a drop.
 ///
-/// There are as many marks as steps, which may hold anything before, and the medium stands at 0, as
-/// each new one does; `go(0)` leads there. `alloc` is for batches, two bytes a sample, and a batch
+/// There must be as many marks as steps, with any values before, and the medium must be at 0, as
+/// each new one is; `go(0)` leads there. `alloc` is for batches, two bytes a sample, and a batch
 /// that finds no memory has a false mark.
 pub fn run_session<M: Source + Medium>(
     alloc: Global,
@@ -113,7 +113,7 @@ pub fn run_session<M: Source + Medium>(
         → end ≡ Finalize →
         OnOk result.1 (StartsWith (M.state result.0).contents (canonical spec_ex (accepted_by_all spec_ex steps.now marks.new)))) }
 
-    // Where the medium was empty and no call of it failed, it is exactly that, also at a drop.
+    // If the medium was empty and no call of it failed, it is exactly that, also at a drop.
     ensures exact { WhereTells M.tells ((spec_ex : WavSpecEx) → begin ≡ New spec_ex
         → IsWritable spec_ex → (M.state medium).contents ≡ [] → NoFault (M.state medium) (M.state
         result.0) →

@@ -9,16 +9,16 @@ pub enum Step<'a> {
     /// is `TooWide`.
     Whole(i32),
 
-    /// Writes a float by its bits, by `write_sample`. Where samples haven't 32 bits in four bytes,
+    /// Writes a float by its bits, by `write_sample`. If samples haven't 32 bits in four bytes,
     /// it is `Unsupported`.
     Bits(FloatBits),
 
     /// Writes a batch of samples of sixteen bits, all of them or none: by `get_i16_writer` and its
-    /// `flush`. A writer of other samples is asked nothing, and the step is `Unsupported`.
+    /// `flush`. For a writer of other samples nothing is called, and the step is `Unsupported`.
     Batch(&'a [i16]),
 
     /// Publishes what was accepted, by `flush`. An unfinished frame is published too, and the
-    /// answer is `UnfinishedSample`.
+    /// result is `UnfinishedSample`.
     Flush,
 }
 
@@ -29,15 +29,15 @@ pub enum Begin {
     /// and the medium stays as it was.
     New(WavSpecEx),
 
-    /// Behind the data of the file that is there, by `try_append`, which reads its header first and
-    /// refuses what it can't append to.
+    /// After the data of the existing file, by `try_append`, which reads its header first and
+    /// returns an error for what it can't append to.
     Append,
 }
 
 /// How a session ends.
 #[derive(Clone, Copy)]
 pub enum End {
-    /// By `finalize_into`, whose answer is told: `UnfinishedSample` where the last frame lacks
+    /// By `finalize_into`, whose result is returned: `UnfinishedSample` if the last frame lacks
     /// samples, which are in the file all the same.
     Finalize,
 

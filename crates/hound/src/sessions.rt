@@ -17,7 +17,7 @@ use hound_spec::{Error, Result, WavSpecEx};
 use hound_writer::WavWriter;
 use std::alloc::Global;
 
-// Takes steps up to the first that answers an error.
+// Takes steps up to the first that returns an error.
 fn take_until_error<M: Medium>(
     alloc: Global,
     writer: &mut WavWriter<M>,
@@ -42,7 +42,7 @@ fn take_until_error<M: Medium>(
     Ok(())
 }
 
-// Runs a session up to the first error, and hands the medium back.
+// Runs a session up to the first error, and returns the medium.
 fn run_until_error<M: Source + Medium>(
     alloc: Global,
     medium: M,
@@ -95,13 +95,13 @@ fn append_sessions<M: Source + Medium>(
 /// Runs sessions over one medium: the first begins a file of this spec, each further one appends
 /// to it, and each is finalized.
 ///
-/// It ends at the first error of any call, which it answers: `Unsupported`, for a spec that can't
-/// be written or a batch for samples of other than sixteen bits; a refusal of a sample or a batch;
+/// It returns the first error of any call and ends there: `Unsupported`, for a spec that can't
+/// be written or a batch for samples of other than sixteen bits; an error of a sample or a batch;
 /// an `UnfinishedSample` of a flush or an end; or an `IoError` of the medium. What was accepted
-/// before is published then, unless the medium failed. No sessions: nothing is done.
+/// before is published then, unless the medium failed. Without sessions nothing is done.
 ///
-/// The medium is handed back. It stands at 0 before, as each new one does; `go(0)` leads there.
-/// Steps that borrow their batches go to a function that takes `&[Step]`, and gives these as
+/// The medium is returned. It must be at 0 before, as each new one is; `go(0)` leads there.
+/// If steps borrow their batches, call it from a function that takes `&[Step]`, and pass these as
 /// `&[&steps[..]]`.
 pub fn run_sessions<'a, M: Source + Medium>(
     alloc: Global,
@@ -122,7 +122,7 @@ pub fn run_sessions<'a, M: Source + Medium>(
     ensures exact { WhereTells M.tells (0 < length sessions.now → (M.state medium).contents ≡ [] →
         OnOk result.1 ((M.state result.0).contents ≡ canonical spec_ex (containers_of spec_ex (all_steps sessions.now)))) }
 
-    // Where no call of the medium failed, an error is that of a step or an end, and those before it
+    // If no call of the medium failed, an error is that of a step or an end, and those before it
     // are there.
     ensures stops { WhereTells M.tells (IsWritable spec_ex
         → NoFault (M.state medium) (M.state result.0) →

@@ -9,7 +9,7 @@ use std::alloc::Global;
 /// How many samples a batch has.
 const BATCH: u32 = 1024;
 
-// Writes as many samples by one batch, from a number on.
+// Writes this many samples by one batch, from a number on.
 fn write_batch<W: Medium>(
     writer: &mut WavWriter<W>,
     alloc: Global,
@@ -28,7 +28,7 @@ fn write_batch<W: Medium>(
     batch.flush()
 }
 
-/// Writes so many samples of sixteen bits in batches of 1024, and closes the file.
+/// Writes this many samples of sixteen bits in batches of 1024, and closes the file.
 pub fn write_batches<W: Medium>(writer: WavWriter<W>, alloc: Global, count: u32) -> Result<()>
     requires { IsSixteen writer.spec_ex }
 {

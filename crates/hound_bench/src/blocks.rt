@@ -8,7 +8,7 @@ use std::path::Path;
 use std::time::Instant;
 use std::{fs, io};
 
-/// Reads so many samples by blocks.
+/// Reads this many samples by blocks.
 pub fn read(rt: &HostRuntime, blocks: Blocks, count: u32, path: Path<'_>) -> Result<Measured> {
     match blocks.kind {
         Kind::Eight => read_pattern::<Eight>(rt, blocks, count, path),
@@ -19,7 +19,7 @@ pub fn read(rt: &HostRuntime, blocks: Blocks, count: u32, path: Path<'_>) -> Res
     }
 }
 
-/// Writes so many samples by blocks, which are made before.
+/// Writes this many samples by blocks, which are made before.
 pub fn write(rt: &HostRuntime, blocks: Blocks, count: u32, path: Path<'_>) -> Result<Measured> {
     match blocks.kind {
         Kind::Eight => write_pattern::<Eight>(rt, blocks, count, path),
@@ -30,7 +30,7 @@ pub fn write(rt: &HostRuntime, blocks: Blocks, count: u32, path: Path<'_>) -> Re
     }
 }
 
-// So many samples, by their numbers.
+// This many samples, by their numbers.
 fn samples_of<P: Pattern>(alloc: Global, count: u32) -> Result<Vec<P::Sample>> {
     let mut samples = Vec::with_capacity(alloc, count as usize).map_err(|_| Error::OutOfMemory)?;
     for index in 0..count {
@@ -117,7 +117,7 @@ fn write_pattern<P: Pattern>(
     }
 }
 
-// Writes samples by blocks of so many, and closes the file.
+// Writes samples by blocks of this many, and closes the file.
 fn write_blocks<S: Summed, W: Medium>(
     writer: WavWriter<W>,
     samples: &[S],

@@ -57,7 +57,7 @@ pub struct Blocks {
     pub place: Place,
 }
 
-/// A workload, over as many samples as it is asked for, of all channels together.
+/// A workload, over the requested number of samples, of all channels together.
 #[derive(Clone, Copy)]
 pub enum Case {
     /// A file in memory of its full size, written a sample at a time.
@@ -71,7 +71,7 @@ pub enum Case {
     /// A file on disk, written in batches.
     BatchFile,
     /// A file in memory of its full size, written by a session with a step for each sample. Further
-    /// sessions write it anew until there were as many samples.
+    /// sessions write it anew until all samples are written.
     SessionMemory,
     /// The samples of a file in memory.
     ReadMemory(Kind),
@@ -81,8 +81,8 @@ pub enum Case {
     ReadBlocks(Blocks),
     /// A file that is written by blocks. One in memory has its full size.
     WriteBlocks(Blocks),
-    /// As many seeks in a file in memory, to each thousandth frame in turn, with a sample read
-    /// there.
+    /// The requested number of seeks in a file in memory, to each thousandth frame in turn, with a
+    /// sample read there.
     SeekMemory,
     /// The same in a file on disk.
     SeekFile,
@@ -90,11 +90,11 @@ pub enum Case {
     FlushMemory,
     /// A file on disk, published again and again while it is written.
     FlushFile,
-    /// The same, with a file that waits for the disk.
+    /// The same, with a file that syncs at each flush.
     FlushDurable,
-    /// A file on disk that waits for the disk, written a sample at a time.
+    /// A file on disk that syncs at each flush, written a sample at a time.
     WriteDurable,
-    /// A small file in memory, opened as often.
+    /// A small file in memory, opened as often as requested.
     OpenMemory,
 }
 

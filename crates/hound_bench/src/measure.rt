@@ -1,4 +1,4 @@
-// Cases from end to end: what is made before, what is timed, and what is looked at behind it.
+// Cases from end to end: what is made before, what is timed, and what is checked after it.
 ghost use Rattle.std.specs.Prelude.{◌≡◌, IfOk};
 
 use crate::batches::write_batches;
@@ -15,7 +15,7 @@ use std::fs;
 use std::path::Path;
 use std::time::Instant;
 
-/// How many samples the file has in which is sought.
+/// How many samples the file for seeks has.
 const SOUGHT: u32 = 1_000_000;
 
 /// What one run of a case gave.
@@ -23,13 +23,13 @@ const SOUGHT: u32 = 1_000_000;
 pub struct Measured {
     /// The bytes that were written or read.
     pub bytes: u64,
-    /// The time of the workload alone.
+    /// The time of the workload only.
     pub nanoseconds: u128,
     /// The sum of the samples that were read, or of the bytes that were written.
     pub check: i64,
 }
 
-/// Runs a case with so many samples; the path is that of its file on disk, where it has one.
+/// Runs a case with this many samples; the path is that of its file on disk, if it has one.
 pub fn measure(rt: &HostRuntime, case: Case, count: u32, path: Path<'_>) -> Result<Measured> {
     match case {
         Case::WriteMemory(kind) => match kind {
@@ -72,7 +72,7 @@ pub fn measure(rt: &HostRuntime, case: Case, count: u32, path: Path<'_>) -> Resu
     }
 }
 
-/// A tape of zeros, as long as the file of so many samples will be.
+/// A tape of zeros, as long as the file of this many samples will be.
 pub fn full_tape(alloc: Global, spec: WavSpec, count: u32) -> Result<Tape>
     ensures { IfOk result (λ t. (⟦<Tape as Placed>⟧.state t).place ≡ 0) }
 {
@@ -86,7 +86,7 @@ pub fn full_tape(alloc: Global, spec: WavSpec, count: u32) -> Result<Tape>
     Ok(Tape::new(bytes))
 }
 
-/// The file of so many samples, in so many channels.
+/// The file of this many samples, in this many channels.
 pub fn file_of<P: Pattern>(alloc: Global, channels: u16, count: u32) -> Result<Vec<u8>> {
     let mut tape = Tape::new(Vec::new(alloc));
     let writer = WavWriter::new(&mut tape, P::spec(channels))?;
@@ -220,7 +220,7 @@ fn read_file<P: Pattern>(
     })
 }
 
-// What so many seeks gave, with a float of four bytes read at each.
+// What this many seeks gave, with a float of four bytes read at each.
 fn sought(count: u32, nanoseconds: u128, check: i64) -> Measured {
     Measured {
         bytes: 4 * count as u64,

@@ -14,7 +14,7 @@ pub trait Pattern {
     /// The type that they are written and read as.
     type Sample: Summed;
 
-    /// A file of them with so many channels.
+    /// A file of them with this many channels.
     fn spec(channels: u16) -> WavSpec;
 
     /// The sample with this number.

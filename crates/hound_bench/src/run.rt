@@ -8,7 +8,7 @@ use std::path::Path;
 
 const USAGE: &str = "usage: hound_bench CASE N FILE [untimed]";
 
-// What the words ask for.
+// What the words request.
 #[derive(Clone, Copy)]
 struct Request<'a> {
     name: &'a str,
@@ -18,14 +18,14 @@ struct Request<'a> {
     is_timed: bool,
 }
 
-/// Carries out the words `CASE N FILE`, and answers the status: 0 for success, 1 where it failed, 2
+/// Carries out the words `CASE N FILE`, and returns the status: 0 for success, 1 if it failed, 2
 /// for words that it doesn't know.
 ///
-/// FILE is `-` where the case has no file on disk. The output is one line: the case, the samples,
+/// FILE is `-` if the case has no file on disk. The output is one line: the case, the samples,
 /// the bytes that were written or read, the nanoseconds that the workload took, and a sum over what
-/// was read or written. With the word `untimed` behind the others the nanoseconds are left out, so
+/// was read or written. With the word `untimed` after the others the nanoseconds are left out, so
 /// the line is the same at each run. A failure has one line on `errors`; a fault while that is
-/// written isn't told.
+/// written isn't reported.
 pub fn run<O: io::Write, E: io::Write>(
     rt: &HostRuntime,
     words: &[&str],
@@ -53,7 +53,7 @@ pub fn run<O: io::Write, E: io::Write>(
     }
 }
 
-// What the words ask for; where it is nothing, a line says why.
+// What the words request; if it is nothing, a line says why.
 fn request_of<'a, E: io::Write>(words: &[&'a str], errors: &mut E) -> Option<Request<'a>> {
     let (name, count, file, is_timed) = match words {
         [name, count, file] => (*name, *count, *file, true),

@@ -17,7 +17,7 @@ fn write_session(alloc: Global, tape: &mut Tape, steps: &[Step]) -> Result<()> {
     answer
 }
 
-/// Writes so many samples of sixteen bits by sessions of these steps, each from the beginning of
+/// Writes this many samples of sixteen bits by sessions of these steps, each from the beginning of
 /// the tape; the last has those that are left.
 pub fn write_sessions(alloc: Global, tape: &mut Tape, steps: &[Step], count: u32) -> Result<()> {
     for _ in 0..count / SESSION {

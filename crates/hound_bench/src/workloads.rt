@@ -6,10 +6,10 @@ use std::io;
 /// How many samples are written between two flushes.
 const CHECKPOINT: u32 = 4800;
 
-/// How many frames lie between two seeks.
+/// How many frames are between two seeks.
 const STRIDE: u32 = 1000;
 
-/// Writes so many samples, one at a time, and closes the file.
+/// Writes this many samples, one at a time, and closes the file.
 pub fn write_all<P: Pattern, W: Medium>(writer: WavWriter<W>, count: u32) -> Result<()> {
     let mut writer = writer;
     for index in 0..count {
@@ -40,7 +40,7 @@ pub fn read_all<S: Summed, R: io::Read + Drop>(reader: WavReader<R>) -> Result<i
     Ok(sum)
 }
 
-/// Opens a file in memory so often: the sum of the samples that it has.
+/// Opens a file in memory this often: the sum of the samples that it has.
 pub fn open_often(file: &[u8], count: u32) -> Result<i64> {
     let mut sum = 0i64;
     for _ in 0..count {
@@ -50,7 +50,7 @@ pub fn open_often(file: &[u8], count: u32) -> Result<i64> {
     Ok(sum)
 }
 
-/// Seeks so often, to each thousandth frame in turn, and reads a sample there: the sum of these.
+/// Seeks this often, to each thousandth frame in turn, and reads a sample there: the sum of these.
 pub fn seek_often<S: Summed, R: Source>(reader: WavReader<R>, count: u32) -> Result<i64> {
     let mut reader = reader;
     let frames = reader.duration();

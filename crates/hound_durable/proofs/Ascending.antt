@@ -1,4 +1,4 @@
--- Bytes that are put after all that isn't flushed go on ascending.
+-- Bytes written after all that isn't flushed continue the ascending order.
 use Rattle.std.proofs.Common.{◌≡◌, ℕ, zero, suc, ◌+◌, ◌-◌, ◌<◌, ◌≤◌, List, [], ◌∷◌, ◌++◌, length, ◌∙◌, ap, arith, length-append, inl, inr}
 use Rattle.std.proofs.lemmas.Bool.{cases_lt}
 use Rattle.std.proofs.lemmas.List.{get_or_append_left}
@@ -16,13 +16,13 @@ place_placed at (b ∷ bytes) zero few = omega arith
 place_placed at (b ∷ bytes) (suc j) few =
     place_placed (suc at) bytes j (omega (arith, few)) ∙ omega arith
 
--- the place of a byte that was put before
+-- the place of a byte that was written before
 pub place_before : (past added : List (ℕ × ℕ)) (i : ℕ) → i < length past
     → place_of (past ++ added) i ≡ place_of past i
 place_before past added i before =
     ap (λ (x : ℕ × ℕ). x.0) (get_or_append_left past added (0, 0) i before)
 
--- the place of a byte of the last put
+-- the place of a byte of the last call of `put`
 pub place_after : (past : List (ℕ × ℕ)) (at : ℕ) (bytes : List ℕ) (i : ℕ) → length past ≤ i
     → i < length past + length bytes
     → place_of (past ++ placed at bytes) i ≡ at + (i - length past)

@@ -1,4 +1,4 @@
--- What holds of each durable medium that tells and keeps.
+-- What holds for each durable medium whose bytes are known and whose past is recorded.
 use Rattle.std.proofs.Common.{◌≤◌, ◌≡◌, IsTrue, length, sym, subst}
 use Rattle.std.specs.Prelude.{[], List, ℕ}
 use Rattle.std.proofs.lemmas.Bool.{cond-true}
@@ -17,7 +17,7 @@ module _ {M : Type 0} {g : Ghosts M} (d : Durable M g) (tells : IsTrue g.tells)
   own_flushed : (own g.keeps (within d) d.faults d.flushed).flushed ≡ d.flushed
   own_flushed = cond-true g.keeps d.flushed 0 keeps
 
-  -- since the last flush the bytes were put at ascending places
+  -- since the last flush the bytes were written at ascending places
   pub ascends_since : let past = (own g.keeps (within d) d.faults d.flushed).past in
       Ascends past (synced d) (length past)
   ascends_since = subst (λ past. Ascends past (synced d) (length past)) (sym own_past)
@@ -27,7 +27,7 @@ module _ {M : Type 0} {g : Ghosts M} (d : Durable M g) (tells : IsTrue g.tells)
   pub flushed_within : (own g.keeps (within d) d.faults d.flushed).flushed ≤ synced d
   flushed_within = subst (λ n. n ≤ synced d) (sym own_flushed) (d.marked tells keeps)
 
-  -- no more was flushed than was put
+  -- no more was flushed than written
   pub synced_within : synced d ≤ length (own g.keeps (within d) d.faults d.flushed).past
   synced_within = subst (λ (past : List (ℕ × ℕ)). synced d ≤ length past) (sym own_past)
       (d.known tells keeps)

@@ -1,4 +1,4 @@
--- A `get` as a `read`, where the bytes are known.
+-- A `get` as a `read`, if the bytes are known.
 use Rattle.std.proofs.Common.{ℕ, List, Result, Bool, true, false, refl}
 use Rattle.std.specs.Io.KnownBytes.{ReadConsumes}
 use Rattle.std.specs.Prelude.{Ok, Err}

@@ -1,4 +1,4 @@
--- What contracts see of a durable medium beside its own state: that of the medium within it.
+-- What contracts see of a durable medium besides its own state: that of the medium within it.
 use Rattle.std.specs.Prelude.{ℕ}
 use Rattle.hound_medium.specs.State.{MediumState}
 use Rattle.hound_medium.specs.declared.medium.Placed.{Ghosts}
@@ -8,6 +8,6 @@ use Rattle.hound_durable.specs.declared.durable.Durable.{Durable}
 abbrev pub within : {M : Type 0} {g : Ghosts M} → Durable M g → MediumState
 within {M} {g} d = g.state d.inner
 
--- how many bytes had been put at the last flush of the medium within that was Ok
+-- how many bytes had been written at the last Ok flush of the medium within
 abbrev pub synced : {M : Type 0} {g : Ghosts M} → Durable M g → ℕ
 synced d = (within d).flushed

@@ -6,7 +6,7 @@ use Rattle.hound_medium.specs.Bytes.{overlay}
 use Rattle.hound_medium.specs.State.{MediumState, one_more}
 use Rattle.hound_durable.specs.Losses.{place_of}
 
--- the state of the medium within, with these counts in place of its own; where it doesn't keep its
+-- the state of the medium within, with these counts in place of its own; if it doesn't record its
 -- past there is none
 abbrev pub own : Bool → MediumState → ℕ → ℕ → MediumState
 own keeps s faults flushed = record {
@@ -18,19 +18,19 @@ own keeps s faults flushed = record {
   flushed = cond keeps flushed 0;
 }
 
--- the bytes that are left to be read, where they are known
+-- the bytes that are left to be read, if they are known
 abbrev pub left_of : Bool → MediumState → Option (List ℕ)
 left_of tells s = cond tells (Some (drop s.place s.contents)) None
 
--- each byte that was put after the first f has a place below the end
+-- each byte written after the first f has a place below the end
 abbrev pub IsBelow : ℕ → List (ℕ × ℕ) → ℕ → Type 0
 IsBelow end past f = (i : ℕ) → f ≤ i → i < length past → place_of past i < end
 
--- some byte that was put after the first f is at this place or after it
+-- some byte written after the first f is at this place or after it
 abbrev pub LeadsBack : ℕ → List (ℕ × ℕ) → ℕ → Type 0
 LeadsBack to past f = (i : ℕ) × (f ≤ i) × (i < length past) × (to ≤ place_of past i)
 
--- a later state of the medium within: it has been flushed no further, or up to all that was put
+-- a later state of the medium within: it has been flushed no further, or up to all that was written
 pub record OnlySyncs (old new : MediumState) : Type 0 where
   pub grows : old.flushed ≤ new.flushed
   pub is : (new.flushed ≡ old.flushed) ⊎ (new.flushed ≡ length new.past)

@@ -11,21 +11,21 @@ use hound_medium::{Medium, Placed, Source};
 use std::io;
 use std::io::ErrorKind;
 
-/// A medium around another one, which it flushes before each step to or before a byte that has been
-/// put since the last flush.
+/// A medium around another one, which it flushes before each step to or before a byte that was
+/// written since the last flush.
 ///
-/// A `WavWriter` puts samples after all that the file has, and then the sizes before them. So over
-/// a `Durable` the samples are flushed before the sizes are put, and again after them, and a loss
-/// of power at any time leaves a length that counts no more samples than the file has.
+/// A `WavWriter` writes samples after all that the file has, and then the sizes before them. So
+/// over a `Durable` the samples are flushed before the sizes are written, and again after them, and
+/// a loss of power at any time leaves a length that counts no more samples than the file has.
 ///
-/// Where the medium within `tells`, so does this one, with the same bytes. Its counts of faults and
+/// If the medium within `tells`, so does this one, with the same bytes. Its counts of faults and
 /// of flushed bytes are its own: a flush that comes before a step back counts as part of it. If that
 /// flush fails, the step is the one fault, and nothing has moved.
 #[derive(Drop)]
 pub struct Durable<M: Medium> {
     inner: M,
     place: u64,
-    // After the highest of the bytes that were put since the last flush of the medium within.
+    // After the highest of the bytes written since the last flush of the medium within.
     end: u64,
     taken: u64,
     flushed: u64,
@@ -45,7 +45,7 @@ pub struct Durable<M: Medium> {
 impl<M: Medium> Durable<M> {
     ghost use Rattle.hound_durable.specs.Durables.{within, synced};
 
-    /// A medium around a new one, at its place 0, into which nothing has been put yet.
+    /// A medium around a new one, at its place 0, into which nothing has been written yet.
     pub fn new(inner: M) -> Durable<M>
         requires place { WhereTells M.tells ((M.state inner).place ≡ 0) }
         requires past { WhereKeeps M.tells M.keeps ((M.state inner).past ≡ []) }
@@ -76,7 +76,7 @@ impl<M: Medium> Durable<M> {
         inner
     }
 
-    // Whether a place lies before the end of what isn't flushed.
+    // Whether a place is before the end of what isn't flushed.
     fn leads_back(&self, to: u64) -> bool
         ensures { result ≡ nat_lt to self.now.end }
     {
@@ -172,8 +172,8 @@ impl<M: Medium> Medium for Durable<M> {
     ghost replays = { λ d tells keeps.
         replays_own M.keeps (M.state d.inner) d.faults d.flushed keeps (M.replays d.inner tells keeps) };
 
-    /// As that of the medium within. It is an `Err` of kind `OutOfMemory` too where the end of the
-    /// bytes, or the count of all that were put, would pass `u64::MAX`.
+    /// As that of the medium within. It is also an `Err` of kind `OutOfMemory` if the end of the
+    /// bytes, or the count of all bytes written, would pass `u64::MAX`.
     fn put(&mut self, bytes: &[u8]) -> io::Result<usize>
         requires { 0 < length bytes.now }
         ensures bound { IfOk result (λ n. (1 ≤ n) × (n ≤ length bytes.now)) }

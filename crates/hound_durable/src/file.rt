@@ -1,4 +1,4 @@
-// Files on disk whose flush waits for the disk, of whose bytes contracts know nothing.
+// Files on disk whose flush returns once the disk has the bytes, which contracts don't know.
 ghost use Rattle.std.specs.Prelude.{◌≡◌, false, IfErr};
 ghost use Rattle.std.proofs.lemmas.Bool.{false≢true};
 ghost use Rattle.hound_medium.specs.State.{unknown};
@@ -9,14 +9,14 @@ use std::alloc::Global;
 use std::io::{BufWriter, Write};
 use std::{fs, io};
 
-// How many bytes are kept back in memory.
+// How many bytes are buffered in memory.
 const KEPT_BACK: usize = 65536;
 
-/// A file on disk whose `flush` returns when the disk has what was put.
+/// A file on disk whose `flush` returns when the disk has what was written.
 ///
-/// Bytes are kept back in memory until there are 64 KiB, or until a `go`, a `shift` or a `flush`.
-/// The first `flush` syncs the file with all that the file system knows of it, later ones with what
-/// is needed to read it.
+/// Bytes are buffered in memory until there are 64 KiB, or until a `go`, a `shift` or a `flush`.
+/// The first `flush` syncs the file with all its metadata, later ones with what is needed to
+/// read it.
 #[derive(Drop)]
 pub struct SyncedFile {
     writer: BufWriter<fs::File>,
@@ -24,7 +24,7 @@ pub struct SyncedFile {
 }
 
 impl SyncedFile {
-    /// A medium over this file, at the file's place. `OutOfMemory` where there is none for the
+    /// A medium over this file, at the file's place. `OutOfMemory` if there is no memory for the
     /// buffer.
     pub fn new(alloc: Global, file: fs::File) -> Result<SyncedFile>
         ensures { IfErr result (λ e. e ≡ Error.OutOfMemory) }

@@ -1,4 +1,4 @@
-// What holds of every durable medium.
+// What holds for every durable medium.
 ghost use Rattle.std.specs.Prelude.{◌≡◌, ◌≤◌, length};
 ghost use Rattle.hound_medium.specs.State.{WhereTells, WhereKeeps};
 ghost use Rattle.hound_durable.specs.Durables.{within, synced};
@@ -7,10 +7,10 @@ ghost use Rattle.hound_durable.specs.Losses.{Ascends};
 use crate::durable::Durable;
 use hound_medium::{Medium, Placed};
 
-/// The medium within has the bytes that a durable one shows, and since its last flush it was given
-/// bytes at ascending places alone.
+/// The medium within has the bytes that a durable one shows, and since its last flush it was
+/// written only at ascending places.
 ///
-/// So a loss of power leaves of it what `SurvivesLoss` allows from that flush on. The flush is at
+/// So a loss of power leaves it as `SurvivesLoss` allows from that flush on. The flush is at
 /// least as late as the last Ok `flush` of the durable medium.
 pub fn a_durable_medium_ascends<M: Medium>(durable: &Durable<M>)
     ensures contents { WhereTells M.tells

@@ -2,7 +2,7 @@
 //!
 //! A loss of power may keep any of the writes since the last flush and lose any other, sector by
 //! sector. [`Durable`] wraps a medium and flushes it before each step back, so that between two
-//! flushes the bytes are put at ascending places.
+//! flushes the bytes are written at ascending places.
 #![tactic(auto)]
 
 mod durable;

@@ -113,7 +113,7 @@ const MONO_8_EVEN_FILE: [u8; 46] = [
     0x01, 0x00, 0x08, 0x00, 0x64, 0x61, 0x74, 0x61, 0x02, 0x00, 0x00, 0x00, 0x81, 0x82,
 ];
 
-// The definition of a whole file at these samples, and of the greatest sizes, by computing.
+// The definition of a whole file at these samples, and of the largest sizes, by computing.
 #[tactic(auto, unfolding(hound_spec::specs::Header::header, hound_spec::specs::Header::sized_fmt))]
 fn the_definition_gives_the_files()
     ensures odd { canonical MONO_8 ((0x80 ∷ []) ∷ []) ≡ MONO_8_FILE }
@@ -178,7 +178,7 @@ fn the_definition_gives_the_containers()
     ensures in_32_bits { map (λ x. int_container x 32 4) NUMBERS_OF_32 ≡ map Ok BYTES_OF_32 }
 {}
 
-// What the definitions say of files and containers that were written elsewhere.
+// What the definitions make of files and containers that were written elsewhere.
 fn definitions_at_files()
     ensures four_samples { Head four_samples mono_16 8 44 }
     ensures cut { Refused (take 30 four_samples) Ended }

@@ -36,7 +36,7 @@ fn a_fault_of_the_input_keeps_its_kind_and_text(rt: HostRuntime) -> std::result:
     Ok(())
 }
 
-// A list of these numbers, where each request for memory goes by `?`.
+// A list of these numbers, where each allocation goes by `?`.
 fn list_of(alloc: Global, numbers: &[i16]) -> Result<Vec<i16>> {
     let mut list = Vec::new(alloc);
     for number in numbers {

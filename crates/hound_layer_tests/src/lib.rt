@@ -1,4 +1,4 @@
-//! Tests of the layers below the writer: what their rows (`hound_rows`) can't ask.
+//! Tests of the layers below the writer: what their rows (`hound_rows`) can't do.
 #![tactic(auto)]
 
 #[cfg(test)]

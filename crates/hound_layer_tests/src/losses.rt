@@ -4,9 +4,9 @@ ghost use Rattle.hound_durable.specs.Losses.{Ascends, SurvivesLoss};
 
 use std::test::Fail;
 
-// A file of four zeros, into which a 7 is put at 4, after them, and then a 1 at 0, which counts it;
+// A file of four zeros, where a 7 is written at 4, after them, and then a 1 at 0, which counts it;
 // a sector has two bytes. If both bytes may be lost, the count can be there and not what it counts.
-// If the 7 was flushed before the 1 was put, it can't.
+// If the 7 was flushed before the 1 was written, it can't.
 fn a_loss_of_two_bytes()
     ensures goes_back { Ascends ((4, 7) ∷ (0, 1) ∷ []) 0 2 → ⊥ }
     ensures counts_what_is_lost { SurvivesLoss 2 (0 ∷ 0 ∷ 0 ∷ 0 ∷ []) ((4, 7) ∷ (0, 1) ∷ []) 0 2

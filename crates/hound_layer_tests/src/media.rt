@@ -1,4 +1,4 @@
-// Media that rows can't ask: one of a user's own, and files.
+// Media that rows can't test: one of a user's own, and files.
 ghost use Rattle.std.specs.Prelude.{◌+◌, [], true};
 ghost use Rattle.std.proofs.Common.{rules};
 
@@ -8,7 +8,7 @@ use std::path::{Path, PathBuf};
 use std::test::Fail;
 use std::{env, fs, io, process};
 
-// Puts "abc" at a place, and flushes.
+// Writes "abc" at a place, and flushes.
 fn put_letters<M: Medium>(mut medium: M, to: u64) -> io::Result<M> {
     medium.go(to)?;
     put_all(&mut medium, b"abc")?;
@@ -16,7 +16,7 @@ fn put_letters<M: Medium>(mut medium: M, to: u64) -> io::Result<M> {
     Ok(medium)
 }
 
-// The two bytes after the next one, as far as they are there.
+// The two bytes after the next one, if they are there.
 fn skip_and_get<S: Source>(mut source: S) -> io::Result<([u8; 2], usize)> {
     let mut two = [0; 2];
     source.shift(1)?;
@@ -66,7 +66,7 @@ impl Placed for Window {
     }
 }
 
-// The two answers of two moves by one.
+// The results of two moves by one.
 fn two_steps<P: Placed>(mut placed: P) -> [bool; 2] {
     [placed.shift(1).is_ok(), placed.shift(1).is_ok()]
 }
@@ -139,7 +139,8 @@ fn a_flush_of_a_file_hands_its_bytes_on(rt: HostRuntime) -> Result<(), Fail> {
     Ok(())
 }
 
-// Where a shift leads to, shown by the letter that is put there, and whether one below 0 is refused.
+// Where a shift leads to, shown by the letter that is written there, and whether one below 0 is an
+// error.
 fn put_at_shifts(rt: &HostRuntime, path: Path<'_>) -> io::Result<(Vec<u8>, bool)> {
     let mut writer = make(rt, path)?;
     put_all(&mut writer, b"waveform")?;

@@ -4,11 +4,11 @@ use hound_repair::{Repair, RepairState, find_damage, repair, repair_to_end};
 use std::alloc::Global;
 use std::test::Fail;
 
-// What stands before the data: mono, 44100 Hz, 16 bits, both sizes 0.
+// All before the data: mono, 44100 Hz, 16 bits, both sizes 0.
 const MONO_16: &[u8] = b"RIFF\0\0\0\0WAVEfmt \x10\0\0\0\x01\0\x01\0\x44\xac\0\0\x88\x58\x01\0\
     \x02\0\x10\0data\0\0\0\0";
 
-// The same of 8 bits.
+// The same with 8 bits.
 const MONO_8: &[u8] = b"RIFF\0\0\0\0WAVEfmt \x10\0\0\0\x01\0\x01\0\x44\xac\0\0\x44\xac\0\0\
     \x01\0\x08\0data\0\0\0\0";
 

@@ -1,4 +1,4 @@
--- Bytes put inside contents, over bytes that stood there.
+-- Bytes written inside contents, over older bytes.
 use Rattle.std.proofs.Common.{◌≡◌, ℕ, ◌+◌, ◌-◌, ◌≤◌, List, ◌++◌, length, take, drop, sym, ◌∙◌, ap, arith, append_assoc, length-append, length-drop}
 use Rattle.std.proofs.lemmas.List.{drop_at, take-take, drop-drop, take-append-le, length-take-le}
 use Rattle.hound_medium.specs.Bytes.{placed, overlay}
@@ -15,7 +15,7 @@ module _ (c : List ℕ) (at : ℕ) (bs : List ℕ) (inside : at + length bs ≤ 
   front : length (take at c) ≡ at
   front = length-take-le at c (omega (arith, inside))
 
-  -- what stood before them stays
+  -- what was before them stays
   pub take_before : (n : ℕ) → n ≤ at → take n (overlay c (placed at bs)) ≡ take n c
   unfolding new
   take_before n h =
@@ -23,7 +23,7 @@ module _ (c : List ℕ) (at : ℕ) (bs : List ℕ) (inside : at + length bs ≤ 
       ∙ take-append-le n (take at c) (bs ++ drop (at + length bs) c) (omega (arith, front))
       ∙ take-take n at c h
 
-  -- what stood behind them stays
+  -- what was after them stays
   pub drop_behind : (n : ℕ) → at + length bs ≤ n → drop n (overlay c (placed at bs)) ≡ drop n c
   unfolding new
   drop_behind n h =
@@ -52,7 +52,7 @@ module _ (c : List ℕ) (at : ℕ) (bs : List ℕ) (inside : at + length bs ≤ 
         inside,
       )
 
-  -- from their place on: the bytes, and what stood behind them
+  -- from their place on: the bytes, and what was after them
   pub drop_to : drop at (overlay c (placed at bs)) ≡ bs ++ drop (at + length bs) c
   unfolding new
   drop_to = ap (drop at) parts ∙ drop_at (take at c) (bs ++ drop (at + length bs) c) at front

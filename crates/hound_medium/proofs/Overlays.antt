@@ -1,4 +1,4 @@
--- Bytes put at places of a list: what they leave.
+-- Bytes written at places of a list: what they leave.
 use Rattle.std.proofs.Common.{◌≡◌, ℕ, zero, suc, ◌+◌, ◌-◌, ◌<◌, ◌≤◌, max, replicate, List, [], ◌∷◌, ◌++◌, length, get_or, take, drop, refl, sym, ◌∙◌, ap, arith, append_assoc, length-append, take-append-drop}
 use Rattle.std.proofs.lemmas.List.{append-nil, length-replicate, take_more, length-take-le, take-take, take_all}
 use Rattle.std.proofs.Math.Seq.{drop-nil}
@@ -7,14 +7,14 @@ use Rattle.std.proofs.lemmas.Slice.{between_is}
 use Rattle.hound_medium.specs.Bytes.{put_at, placed, overlay}
 use Rattle.hound_number.specs.Number.{AreBytes}
 
--- the places go on behind the first list
+-- the places continue after the first list
 pub placed-append : (p : ℕ) (xs ys : List ℕ)
     → placed p (xs ++ ys) ≡ placed p xs ++ placed (p + length xs) ys
 placed-append p [] ys = ap (λ q. placed q ys) (omega arith)
 placed-append p (x ∷ xs) ys = ap (λ (l : List (ℕ × ℕ)). (p, x) ∷ l)
     (placed-append (suc p) xs ys ∙ ap (λ q. placed (suc p) xs ++ placed q ys) (omega arith))
 
--- bytes that are put in two runs
+-- bytes that are written in two runs
 pub overlay-append : (c : List ℕ) (xs ys : List (ℕ × ℕ))
     → overlay c (xs ++ ys) ≡ overlay (overlay c xs) ys
 overlay-append c [] ys = refl
@@ -49,8 +49,8 @@ drop-put_at zero b (suc m) (x ∷ c) h = refl
 drop-put_at (suc p) b (suc m) [] h = drop-put_at p b m [] (omega arith) ∙ drop-nil m
 drop-put_at (suc p) b (suc m) (x ∷ c) h = drop-put_at p b m c (omega arith)
 
--- bytes put at a place inside the contents or at their end: what stood before the place, the bytes,
--- what stood behind them
+-- bytes written at a place inside the contents or at their end: what was before the place, the
+-- bytes, what was after them
 pub overlay_is : (c : List ℕ) (p : ℕ) (bs : List ℕ) → p ≤ length c
     → overlay c (placed p bs) ≡ take p c ++ (bs ++ drop (p + length bs) c)
 overlay_is c p [] h =
@@ -66,7 +66,7 @@ overlay_is c p (b ∷ bs) h =
     (drop-put_at p b (suc p + length bs) c far
     ∙ ap (λ q. drop q c) (let e : suc p + length bs ≡ p + suc (length bs) = omega arith in e))
 
--- bytes put at the end
+-- bytes written at the end
 pub overlay_at_end : (c : List ℕ) (p : ℕ) (bs : List ℕ) → p ≡ length c
     → overlay c (placed p bs) ≡ c ++ bs
 overlay_at_end c p bs end =
@@ -75,7 +75,7 @@ overlay_at_end c p bs end =
     ∙ ap (λ l. c ++ (bs ++ l)) (drop_of_length-le c (omega (arith, end)))
     ∙ ap (λ l. c ++ l) (append-nil bs)
 
--- zeros that were already behind the contents, where the byte or its gap comes
+-- zeros that were already after the contents, where the byte or its gap comes
 put_at_padded : (p b : ℕ) (c : List ℕ) (m : ℕ)
     → put_at p b (c ++ replicate m 0) ≡ put_at p b c ++ replicate
     (length c + m - max (length c) (suc p)) 0
@@ -92,7 +92,7 @@ put_at_padded (suc p) b (x ∷ c) m =
     ap (λ (l : List ℕ). x ∷ l)
     (put_at_padded p b c m ∙ ap (λ n. put_at p b c ++ replicate n 0) (omega arith))
 
--- zeros behind the contents change nothing where the bytes reach at least as far
+-- zeros after the contents change nothing if the bytes reach at least as far
 pub overlay_padded : (bs : List ℕ) (p : ℕ) (c : List ℕ) (m : ℕ)
     → length c + m ≤ max (length c) (p + length bs) → (length bs ≡ 0 → p ≤ length c)
     → overlay (c ++ replicate m 0) (placed p bs) ≡ overlay c (placed p bs)
@@ -104,8 +104,8 @@ overlay_padded (b ∷ bs) p c m fits some =
     ∙ overlay_padded bs (suc p) (put_at p b c) n (omega (arith, fits, length-put_at p b c))
     (λ e. omega (arith, length-put_at p b c))
 
--- bytes put at any place, as code does it: zeros make the contents long enough, and the bytes are
--- copied over them
+-- bytes written at any place, as code does it: zeros make the contents long enough, and the bytes
+-- are copied over them
 pub overlay_resized : (c : List ℕ) (p : ℕ) (bs : List ℕ) (m : ℕ) → 0 < length bs
     → length c + m ≡ max (length c) (p + length bs)
     → overlay c (placed p bs) ≡ take p (c ++ replicate m 0) ++
@@ -125,14 +125,14 @@ small_put_at (suc p) b [] low small (suc i) = small_put_at p b [] low small i
 small_put_at (suc p) b (x ∷ c) low small zero = small 0
 small_put_at (suc p) b (x ∷ c) low small (suc i) = small_put_at p b c low (λ k. small (suc k)) i
 
--- bytes put among bytes are bytes
+-- bytes written among bytes are bytes
 pub small_overlay : (c : List ℕ) (p : ℕ) (bs : List ℕ) → AreBytes c → AreBytes bs
     → AreBytes (overlay c (placed p bs))
 small_overlay c p [] small fits = small
 small_overlay c p (b ∷ bs) small fits =
     small_overlay (put_at p b c) (suc p) bs (small_put_at p b c (fits 0) small) (λ i. fits (suc i))
 
--- one byte more of those that are put
+-- one byte more of those that are written
 pub placed_more : (p : ℕ) (bs : List ℕ) (i : ℕ) → i < length bs
     → placed p (take (i + 1) bs) ≡ placed p (take i bs) ++ (p + i, get_or bs i 0) ∷ []
 placed_more p bs i h =
@@ -170,7 +170,7 @@ take_put_at_before (suc n) (suc p) b (x ∷ c) before inside =
     ap (λ (l : List ℕ). x ∷ l)
     (take_put_at_before n p b c (omega (arith, before)) (omega (arith, inside)))
 
--- what stands before a place stays, whatever is put there or behind it
+-- what is before a place stays, whatever is written there or after it
 pub take_overlay_before : (bs : List ℕ) (n p : ℕ) (c : List ℕ) → n ≤ p → n ≤ length c
     → take n (overlay c (placed p bs)) ≡ take n c
 take_overlay_before [] n p c before inside = refl

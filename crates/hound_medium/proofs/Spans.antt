@@ -1,4 +1,4 @@
--- What holds at each moment, call after call.
+-- What holds in each intermediate state, call after call.
 use Rattle.std.proofs.Common.{◌≡◌, ℕ, ◌+◌, ◌-◌, ◌≤◌, List, [], ◌++◌, length, take, Result, Ok, Err, sym, ◌∙◌, ap, subst, arith, inl, inr, append_assoc, length-append, ⊎_elim}
 use Rattle.std.proofs.lemmas.Bool.{cases_lt}
 use Rattle.std.proofs.lemmas.List.{append-nil, take-append-le, take_all}
@@ -8,18 +8,18 @@ use Rattle.hound_medium.specs.State.{MediumState, Flushes, Stays}
 use Rattle.hound_medium.specs.Spans.{Span, FlushedSince}
 use Rattle.hound_medium.proofs.Overlays.{overlay-append, length-placed, take-placed}
 
--- a moment of a past stays what it was, however the past goes on
+-- an intermediate state of a past stays what it was, however the past continues
 pub moment_before : (start : List ℕ) (past added : List (ℕ × ℕ)) (k : ℕ) → k ≤ length past
     → moment start (past ++ added) k ≡ moment start past k
 moment_before start past added k within = ap (overlay start) (take-append-le k past added within)
 
--- a moment behind a past: its last contents, and then the first of what was added
+-- an intermediate state after a past: its last contents, and then the first of what was added
 pub moment_after : (start : List ℕ) (past added : List (ℕ × ℕ)) (k : ℕ)
     → moment start (past ++ added) (length past + k) ≡ overlay (overlay start past) (take k added)
 moment_after start past added k =
     ap (overlay start) (take-append-add past added k) ∙ overlay-append start past (take k added)
 
--- the last moment is the contents
+-- the last intermediate state is the contents
 pub moment_last : (s : MediumState) → s.contents ≡ overlay s.start s.past
     → moment s.start s.past (length s.past) ≡ s.contents
 moment_last s replays =
@@ -39,8 +39,8 @@ flushed_since (Ok x) a b flushes = inr (omega (arith, flushes.flushed, ap length
 flushed_since (Err e) a b flushes = inl flushes.flushed
 
 module _ (At : ℕ → List ℕ → Type 0) (split : ℕ) where
-  -- bytes are put at a place, all at once or by several calls: at its level is what the first k of
-  -- them leave
+  -- bytes are written at a place, by one call or several: at its level is what the first k of them
+  -- leave
   pub span_puts : (old new : MediumState) (at : ℕ) (bytes : List ℕ)
       → old.contents ≡ overlay old.start old.past → new.start ≡ old.start
       → new.past ≡ old.past ++ placed at bytes → FlushedSince old new
@@ -69,7 +69,7 @@ module _ (At : ℕ → List ℕ → Type 0) (split : ℕ) where
             (each n (omega (arith, size))));
       }
 
-  -- nothing is put
+  -- nothing is written
   pub span_still : (old new : MediumState) → old.contents ≡ overlay old.start old.past
       → new.start ≡ old.start → new.past ≡ old.past → FlushedSince old new
       → At (length old.past - split) old.contents → Span At split old new
@@ -109,7 +109,7 @@ module _ (At : ℕ → List ℕ → Type 0) (split : ℕ) where
       subst (At (n - split)) (moment_last new replays)
       (span.each n (omega (arith, longer)) (omega arith))
 
-  -- a span, and then a call that puts nothing
+  -- a span, and then a call that writes nothing
   pub and_still : (a b c : MediumState) → Span At split a b → b.contents ≡ overlay b.start b.past
       → Stays b c → FlushedSince b c → Span At split a c
   and_still a b c span replays stays flushed =

@@ -1,4 +1,4 @@
--- A number of four bytes inside contents, while another is put over it.
+-- A number of four bytes inside contents, while another overwrites it.
 use Rattle.std.proofs.Common.{◌≡◌, ℕ, ◌+◌, ◌-◌, ◌<◌, ◌≤◌, ◌^◌, inl, inr, List, ◌++◌, length, take, drop, sym, ◌∙◌, ap, arith, length-drop}
 use Rattle.std.proofs.lemmas.List.{drop-drop, length-take-le, get_or-take, get_or-drop, get_or_past}
 use Rattle.std.proofs.lemmas.Bool.{cases_lt}
@@ -10,7 +10,7 @@ use Rattle.hound_medium.specs.Bytes.{placed, overlay}
 use Rattle.hound_medium.proofs.Inside.{drop_to}
 
 module _ (p : ℕ) (c : List ℕ) (inside : p + 4 ≤ length c) where
-  -- the four bytes at p, when a few bytes were put there
+  -- the four bytes at p, when a few bytes were written there
   four_bytes : (bytes : List ℕ) → length bytes ≤ 4
       → take 4 (drop p (overlay c (placed p bytes))) ≡ bytes ++ drop (length bytes)
       (take 4 (drop p c))
@@ -43,7 +43,7 @@ module _ (p : ℕ) (c : List ℕ) (inside : p + 4 ≤ length c) where
         ap (λ n. bytes_of n (number (take 4 (drop p c)))) (sym four)
         ∙ bytes_of-number (take 4 (drop p c)) are_bytes
 
-    -- the number at p, when k bytes of a new one were put over it
+    -- the number at p, when k bytes of a new one were written over it
     pub number_at_mix : (new k : ℕ) → k ≤ 4
         → number (take 4 (drop p (overlay c (placed p (take k (bytes_of 4 new)))))) ≡ mix k
         (number (take 4 (drop p c))) new

@@ -1,4 +1,4 @@
--- What contracts see of a journal beside its state as a medium: what was asked of its calls.
+-- What contracts see of a journal besides its state as a medium: what its user set.
 use Rattle.std.specs.Prelude.{◌≡◌, ℕ, ◌≤◌}
 use Rattle.hound_medium.specs.State.{one_more}
 use Rattle.hound_medium.specs.declared.journal.Journal.{Journal}
@@ -7,7 +7,7 @@ use Rattle.hound_medium.specs.declared.journal.Journal.{Journal}
 abbrev pub calls : Journal → ℕ
 calls j = j.calls
 
--- the call with this number was asked to fail
+-- the call with this number is to fail
 abbrev pub FailsAt : Journal → ℕ → Type 0
 FailsAt j number = (j.fail_from ≤ number) × (number ≤ j.fail_to)
 
@@ -15,13 +15,13 @@ FailsAt j number = (j.fail_from ≤ number) × (number ≤ j.fail_to)
 abbrev pub greatest_count : Journal → ℕ
 greatest_count j = j.most
 
--- the same calls are asked to fail, and the most bytes are the same
+-- the same calls are to fail, and the most bytes are the same
 pub record SameRequests (old new : Journal) : Type 0 where
   pub from : new.fail_from ≡ old.fail_from
   pub to : new.fail_to ≡ old.fail_to
   pub most : new.most ≡ old.most
 
--- a call was made: it has the next number, and what was asked stays
+-- a call was made: it has the next number, and what the user set stays
 pub record IsNumbered (old new : Journal) : Type 0 where
   pub number : calls new ≡ one_more (calls old)
   pub requests : SameRequests old new

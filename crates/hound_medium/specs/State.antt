@@ -2,9 +2,9 @@
 use Rattle.std.specs.Prelude.{◌≡◌, ℕ, ℤ, pos, negsuc, ◌+◌, ◌-◌, ◌^◌, ◌<◌, ◌≤◌, min, List, [], ◌++◌, length, take, drop, Ok, Err, Result, OnOk, OnErr, MatchResult, Bool, IsTrue}
 use Rattle.hound_medium.specs.Bytes.{placed, overlay}
 
--- A medium as contracts see it: its bytes, the place of the next one to be read or put, and how
--- many calls failed. Where it keeps its past also the bytes that it began with, each byte put since
--- with its place, and how many of these had been put at the last `flush` that was Ok.
+-- A medium as contracts see it: its bytes, the place of the next one to be read or written, and how
+-- many calls failed. If it records its past, also the bytes that it began with, each byte written
+-- since with its place, and how many of these were written before the last Ok `flush`.
 pub record MediumState : Type 0 where
   pub contents : List ℕ
   pub place : ℕ
@@ -13,7 +13,7 @@ pub record MediumState : Type 0 where
   pub past : List (ℕ × ℕ)
   pub flushed : ℕ
 
--- what stands for a medium whose bytes are not known
+-- the record of a medium whose bytes are not known
 abbrev pub unknown : MediumState
 unknown = record {
   contents = [];
@@ -24,15 +24,15 @@ unknown = record {
   flushed = 0;
 }
 
--- P, where the bytes of a medium are known
+-- P, if the bytes of a medium are known
 abbrev pub WhereTells : Bool → Type 0 → Type 0
 WhereTells tells P = IsTrue tells → P
 
--- P, where the bytes of a medium are known and each byte that was put is kept with its place
+-- P, if the bytes of a medium are known and it records each byte written with its place
 abbrev pub WhereKeeps : Bool → Bool → Type 0 → Type 0
 WhereKeeps tells keeps P = IsTrue tells → IsTrue keeps → P
 
--- a count of faults or of calls that has grown by one; the greatest `u64` stays
+-- a count of faults or of calls, grown by one; it stays at the maximum of `u64`
 abbrev pub one_more : ℕ → ℕ
 one_more faults = min (faults + 1) (2 ^ 64 - 1)
 
@@ -41,7 +41,7 @@ abbrev pub faults_after : {T E : Type 0} → Result T E → ℕ → ℕ
 faults_after (Ok x) faults = faults
 faults_after (Err e) faults = one_more faults
 
--- the place after a call that goes to one: an Err leaves the old place
+-- the place after a call that goes to one: at an Err the old place
 abbrev pub place_after : {T E : Type 0} → Result T E → ℕ → ℕ → ℕ
 place_after (Ok x) to place = to
 place_after (Err e) to place = place
@@ -56,7 +56,7 @@ abbrev pub count_of : {E : Type 0} → Result ℕ E → ℕ
 count_of (Ok n) = n
 count_of (Err e) = 0
 
--- the bytes stay, and so does what is kept of the past
+-- the bytes stay, and so does the recorded past
 pub record Stays (old new : MediumState) : Type 0 where
   pub contents : new.contents ≡ old.contents
   pub start : new.start ≡ old.start
@@ -69,7 +69,7 @@ pub record Goes {T E : Type 0} (to : ℕ) (result : Result T E) (old new : Mediu
   pub flushed : new.flushed ≡ old.flushed
   pub faults : new.faults ≡ faults_after result old.faults
 
--- what `shift` does: it moves to a place that 64 bits can say, or stays
+-- what `shift` does: it moves to a place that fits in 64 bits, or stays
 pub record Shifts {T E : Type 0} (by : ℤ) (result : Result T E) (old new : MediumState) : Type 0
   where
     pub stays : Stays old new
@@ -79,8 +79,8 @@ pub record Shifts {T E : Type 0} (by : ℤ) (result : Result T E) (old new : Med
     pub flushed : new.flushed ≡ old.flushed
     pub faults : new.faults ≡ faults_after result old.faults
 
--- what `get` does, which leaves its bytes at the front of the buffer: it gives none only at the end
--- or to an empty buffer
+-- what `get` does, which writes its bytes to the front of the buffer: none only at the end or into
+-- an empty buffer
 pub record Gets {E : Type 0} (buf : List ℕ) (result : Result ℕ E) (old new : MediumState) : Type 0
   where
     pub stays : Stays old new
@@ -91,7 +91,7 @@ pub record Gets {E : Type 0} (buf : List ℕ) (result : Result ℕ E) (old new :
     pub flushed : new.flushed ≡ old.flushed
     pub faults : new.faults ≡ faults_after result old.faults
 
--- the first n of the bytes were put at the place, in order, and the place moved behind them
+-- the first n of the bytes were written at the place, in order, and the place moved after them
 pub record PutsFirst (keeps : Bool) (bytes : List ℕ) (n : ℕ) (old new : MediumState) : Type 0 where
   pub contents : new.contents ≡ overlay old.contents (placed old.place (take n bytes))
   pub place : new.place ≡ old.place + n
@@ -99,13 +99,13 @@ pub record PutsFirst (keeps : Bool) (bytes : List ℕ) (n : ℕ) (old new : Medi
   pub past : IsTrue keeps → new.past ≡ old.past ++ placed old.place (take n bytes)
   pub flushed : new.flushed ≡ old.flushed
 
--- what `put` does: it takes as many bytes as it says, none at an Err
+-- what `put` does: it takes as many bytes as it returns, none at an Err
 pub record Puts {E : Type 0} (keeps : Bool) (bytes : List ℕ) (result : Result ℕ E)
     (old new : MediumState) : Type 0 where
   pub takes : PutsFirst keeps bytes (count_of result) old new
   pub faults : new.faults ≡ faults_after result old.faults
 
--- what `flush` does: it marks all that has been put so far
+-- what `flush` does: it marks all that has been written so far
 pub record Flushes {T E : Type 0} (result : Result T E) (old new : MediumState) : Type 0 where
   pub stays : Stays old new
   pub place : new.place ≡ old.place
@@ -113,7 +113,7 @@ pub record Flushes {T E : Type 0} (result : Result T E) (old new : MediumState) 
       (λ _. new.flushed ≡ old.flushed)
   pub faults : new.faults ≡ faults_after result old.faults
 
--- what a loop over `put` does: it puts `count` bytes, all of them at an Ok and fewer at an Err
+-- what a loop over `put` does: it writes `count` bytes, all of them at an Ok and fewer at an Err
 pub record PutsAll {T E : Type 0} (keeps : Bool) (bytes : List ℕ) (result : Result T E)
     (old new : MediumState) : Type 0 where
   pub count : ℕ

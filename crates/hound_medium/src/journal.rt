@@ -1,4 +1,4 @@
-// Bytes in memory as a medium and a source that keeps its past and fails on request.
+// Bytes in memory as a medium and a source that records every byte written and fails on request.
 ghost use Rattle.std.specs.Prelude.{◌≡◌, ℕ, ◌-◌, ◌^◌, ◌<◌, ◌≤◌, ◌↔◌, ◌+ℤ◌, pos, min, true, Some, [], length, drop, refl, IsErr, IfOk, IfErr};
 ghost use Rattle.std.specs.Int.{FitsUnsigned, w64};
 ghost use Rattle.std.specs.IoError.{error_kind};
@@ -16,17 +16,17 @@ use std::alloc::Global;
 use std::io;
 use std::io::ErrorKind;
 
-/// Bytes in memory with a place among them, to read and to put, that keep each byte that was put
+/// Bytes in memory with a place among them, to read and to write, that record each byte written
 /// with its place.
 ///
-/// It serves to see what lies in a medium at each moment of its past, as after a loss of power: the
-/// tests of a recorder that makes checkpoints look at [`Journal::bytes_after`] for each count of
-/// bytes from [`Journal::flushed`] to [`Journal::taken`]. By [`Journal::fail`] and
-/// [`Journal::most`] it also fails, and takes few bytes at once, when a test wants that.
+/// It shows what a medium has after every byte written, as after a loss of power: the tests of a
+/// recorder that makes checkpoints look at [`Journal::bytes_after`] for each count of
+/// bytes from [`Journal::flushed`] to [`Journal::taken`]. With [`Journal::fail`] and
+/// [`Journal::most`] it also fails, and takes few bytes at once.
 ///
-/// A `put` that finds no memory, or whose end would lie above `u64::MAX`, is an `Err` of kind
-/// `OutOfMemory`; it makes all its growths before it changes anything. Every `Err` changes nothing
-/// but the count of faults. Its memory grows with each byte that is put.
+/// A `put` without memory, or whose end would be above `u64::MAX`, is an `Err` of kind
+/// `OutOfMemory`; it allocates all it needs before it changes anything. Every `Err` changes only
+/// the count of faults. Its memory grows with each byte written.
 #[derive(Drop)]
 pub struct Journal {
     start: Vec<u8>,
@@ -47,8 +47,8 @@ pub struct Journal {
 impl Journal {
     ghost use Rattle.hound_medium.specs.Journal.{FailsAt, calls, greatest_count};
 
-    /// A journal of these bytes, at place 0, with nothing taken yet. It keeps a copy of them to
-    /// begin with, so it is `OutOfMemory` where there is none for that.
+    /// A journal of these bytes, at place 0, with nothing taken yet. It records a copy of them, so
+    /// it is `OutOfMemory` if there is no memory for that.
     pub fn new(alloc: Global, bytes: Vec<u8>) -> Result<Journal>
         ensures contents { IfOk result
             (λ j. (⟦<Journal as Placed>⟧.state j).contents ≡ bytes.items) }
@@ -80,7 +80,7 @@ impl Journal {
     }
 
     /// Limits the bytes that one `put` takes, and that one `get` or `read` gives, to this many, at
-    /// least 1. A new journal has no such limit; a later one replaces an earlier one.
+    /// least 1. A new journal has no such limit; a later one replaces it.
     pub fn most(&mut self, n: usize)
         requires { 1 ≤ n }
         ensures state { ⟦<Journal as Placed>⟧.state self.new ≡ ⟦<Journal as Placed>⟧.state self.old }
@@ -91,10 +91,10 @@ impl Journal {
         self.most = n;
     }
 
-    /// Lets calls fail, by their numbers, from the first to the last, both included.
+    /// Makes calls fail, by their numbers, from the first to the last, both included.
     ///
     /// Each call of `get` or `read`, `go`, `shift`, `put` and `flush` has a number, the first call
-    /// of all 1, whether it fails or not; where the number would pass `u64::MAX`, it stays there. A
+    /// 1, whether it fails or not; the number stays at `u64::MAX` once there. A
     /// call that fails is an `Err` of kind `Other`, takes and gives nothing and doesn't move, and
     /// counts a fault. No call of a new journal fails so; a later `fail` replaces an earlier one.
     pub fn fail(&mut self, from: u64, to: u64)
@@ -108,24 +108,24 @@ impl Journal {
         self.fail_to = to;
     }
 
-    /// How many bytes have been put in all since it was made. One that was put over another counts
-    /// too, and zeros that filled a gap don't.
+    /// How many bytes have been written in all since it was made. A byte written over another
+    /// counts too, and zeros that filled a gap don't.
     pub fn taken(&self) -> usize
         ensures { result ≡ length (⟦<Journal as Placed>⟧.state self.now).past }
     {
         self.past.len()
     }
 
-    /// How many bytes had been put at the last `flush` that was Ok; 0 before the first.
+    /// How many bytes had been written at the last Ok `flush`; 0 before the first.
     pub fn flushed(&self) -> usize
         ensures { result ≡ (⟦<Journal as Placed>⟧.state self.now).flushed }
     {
         self.flushed
     }
 
-    /// All of the bytes as they were after the first k of those that were put: for 0 the bytes that
-    /// the journal began with, for [`Journal::taken`] those of now. `k` is at most `taken()`: ask
-    /// it. `OutOfMemory` where there is none for them.
+    /// All of the bytes as they were after the first k of those written: for 0 the bytes that
+    /// the journal began with, for [`Journal::taken`] those of now. `k` must be at most `taken()`.
+    /// `OutOfMemory` if there is no memory for them.
     pub fn bytes_after(&self, alloc: Global, k: usize) -> Result<Vec<u8>>
         requires { k ≤ length (⟦<Journal as Placed>⟧.state self.now).past }
         ensures moment { let state = ⟦<Journal as Placed>⟧.state self.now in
@@ -141,7 +141,7 @@ impl Journal {
         }
     }
 
-    // Numbers a call, and fails it where it was asked for.
+    // Numbers a call, and fails it on request.
     fn call(&mut self) -> io::Result<()>
         ensures counts { self.new ≡ record self.old {
           calls = one_more self.old.calls;

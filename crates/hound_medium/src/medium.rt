@@ -1,4 +1,4 @@
-// The traits that readers and writers are generic over, and the same at a `&mut`.
+// The traits that readers and writers are generic over, and the same for a `&mut`.
 ghost use Rattle.std.specs.Prelude.{◌≡◌, ◌+◌, ◌<◌, ◌≤◌, Bool, IsTrue, false, length, drop, Some, IfOk};
 ghost use Rattle.hound_number.specs.Number.{AreBytes};
 ghost use Rattle.hound_medium.specs.Bytes.{overlay};
@@ -6,30 +6,30 @@ ghost use Rattle.hound_medium.specs.State.{MediumState, Goes, Shifts, Gets, Puts
 
 use std::io;
 
-/// A place among bytes, counted in bytes from 0. It may lie behind the end.
+/// A place among bytes, counted in bytes from 0. It can be past the end.
 ///
 /// Implemented for [`Tape`](crate::Tape), [`Journal`](crate::Journal), `BufReader<File>`,
 /// `BufWriter<File>`, and a `&mut` to any such type, so that a medium can be lent.
 ///
-/// Of a value that `tells`, contracts know the bytes; `state` says nothing of any other. There an
-/// `Err` of any call, of `put`, `flush` and `get` too, changes nothing but the count of faults. A
-/// new value stands at 0, where a writer has to begin; `go(0)` leads there again.
+/// If it `tells`, contracts know its bytes; `state` says nothing of any other. Then an `Err` of
+/// any call, of `put`, `flush` and `get` too, changes only the count of faults. A new value is
+/// at 0, where a writer has to begin; `go(0)` leads there again.
 pub trait Placed: Drop {
-    /// Whether the bytes are known: of `Tape` and `Journal` they are, of files not.
+    /// `tells`: the medium's bytes are known to contracts, as for `Tape` and `Journal`, not files.
     ghost tells: { Bool };
 
-    /// Whether each byte that has been put is kept with its place: `Journal` does so.
+    /// `keeps`: it records every byte written, with its place, as `Journal` does.
     ghost keeps: { Bool } = { false };
 
-    /// The bytes, the place, the count of faults, and what is kept of the past.
+    /// The bytes, the place, the count of faults, and the recorded past.
     ghost state: { Self → MediumState };
 
-    /// Goes to a place, counted from the beginning. One behind the end is allowed; the bytes stay.
+    /// Seeks to a place, counted from the beginning. One past the end is allowed; the bytes stay.
     fn go(&mut self, to: u64) -> io::Result<()>
         ensures { WhereTells tells (Goes to result (state self.old) (state self.new)) };
 
-    /// Moves the place by so many bytes, back where they are below 0. It is an error where the new
-    /// one would be below 0 or above `u64::MAX`.
+    /// Seeks by this many bytes, back if negative. It is an error if the new place would be
+    /// below 0 or above `u64::MAX`.
     fn shift(&mut self, by: i64) -> io::Result<()>
         ensures { WhereTells tells (Shifts by result (state self.old) (state self.new)) };
 
@@ -37,27 +37,27 @@ pub trait Placed: Drop {
     ghost bytes: { (m : Self) → WhereTells tells (AreBytes (state m).contents) };
 }
 
-/// A place that bytes are put at: what a `WavWriter` writes into.
+/// A place that bytes are written at: what a `WavWriter` writes into.
 ///
 /// Implemented for [`Tape`](crate::Tape), [`Journal`](crate::Journal), `BufWriter<File>`, and a
-/// `&mut` to any such type. One of your own gives `put` and `flush`, those of [`Placed`] and their
+/// `&mut` to any such type. Your own needs `put` and `flush`, those of [`Placed`] and their
 /// laws, and the writer's contracts hold over it.
 pub trait Medium: Placed {
-    /// Puts bytes at the place, as many as it takes at once, and moves behind them; the answer is
-    /// their number, at least 1. Zeros fill a gap behind the old end. There has to be a byte to
-    /// put: ask `bytes.is_empty()`. An `Err` puts none.
+    /// Writes bytes at the place, as many as it takes at once, moves after them, and returns
+    /// their number, at least 1. Zeros fill a gap after the old end. `bytes` must not be empty. An
+    /// `Err` writes none.
     fn put(&mut self, bytes: &[u8]) -> io::Result<usize>
         requires { 0 < length bytes.now }
         ensures bound { IfOk result (λ n. (1 ≤ n) × (n ≤ length bytes.now)) }
         ensures puts { WhereTells Self.tells
             (Puts Self.keeps bytes.now result (Self.state self.old) (Self.state self.new)) };
 
-    /// Hands all that has been put to what lies behind the medium; the place stays.
+    /// Passes all bytes written on to what the medium writes into, as a file; the place stays.
     fn flush(&mut self) -> io::Result<()>
         ensures { WhereTells Self.tells
             (Flushes result (Self.state self.old) (Self.state self.new)) };
 
-    /// A law: what has been put leads from the first contents to those of now.
+    /// A law: the bytes written lead from the first contents to those of now.
     ghost replays: { (m : Self) → WhereKeeps Self.tells Self.keeps
         ((Self.state m).contents ≡ overlay (Self.state m).start (Self.state m).past) };
 }
@@ -68,9 +68,9 @@ pub trait Medium: Placed {
 /// `&mut` to any such type. A `BufWriter<File>` is none, so a file is appended to by
 /// `WavWriter::append`.
 pub trait Source: io::Read + Placed {
-    /// Reads bytes at the place into the front of the buffer, and moves behind them; the answer is
-    /// their number, 0 only at the end or for an empty buffer. Unlike `read`, its contract says
-    /// what becomes of the place and of the count of faults.
+    /// Reads bytes at the place into the front of the buffer, moves after them, and returns
+    /// their number, 0 only at the end or for an empty buffer. Unlike `read`, its contract gives
+    /// the place and the count of faults.
     fn get(&mut self, buf: &mut [u8]) -> io::Result<usize>
         ensures bound { IfOk result (λ n. n ≤ length buf.new) }
         ensures gets { WhereTells Self.tells

@@ -1,10 +1,10 @@
--- Steps of an input whose bytes are known, put together.
+-- Steps of an input whose bytes are known, joined.
 use Rattle.std.proofs.Common.{ℕ, List, ◌++◌, sym, subst, Option, None, Some}
 use Rattle.std.specs.Prelude.{IfSome}
 use Rattle.std.specs.Io.KnownBytes.{Consumes}
 use Rattle.hound_number.specs.Input.{Known}
 
--- these bytes were taken: what holds of bytes that begin with them
+-- these bytes were taken: what holds for bytes that begin with them
 pub known_from : (bytes : List ℕ) (o n : Option (List ℕ)) (P : List ℕ → List ℕ → Type 0)
     → Consumes o n bytes → ((ys : List ℕ) → P (bytes ++ ys) ys) → Known o n P
 known_from bytes None n P taken f = tt
@@ -35,7 +35,7 @@ known_both (Some xs) None n Q P S q p f = absurd q
 known_both (Some xs) (Some ys) None Q P S q p f = p
 known_both (Some xs) (Some ys) (Some zs) Q P S q p f = f xs ys zs q p
 
--- what holds of the bytes that were left
+-- what holds for the bytes that were left
 pub known_some : (o n : Option (List ℕ)) (P : List ℕ → List ℕ → Type 0) (Q : List ℕ → Type 0)
     → Known o n P → ((xs ys : List ℕ) → P xs ys → Q xs) → IfSome o Q
 known_some None n P Q k f = tt

@@ -1,4 +1,4 @@
--- Numbers of four bytes, and one that is put over another, byte after byte, the low one first.
+-- Numbers of four bytes, and one that overwrites another, byte after byte, the low one first.
 use Rattle.std.proofs.Common.{◌≡◌, ℕ, zero, suc, ◌+◌, ◌*◌, ◌/◌, ◌%◌, ◌^◌, ◌<◌, ◌≤◌, List, [], ◌∷◌, ◌++◌, length, take, drop, refl, ◌∙◌, ap, arith}
 use Rattle.hound_number.specs.Number.{bytes_of, number, mix, AreBytes}
 
@@ -17,7 +17,7 @@ bytes_of-number (b ∷ bytes) small =
     (λ i. here i ∷ bytes_of (length bytes) (there i))
     ∙ ap (λ (l : List ℕ). b ∷ l) (bytes_of-number bytes (λ i. small (suc i)))
 
--- four bytes say a number of 32 bits
+-- four bytes encode a number of 32 bits
 pub number_small : (bytes : List ℕ) → length bytes ≡ 4 → AreBytes bytes → number bytes < 2 ^ 32
 number_small (a ∷ b ∷ c ∷ d ∷ []) four small = omega (arith, small 0, small 1, small 2, small 3)
 number_small [] four small = absurd (omega (arith, four))
@@ -38,7 +38,7 @@ mix_le_of (suc k) zero old new h = omega arith
 mix_le_of (suc k) (suc m) old new h =
     omega (arith, h, mix_le_of k m (old / 256) (new / 256) (omega (arith, h)))
 
--- over a smaller number: no moment says more than the new one
+-- over a smaller number: no intermediate state is more than the new one
 pub mix_le : (k old new : ℕ) → old ≤ new → mix k old new ≤ new
 mix_le k old new h = mix_le_of k 4 old new h
 

@@ -6,7 +6,7 @@ use Rattle.std.proofs.KnownBytes.{Consumes-trans}
 use borrow.Rule.Slice.PartMut.{put_mid, post_of}
 use lib.Seq.{take-add, take-append-le}
 
--- a front that stayed, and the part behind it, are the longer front
+-- a front that stayed, and the part after it, are the longer front
 front_and_part : (a b : ℕ) (old new : List ℕ) → a ≤ b → take a new ≡ take a old
     → take a old ++ slice_range new a b ≡ take b new
 front_and_part a b old new h front =
@@ -14,7 +14,7 @@ front_and_part a b old new h front =
     ap (λ l. l ++ slice_range new a b) (sym front) ∙ sym (take-add a (b - a) new)
     ∙ ap (λ n. take n new) same
 
--- the beginning of the part that was put into a list
+-- the beginning of the part that was written into a list
 slice_range-put_mid : (a k n : ℕ) (xs ys : List ℕ) → a ≤ length xs → n ≤ length ys
     → slice_range (put_mid a k xs ys) a (a + n) ≡ take n ys
 slice_range-put_mid a k n xs ys within fits =
@@ -23,7 +23,7 @@ slice_range-put_mid a k n xs ys within fits =
     ap (take ((a + n) - a)) (drop_at (take a xs) (ys ++ after) a (length-take-le a xs within))
     ∙ ap (λ m. take m (ys ++ after)) same ∙ take-append-le n ys after fits
 
--- what a buffer had and what a read gave behind it were taken, one after the other
+-- what a buffer had and what a read appended were taken, one after the other
 pub taken_behind : (old mid new : Option (List ℕ)) (at k n : ℕ) (buf given : List ℕ)
     → at ≤ length buf → n ≤ length given → Consumes old mid (take at buf)
     → Consumes mid new (take n given) → Consumes old new (take (at + n) (put_mid at k buf given))

@@ -1,4 +1,4 @@
--- The `io::Error` that a caller is told.
+-- The `io::Error` that a caller gets.
 use Rattle.std.specs.Prelude.{◌≡◌}
 use Rattle.std.specs.IoError.{error_kind}
 use Rattle.std.specs.declared.io.Error.{Error}

@@ -11,7 +11,7 @@ abbrev pub bytes_of : ℕ → ℕ → List ℕ
 bytes_of zero n = []
 bytes_of (suc k) n = n % 256 ∷ bytes_of k (n / 256)
 
--- a number of four bytes that is half put over another: the k low bytes of new, and the other bytes
+-- a number of four bytes half overwritten by another: the k low bytes of new, and the other bytes
 -- of old
 abbrev pub mix : ℕ → ℕ → ℕ → ℕ
 mix k old new = number (take k (bytes_of 4 new) ++ drop k (bytes_of 4 old))
@@ -25,7 +25,7 @@ twos_complement k (negsuc n) = 256 ^ k - (n + 1)
 abbrev pub signed_bytes_of : ℕ → ℤ → List ℕ
 signed_bytes_of k z = bytes_of k (twos_complement k z)
 
--- the signed number of k bytes: from half of 256 ^ k on it is negative
+-- the signed number of k bytes: negative from half of 256 ^ k on
 abbrev pub signed_of : ℕ → ℕ → ℤ
 signed_of k n = if nat_lt (2 * n) (256 ^ k) then pos n else (pos n -ℤ pos (256 ^ k))
 

@@ -2,7 +2,7 @@
 use Rattle.std.specs.Prelude.{ℕ, ◌<◌, List, length, take, Option, Result, Ok, Err}
 use Rattle.std.specs.Io.KnownBytes.{Appends}
 
--- the bytes went out in order: all of them at an Ok, a shorter beginning of them at an Err
+-- the bytes were written in order: all of them at an Ok, a shorter beginning of them at an Err
 abbrev pub Writes : {T E : Type 0} → List ℕ → Result T E → Option (List ℕ) → Option (List ℕ)
     → Type 0
 Writes bytes (Ok x) old new = Appends old new bytes

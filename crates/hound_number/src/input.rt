@@ -10,29 +10,29 @@ ghost use Rattle.hound_number.specs.Ending.{ReportsEnding};
 use std::io;
 use std::io::ErrorKind;
 
-/// What bytes are read from: any reader, or one of which contracts see how many reads failed.
+/// What bytes are read from: any reader, or one whose failed reads contracts count.
 ///
-/// Implemented for every `io::Read`, whose failed reads contracts don't count, and for the
-/// `Counted` of `hound_reader`, a source whose failed reads they do.
+/// Implemented for every `io::Read`, whose failed reads contracts don't count, and for `Counted`
+/// of `hound_reader`, a source whose failed reads they count.
 pub trait Input {
-    /// The bytes that are left, where they are known.
+    /// The bytes that are left, if they are known.
     ghost left: { Self → Option (List ℕ) };
 
     /// The type of what no read changes.
     ghost Kept: { Type 0 } = { Unit {0} };
 
-    /// How many reads failed, and what no read changes, where these are known.
+    /// How many reads failed, and what no read changes, if these are known.
     ghost account: { Self → Option (Account Kept) };
 
-    /// Reads bytes into the front of the buffer, and gives their number. It is 0 only at the end of
-    /// the input or where the buffer is empty. At an `Err` no byte was taken.
+    /// Reads bytes into the front of the buffer and returns their number. It is 0 only at the end
+    /// of the input or if the buffer is empty. At an `Err` no byte was taken.
     fn read_some(&mut self, buf: &mut [u8]) -> io::Result<usize>
         ensures bound { ReadsAtMost result buf.new }
         ensures bytes { ReadConsumes (left self.old) (left self.new) result buf.new }
         ensures failures { CountsRead (account self.old) (account self.new) result };
 }
 
-// Of a plain reader contracts see no more than the bytes that are left.
+// Contracts see only the bytes left of a plain reader.
 impl<R: io::Read> Input for R {
     ghost left = { λ r. R.remaining r };
 
@@ -74,9 +74,9 @@ impl From<ReadError> for io::Error {
     }
 }
 
-/// Fills the whole buffer, however the reads are cut; an empty one without a read.
+/// Fills the whole buffer, however the reads are cut; an empty buffer needs no read.
 ///
-/// `Interrupted` is passed on like any other fault. At an `Err` fewer bytes than the buffer holds
+/// `Interrupted` is passed on like any other fault. At an `Err`, fewer bytes than the buffer holds
 /// were taken.
 #[inline(always)]
 pub fn read_into<R: Input>(reader: &mut R, buf: &mut [u8]) -> Result<(), ReadError>

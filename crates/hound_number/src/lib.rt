@@ -1,7 +1,7 @@
 //! Little-endian numbers, and the loops over `read` and `write`.
 //!
-//! The lowest layer: each call makes, reads or writes exactly the bytes of its number, or says the
-//! fault. The root of `hound` gives none of it; a crate that wants it lists `hound_number`.
+//! The lowest layer: each call makes, reads or writes exactly the bytes of its number, or returns
+//! the fault. The root of `hound` exports none of it; a crate that needs it lists `hound_number`.
 #![tactic(auto)]
 
 mod input;
@@ -66,7 +66,7 @@ pub fn le_i32(n: i32) -> [u8; 4]
     n.to_le_bytes()
 }
 
-/// The number in the two bytes from the index `at` on, which have to be there: `at + 2` is at most
+/// The number in the two bytes from the index `at` on, which must exist: `at + 2` is at most
 /// `bytes.len()`.
 #[inline(always)]
 pub fn u16_at(bytes: &[u8], at: usize) -> u16
@@ -76,7 +76,7 @@ pub fn u16_at(bytes: &[u8], at: usize) -> u16
     bytes[at] as u16 + bytes[at + 1] as u16 * 0x100
 }
 
-/// The number in the four bytes from the index `at` on, which have to be there: `at + 4` is at most
+/// The number in the four bytes from the index `at` on, which must exist: `at + 4` is at most
 /// `bytes.len()`.
 #[inline(always)]
 pub fn u32_at(bytes: &[u8], at: usize) -> u32
@@ -119,10 +119,10 @@ pub fn i32_from_le(bytes: [u8; 4]) -> i32
     i32::from_le_bytes(bytes)
 }
 
-/// Writes all of the bytes, in order; where there are none, without a call of the writer.
+/// Writes all of the bytes, in order; if there are none, the writer isn't called.
 ///
 /// `Interrupted` is passed on like any other fault, and a write that takes no byte is one of kind
-/// `WriteZero`. At an `Err` a beginning of the bytes may be out, and nothing more is tried.
+/// `WriteZero`. At an `Err` a beginning of the bytes may be written, and no more is tried.
 pub fn write_bytes<W: io::Write>(writer: &mut W, bytes: &[u8]) -> io::Result<()>
     ensures { Writes bytes.now result (W.contents writer.old) (W.contents writer.new) }
 {

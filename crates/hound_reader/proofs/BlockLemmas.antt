@@ -22,12 +22,12 @@ use Rattle.hound_reader.specs.declared.item.NoSample.{NoSample}
 use Rattle.hound_reader.specs.declared.item.NoSample.TheVariants.{Failed, OtherFormat, Wider, OtherPair}
 use Rattle.hound_reader.proofs.ItemLemmas.{a_container_is_taken}
 
--- an Ok of a type that refuses
+-- an Ok of a type that doesn't read the samples
 no_value : {A : Type 0} {P : Type 0} (value : A) (error : Error)
     → (let answer : Result A Error = Ok value in answer) ≡ Err error → P
 no_value value error is = cc
 
--- the error of a refusal, by its reason
+-- the error of a type that doesn't read the samples, by its reason
 refusal_by_reason : (refusal : ReadRefusal) (fault : IoFault)
     → error_of_item (reason_of (error_of_read refusal)) fault ≡ error_of_read refusal
 refusal_by_reason other_format fault = refl
@@ -70,7 +70,7 @@ each_by_reason refusal meaning width [] e reason fault old new is (mid, read, sa
 each_by_reason refusal meaning width (value ∷ values) e reason fault old new is (mid, read, rest) =
     (mid, read, each_by_reason refusal meaning width values e reason fault mid new is rest)
 
--- nothing is said of bytes that aren't known
+-- nothing is claimed for unknown bytes
 unknown_read : {A : Type 0} (meaning : List ℕ → A) (width : ℕ) (item : Result A Error)
     (old new : Option (List ℕ)) → Reads None meaning width old new item
     → Reads None meaning width None new item
@@ -99,7 +99,7 @@ unknown_last meaning width [] item old new (mid, read, same) =
 unknown_last meaning width (value ∷ values) item old new (mid, read, rest) =
     unknown_last meaning width values item mid new rest
 
--- samples, and what was answered after them; bytes that aren't known stay so
+-- samples, and what was returned after them; unknown bytes stay unknown
 pub each_split : {A : Type 0} (refusal : Option ReadRefusal) (meaning : List ℕ → A) (width : ℕ)
     (values : List A) (item : Result A Error) (old new : Option (List ℕ))
     → ReadsEach refusal meaning width (map Ok values ++ (item ∷ [])) old new
@@ -138,7 +138,7 @@ each_takes refusal meaning width (value ∷ values) xs new (Some ys, read, rest)
           ∙ ap Some (drop-drop (length values * width) width xs ∙ ap (λ n. drop n xs) e),
     )
 
--- a fault is no refusal
+-- a fault isn't an error of the type
 no_refusal : {A : Type 0} (fault : IoFault) (refusal : ReadRefusal)
     → (let answer : Result A Error = Err (IoError fault) in answer) ≡ Err (error_of_read refusal)
     → ⊥
@@ -207,14 +207,14 @@ taken_few OtherFormat given width = omega arith
 taken_few Wider given width = omega arith
 taken_few OtherPair given width = omega arith
 
--- a refusal leaves the bytes
+-- an error of the type leaves the bytes
 refused_stays : {A : Type 0} (refusal : Option ReadRefusal) (meaning : List ℕ → A) (width : ℕ)
     (old new : Option (List ℕ)) (item : Result A Error)
     → Reads refusal meaning width old new item → IsSome refusal → new ≡ old
 refused_stays None meaning width old new item read some = absurd (false≢true some)
 refused_stays (Some refusal) meaning width old new item read some = read.1
 
--- so many samples and bytes later
+-- this many samples and bytes later
 abbrev pub later : ReaderState (Option (List ℕ)) → ℕ → ℕ → Option (List ℕ) → ReaderState (Option (List ℕ))
 later reading samples bytes left = record {
   reader = left;
@@ -323,7 +323,7 @@ module _ {A : Type 0} (refusal : SampleFormat → ℕ → ℕ → Option ReadRef
         num_samples = refl;
       }))
 
-  -- so they are where a slice has so many of them
+  -- the same if a slice is as long as them
   pub block_of_samples : (values : List A) (count : ℕ) (old : ReaderState (Option (List ℕ)))
       (new : Option (List ℕ)) → length values ≡ count → count ≤ samples_left old
       → ReadsEach (refusal_at refusal old.spec_ex) (meaning_at meaning old.spec_ex)
@@ -408,7 +408,7 @@ none_taken (Some xs) = (omega arith, refl)
 
 module _ {A : Type 0} (refusal : SampleFormat → ℕ → ℕ → Option ReadRefusal)
     (meaning : SampleFormat → ℕ → ℕ → List ℕ → A) where
-  -- a run of items counts what it took, and leaves the spec and the number of samples
+  -- a run of items counts what it took, and leaves the spec and the number of samples unchanged
   pub run_takes : (items : List (Result A Error)) (old new : ReaderState (Option (List ℕ)))
       → Gives refusal meaning items old new → CountsTaken (λ (bytes : Option (List ℕ)). bytes) old new
       × (new.spec_ex ≡ old.spec_ex) × (new.num_samples ≡ old.num_samples)
@@ -441,7 +441,7 @@ module _ {A : Type 0} (refusal : SampleFormat → ℕ → ℕ → Option ReadRef
   value_read None m width xs None value read = absurd read
   value_read None m width xs (Some ys) value (enough, is, left) = (is, ap Some left)
 
-  -- the same samples come of the same bytes
+  -- the same samples come from the same bytes
   pub same_samples : (samples others : List A) (old block new : ReaderState (Option (List ℕ)))
       (xs : List ℕ) → old.reader ≡ Some xs → length samples ≡ length others
       → Gives refusal meaning (map Ok samples) old block

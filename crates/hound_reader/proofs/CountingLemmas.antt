@@ -1,10 +1,10 @@
--- What a reader that counts has given, read after read.
+-- What a counting reader has given, read after read.
 use Rattle.std.proofs.Common.{◌≡◌, ℕ, ◌+◌, ◌-◌, ◌^◌, min, List, length, drop, ap, sym, ◌∙◌, arith, length-append, drop_at, refl, take, ◌≤◌, Option, None, Some}
 use Rattle.std.proofs.lemmas.List.{drop-drop, length-take-le}
 use Rattle.std.specs.Io.KnownBytes.{Consumes}
 use Rattle.hound_reader.specs.Counting.{HasGiven}
 
--- so many bytes more were given
+-- this many bytes more were given
 given_more : (first old new : Option (List ℕ)) (given count sum : ℕ) (bytes : List ℕ)
     → HasGiven first given old → Consumes old new bytes → length bytes ≡ count
     → sum ≡ min (given + count) (2 ^ 64 - 1) → HasGiven first sum new

@@ -264,7 +264,7 @@ same_answer bytes (unreadable c) (unreadable d) a b = ap unreadable (faults_agre
 pub one_answer : (bytes : List ℕ) → HasOneAnswer bytes
 one_answer bytes = let s = some_answer bytes in (s.0, s.1, λ b h. same_answer bytes s.0 b s.1 h)
 
--- what a reader answered, for any answer of the bytes
+-- what a reader returned, for any answer of the bytes
 pub tells_ok : (bytes rest : List ℕ) (r : FileHead) (a : Answer)
     → Head bytes r.spec_ex r.data_length r.data_start → rest ≡ drop r.data_start bytes
     → Answers bytes a → ReportsAnswer (Ok r) bytes rest a

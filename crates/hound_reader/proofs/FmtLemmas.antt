@@ -24,7 +24,7 @@ extensible_at len found size rest big two more is =
     let back = drop_at size rest 2 two in
     rw (long, all, front, back, is) refl
 
--- a content says what its front says
+-- the fields of a content are those of its front
 pub fmt_front : (len n : ℕ) (xs : List ℕ) → fmt_len len ≤ n → fmt_of len (take n xs) ≡ fmt_of len xs
 fmt_front len n xs l = ap (fmt_said len) (take-take (fmt_len len) n xs l)
 
@@ -34,7 +34,7 @@ pub fmt_and_rest : (len : ℕ) (xs rest : List ℕ) → fmt_len len ≤ length x
 fmt_and_rest len xs rest l = let n = fmt_len len in
     ap (fmt_said len) (take_at (take n xs) rest n (length-take-le n xs l))
 
--- the first sixteen bytes of a content, and what stands behind them
+-- the first sixteen bytes of a content, and those after them
 pub fmt_head : (len : ℕ) (h zs : List ℕ) → 16 ≤ len → length h ≡ 16
     → fmt_of len (h ++ zs) ≡
     (wave_format (fmt_fields h) >>= λ found.

@@ -27,7 +27,7 @@ all_taken bytes k o n taken l =
     known_from bytes o n (AreTaken k) taken
     (λ ys. (omega (arith, l, length-append bytes ys), sym (drop_at bytes ys k l)))
 
--- h was taken, and then a part of what was wanted: a fault cut it, or the end
+-- h was taken, and then a part of what was needed: a fault or the end cut it
 pub front_cut : (h : List ℕ) (k : ℕ) (o m n : Option (List ℕ)) (e : HeadError) → Consumes o m h
     → length h + k ≤ 12 → (bytes : List ℕ) × (length bytes < k) × Consumes m n bytes
     → Refuses e (λ c. (c ≡ Ended) × Known m n (λ xs ys. (length xs < k) × (ys ≡ [])))
@@ -46,7 +46,7 @@ front_cut h k o m n (Refused c) taken room part (is, end) =
     (known_then h o m n _ (λ xs ys. AreTaken (length xs) xs ys) taken end
     (λ ys zs p. (omega arith, p.1 ∙ sym (drop-length (h ++ ys)))))
 
--- an early end: there are less than twelve bytes
+-- an early end: there are fewer than twelve bytes
 ended_so : (a b c d : Bool)
     → (if a then Some Ended else if b then Some
     (Format NoRiffTag) else if c then Some Ended else if d then Some (Format NoWaveTag) else None)
@@ -82,7 +82,7 @@ no_unsupported xs e =
     no_unsupported_so (nat_lt (length xs) 4) (not (bytes_eq (take 4 xs) riff_tag))
     (nat_lt (length xs) 12) (not (bytes_eq (slice_range xs 8 12) wave_tag)) e
 
--- what callers are told of it
+-- what callers get for it
 told : (e : HeadError) (error : Error) (xs ys : List ℕ) → ReportsError e error
     → Refuses e (λ c. front_fault xs ≡ Some c) → TakesFront e xs ys → ReportsFront error xs ys
 told (Failed e) error xs ys r f t = subst (λ x. ReportsFront x xs ys) (sym r) t

@@ -20,7 +20,7 @@ ok_from_taken k bs (Some xs) (Some ys) f x h l e = (
   sym (ap (drop k) h ∙ drop_at bs ys k l),
 )
 
--- the same where f of them is a fault
+-- the same if f of them is a fault
 pub err_from_taken : {A : Type 0} (k : ℕ) (bs : List ℕ) (o n : Option (List ℕ))
     (f : List ℕ → Result A Cause) (c : Cause) → Consumes o n bs → length bs ≡ k → f bs ≡ Err c
     → Known o n (λ xs ys. f (take k xs) ≡ Err c)

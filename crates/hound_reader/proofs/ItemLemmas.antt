@@ -134,7 +134,7 @@ module _ {R A : Type 0} (left : R → Option (List ℕ))
   run_keeps [] old new run = ap (λ (r : ReaderState R). r.num_samples) run
   run_keeps (item ∷ items) old new (mid, step, run) = run_keeps items mid new run ∙ step.num_samples
 
-  -- where none comes after a run, it gave all that were left
+  -- if none comes after a run, it gave all that were left
   pub items_all : (items : List (Result A Error)) (old new end : ReaderState R)
       → GivesItems left refusal meaning items old new
       → IsNext {A = A} left refusal meaning None new end → length items ≡ samples_left old
@@ -142,7 +142,7 @@ module _ {R A : Type 0} (left : R → Option (List ℕ))
       let counted = items_counted items old new run in
       omega (arith, counted.0, counted.1, none.0, run_keeps items old new run)
 
-  -- and where it gave all that were left, none comes
+  -- and if it gave all that were left, none comes
   pub none_behind : (items : List (Result A Error)) (next : Option (Result A Error))
       (old new end : ReaderState R) → GivesItems left refusal meaning items old new
       → length items ≡ samples_left old → IsNext left refusal meaning next new end → next ≡ None

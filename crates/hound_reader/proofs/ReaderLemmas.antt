@@ -1,4 +1,4 @@
--- The answers of a reader.
+-- What a reader returns.
 use Rattle.std.proofs.Common.{◌≡◌, ℕ, drop, inl, inr, ◌/◌, ◌∙◌, List, sym, ap, subst, Option, Some, None, Err, refl}
 use Rattle.std.specs.Prelude.{⊤, IfSome}
 use Rattle.std.proofs.lemmas.Option.{same_Some}
@@ -82,7 +82,7 @@ one_file_answer bytes =
     let file = file_of_answer bytes head.0 head.1 in
     (file.0, file.1, λ b is. same_file_answer bytes file.0 b file.1 is)
 
--- the error of a cause is a refusal for it
+-- the error of a cause names it
 refusal_is : (e : Error) (cause : Cause) (P : Cause → Type 0) → Names e cause → P cause
     → IsRefusal e P
 refusal_is (errors.IoError e) cause P n p = tt
@@ -104,7 +104,7 @@ pub refusal_told : (o n : Option (List ℕ)) (stop : HeadError) (e : Error)
 refusal_told o n (Failed x) e P r f = if_some o _ (λ xs. subst (λ y. IsRefusal y (P xs)) (sym r) tt)
 refusal_told o n (Refused' c) e P r f = known_some o n _ _ f (λ xs ys u. refusal_is e c (P xs) r u)
 
--- whatever ended the walk, callers are told an `IoError` or the error of its cause
+-- whatever ended the walk, callers get an `IoError` or the error of its cause
 pub is_told : (stop : HeadError) (e : Error) → ReportsError stop e → IsRefusal e (λ _. ⊤)
 is_told (Failed x) e r = subst (λ y. IsRefusal y (λ _. ⊤)) (sym r) tt
 is_told (Refused' c) e r = refusal_is e c (λ _. ⊤) r tt

@@ -17,7 +17,7 @@ use Rattle.hound_reader.specs.Seeking.{HasSought, Seeks, StandsAsCounted, IsAtCo
 use Rattle.hound_reader.specs.Sources.{unread}
 use Rattle.hound_spec.specs.FmtChunk.{greatest_u32}
 
--- the place of a frame is one that 63 bits can say
+-- the place of a frame fits in 63 bits
 pub frame_small : (time channels width : ℕ) → time ≤ greatest_u32 → channels * width ≤ 65535
     → time * channels * width < 2 ^ 63
 frame_small time channels width t f =
@@ -31,7 +31,7 @@ counted_small samples bytes channels width s b f =
     let p : samples * width ≤ greatest_u32 * channels * width = mul-le-mul_right width s in
     omega (arith, p, b, f, mul_assoc greatest_u32 channels width)
 
--- the same shift, by what its number and its answer are
+-- the same shift, for the same number and the same result
 pub shifts_so : {T E : Type 0} (by way : ℤ) (result : Result T E) (x : T) (old new : MediumState)
     → by ≡ way → result ≡ Ok x → Shifts by result old new → Shifts {E = E} way (Ok x) old new
 shifts_so {T} {E} by way result x old new b r s =
@@ -42,7 +42,7 @@ moved : (place new : ℕ) (by : ℤ) → IsMoved place by new → pos new ≡ po
 moved place new (pos n) m = omega (arith, ints, m)
 moved place new (negsuc n) m = omega (arith, ints, m)
 
--- a shift by the way between two places leads from the one to the other
+-- a shift by the distance between two places leads from the one to the other
 pub arrives : (start from to place new : ℕ) → place ≡ start + from
     → IsMoved place (pos to -ℤ pos from) new → new ≡ start + to
 arrives start from to place new stood m =
@@ -60,7 +60,7 @@ frame_inside time (suc channels) samples t =
 
 module _ {R : Type 0} (state : R → MediumState) (start time : ℕ) (old new : ReaderState R)
     (sought : HasSought state start time old new) where
-  -- where the source stands after a seek
+  -- the place of the source after a seek
   pub sought_place : (state new.reader).place ≡ start + bytes_before time old.spec_ex
   sought_place =
       arrives start old.bytes_read (bytes_before time old.spec_ex) (state old.reader).place
@@ -77,7 +77,7 @@ module _ {R : Type 0} (state : R → MediumState) (start time : ℕ) (old new : 
       ap (λ n. drop n (state new.reader).contents) sought_place
       ∙ ap (drop (start + bytes_before time old.spec_ex)) sought.seeks.source.stays.contents
 
-  -- and it has the whole container, where the data have all of theirs
+  -- and it has the whole container, if the data have all of theirs
   pub sought_there : time < old.num_samples / old.spec_ex.spec.channels
       → start + old.num_samples * old.spec_ex.bytes_per_sample ≤ length (state old.reader).contents
       → old.spec_ex.bytes_per_sample ≤ length (unread (state new.reader))
@@ -158,7 +158,7 @@ module _ {R : Type 0} (left : R → Option (List ℕ)) where
       (AreTaken n) stands known in
       p.1 ∙ ap Some (p.2.1 ∙ drop-drop n old.bytes_read bytes ∙ ap (λ i. drop i bytes) (sym count))
 
-  -- an item keeps what is left as counted
+  -- an item leaves the rest as counted
   pub item_counted : {A : Type 0} (refusal : SampleFormat → ℕ → ℕ → Option ReadRefusal)
       (meaning : SampleFormat → ℕ → ℕ → List ℕ → A) (bytes : List ℕ) (old new : ReaderState R)
       (next : Option (Result A Error)) → StandsAsCounted left bytes old
@@ -215,7 +215,7 @@ module _ {R : Type 0} (left : R → Option (List ℕ)) (state : R → MediumStat
         ap length (sym same ∙ p.2.1) ∙ length-drop step.taken.0 (unread (state old.reader)) in
         omega (arith, stood, step.in_place.place, l, p.2.0, step.taken.1)
 
-    -- after all calls the source stands as counted, over the same contents
+    -- after all calls the source is at the place counted, over the same contents
     pub stands_after : (start : ℕ) (calls : List (Option ℕ)) (old new : ReaderState R)
         → IsAtCount state start old → Follows left state calls old new
         → IsAtCount state start new × ((state new.reader).contents ≡ (state old.reader).contents)

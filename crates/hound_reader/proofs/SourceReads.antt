@@ -1,4 +1,4 @@
--- A source that tells its bytes, as an input.
+-- A source whose bytes are known, as an input.
 use Rattle.std.proofs.Common.{◌≡◌, Bool, true, false, IsTrue, cond, ℕ, List, drop, None, Some, Result, Ok, Err, refl, ap}
 use Rattle.std.specs.Prelude.{IfOk, IfErr}
 use Rattle.std.specs.Io.KnownBytes.{ReadConsumes}
@@ -96,7 +96,7 @@ finds (Err (variants.Refused c)) old new counts found refused =
           ap (λ (a : Account Untouched). a.kept.flushed) counts;
     }
 
--- the walk over a source that tells its bytes
+-- the walk over a source whose bytes are known
 pub finds_told : (tells : Bool) (result : Result FileHead HeadError) (old new : MediumState)
     → IsTrue tells
     → CountsFailed (cond tells (Some (account_of old)) None)

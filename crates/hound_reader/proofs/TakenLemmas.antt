@@ -1,4 +1,4 @@
--- How many bytes are taken where the bytes are refused, piece after piece.
+-- How many bytes are taken if the bytes are rejected, piece after piece.
 use Rattle.std.proofs.Common.{◌≡◌, ℕ, zero, suc, ◌+◌, ◌*◌, ◌%◌, ◌<◌, ◌≤◌, Bool, true, false, not, ◌||◌, if◌then◌else◌, List, [], ◌∷◌, ◌++◌, length, take, drop, refl, sym, ap, ◌∙◌, subst, arith, inl, inr, slice_range, append_assoc, drop_at, le-ltb, length-append, length-drop, Option, None, Some, Result, Ok, Err}
 use Rattle.std.proofs.lemmas.List.{drop-drop}
 use Rattle.std.proofs.Math.Seq.{drop-length}
@@ -46,7 +46,7 @@ taken_then h ys zs n t = (
       ∙ ap (λ i. drop i (h ++ ys)) (omega arith),
 )
 
--- h was taken, and then what a refusal takes, for a cause of which P holds
+-- h was taken, and then what an error takes, for a cause that P holds for
 pub takes_after : (h : List ℕ) (o m n : Option (List ℕ)) (f g : Cause → List ℕ → ℕ)
     (P : Cause → Type 0) (e : HeadError) → Consumes o m h → Refuses e P
     → ((c : Cause) (ys : List ℕ) → P c → g c (h ++ ys) ≡ length h + f c ys)
@@ -84,7 +84,7 @@ choice_fails true b x y c e = absurd (let no : ⊥ = cc in no)
 choice_fails false true x y c e = absurd (let no : ⊥ = cc in no)
 choice_fails false false x y c e = cc
 
--- an extension has no fault but another subformat
+-- an extension has no fault except another subformat
 pub subformat_fails : (found : WavSpecEx) (e : Extension) (c : Cause) → by_subformat found e ≡ Err c
     → c ≡ Unsupported
 subformat_fails found e c is =
@@ -118,7 +118,7 @@ wave_format_takes f tag len c n is =
     (not (f.byte_rate == f.align * f.rate) || nat_lt greatest_u32 (f.align * f.rate))
     (not (f.bits % 8 == 0)) (f.bits == 0) (spec_of f Int) tag len c n is
 
--- h was taken, and then what a call takes that answers a refusal
+-- h was taken, and then what a call takes that returns an error
 pub takes_more : {A : Type 0} (h : List ℕ) (o m n : Option (List ℕ)) (f g : Cause → List ℕ → ℕ)
     (r : Result A HeadError) → Consumes o m h
     → ((c : Cause) (ys : List ℕ) → g c (h ++ ys) ≡ length h + f c ys)
@@ -141,7 +141,7 @@ chunk_takes c len h ys cause eight room is =
     ∙ take_within 4 (drop 4 h) ys (simp length-drop (omega (arith, eight))) in
     rw (limit, enough, drop_at h ys 8 eight, size, sym is, eight) refl
 
--- P and Q of the same bytes
+-- P and Q for the same bytes
 pub known_and : (o n : Option (List ℕ)) (P Q : List ℕ → List ℕ → Type 0) → Known o n P → Known o n Q
     → Known o n (λ xs ys. P xs ys × Q xs ys)
 known_and None n P Q p q = tt
@@ -197,7 +197,7 @@ head_takes o m n len (Refused c) front t =
           (omega (arith, four, length-append size wave_tag)) (taken_then front ys zs k are)),
     ))
 
--- a head is all there
+-- a head is complete
 pub head_is_there : (bytes : List ℕ) (spec : WavSpecEx) (len h : ℕ) → Head bytes spec len h
     → h ≤ length bytes
 head_is_there bytes spec len h head =

@@ -111,7 +111,7 @@ chunk_sound c found p rest is limit =
     ap (chunk_fault c found) whole
     ∙ rw (room, enough, tag, all, back, size) (content_sound c found p rest is limit)
 
--- where a fault or the data stands, no chunk begins
+-- at a fault or the data, no chunk begins
 fault_ends : (c : ℕ) (found : Option WavSpecEx) (bytes : List ℕ) (cause : Cause)
     → chunk_fault c found bytes ≡ Some cause → Ends c bytes
 fault_ends c found bytes cause h p rest is limit e = let none = ap (chunk_fault c found) e

@@ -14,7 +14,7 @@ use Rattle.hound_spec.specs.FmtChunk.{greatest_u32}
 use Rattle.hound_spec.specs.Header.{padded, riff_tag, wave_tag, data_tag}
 use Rattle.hound_reader.specs.Walk.{ReadsChunk, ReadsContent, Walked, ReachesData}
 
--- what a test of the code says
+-- what a test of the code shows
 pub tag_test : (r b : Bool) (tag now lit : List ℕ) → r ≡ bytes_eq tag now → now ≡ lit → r ≡ b
     → bytes_eq tag lit ≡ b
 tag_test r b tag now lit e l t = sym (e ∙ ap (bytes_eq tag) l) ∙ t

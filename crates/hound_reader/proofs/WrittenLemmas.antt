@@ -1,4 +1,4 @@
--- A header that was written is a head, and the containers behind it are read back.
+-- A written header is a head, and the containers after it are read back.
 use Rattle.std.proofs.Common.{◌≡◌, ℕ, zero, suc, ◌+◌, ◌*◌, ◌/◌, ◌%◌, ◌^◌, ◌<◌, ◌≤◌, ◌==◌, inl, inr, true, false, nat_le, List, [], ◌∷◌, ◌++◌, length, drop, append-nil, append_assoc, take_at, drop_at, length-append, refl, sym, ap, ◌∙◌, arith, le-ltb, eq-eqb, lit<, Ok}
 use Rattle.std.proofs.Math.Nat.{mul-mod_left}
 use Rattle.std.proofs.lemmas.Nat.{div-mul-add}

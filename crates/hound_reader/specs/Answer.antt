@@ -1,4 +1,4 @@
--- What bytes are: a head with a spec and a data length, or a cause for which they have none.
+-- What bytes are: a head with a spec and a data length, or a cause why they have none.
 use Rattle.std.specs.Prelude.{◌≡◌, ℕ, List, drop, ⊤, Result, Ok, Err}
 use Rattle.hound_reader.specs.Chunks.{Head, Refused, Readable, Unreadable}
 use Rattle.hound_spec.specs.declared.spec.WavSpecEx.{WavSpecEx}
@@ -21,7 +21,7 @@ Answers bytes (unreadable cause) = Refused bytes cause
 abbrev pub HasOneAnswer : List ℕ → Type 0
 HasOneAnswer bytes = (a : Answer) × Answers bytes a × ((b : Answer) → Answers bytes b → b ≡ a)
 
--- the bytes can be read, with so many samples, or not for this cause
+-- the bytes can be read, with this many samples, or not for this cause
 abbrev pub AnswersFile : List ℕ → Answer → Type 0
 AnswersFile bytes (readable spec samples h) = Readable bytes spec samples h
 AnswersFile bytes (unreadable cause) = Unreadable bytes cause

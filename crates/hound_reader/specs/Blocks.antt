@@ -1,4 +1,4 @@
--- Blocks of samples, by the items that they are.
+-- Blocks of samples, by their items.
 use Rattle.std.specs.Prelude.{◌≡◌, ℕ, ◌≤◌, min, List, length, take, drop, Option, IsSome, Result, Ok, OnOk}
 use Rattle.hound_spec.specs.declared.error.Error.{Error}
 use Rattle.hound_spec.specs.declared.spec.SampleFormat.{SampleFormat}
@@ -22,7 +22,7 @@ over_bytes left reading = record {
   bytes_read = reading.bytes_read;
 }
 
--- these items came out of the bytes that are left, one after the other
+-- these items came from the bytes that are left, one after the other
 abbrev pub GivesItemsOfBytes : {R A : Type 0} → (R → Option (List ℕ))
     → (SampleFormat → ℕ → ℕ → Option ReadRefusal) → (SampleFormat → ℕ → ℕ → List ℕ → A)
     → List (Result A Error) → ReaderState R → ReaderState R → Type 0

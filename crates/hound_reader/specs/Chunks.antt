@@ -1,4 +1,4 @@
--- A file as chunks (RIFF): what stands before the data, and what is wrong where it can't be read.
+-- A file as chunks (RIFF): what is before the data, and what is wrong if it can't be read.
 use Rattle.std.specs.Prelude.{◌≡◌, ℕ, ◌+◌, ◌≤◌, ◌/◌, ◌%◌, ◌==◌, ◌⊎◌, false, not, List, [], ◌∷◌, ◌++◌, length, take, drop, slice_range, Option, Some, None, is_none, Result, Ok, Err, nat_lt, if◌then◌else◌}
 use Rattle.std.specs.Str.{bytes_eq}
 use Rattle.std.specs.List.{flat_map}
@@ -11,7 +11,7 @@ use Rattle.hound_reader.specs.declared.fault.Cause.{Cause}
 use Rattle.hound_reader.specs.declared.fault.Cause.TheVariants.{Ended, Format}
 use Rattle.hound_reader.specs.declared.fault.Reason.TheVariants.{NoRiffTag, NoWaveTag, NoDataChunk, NoFmtChunk, DataLength, FrameLength}
 
--- A chunk as it stands in the file: the tag, the length as four bytes, and the content with its
+-- A chunk of the file: the tag, the length as four bytes, and the content with its
 -- pad byte, if it has one (RIFF, "Chunks").
 pub record Chunk : Type 0 where
   pub tag : List ℕ
@@ -22,7 +22,7 @@ pub record Chunk : Type 0 where
 abbrev pub chunk_bytes : Chunk → List ℕ
 chunk_bytes p = p.tag ++ (p.size ++ p.content)
 
--- the bytes of chunks, one behind the other
+-- the bytes of chunks, one after the other
 abbrev pub joined : List Chunk → List ℕ
 joined ps = flat_map chunk_bytes ps
 
@@ -48,13 +48,13 @@ pub record IsChunk (p : Chunk) : Type 0 where
   pub other : bytes_eq p.tag data_tag ≡ false
   pub sound : fmt_fault p.tag (number p.size) p.content ≡ None
 
--- Chunks from c bytes behind the WAVE tag on, each within the limit of 32 bits.
+-- Chunks from c bytes after the WAVE tag on, each within the limit of 32 bits.
 abbrev pub Chunks : ℕ → List Chunk → Type 0
 Chunks c [] = Unit {0}
 Chunks c (p ∷ ps) = IsChunk p × (c + 8 + padded (number p.size) ≤ greatest_u32)
     × Chunks (c + length (chunk_bytes p)) ps
 
--- the spec behind a chunk, and behind chunks: that of the last fmt chunk
+-- the spec after a chunk, and after chunks: that of the last fmt chunk
 unfoldable pub spec_after : Option WavSpecEx → List ℕ → ℕ → List ℕ → Option WavSpecEx
 spec_after found tag len content =
     if bytes_eq tag fmt_tag then ok_of (fmt_of len content) else found
@@ -83,7 +83,7 @@ pub record Head (bytes : List ℕ) (spec : WavSpecEx) (len h : ℕ) : Type 0 whe
   pub spec_is : last_spec None chunks ≡ Some spec
   pub place : h ≡ 12 + length (joined chunks) + 8
 
--- where data can begin: behind the front and a chunk's header, and within the limit
+-- where data can begin: after the front and a chunk's header, and within the limit
 abbrev pub IsDataPlace : ℕ → Type 0
 IsDataPlace h = (20 ≤ h) × (h ≤ 20 + greatest_u32)
 
@@ -101,11 +101,11 @@ abbrev pub first_fault : Option Cause → Option Cause → Option Cause
 first_fault None second = second
 first_fault (Some c) second = Some c
 
--- the fault of fewer bytes than these
+-- the fault if there are fewer bytes than these
 abbrev pub cut_fault : ℕ → List ℕ → Option Cause
 cut_fault n bytes = if nat_lt (length bytes) n then Some Ended else None
 
--- The fault of a chunk with this tag and length, and the rest behind them, where c bytes and a spec
+-- The fault of a chunk with this tag and length, and the rest after them, if c bytes and a spec
 -- so far came before.
 unfoldable pub content_fault : ℕ → Option WavSpecEx → List ℕ → ℕ → List ℕ → Option Cause
 content_fault c found tag len rest =
@@ -120,8 +120,8 @@ chunk_fault c found bytes =
     else if nat_lt (length bytes) 8 then Some Ended
     else content_fault c found (take 4 bytes) (number (slice_range bytes 4 8)) (drop 8 bytes)
 
--- The bytes have no head for this cause: the first twelve bytes have it, or what stands behind
--- whole chunks does.
+-- The bytes have no head for this cause: the first twelve bytes have it, or what comes after
+-- whole chunks has it.
 abbrev pub Refused : List ℕ → Cause → Type 0
 Refused bytes cause = (front_fault bytes ≡ Some cause)
     ⊎ ((chunks : List Chunk) × (rest : List ℕ) × Walk bytes chunks rest
@@ -135,7 +135,7 @@ data_fault spec len =
     then Some (Format FrameLength)
     else None
 
--- A head with whole frames: so many samples follow it.
+-- A head with whole frames: this many samples follow it.
 pub record Readable (bytes : List ℕ) (spec : WavSpecEx) (samples h : ℕ) : Type 0 where
   pub len : ℕ
   pub head : Head bytes spec len h

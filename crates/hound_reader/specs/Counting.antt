@@ -1,10 +1,10 @@
--- What a reader that counts has given.
+-- What a counting reader has given.
 use Rattle.std.specs.Prelude.{◌≡◌, ℕ, ◌-◌, ◌^◌, ◌≤◌, min, List, length, drop, ⊤, Option, None, Some}
 use Rattle.std.proofs.Props.{props}
 use Rattle.std.specs.Coded.{Unit-prop}
 
--- Where the bytes are known, those that were left at first and are not left now have been given,
--- from the front, and `given` counts them, up to the greatest `u64`.
+-- If the bytes are known, those that were left at first and are not left now have been given, from
+-- the front, and `given` counts them, up to the maximum of `u64`.
 abbrev pub HasGiven : Option (List ℕ) → ℕ → Option (List ℕ) → Type 0
 HasGiven None given left = ⊤
 HasGiven (Some xs) given None = ⊥

@@ -1,4 +1,4 @@
--- What the content of a fmt chunk says, or the first check that fails.
+-- The spec that the content of a fmt chunk gives, or the first check that fails.
 use Rattle.std.specs.Prelude.{ℕ, ◌<◌, ◌≤◌, ◌-◌, ◌*◌, ◌/◌, ◌%◌, not, ◌||◌, min, List, length, take, drop, Result, Ok, Err, nat_lt, ◌==◌, if◌then◌else◌}
 use Rattle.std.specs.Str.{bytes_eq}
 use Rattle.hound_number.specs.Number.{number}
@@ -10,7 +10,7 @@ use Rattle.hound_spec.specs.declared.spec.SampleFormat.{SampleFormat}
 use Rattle.hound_spec.specs.declared.spec.SampleFormat.TheVariants.{Int, Float}
 use Rattle.hound_spec.specs.declared.spec.WavSpecEx.{WavSpecEx}
 
--- what f says of an Ok; an Err stays
+-- f applied to an Ok; an Err stays
 infixl 10 ◌>>=◌
 abbrev pub ◌>>=◌ : {A B : Type 0} → Result A Cause → (A → Result B Cause) → Result B Cause
 (Ok x) >>= f = f x
@@ -44,7 +44,7 @@ wave_format f =
     else if f.bits == 0 then Err (Format ZeroBits)
     else Ok (spec_of f Int)
 
--- Integers (PCMWAVEFORMAT). `after` is the content behind its first sixteen bytes.
+-- Integers (PCMWAVEFORMAT). `after` is the content after its first sixteen bytes.
 unfoldable pub wave_format_pcm : ℕ → WavSpecEx → List ℕ → Result WavSpecEx Cause
 wave_format_pcm len found after =
     if len == 16 then Ok found
@@ -76,7 +76,7 @@ with_bits found valid =
     let bits = if valid == 0 then found.spec.bits_per_sample else valid in
     record found { spec = record found.spec { bits_per_sample = bits } }
 
--- the subformat says what the samples are, and the mask of speakers nothing (WAVEFORMATEXTENSIBLE)
+-- the subformat gives the format of the samples; the mask is ignored (WAVEFORMATEXTENSIBLE)
 abbrev pub by_subformat : WavSpecEx → Extension → Result WavSpecEx Cause
 by_subformat found e =
     if bytes_eq e.subformat (subformat Int) then Ok (with_bits (with_format found Int) e.valid_bits)
@@ -101,11 +101,11 @@ by_tag tag len found after =
     else if tag == extensible then wave_format_extensible len found after
     else Err Unsupported
 
--- How many bytes of a fmt chunk of this length say something (WAVEFORMATEXTENSIBLE).
+-- How many bytes of a fmt chunk of this length are used (WAVEFORMATEXTENSIBLE).
 abbrev pub fmt_len : ℕ → ℕ
 fmt_len len = min len 40
 
--- what these bytes of a fmt chunk of this length say, of which the last ones may be missing
+-- the spec of these bytes of a fmt chunk of this length, of which the last ones may be missing
 unfoldable pub fmt_said : ℕ → List ℕ → Result WavSpecEx Cause
 fmt_said len bytes =
     if nat_lt len 16 then Err (Format FmtSize)
@@ -113,11 +113,11 @@ fmt_said len bytes =
     else wave_format (fmt_fields (take 16 bytes)) >>= λ found.
     by_tag (fmt_fields (take 16 bytes)).tag len found (drop 16 bytes)
 
--- What the content of a fmt chunk of this length says: bytes behind those say nothing.
+-- The spec of a fmt chunk of this length: bytes after the used ones are ignored.
 abbrev pub fmt_of : ℕ → List ℕ → Result WavSpecEx Cause
 fmt_of len content = fmt_said len (take (fmt_len len) content)
 
--- what a reader divides by is not 0, and a frame has at most 65535 bytes
+-- the divisors of a reader are not 0, and a frame has at most 65535 bytes
 abbrev pub IsSoundSpec : WavSpecEx → Type 0
 IsSoundSpec found =
     (0 < found.spec.channels) × (0 < found.bytes_per_sample)

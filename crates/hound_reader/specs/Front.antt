@@ -1,4 +1,4 @@
--- What is taken of the first twelve bytes where they are refused.
+-- What is taken of the first twelve bytes if they are rejected.
 use Rattle.std.specs.Prelude.{◌≡◌, ℕ, ◌<◌, List, length, Some}
 use Rattle.hound_reader.specs.Chunks.{front_fault}
 use Rattle.hound_reader.specs.Reader.{AreTaken}
@@ -19,22 +19,22 @@ front_taken (Format NoRiffTag) bytes = 4
 front_taken (Format NoWaveTag) bytes = 12
 front_taken cause bytes = length bytes
 
--- the first twelve bytes have this fault, and so many were taken for it
+-- the first twelve bytes have this fault, and this many were taken for it
 abbrev pub RefusesFront : Cause → List ℕ → List ℕ → Type 0
 RefusesFront cause old new =
     (front_fault old ≡ Some cause) × AreTaken (front_taken cause old) old new
 
--- less than twelve bytes were taken
+-- fewer than twelve bytes were taken
 abbrev pub TakesLess : List ℕ → List ℕ → Type 0
 TakesLess old new = (n : ℕ) × (n < 12) × AreTaken n old new
 
--- what was taken of the first twelve bytes at an error: less than twelve where a read failed
+-- what was taken of the first twelve bytes at an error: fewer than twelve if a read failed
 abbrev pub TakesFront : HeadError → List ℕ → List ℕ → Type 0
 TakesFront (Failed e) old new = TakesLess old new
 TakesFront (Refused cause) old new = AreTaken (front_taken cause old) old new
 
--- what callers are told of it: the words of a wrong tag, or an `IoError`, for which less than
--- twelve bytes were taken
+-- what callers get for it: the words of a wrong tag, or an `IoError`, for which fewer than twelve
+-- bytes were taken
 abbrev pub ReportsFront : Error → List ℕ → List ℕ → Type 0
 ReportsFront (errors.IoError e) old new = TakesLess old new
 ReportsFront (errors.FormatError s) old new =

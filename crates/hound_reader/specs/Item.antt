@@ -11,21 +11,21 @@ use Rattle.hound_reader.specs.Reader.{refusal_at, meaning_at}
 use Rattle.hound_reader.specs.declared.item.NoSample.{NoSample}
 use Rattle.hound_reader.specs.declared.item.NoSample.TheVariants.{Failed, OtherFormat, Wider, OtherPair}
 
--- what an error of `read` says
+-- the reason that an error of `read` gives
 abbrev pub reason_of : Error → NoSample
 reason_of (IoError fault) = Failed
 reason_of InvalidSampleFormat = OtherFormat
 reason_of TooWide = Wider
 reason_of _ = OtherPair
 
--- the error that says it, where this fault was kept aside
+-- the error of that reason, with this saved fault
 abbrev pub error_of_item : NoSample → IoFault → Error
 error_of_item Failed fault = IoError fault
 error_of_item OtherFormat fault = InvalidSampleFormat
 error_of_item Wider fault = TooWide
 error_of_item OtherPair fault = Unsupported
 
--- what `read` answers, whichever the fault was
+-- what `read` returns, whichever the fault was
 abbrev pub answer_of : {A : Type 0} → Result A NoSample → IoFault → Result A Error
 answer_of (Ok value) fault = Ok value
 answer_of (Err no_sample) fault = Err (error_of_item no_sample fault)
@@ -38,8 +38,8 @@ AnswersRead refusal meaning s old new answer = (fault : IoFault)
     → Reads (refusal_at refusal s) (meaning_at meaning s) s.bytes_per_sample old new
     (answer_of answer fault)
 
--- how many bytes an item without a sample took, of those that were given for it: what was given of
--- a container of this width where a fault or the end cut it, and none at a refusal
+-- how many bytes an item without a sample took, of those given for it: what was given of a
+-- container of this width if a fault or the end cut it, and none at an error of the type
 abbrev pub taken_without : NoSample → ℕ → ℕ → ℕ
 taken_without Failed given width = min given width
 taken_without _ given width = 0

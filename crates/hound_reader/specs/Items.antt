@@ -1,4 +1,4 @@
--- The items of a file, as one type asks for them.
+-- The items of a file, as one type reads them.
 use Rattle.std.specs.Prelude.{◌≡◌, ℕ, ◌≤◌, List, [], ◌∷◌, length, take, drop, ⊤, Option, Some, None, Result, Ok, Err}
 use Rattle.hound_spec.specs.declared.error.Error.{Error}
 use Rattle.hound_spec.specs.declared.error.Error.TheVariants.{IoError}
@@ -7,9 +7,9 @@ use Rattle.hound_sample.specs.Meaning.{ReadRefusal}
 use Rattle.hound_sample.specs.Reads.{error_of_read}
 use Rattle.hound_reader.specs.Reader.{ReaderState, IsNext}
 
--- The first items of data with containers of this width: each is the refusal of the type, or each
--- is the meaning of its own container, which is all there. After the first `IoError` nothing is
--- said.
+-- The first items of data with containers of this width: each is the error of the type, or each
+-- is the meaning of its own container, which is complete. Nothing is claimed after the first
+-- `IoError`.
 abbrev pub AreItems : {A : Type 0} → Option ReadRefusal → (List ℕ → A) → ℕ → List ℕ
     → List (Result A Error) → Type 0
 AreItems refusal meaning width bytes [] = ⊤

@@ -1,16 +1,16 @@
--- What a call of the walk answers: a value, a cause that the bytes decide, or a failed read.
+-- What a call of the walk returns: a value, a cause that the bytes decide, or a failed read.
 use Rattle.std.specs.Prelude.{◌≡◌, ℕ, ◌≤◌, List, length, drop, ⊤, Option, Result, Ok, Err}
 use Rattle.hound_number.specs.Input.{Account, Known, NoneFailed, OneFailed}
 use Rattle.hound_reader.specs.declared.fault.HeadError.{HeadError}
 use Rattle.hound_reader.specs.declared.fault.HeadError.TheVariants.{Failed, Refused}
 use Rattle.hound_reader.specs.declared.fault.Cause.{Cause}
 
--- P of the cause, unless a read failed
+-- P for the cause, unless a read failed
 abbrev pub Refuses : HeadError → (Cause → Type 0) → Type 0
 Refuses (Failed e) P = ⊤
 Refuses (Refused c) P = P c
 
--- A call that takes n bytes answers what `read` says of the bytes, unless a read failed.
+-- A call that takes n bytes returns `read` of the bytes, unless a read failed.
 abbrev pub Gives : {A : Type 0} → Option (List ℕ) → Option (List ℕ) → ℕ → Result A HeadError
     → (List ℕ → Result A Cause) → Type 0
 Gives old new n (Ok x) read =

@@ -11,7 +11,7 @@ use Rattle.hound_reader.specs.Fmt.{IsSoundSpec}
 use Rattle.hound_spec.specs.FmtChunk.{greatest_u32}
 
 -- A reader as contracts see it: what it reads from, the spec with the width of a sample, how many
--- samples the file has, how many of them were asked for, and how many bytes these took since the
+-- samples the file has, how many of them were requested, and how many bytes these took since the
 -- data began.
 pub record ReaderState (R : Type 0) : Type 0 where
   pub reader : R
@@ -20,7 +20,7 @@ pub record ReaderState (R : Type 0) : Type 0 where
   pub samples_read : ℕ
   pub bytes_read : ℕ
 
--- how many samples are left: those that were not asked for
+-- how many samples are left: those that were not requested
 abbrev pub samples_left : {R : Type 0} → ReaderState R → ℕ
 samples_left reading = reading.num_samples - reading.samples_read
 
@@ -29,8 +29,8 @@ abbrev pub HasWholeFrames : {R : Type 0} → ReaderState R → Type 0
 HasWholeFrames reading =
     IsSoundSpec reading.spec_ex × (reading.num_samples % reading.spec_ex.spec.channels ≡ 0)
 
--- the counts of a reader, whatever was read or sought: whole frames, and no more bytes than the
--- samples asked for have
+-- the counts of a reader, after any reads and seeks: whole frames, and no more bytes than the
+-- requested samples have
 pub record HasSoundCounts (spec_ex : WavSpecEx) (num_samples samples_read bytes_read : ℕ) : Type 0
   where
     pub sound : IsSoundSpec spec_ex
@@ -38,8 +38,8 @@ pub record HasSoundCounts (spec_ex : WavSpecEx) (num_samples samples_read bytes_
     pub samples : samples_read ≤ greatest_u32 * spec_ex.spec.channels
     pub bytes : bytes_read ≤ samples_read * spec_ex.bytes_per_sample
 
--- the bytes that an item took: the width of a container at an Ok, none at a refusal by type, and at
--- most the width where a read failed or the input ended
+-- the bytes that an item took: the width of a container at an Ok, none at an error of the type, and
+-- at most the width if a read failed or the input ended
 abbrev pub TookBytes : {A : Type 0} → ℕ → Result A Error → ℕ → ℕ → Type 0
 TookBytes width (Ok value) old new = new ≡ old + width
 TookBytes width (Err (IoError e)) old new = (old ≤ new) × (new ≤ old + width)
@@ -49,21 +49,21 @@ TookBytes width (Err _) old new = new ≡ old
 abbrev pub AreTaken : ℕ → List ℕ → List ℕ → Type 0
 AreTaken n old new = (n ≤ length old) × (new ≡ drop n old)
 
--- the count of bytes grew by exactly what was taken of those that were left, where these are known
+-- the count of bytes grew by exactly what was taken of those that were left, if these are known
 abbrev pub CountsTaken : {R : Type 0} → (R → Option (List ℕ)) → ReaderState R → ReaderState R
     → Type 0
 CountsTaken left old new = (n : ℕ) × (new.bytes_read ≡ old.bytes_read + n)
     × Known (left old.reader) (left new.reader) (AreTaken n)
 
--- the refusal and the meaning of a type, at the format, the width and the bits of a spec
+-- why a type doesn't read, and its meaning, at the format, the width and the bits of a spec
 abbrev pub refusal_at : (SampleFormat → ℕ → ℕ → Option ReadRefusal) → WavSpecEx → Option ReadRefusal
 refusal_at refusal s = refusal s.spec.sample_format s.bytes_per_sample s.spec.bits_per_sample
 
 abbrev pub meaning_at : {A : Type 0} → (SampleFormat → ℕ → ℕ → List ℕ → A) → WavSpecEx → List ℕ → A
 meaning_at meaning s = meaning s.spec.sample_format s.bytes_per_sample s.spec.bits_per_sample
 
--- An item of a type with this refusal and meaning was given: it is what `read` of the type answers,
--- and it counts.
+-- An item of a type with these tables was given: it is what `read` of the type returns, and it
+-- counts.
 pub record GivesItem {R A : Type 0} (left : R → Option (List ℕ)) (refusal : Option ReadRefusal)
     (meaning : List ℕ → A) (item : Result A Error) (old new : ReaderState R) : Type 0 where
   pub inside : old.samples_read < old.num_samples

@@ -1,4 +1,4 @@
--- The errors that callers are told.
+-- The errors that callers get.
 use Rattle.std.specs.Prelude.{◌≡◌, ℕ, List, ⊤, codes, Result, Ok, Err}
 use Rattle.std.specs.IoError.{error_kind}
 use Rattle.std.specs.declared.io.ErrorKind.TheVariants.{Other}
@@ -31,8 +31,8 @@ reason_text ExtensibleSize = codes "unexpected WAVEFORMATEXTENSIBLE size"
 reason_text DataLength = codes "data chunk length is not a multiple of sample size"
 reason_text FrameLength = codes "invalid data chunk length"
 
--- the error that stands for a cause: a `FormatError` with its words, the variant `Unsupported`, or
--- for an early end an `IoError` of kind `Other`
+-- the error of a cause: a `FormatError` with its words, the variant `Unsupported`, or for an early
+-- end an `IoError` of kind `Other`
 abbrev pub Names : Error → Cause → Type 0
 Names (errors.IoError e) cause = (cause ≡ Ended) × (error_kind e ≡ Other)
 Names (errors.FormatError s) cause = (reason : Reason) × (cause ≡ Format reason)
@@ -40,12 +40,12 @@ Names (errors.FormatError s) cause = (reason : Reason) × (cause ≡ Format reas
 Names errors.Unsupported cause = cause ≡ Unsupported
 Names _ cause = ⊥
 
--- the error that callers are told: that of a failed read, or that of the cause
+-- the error that callers get: that of a failed read, or that of the cause
 abbrev pub ReportsError : HeadError → Error → Type 0
 ReportsError (Failed e) told = told ≡ errors.IoError e
 ReportsError (Refused cause) told = Names told cause
 
--- an `IoError`, or the error of a cause that P says
+-- an `IoError`, or the error of a cause that P holds for
 abbrev pub IsRefusal : Error → (Cause → Type 0) → Type 0
 IsRefusal (errors.IoError e) P = ⊤
 IsRefusal (errors.FormatError s) P = (reason : Reason) × P (Format reason)

@@ -25,7 +25,7 @@ stereo_24 = record {
   bytes_per_sample = 4;
 }
 
--- a reader of four samples that counts so many as asked for, and so many bytes as taken
+-- a reader of four samples that counts this many as requested, and this many bytes as taken
 abbrev pub counted : WavSpecEx → ℕ → ℕ → ReaderState (List ℕ)
 counted s samples bytes = record {
   reader = [];
@@ -70,7 +70,7 @@ long_fact = before_data (fact_tag ++ (0x08 ∷ 0x00 ∷ 0x00 ∷ 0x00 ∷ [])
 abbrev pub empty_fact : List ℕ
 empty_fact = before_data (fact_tag ++ (0x00 ∷ 0x00 ∷ 0x00 ∷ 0x00 ∷ []))
 
--- the tag of a chunk that says nothing
+-- the tag of a chunk that is ignored
 abbrev pub junk_tag : List ℕ
 junk_tag = codes "junk"
 
@@ -106,7 +106,7 @@ long_fmt = front ++ fmt_tag ++ (0x2a ∷ 0x00 ∷ 0x00 ∷ 0x00 ∷ []) ++ float
 abbrev pub past_the_limit : List ℕ
 past_the_limit = front ++ junk_tag ++ (0xff ∷ 0xff ∷ 0xff ∷ 0xff ∷ 0x00 ∷ 0x00 ∷ [])
 
--- Junk behind a fmt chunk: of an odd length whose pad byte passes the limit, and of the greatest
+-- Junk after a fmt chunk: of an odd length whose pad byte passes the limit, and of the largest
 -- length within it.
 abbrev pub odd_at_the_limit : List ℕ
 odd_at_the_limit = mono_front ++ junk_tag ++ (0xdf ∷ 0xff ∷ 0xff ∷ 0xff ∷ [])
@@ -118,7 +118,7 @@ even_at_the_limit = mono_front ++ junk_tag ++ (0xde ∷ 0xff ∷ 0xff ∷ 0xff �
 abbrev pub fmt_at_the_limit : List ℕ
 fmt_at_the_limit = front ++ fmt_tag ++ (0xff ∷ 0xff ∷ 0xff ∷ 0xff ∷ []) ++ mono_fmt
 
--- the containers of so many bytes and bits are these numbers
+-- the containers with these bytes and bits are these numbers
 abbrev pub AreRead : ℕ → ℕ → List ℕ → List ℤ → Type 0
 AreRead width bits bytes numbers =
     map (int_meaning width bits) (containers width (length numbers) bytes) ≡ numbers

@@ -9,24 +9,24 @@ use Rattle.hound_medium.specs.State.{MediumState, Shifts}
 use Rattle.hound_reader.specs.Reader.{ReaderState, CountsTaken}
 use Rattle.hound_reader.specs.Sources.{unread}
 
--- how many samples stand before a frame
+-- how many samples come before a frame
 abbrev pub samples_before : ℕ → WavSpecEx → ℕ
 samples_before time s = time * s.spec.channels
 
--- how many bytes of the data stand before a frame
+-- how many bytes of the data come before a frame
 abbrev pub bytes_before : ℕ → WavSpecEx → ℕ
 bytes_before time s = samples_before time s * s.bytes_per_sample
 
--- the way to a frame in bytes, from where the reader counts itself to be
+-- the distance to a frame in bytes, from the place that the reader counts
 abbrev pub way_to : {R : Type 0} → ℕ → ReaderState R → ℤ
 way_to time reading = pos (bytes_before time reading.spec_ex) -ℤ pos reading.bytes_read
 
--- a count after a call: an Err leaves the old one
+-- a count after a call: at an Err the old one
 abbrev pub count_after : {T E : Type 0} → Result T E → ℕ → ℕ → ℕ
 count_after (Ok x) count old = count
 count_after (Err e) count old = old
 
--- The counts after `seek`: all that stands before the frame counts as read, and an Err leaves them.
+-- The counts after `seek`: all before the frame counts as read, and an Err leaves them.
 pub record Recounts {R T E : Type 0} (time : ℕ) (result : Result T E) (old new : ReaderState R)
     : Type 0 where
   pub samples : new.samples_read ≡ count_after result (samples_before time old.spec_ex)
@@ -35,24 +35,24 @@ pub record Recounts {R T E : Type 0} (time : ℕ) (result : Result T E) (old new
   pub spec_ex : new.spec_ex ≡ old.spec_ex
   pub num_samples : new.num_samples ≡ old.num_samples
 
--- `seek` was Ok, over a source that tells
+-- `seek` was Ok, over a source whose bytes are known
 pub record Seeks {R : Type 0} (state : R → MediumState) (time : ℕ) (old new : ReaderState R)
     : Type 0 where
   pub counts : Recounts {T = Unit {0}} {E = IoFault} time (Ok tt) old new
   pub source : Shifts {T = Unit {0}} {E = IoFault} (way_to time old) (Ok tt)
       (state old.reader) (state new.reader)
 
--- the source stands as many bytes behind the first data byte, at `start`, as the reader counts
+-- the source is as many bytes after the first data byte, at `start`, as the reader counts
 abbrev pub IsAtCount : {R : Type 0} → (R → MediumState) → ℕ → ReaderState R → Type 0
 IsAtCount state start reading = (state reading.reader).place ≡ start + reading.bytes_read
 
--- `seek` was Ok, over a source that tells and stood where the reader counts itself to be
+-- `seek` was Ok, over a source whose bytes are known and whose place was the counted one
 pub record HasSought {R : Type 0} (state : R → MediumState) (start time : ℕ)
     (old new : ReaderState R) : Type 0 where
   pub stood : IsAtCount state start old
   pub seeks : Seeks state time old new
 
--- what is left to be read are the data behind the bytes that the reader counts as taken
+-- what is left to be read are the data after the bytes that the reader counts as taken
 abbrev pub StandsAsCounted : {R : Type 0} → (R → Option (List ℕ)) → List ℕ → ReaderState R → Type 0
 StandsAsCounted left bytes reading = left reading.reader ≡ Some (drop reading.bytes_read bytes)
 
@@ -61,7 +61,7 @@ pub record ReadsInPlace (old new : MediumState) : Type 0 where
   pub contents : new.contents ≡ old.contents
   pub place : new.place ≡ old.place + (length (unread old) - length (unread new))
 
--- an item of whatever type was given, whole, refused or torn, or a block of items, and it counts
+-- an item of any type was given, whole, rejected or torn, or a block of items, and it counts
 -- what it took
 pub record PassesItem {R : Type 0} (left : R → Option (List ℕ)) (state : R → MediumState)
     (old new : ReaderState R) : Type 0 where

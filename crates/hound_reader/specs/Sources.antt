@@ -31,15 +31,15 @@ faults_after_walk (Ok x) faults = faults
 faults_after_walk (Err (Failed e)) faults = one_more faults
 faults_after_walk (Err (Refused c)) faults = faults
 
--- the answer of a walk to bytes, of which `rest` is left: their head, or the cause for which they
--- have none; a failed read says nothing of them
+-- the result of a walk for bytes, of which `rest` is left: their head, or the cause why they have
+-- none; a failed read shows nothing of them
 abbrev pub AnswersBytes : Result FileHead HeadError → List ℕ → List ℕ → Type 0
 AnswersBytes (Ok head) bytes rest = Head bytes head.spec_ex head.data_length head.data_start
     × (rest ≡ drop head.data_start bytes)
 AnswersBytes (Err (Failed e)) bytes rest = ⊤
 AnswersBytes (Err (Refused c)) bytes rest = Refused' bytes c
 
--- what a walk over a source does: it answers the bytes from the place on, and moves the place alone
+-- a walk over a source: its result is that of the bytes from the place on, and only the place moves
 pub record FindsData (result : Result FileHead HeadError) (old new : MediumState) : Type 0 where
   pub answer : AnswersBytes result (unread old) (unread new)
   pub faults : new.faults ≡ faults_after_walk result old.faults

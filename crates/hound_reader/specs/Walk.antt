@@ -11,7 +11,7 @@ use Rattle.hound_reader.specs.declared.fault.Cause.{Cause}
 use Rattle.hound_reader.specs.declared.chunks.ChunkRead.{ChunkRead}
 use Rattle.hound_reader.specs.declared.chunks.ChunkRead.TheVariants.{Data, Other}
 
--- What was taken of xs, of which ys are left, where a chunk was read that began c bytes behind the
+-- What was taken of xs, of which ys are left, if a chunk was read that began c bytes after the
 -- WAVE tag.
 abbrev pub ReadsChunk : ℕ → Option WavSpecEx → ChunkRead → List ℕ → List ℕ → Type 0
 ReadsChunk c found (Data spec len) xs ys = (found ≡ Some spec) × (c + 8 ≤ greatest_u32)
@@ -21,7 +21,7 @@ ReadsChunk c found (Other next taken) xs ys = (p : Chunk) × IsChunk p
     × (next ≡ spec_after found p.tag (number p.size) p.content)
     × (taken ≡ c + length (chunk_bytes p)) × (xs ≡ chunk_bytes p ++ ys)
 
--- The same behind the tag and the length.
+-- The same after the tag and the length.
 abbrev pub ReadsContent : ℕ → Option WavSpecEx → List ℕ → ℕ → ChunkRead → List ℕ → List ℕ → Type 0
 ReadsContent c found tag len (Data spec n) xs ys = (bytes_eq tag data_tag ≡ true)
     × (found ≡ Some spec) × (n ≡ len) × (xs ≡ ys)
@@ -32,7 +32,7 @@ ReadsContent c found tag len (Other next taken) xs ys = (content : List ℕ)
     × (next ≡ spec_after found tag len content) × (taken ≡ c + 8 + length content)
     × (xs ≡ content ++ ys)
 
--- What was taken of xs, of which ys are left, where the content of a fmt chunk was read.
+-- What was taken of xs, of which ys are left, if the content of a fmt chunk was read.
 abbrev pub ReadsFmt : ℕ → WavSpecEx → List ℕ → List ℕ → Type 0
 ReadsFmt len found xs ys = (content : List ℕ) × (length content ≡ padded len)
     × (fmt_of len content ≡ Ok found) × (xs ≡ content ++ ys)
@@ -66,7 +66,7 @@ pub record MeetsFault (xs : List ℕ) (cause : Cause) : Type 0 where
   pub walked : Walked xs rest found taken
   pub fault : chunk_fault taken found rest ≡ Some cause
 
--- the spec so far, where there is one, can be divided by
+-- the spec so far, if there is one, can be divided by
 abbrev pub IsSoundChunk : ChunkRead → Type 0
 IsSoundChunk (Data spec len) = IsSoundSpec spec
 IsSoundChunk (Other None taken) = ⊤

@@ -39,20 +39,20 @@ pub enum ChunkRead {
     Other(Option<WavSpecEx>, u32),
 }
 
-/// What stands before the data.
+/// What is before the data.
 #[derive(Clone, Copy)]
 pub struct FileHead {
     /// The spec of the last fmt chunk.
     pub spec_ex: WavSpecEx,
 
-    /// The length of the data in bytes, as their chunk says it.
+    /// The length of the data in bytes, as in their chunk.
     pub data_length: u32,
 
-    /// How many bytes stand before the data.
+    /// How many bytes are before the data.
     pub data_start: u64,
 }
 
-// Takes bytes and lets them go.
+// Takes bytes and drops them.
 fn skip_bytes<R: Input>(reader: &mut R, count: u32) -> Result<(), HeadError>
     ensures failures { CountsFailed (R.account reader.old) (R.account reader.new) result }
     ensures ok { OnOk result ((bytes : List ℕ)
@@ -67,7 +67,7 @@ fn skip_bytes<R: Input>(reader: &mut R, count: u32) -> Result<(), HeadError>
     skip_some(reader, count)
 }
 
-// The same of at least one byte: where there is none to skip, no buffer is made.
+// The same for at least one byte: if there is none to skip, no buffer is made.
 #[inline(never)]
 fn skip_some<R: Input>(reader: &mut R, count: u32) -> Result<(), HeadError>
     ensures failures { CountsFailed (R.account reader.old) (R.account reader.new) result }
@@ -87,7 +87,7 @@ fn skip_some<R: Input>(reader: &mut R, count: u32) -> Result<(), HeadError>
     Ok(())
 }
 
-/// Takes RIFF, a size and WAVE, and gives the size, which is compared with nothing.
+/// Takes RIFF, a size and WAVE, and returns the size, which isn't checked.
 #[tactic(auto, unfolding(crate::specs::Chunks::front_fault))]
 pub(crate) fn read_riff_header<R: Input>(reader: &mut R) -> Result<u32, HeadError>
     ensures failures { CountsFailed (R.account reader.old) (R.account reader.new) result }
@@ -118,7 +118,7 @@ fn with_pad_byte(chunk_len: u32) -> u64
     chunk_len as u64 + chunk_len as u64 % 2
 }
 
-// Takes the content of a fmt chunk of this length, so many bytes: what says something, and the
+// Takes the content of a fmt chunk of this length, this many bytes: the used part, and the
 // rest.
 fn read_fmt_content<R: Input>(
     reader: &mut R,
@@ -240,7 +240,7 @@ fn read_chunks<R: Input>(reader: &mut R) -> Result<FileHead, HeadError>
     }
 }
 
-// Takes what stands before the data.
+// Takes all before the data.
 fn read_head<R: Input>(reader: &mut R) -> Result<FileHead, HeadError>
     ensures sound { IfOk result (λ r. IsSoundSpec r.spec_ex) }
     ensures start { IfOk result (λ r. IsDataPlace r.data_start) }
@@ -255,10 +255,10 @@ fn read_head<R: Input>(reader: &mut R) -> Result<FileHead, HeadError>
     read_chunks(reader)
 }
 
-/// Takes exactly what stands before the data, however the reads are cut: the walk that reading and
+/// Takes exactly what is before the data, however the reads are cut: the walk that reading and
 /// appending share.
 ///
-/// The length of the data is not looked at. An error that the bytes don't decide is that of a read,
+/// The length of the data isn't checked. An error that the bytes don't decide is that of a read,
 /// and the only one that counts as failed.
 pub fn read_until_data<R: Input>(reader: &mut R) -> Result<FileHead, HeadError>
     ensures sound { IfOk result (λ r. IsSoundSpec r.spec_ex) }
@@ -275,9 +275,9 @@ pub fn read_until_data<R: Input>(reader: &mut R) -> Result<FileHead, HeadError>
     read_head(reader)
 }
 
-/// The same over a source, which is handed back, so that its failed reads are counted.
+/// The same over a source, which is returned, so that its failed reads are counted.
 ///
-/// Nothing of the source changes but its place and its count of faults.
+/// Only its place and its count of faults change.
 pub fn find_data<S: Source>(source: S) -> (S, Result<FileHead, HeadError>)
     ensures sound { IfOk result.1 (λ r. IsSoundSpec r.spec_ex) }
     ensures start { IfOk result.1 (λ r. IsDataPlace r.data_start) }

@@ -18,10 +18,10 @@ use hound_spec::WavSpecEx;
 use std::marker::{Brand, PhantomData};
 use std::{io, result};
 
-/// The moment at which counting begins, as contracts see it. A `Brand` is one, whose members are
-/// picked where it is passed.
+/// Where counting begins, as contracts see it. A `Brand` is one, whose members are chosen where it
+/// is passed.
 pub(crate) trait Beginning {
-    /// The bytes that were left then, where they are known.
+    /// The bytes that were left then, if they are known.
     ghost left: { Option (List ℕ) };
 
     /// The name of the reference to the reader.
@@ -36,13 +36,13 @@ impl Beginning for Brand {
 
 /// A reference to a reader, which stays the same reference: that to a [`KeepingReader`].
 pub(crate) trait Lent: Sized {
-    /// The bytes that are left, where they are known.
+    /// The bytes that are left, if they are known.
     ghost left: { Self → Option (List ℕ) };
 
     /// The name of the reference.
     ghost name: { Self → GName };
 
-    /// How many bytes a read gives, or more than the buffer has where it fails.
+    /// How many bytes a read gives, or more than the buffer has if it fails.
     fn give(&mut self, buf: &mut [u8]) -> usize
         ensures bytes { result ≤ length buf.new →
             Consumes (left self.old) (left self.new) (take result buf.new) }
@@ -70,8 +70,7 @@ impl<R: io::Read> Lent for &mut KeepingReader<R> {
     }
 }
 
-/// A reader, and the number of bytes that it gave since counting began; at `u64::MAX` the number
-/// stays.
+/// A reader, and the number of bytes that it gave since counting began, at most `u64::MAX`.
 #[derive(Drop)]
 pub(crate) struct CountingReader<R: Lent, B: Beginning> {
     pub(crate) reader: R,
@@ -102,15 +101,15 @@ impl<R: Lent, B: Beginning> io::Read for CountingReader<R, B> {
 pub(crate) trait Ask {
     type Value: Drop;
 
-    /// What is answered, by the bytes that were left and those that are left.
+    /// What is returned, by the bytes that were left and those that are left.
     ghost Answers: { WavSpecEx → Option (List ℕ) → Option (List ℕ)
         → Result Self.Value NoSample → Type 0 };
 
-    /// What is answered of many values that are asked for at once: those that were read.
+    /// What is returned for many values that are requested at once: those that were read.
     ghost AnswersMany: { WavSpecEx → Option (List ℕ) → Option (List ℕ)
         → List Self.Value → Result (Unit {0}) NoSample → Type 0 };
 
-    /// Whether no byte is asked for.
+    /// Whether no byte is requested.
     ghost Refuses: { WavSpecEx → Type 0 };
 
     /// The value, or why there is none.
@@ -172,7 +171,7 @@ impl<S: Sample> Ask for S {
     }
 }
 
-// A reference to a reader that was asked, and how many bytes it gave.
+// A reference to a reader that was read, and how many bytes it gave.
 #[derive(Drop)]
 struct Asked<'a, R> {
     reader: &'a mut KeepingReader<R>,
@@ -180,7 +179,7 @@ struct Asked<'a, R> {
 }
 
 impl<R> Asked<'_, R> {
-    // Lets the reference go.
+    // Drops the reference.
     #[inline(always)]
     fn done(self) -> u64
         ensures reader { self.exit.0.now ≡ self.entry.reader.now }
@@ -190,7 +189,7 @@ impl<R> Asked<'_, R> {
     }
 }
 
-// What is answered, and how many bytes the reader gave for it, where counting begins now.
+// What is returned, and how many bytes the reader gave for it, where counting begins now.
 #[inline(always)]
 fn ask_since<'a, R: io::Read, A: Ask, B: Beginning>(
     reader: &'a mut KeepingReader<R>,
@@ -216,7 +215,7 @@ fn ask_since<'a, R: io::Read, A: Ask, B: Beginning>(
     Asked { reader, given }
 }
 
-// As `ask_since`, for values that are asked for at once.
+// As `ask_since`, for values that are requested at once.
 #[inline(always)]
 fn ask_many_since<'a, R: io::Read, A: Ask, B: Beginning>(
     reader: &'a mut KeepingReader<R>,

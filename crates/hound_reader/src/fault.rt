@@ -7,8 +7,8 @@ use hound_number::ReadError;
 use hound_spec::Error;
 use std::io;
 
-/// What is wrong with a file. Its words, which a `FormatError` holds, [`error_of`] says; in which
-/// order a walk looks for these, `fmt_of` and `Refused` of the specs do.
+/// What is wrong with a file. [`error_of`] has the words for it, which a `FormatError` holds;
+/// `fmt_of` and `Refused` of the specs have the order in which a walk looks for these.
 #[derive(Clone, Copy, Debug, PartialEq, Eq)]
 pub enum Reason {
     /// The file doesn't begin with "RIFF".
@@ -27,7 +27,7 @@ pub enum Reason {
     ZeroChannels,
     /// A sample has more bits than its container, or the container more than 65535.
     BitsExceedWidth,
-    /// The bytes a second are not what the rate and the block align make.
+    /// The bytes a second are not the rate times the block align.
     Inconsistent,
     /// The bits are no whole bytes.
     BitsNotWholeBytes,
@@ -35,7 +35,7 @@ pub enum Reason {
     ZeroBits,
     /// The bits are not 8, 16 or 24 in a chunk of integers that is longer than sixteen bytes.
     BitsNot8Or16,
-    /// A WAVEFORMATEX of floats says that more follows.
+    /// A WAVEFORMATEX of floats has a size of more that follows.
     ExSize,
     /// A float has not 32 bits.
     BitsNot32,
@@ -50,7 +50,7 @@ pub enum Reason {
 /// Why bytes have no head, or their data no whole frames, by the bytes alone.
 #[derive(Clone, Copy, Debug, PartialEq, Eq)]
 pub enum Cause {
-    /// The bytes end inside something that is to be taken.
+    /// The bytes end inside something that has to be taken.
     Ended,
     /// The bytes are no WAVE file.
     Format(Reason),
@@ -100,7 +100,7 @@ fn text_of(reason: Reason) -> &'static str
     }
 }
 
-/// The error that callers are told: `FormatError` with its words, `Unsupported`, or `IoError`, for
+/// The error that callers get: `FormatError` with its words, `Unsupported`, or `IoError`, for
 /// an early end of kind `Other`.
 pub fn error_of(head_error: HeadError) -> Error
     ensures { ReportsError head_error result }

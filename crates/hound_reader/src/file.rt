@@ -12,11 +12,11 @@ use std::rt::Files;
 use std::{fs, io};
 
 impl WavReader<io::BufReader<fs::File>> {
-    /// Opens a file that is there, which stays as it is, and takes what stands before the data, by
-    /// a buffer of `alloc`. `rt` is what `main` and each test are given; `alloc` is `rt.alloc()`.
+    /// Opens an existing file, which stays as it is, and takes what is before the data, by a
+    /// buffer of `alloc`. `rt` is what `main` and each test get; `alloc` is `rt.alloc()`.
     ///
-    /// The errors, in their order: `IoError`, where the file can't be opened; `OutOfMemory`, where
-    /// there is none for the buffer; those of [`WavReader::new`].
+    /// The errors, in their order: `IoError`, if the file can't be opened; `OutOfMemory`, if there
+    /// is no memory for the buffer; those of [`WavReader::new`].
     pub fn open(
         rt: &impl Files<File = fs::File>,
         alloc: Global,

@@ -60,7 +60,7 @@ fn check_wave_format(head: &[u8]) -> Result<WavSpecEx, Cause>
     })
 }
 
-// Behind the first sixteen bytes of integers: nothing, or bytes that say nothing more.
+// After the first sixteen bytes of integers: nothing, or bytes that are ignored.
 #[tactic(auto, unfolding(crate::specs::Fmt::wave_format_pcm))]
 fn read_wave_format_pcm<R: Input>(
     reader: &mut R,
@@ -96,7 +96,7 @@ fn read_wave_format_pcm<R: Input>(
     Ok(found)
 }
 
-// Behind the first sixteen bytes of floats: nothing, or the size of nothing more.
+// After the first sixteen bytes of floats: nothing, or a size of 0.
 #[tactic(auto, unfolding(crate::specs::Fmt::wave_format_ieee_float))]
 fn read_wave_format_ieee_float<R: Input>(
     reader: &mut R,
@@ -135,7 +135,7 @@ fn read_wave_format_ieee_float<R: Input>(
     Ok(WavSpecEx { spec, ..found })
 }
 
-// The valid bits, the mask of speakers, which says nothing here, and the subformat.
+// The valid bits, the mask of speakers, which is ignored here, and the subformat.
 fn choose_subformat(found: WavSpecEx, rest: &[u8]) -> Result<WavSpecEx, Cause>
     requires rest { length rest.now ≡ 22 }
     requires sound { IsSoundSpec found }
@@ -164,7 +164,7 @@ fn choose_subformat(found: WavSpecEx, rest: &[u8]) -> Result<WavSpecEx, Cause>
     Ok(WavSpecEx { spec, ..found })
 }
 
-// Behind the first sixteen bytes of an extensible chunk: its size, and 22 bytes.
+// After the first sixteen bytes of an extensible chunk: its size, and 22 bytes.
 #[tactic(auto, unfolding(crate::specs::Fmt::wave_format_extensible))]
 fn read_wave_format_extensible<R: Input>(
     reader: &mut R,
@@ -224,8 +224,8 @@ fn read_by_tag<R: Input>(
     }
 }
 
-/// Reads what says something in the content of a fmt chunk of this length: of a longer one than
-/// forty bytes the first forty.
+/// Reads the used part of the content of a fmt chunk of this length: of a longer one than forty
+/// bytes the first forty.
 #[tactic(auto, unfolding(crate::specs::Fmt::fmt_said))]
 pub(crate) fn read_fmt_chunk<R: Input>(
     reader: &mut R,

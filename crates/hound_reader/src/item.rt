@@ -11,7 +11,7 @@ use std::io;
 /// one.
 #[derive(Clone, Copy)]
 pub(crate) enum NoSample {
-    /// A read failed or the input ended, by a fault that was kept aside.
+    /// A read failed or the input ended, by a fault that was saved.
     Failed,
 
     /// Samples of this format aren't read as the type.
@@ -24,7 +24,7 @@ pub(crate) enum NoSample {
     OtherPair,
 }
 
-/// What an error of `Sample::read` says; there are no others than these.
+/// The reason that an error of `Sample::read` gives; there are no others than these.
 #[inline(always)]
 pub(crate) fn reason_of(error: Error) -> NoSample
     ensures { result ≡ reason_of error }
@@ -37,10 +37,10 @@ pub(crate) fn reason_of(error: Error) -> NoSample
     }
 }
 
-/// The error of an item, where this fault was kept aside.
+/// The error of an item, with this saved fault.
 ///
 /// It begins as the fault and is changed in its place: so the one copy that is made of the fault
-/// goes to where the caller wants the item.
+/// goes to where the caller needs the item.
 #[inline(always)]
 pub(crate) fn error_of_item(no_sample: NoSample, fault: &io::Error) -> Error
     ensures { result ≡ error_of_item no_sample fault.now }
@@ -58,7 +58,7 @@ pub(crate) fn error_of_item(no_sample: NoSample, fault: &io::Error) -> Error
     error
 }
 
-/// How many bytes an item without a sample took, of those that were given for it.
+/// How many bytes an item without a sample took, of those given for it.
 #[inline(always)]
 pub(crate) fn taken_without(no_sample: NoSample, given: u64, width: u16) -> u64
     ensures { result ≡ taken_without no_sample given width }

@@ -1,21 +1,21 @@
-// A reader that keeps its last fault.
+// A reader that saves its last fault.
 ghost use Rattle.std.specs.Prelude.{◌≡◌, ◌<◌, ◌≤◌, length, take};
 ghost use Rattle.std.specs.Io.KnownBytes.{Consumes, IsAtEnd, Keeps};
 
 use hound_number::early_end;
 use std::io;
 
-// The end is kept as a fault.
+// The end is saved as a fault.
 #[cold]
 #[inline(never)]
 fn keep_end(fault: &mut io::Error) {
     *fault = early_end();
 }
 
-/// A reader, and the last fault of a read of it, or its end, if that came later.
+/// A reader, and the last fault of its reads, or its end, if that came later.
 ///
-/// An `io::Error` is large, and a read that is not inlined hands it on in memory. So the one call
-/// of `read` answers a number, and the fault goes from here to where it is told.
+/// An `io::Error` is large, and a read that is not inlined passes it in memory. So the one call
+/// of `read` returns a number, and the fault goes straight from here to where it is reported.
 #[derive(Drop)]
 pub(crate) struct KeepingReader<R> {
     pub(crate) reader: R,
@@ -23,7 +23,7 @@ pub(crate) struct KeepingReader<R> {
 }
 
 impl<R: io::Read> KeepingReader<R> {
-    /// How many bytes a read gives, or more than the buffer has where it fails. The fault is kept,
+    /// How many bytes a read gives, or more than the buffer has if it fails. The fault is saved,
     /// and so is the end.
     #[inline]
     pub(crate) fn give(&mut self, buf: &mut [u8]) -> usize

@@ -1,4 +1,4 @@
-// What holds of all bytes, of all files that are written, and of all readers.
+// What holds for all bytes, all files that are written, and all readers.
 ghost use Rattle.hound_medium.specs.State.{WhereTells};
 ghost use Rattle.std.specs.Prelude.{◌≡◌, ℕ, ◌+◌, ◌*◌, ◌/◌, List, length, map, drop, ◌++◌, ◌<◌, ◌≤◌, IsTrue, IsSome, Option, None, Some, Ok, Result, IfSome};
 ghost use Rattle.hound_spec.specs.Writable.{IsWritable};
@@ -21,8 +21,8 @@ use hound_medium::Source;
 use hound_sample::Sample;
 use std::io;
 
-/// Bytes have a head or a cause for which they have none, and never two of these; and so they can
-/// be read as a file, or can't for a cause.
+/// Bytes have a head or a cause why they have none, and never two of these; and so they can be
+/// read as a file, or can't for a cause.
 pub fn one_answer()
     ensures head { (bytes : List ℕ) → HasOneAnswer bytes }
     ensures file { (bytes : List ℕ) → HasOneFileAnswer bytes }
@@ -43,7 +43,7 @@ pub fn written_is_read()
         ≡ list) }
 {}
 
-/// The items that a reader gives of one type are those of the file, from where the reader stands,
+/// The items of one type that a reader gives are those of the file, from the reader's place on,
 /// and each counts.
 pub fn items_are_of_the_file<R: io::Read, S: Sample>()
     ensures items { (items : List (Result S Error)) (old new : ReaderState R) →
@@ -56,7 +56,7 @@ pub fn items_are_of_the_file<R: io::Read, S: Sample>()
         (new.samples_read ≡ old.samples_read + length items) × (length items ≤ samples_left old) }
 {}
 
-/// An iterator gives exactly as many items as are left where it begins, and then none: so many as
+/// An iterator gives exactly as many items as are left when it begins, and then none: as many as
 /// its `size_hint` says.
 pub fn an_iterator_gives_what_it_hints<R: io::Read, S: Sample>()
     ensures after { (items : List (Result S Error)) (old new end : ReaderState R) →
@@ -69,9 +69,9 @@ pub fn an_iterator_gives_what_it_hints<R: io::Read, S: Sample>()
         next ≡ None }
 {}
 
-/// A block is its items: what the iterator gives are items of the bytes that are left, as those of a
-/// block are. So where bytes are known, samples that a block read are those that as many calls of
-/// `next` would have given, with the same counts and the same bytes left after them.
+/// A block is its items: both are items of the bytes that are left. So if bytes are known, samples
+/// that a block read are those that as many calls of `next` would have given, with the same counts
+/// and the same bytes left after them.
 pub fn a_block_is_its_items<R: io::Read, S: Sample>()
     ensures items { (items : List (Result S Error)) (old new : ReaderState R) →
         GivesItems R.remaining S.refusal S.meaning items old new →
@@ -83,9 +83,9 @@ pub fn a_block_is_its_items<R: io::Read, S: Sample>()
         (samples ≡ others) × (over_bytes R.remaining block ≡ over_bytes R.remaining new) }
 {}
 
-/// A reader counts the bytes that its items took, whether they were read, refused or torn: what is
-/// left are the data behind these bytes. So it stays after an Ok `seek` that doesn't go back, and
-/// over a source whose reads move its place alone after any `seek`.
+/// A reader counts the bytes that its items took, whether they were read, rejected or torn: what is
+/// left are the data after these bytes. This still holds after an Ok `seek` that doesn't go back,
+/// and after any `seek` over a source whose reads only move its place.
 pub fn a_reader_stands_as_counted<R: Source, S: Sample>()
     ensures item { (bytes : List ℕ) (old new : ReaderState R) (next : Option (Result S Error)) →
         StandsAsCounted R.remaining bytes old → IsNext R.remaining S.refusal S.meaning next old
@@ -113,10 +113,10 @@ pub fn a_reader_stands_as_counted<R: Source, S: Sample>()
         IsAtCount R.state start new) }
 {}
 
-/// An Ok `seek` leads to its frame, where the source stood as many bytes behind the first data byte
-/// as the reader counts as taken; so it does afterwards. In a type that reads the samples, the next
+/// An Ok `seek` leads to its frame, if the source was as many bytes after the first data byte as
+/// the reader counts as taken; and it is so afterwards. If the type reads the samples, the next
 /// item is then the meaning of the frame's first container, unless it is an `IoError`, and that
-/// container is all there where the data chunk is.
+/// container is complete if the data chunk is.
 pub fn a_seek_leads_to_its_frame<R: Source, S: Sample>()
     ensures place { (start time : ℕ) (old new : ReaderState R) →
         HasSought R.state start time old new →

@@ -31,7 +31,7 @@ use std::io::ErrorKind;
 use std::marker::Model;
 use std::{io, result};
 
-// Takes what stands before the data, which must be whole frames: the spec, and how many samples
+// Takes what is before the data, which must be whole frames: the spec, and how many samples
 // follow.
 fn read_until_samples<R: Input>(reader: &mut R) -> result::Result<(WavSpecEx, u32), HeadError>
     ensures sound { IfOk result (λ r. IsSoundSpec r.0) }
@@ -56,13 +56,13 @@ fn read_until_samples<R: Input>(reader: &mut R) -> result::Result<(WavSpecEx, u3
     Ok((spec_ex, num_samples))
 }
 
-/// Takes the first twelve bytes of a file, and gives the size of the whole file in bytes as they
-/// say it: the RIFF size, which doesn't count itself and the tag before it, and eight bytes more
-/// (RIFF, "RIFF Forms"), at most 4294967303. So a caller learns whether this may be a WAVE file.
+/// Takes the first twelve bytes of a file, and returns the size of the whole file in bytes by
+/// them: the RIFF size, which doesn't count itself and the tag before it, and eight bytes more
+/// (RIFF, "RIFF Forms"), at most 4294967303. So a caller learns whether this can be a WAVE file.
 ///
-/// The size is compared with nothing. The errors, in the order of the bytes: `FormatError`, for a
-/// wrong RIFF tag and then for a wrong WAVE tag, behind which no byte is taken; `IoError`, where a
-/// read fails or the input ends, which has the kind `Other`.
+/// The size isn't checked. The errors, in the order of the bytes: `FormatError`, for a wrong RIFF
+/// tag and then for a wrong WAVE tag, after which no byte is taken; `IoError`, if a read fails or
+/// the input ends, which has the kind `Other`.
 pub fn read_wave_header<R: io::Read>(reader: &mut R) -> Result<u64>
     ensures found { IfOk result (λ n. Known (R.remaining reader.old) (R.remaining reader.new)
         (λ xs ys.
@@ -79,9 +79,9 @@ pub fn read_wave_header<R: io::Read>(reader: &mut R) -> Result<u64>
 
 /// A reader of a file's samples.
 ///
-/// It takes no byte that it doesn't need: what it reads from stands at the data when the reader is
-/// made, and behind the sample that was read last. So it has no buffer, and a file wants one around
-/// it, as [`WavReader::open`] makes it. Any `io::Read` is read: a slice of bytes, a `Tape`, a
+/// It takes no byte that it doesn't need: its input is at the data when the reader is made, and
+/// after the sample that was read last. So it has no buffer, and a file needs one around it, as in
+/// [`WavReader::open`]. Any `io::Read` is read: a slice of bytes, a `Tape`, a
 /// `Journal`, a `BufReader<File>`, or a `&mut` to one, which is then still there at an error.
 #[derive(Drop)]
 pub struct WavReader<R> {
@@ -109,19 +109,19 @@ impl<R> Model for WavReader<R> {
 }
 
 impl<R: io::Read + Drop> WavReader<R> {
-    /// Takes exactly what stands before the data, from where the reader stands.
+    /// Takes exactly what is before the data, from the reader's place on.
     ///
     /// Files are RIFF and WAVE with a fmt chunk before the data, of a PCMWAVEFORMAT, a WAVEFORMATEX
-    /// or a WAVEFORMATEXTENSIBLE. Other chunks before the data are passed over, each with its whole
-    /// length and the pad byte behind an odd one (RIFF, "Chunks"), and of several fmt chunks the
-    /// last counts. Whether the data are all there isn't looked at.
+    /// or a WAVEFORMATEXTENSIBLE. Other chunks before the data are skipped, each with its whole
+    /// length and the pad byte after an odd one (RIFF, "Chunks"), and of several fmt chunks the
+    /// last counts. Whether the data are complete isn't checked.
     ///
     /// The errors come chunk by chunk, in a fmt chunk check by check: `FormatError`, or
     /// `Unsupported` for another format tag or subformat whose fields pass the checks that all
     /// share; then `FormatError` for data that are no whole samples, and for data that are no whole
     /// frames. `IoError` is a fault of the reader, or an early end, of kind `Other`. Chunks that
-    /// would take more than 4294967295 bytes behind the WAVE tag are a `FormatError`, so an endless
-    /// reader has an answer.
+    /// would take more than 4294967295 bytes after the WAVE tag are a `FormatError`, so the call
+    /// returns for an endless reader too.
     pub fn new(reader: R) -> Result<WavReader<R>>
         ensures found { IfOk result (λ r. Known (R.remaining reader) (R.remaining r.reader)
             (λ xs ys.
@@ -138,7 +138,7 @@ impl<R: io::Read + Drop> WavReader<R> {
         ensures unreadable { IfSome (R.remaining reader) (λ xs. (c : Cause) → Unreadable xs c →
             MatchResult result (λ _. ⊥) (λ e. FailsAs e c)) }
     {
-        // No item tells this one: an `IoError` comes behind a read that failed or ended.
+        // No item returns this one: an `IoError` comes after a read that failed or ended.
         let fault = io::Error::from(ErrorKind::Other);
         let mut reader = KeepingReader { reader, fault };
         match read_until_samples(&mut reader) {
@@ -153,8 +153,8 @@ impl<R: io::Read + Drop> WavReader<R> {
         }
     }
 
-    /// The properties of the audio data, of which the bits are those that are used. The bytes of a
-    /// sample are no part of it; the reader counts with them.
+    /// The properties of the audio data; its bits are the used ones. The bytes of a sample are no
+    /// part of it; the reader counts with them.
     pub fn spec(&self) -> WavSpec
         ensures { result ≡ self.now.spec_ex.spec }
     {
@@ -170,7 +170,7 @@ impl<R: io::Read + Drop> WavReader<R> {
     }
 
     /// The number of samples in the file, of all channels together, whatever was read: the data
-    /// length by the bytes of a sample. How many are left [`WavReader::samples`] tells, by `len`.
+    /// length by the bytes of a sample. `len` of [`WavReader::samples`] is how many are left.
     pub fn len(&self) -> u32
         ensures { result ≡ self.now.num_samples }
     {
@@ -180,8 +180,8 @@ impl<R: io::Read + Drop> WavReader<R> {
     /// An iterator over the samples that are left, one item for each, the channels of a frame one
     /// after the other.
     ///
-    /// The type need not fit the file: each item is then the refusal of the type, and takes no
-    /// byte. A new iterator goes on where the last stopped, also one of another type.
+    /// If the type doesn't fit the file, each item is the error of the type, and takes no byte. A
+    /// new iterator continues where the last stopped, also one of another type.
     pub fn samples<'wr, S: Sample>(&'wr mut self) -> WavSamples<'wr, R, S>
         ensures reader { lent_reader result ≡ self.old }
         ensures lender { lender result ≡ self.entry.ghost_name }
@@ -189,22 +189,22 @@ impl<R: io::Read + Drop> WavReader<R> {
         WavSamples::new(self)
     }
 
-    /// The same iterator, which keeps the reader. To have the reader back, lend it to
-    /// [`WavReader::samples`] in place of that.
+    /// The same iterator, which owns the reader. To use the reader afterwards, call
+    /// [`WavReader::samples`] in place of this.
     pub fn into_samples<S: Sample>(self) -> WavIntoSamples<R, S>
         ensures { taken_reader result ≡ self }
     {
         WavIntoSamples::new(self)
     }
 
-    /// Reads the next samples into the front of a slice, all channels in turn, and returns how many:
+    /// Reads the next samples into the front of a slice, channels in turn, and returns how many:
     /// as many as fit or are left, so 0 only at the end or for an empty slice (own).
     ///
     /// The samples are those that the iterator of [`WavReader::samples`] would give, and exactly
     /// their containers are taken; the rest of the slice stays as it was. An `Err` is the item that
-    /// the iterator would give next, and counts as one: a refusal of the type, which comes before
-    /// any byte is taken, a fault, or an early end. The samples before it are in the slice; how
-    /// many, [`WavReader::samples`] says by `len`, which falls by one more than that.
+    /// the iterator would give next, and counts as one: an error of the type, which comes before
+    /// any byte is taken, a fault, or an early end. The samples before it are in the slice: one
+    /// less than `len` of [`WavReader::samples`] falls by.
     pub fn read_samples<S: Sample>(&mut self, samples: &mut [S]) -> Result<usize>
         ensures { ReadsBlock R.remaining S.refusal S.meaning result samples.old samples.new
             self.old self.new }
@@ -231,11 +231,11 @@ impl<R: io::Read + Drop> WavReader<R> {
     ///
     /// A frame is a sample of each channel, and the source moves by the frame's place in bytes less
     /// the bytes that samples really took so far. So the place is right after samples that were
-    /// refused, which took none, and after one that was torn, which took a part.
+    /// rejected, which took none, and after one that was torn, which took a part.
     ///
-    /// A `time` at or behind [`WavReader::duration`] is allowed; then no samples are left. A time
+    /// A `time` at or after [`WavReader::duration`] is allowed; then no samples are left. A time
     /// in seconds is that many times the sample rate. The one error is the source's own: then the
-    /// reader counts as before, and a source whose bytes are known stands where it was.
+    /// reader counts as before, and a source whose bytes are known is where it was.
     pub fn seek(&mut self, time: u32) -> io::Result<()>
     where
         R: Source,
@@ -252,7 +252,7 @@ impl<R: io::Read + Drop> WavReader<R> {
         Ok(())
     }
 
-    /// What the samples were read from, as it was left: behind the last byte that was taken, or
+    /// What the samples were read from, as it was left: after the last byte that was taken, or
     /// where a seek led.
     pub fn into_inner(self) -> R
         ensures { result ≡ self.reader }
@@ -260,7 +260,7 @@ impl<R: io::Read + Drop> WavReader<R> {
         self.reader.reader
     }
 
-    /// How many samples are left; none behind the end.
+    /// How many samples are left; none past the end.
     pub(crate) fn samples_left(&self) -> u32
         ensures { result ≡ samples_left self.now }
     {

@@ -13,10 +13,10 @@ use std::marker::PhantomData;
 
 /// An iterator over the samples that a reader has left; `size_hint` and `len` say how many.
 ///
-/// An `Ok` takes exactly one container. A refusal of the type takes no byte, and counts as an item.
+/// An `Ok` takes exactly one container. An error of the type takes no byte, and counts as an item.
 /// So does a sample that a fault or the end of the input cut, an `IoError`, which leaves the reader
-/// behind the bytes that were taken: what items after it mean nothing says until a seek that was
-/// Ok. Behind the last item comes None, as often as it is asked for.
+/// after the bytes that were taken: items after it mean nothing until an Ok seek. After the last
+/// item comes None, on every call.
 #[derive(Drop)]
 pub struct WavSamples<'wr, R, S> {
     reader: &'wr mut WavReader<R>,
@@ -63,7 +63,7 @@ impl<R: io::Read + Drop, S: Sample> ExactSizeIterator for WavSamples<'_, R, S> {
     }
 }
 
-/// The same iterator as [`WavSamples`], which keeps its reader.
+/// The same iterator as [`WavSamples`], which owns its reader.
 #[derive(Drop)]
 pub struct WavIntoSamples<R, S> {
     reader: WavReader<R>,

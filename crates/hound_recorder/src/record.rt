@@ -3,7 +3,7 @@ use hound::{Medium, Result, SampleFormat, WavSpec, WavWriter};
 use std::io;
 use std::path::Path;
 
-/// What a recording came to.
+/// The result of a recording.
 #[derive(Clone, Copy)]
 pub struct Recorded {
     /// The samples that were accepted.
@@ -12,7 +12,7 @@ pub struct Recorded {
     pub is_whole: bool,
 }
 
-// The sample behind so many: they count from 0, to 127 where they have eight bits, else to 32767.
+// The sample after this many: they count from 0, to 127 if they have eight bits, else to 32767.
 fn sample_behind(accepted: u32, bits: u16) -> i16 {
     if bits == 8 {
         (accepted & 0x7f) as i16
@@ -21,13 +21,13 @@ fn sample_behind(accepted: u32, bits: u16) -> i16 {
     }
 }
 
-/// Writes a mono file of so many bits, in so many lots of so many samples, each of them published:
-/// over a file that waits for the disk at each of these, where `is_durable`.
+/// Writes a mono file with these bits, in this many batches of this many samples, each of them
+/// published: over a file that is synced at each of these, if `is_durable`.
 ///
-/// The samples count up from 0, and begin anew at 32768, or at 128 where they have eight bits.
-/// After each lot that was published the output has a line with the number of samples that the
-/// file then counts, and is flushed. A sample that the file refuses is tried again as the next one,
-/// and a lot that it doesn't publish has no line. The errors are those of `create`, and of the
+/// The samples count up from 0, and begin anew at 32768, or at 128 if they have eight bits.
+/// After each batch that was published the output has a line with the number of samples that the
+/// file then counts, and is flushed. A sample that is an error is tried again as the next one,
+/// and a batch that isn't published has no line. The errors are those of `create`, and of the
 /// output.
 pub fn record<O: io::Write>(
     rt: &HostRuntime,
@@ -52,7 +52,7 @@ pub fn record<O: io::Write>(
     record_into(writer, bits, lots, length, output)
 }
 
-// Writes the lots, and ends the file.
+// Writes the batches, and ends the file.
 fn record_into<W: Medium, O: io::Write>(
     mut writer: WavWriter<W>,
     bits: u16,

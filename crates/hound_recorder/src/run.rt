@@ -7,13 +7,13 @@ use std::path::Path;
 
 const USAGE: &str = "usage: hound_recorder FILE LOTS LENGTH [BITS [durable]]";
 
-/// Carries out the words `FILE LOTS LENGTH`, after which come the bits of a sample where they aren't
-/// sixteen, and then the word `durable` for a file that waits for the disk. The status is 0 where
-/// each call was Ok, 1 where one failed, and 2 for words that it doesn't know.
+/// Carries out the words `FILE LOTS LENGTH`, followed by the bits of a sample if they aren't
+/// sixteen, and then the word `durable` for a file that is synced. The status is 0 if
+/// each call was Ok, 1 if one failed, and 2 for words that it doesn't know.
 ///
-/// The output has a line for each lot that was published, and at the end, where a call failed, one
-/// with the word `accepted` and the number of samples that were. A file that can't be made has one
-/// line on `errors`.
+/// The output has a line for each batch that was published, and at the end, if a call failed, one
+/// with the word `accepted` and the number of samples that were. A file that can't be created has
+/// one line on `errors`.
 pub fn run<O: io::Write, E: io::Write>(
     rt: &HostRuntime,
     words: &[&str],

@@ -8,7 +8,7 @@ use hound::{FloatBits, Medium, Result, WavReader, WavWriter};
 use hound_callers::Twelve;
 use std::io;
 
-// Of a longer slice only a sum is shown.
+// For a longer slice only a sum is shown.
 const MOST_SHOWN: usize = 8;
 
 /// `TYPE=N`, `TYPE=N*M` or `TYPE=N#`
@@ -33,7 +33,7 @@ fn read_as<T: Value>(row: &mut Row, reader: &mut WavReader<impl io::Read + Drop>
     }
 }
 
-// So many places of which none has been read.
+// This many places, none of them read yet.
 fn unread<T: Value>(row: &mut Row, length: &str) -> Vec<T> {
     let mut samples = Vec::new(row.alloc);
     if samples.resize(row.number(length), T::FILLER).is_err() {
@@ -42,7 +42,7 @@ fn unread<T: Value>(row: &mut Row, length: &str) -> Vec<T> {
     samples
 }
 
-// What a block was answered, what the slice then has, and how many samples are left.
+// The result of a block, what the slice then has, and how many samples are left.
 fn read_block<T: Value>(
     line: &mut Line,
     reader: &mut WavReader<impl io::Read + Drop>,

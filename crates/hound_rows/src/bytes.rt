@@ -79,7 +79,7 @@ impl<'a> Cursor<'a> {
         }
     }
 
-    // Takes this byte, which has to be the next.
+    // Takes this byte, which must be the next.
     fn expect(&mut self, byte: u8, row: &mut Row) {
         if !self.takes(byte) {
             row.refuse();
@@ -100,7 +100,7 @@ impl<'a> Cursor<'a> {
         }
     }
 
-    // A term, with what is done to it.
+    // A term, with its suffixes.
     fn term(&mut self, row: &mut Row, bytes: &mut Vec<u8>) {
         let start = bytes.len();
         self.stem(row, bytes);
@@ -193,7 +193,7 @@ impl<'a> Cursor<'a> {
         }
     }
 
-    // `*N`: so many times.
+    // `*N`: repeated N times.
     fn repeat(&mut self, row: &mut Row, bytes: &mut Vec<u8>, start: usize) {
         self.next();
         let count = self.number().unwrap_or(0);

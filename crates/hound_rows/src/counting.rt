@@ -1,7 +1,7 @@
 // Values that a word counts.
 use crate::row::Row;
 
-/// `VALUE`, `VALUE*N` or `VALUE+N`: one value, so many times the same, or so many that count up.
+/// `VALUE`, `VALUE*N` or `VALUE+N`: one value, N times the same, or N that count up.
 #[derive(Clone, Copy)]
 pub struct Counted<'a> {
     pub first: &'a str,

@@ -1,5 +1,5 @@
 // Checksums, as zlib's `crc32` makes them.
-// What four bits at the low end of the remainder come to.
+// The remainder of four bits at the low end.
 const TABLE: [u32; 16] = [
     0x0000_0000,
     0x1db7_1064,

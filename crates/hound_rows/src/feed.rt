@@ -8,7 +8,7 @@ use hound::{Placed, Source};
 use std::io;
 use std::io::ErrorKind;
 
-// What a feed does when all of its bytes are given.
+// What a feed does once all of its bytes are given.
 #[derive(Clone, Copy)]
 enum Then {
     Ends,
@@ -18,11 +18,11 @@ enum Then {
     Gives(u8),
     // The bytes after the zeros again and again.
     Repeats,
-    // It says that it filled the buffer, and leaves it as it was.
+    // It claims that it filled the buffer, and leaves it as it was.
     Boasts,
 }
 
-// What one read does in place of giving bytes.
+// What one read does instead of giving bytes.
 #[derive(Clone, Copy)]
 enum Stumble {
     GivesNone,
@@ -36,9 +36,9 @@ pub struct Feed {
     zeros: u64,
     further: Vec<u8>,
     then: Then,
-    // How many bytes it gives at most a read.
+    // The most bytes a read.
     most: usize,
-    // The first read after so many bytes does this.
+    // The first read after this many bytes does this.
     stumbles: Option<(u64, Stumble)>,
     // How many bytes it gave.
     taken: u64,
@@ -51,7 +51,7 @@ fn copy(from: &[u8], to: &mut [u8]) -> usize {
     count
 }
 
-// What is left of these bytes after so many.
+// What is left of these bytes after this many.
 fn rest(bytes: &[u8], at: u64) -> &[u8] {
     bytes.get(at as usize..).unwrap_or(&[])
 }
@@ -82,7 +82,7 @@ fn stumble_of(row: &mut Row, word: &str) -> (u64, Stumble) {
 }
 
 impl Feed {
-    /// Of these bytes, by the options `cut=N`, `zeros=N`, `more=BYTES`, `then=..` and
+    /// A feed of these bytes, by the options `cut=N`, `zeros=N`, `more=BYTES`, `then=..` and
     /// `stumble=..`.
     pub fn of(row: &mut Row, bytes: &str, options: &[&str]) -> Feed {
         row.allow(options, &["cut", "zeros", "more", "then", "stumble"]);
@@ -115,7 +115,7 @@ impl Feed {
         rest(&self.bytes, self.taken).len()
     }
 
-    // How many bytes it gives at most before the read that stumbles.
+    // The most bytes that it gives before the read that stumbles.
     fn before_stumble(&self) -> usize {
         match self.stumbles {
             Some((at, _)) if at > self.taken => (at - self.taken) as usize,
@@ -169,7 +169,7 @@ impl io::Read for Feed {
         }
         let room = buf.len().min(self.most).min(self.before_stumble());
         let count = self.give(&mut buf[..room])?;
-        // No reader can say more than it was asked for.
+        // No reader can claim more than the buffer has.
         let count = count.min(room);
         self.taken = self.taken.saturating_add(count as u64);
         Ok(count)

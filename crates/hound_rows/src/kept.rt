@@ -1,4 +1,4 @@
-// The media that rows of writers and sessions write into, and what is said of them.
+// The media that rows of writers and sessions write into, and how they are shown.
 ghost use Rattle.std.specs.Prelude.{◌≡◌, ◌≤◌};
 
 use crate::media::{set_faults, show_contents, show_counts};
@@ -7,7 +7,7 @@ use crate::recorded::{Call, Recorded};
 use crate::row::Row;
 use hound::{Medium, Placed, Source, Tape};
 
-// Of more calls only the number is shown.
+// For more calls only the number is shown.
 const MOST_CALLS: usize = 40;
 
 /// A medium of a row.
@@ -25,7 +25,7 @@ impl Kept for Tape {
         row.line.contents(Tape::bytes(self));
     }
 
-    // A tape keeps no past.
+    // A tape doesn't record its past.
     fn show_past(&self, row: &mut Row, _from: usize, _is_repaired: bool) {
         row.refuse();
     }
@@ -69,7 +69,7 @@ pub fn tape_of(row: &mut Row, options: &[&str]) -> Tape
     Tape::new(row.bytes_option(options, "over"))
 }
 
-/// A journal that keeps its calls, by the options `over=BYTES`, `most=N` and `fail=A..B`.
+/// A journal that records its calls, by the options `over=BYTES`, `most=N` and `fail=A..B`.
 pub fn recorded_of(row: &mut Row, options: &[&str]) -> Option<Recorded> {
     let over = row.bytes_option(options, "over");
     match Recorded::over(row.alloc, over) {

@@ -1,4 +1,4 @@
-// The line that answers a row.
+// The line that a row results in.
 use crate::crc::Crc;
 use hound::Error;
 use std::alloc::Global;
@@ -6,7 +6,7 @@ use std::fmt::Display;
 use std::io;
 use std::io::{ErrorKind, Write};
 
-// Contents of more bytes are shortened to so many.
+// Longer contents are shortened to this many bytes.
 const MOST_BYTES: usize = 160;
 
 const FIRST_BYTES: usize = 80;
@@ -16,8 +16,8 @@ const MOST_TEXT: usize = 400;
 
 const DIGITS: [u8; 16] = *b"0123456789abcdef";
 
-/// A line that is put together word by word. What begins with `put` adds to the last word, all else
-/// begins a word of its own. Where memory fails the line keeps that in mind.
+/// A line that is built word by word. What begins with `put` adds to the last word, all else
+/// begins a new word. If memory fails the line records that.
 #[derive(Drop)]
 pub struct Line {
     bytes: Vec<u8>,
@@ -43,12 +43,12 @@ impl Line {
         self.has_failed
     }
 
-    /// Memory failed elsewhere.
+    /// Records that memory failed elsewhere.
     pub fn fail(&mut self) {
         self.has_failed = true;
     }
 
-    /// Takes back all words.
+    /// Removes all words.
     pub fn clear(&mut self) {
         self.bytes.clear();
     }
@@ -108,7 +108,7 @@ impl Line {
         self.put(text);
     }
 
-    /// A number, or what else has a text.
+    /// A number, or another value with a text.
     pub fn shown<T: Display + Drop>(&mut self, value: T) {
         self.word("");
         self.put_shown(value);
@@ -141,7 +141,7 @@ impl Line {
         }
     }
 
-    /// Text: in quotes where it is plain and short, else as contents.
+    /// Text: in quotes if it is plain and short, else as contents.
     pub fn text(&mut self, bytes: &[u8]) {
         if bytes.len() > MOST_TEXT || !bytes.iter().all(|byte| is_plain(*byte)) {
             return self.contents(bytes);
@@ -162,7 +162,7 @@ impl Line {
         self.put_error(error);
     }
 
-    /// The answer of a call.
+    /// The result of a call.
     pub fn answer(&mut self, answer: hound::Result<()>) {
         match answer {
             Ok(()) => self.word("ok"),
@@ -170,7 +170,7 @@ impl Line {
         }
     }
 
-    /// The answer of a call of a medium.
+    /// The result of a call of a medium.
     pub fn io_answer(&mut self, answer: io::Result<()>) {
         match answer {
             Ok(()) => self.word("ok"),

@@ -1,5 +1,5 @@
-//! Reads rows from standard input, asks the library what they say, and writes a line for each: the
-//! answer that came. An empty line, and one that begins with `#`, is written as it is.
+//! Reads rows from standard input, runs each with the library, and writes its result as a line.
+//! An empty line, and one that begins with `#`, is written as it is.
 #![tactic(auto)]
 
 mod blocks;
@@ -31,7 +31,7 @@ use std::io::{BufWriter, ErrorKind, Write};
 use std::process::ExitCode;
 use values::Kind;
 
-// Answers a row: the first word says what is asked.
+// Runs a row: its first word names the kind.
 fn answer(row: &mut Row, name: &str, words: &[&str]) {
     match name {
         // let NAME BYTES
@@ -58,7 +58,7 @@ fn answer(row: &mut Row, name: &str, words: &[&str]) {
     }
 }
 
-// Answers a row of a number, a spec or a sample.
+// Runs a row of a number, a spec or a sample.
 fn answer_small(row: &mut Row, name: &str, words: &[&str]) {
     match name {
         // le TYPE VALUE
@@ -99,7 +99,7 @@ fn is_of_writer(words: &[&str]) -> bool {
     }
 }
 
-// Answers a line of the input.
+// Handles a line of the input.
 fn answer_line(row: &mut Row, text: &str) {
     row.begin();
     if text.is_empty() || text.starts_with('#') {

@@ -1,11 +1,11 @@
-// Rows of media, and what rows say of them.
+// Rows of media, and of what they did.
 ghost use Rattle.std.specs.Prelude.{◌≡◌, ◌≤◌};
 
 use crate::row::{Row, find, name_and_value};
 use hound::{Error, Journal, Medium, Source, Tape};
 use std::io;
 
-// How many bytes a row reads at once at most.
+// The most bytes that a row reads at once.
 const MOST_READ: usize = 65536;
 
 /// Lets a journal take and give few bytes a call, and fail, by the options `most=N` and
@@ -24,7 +24,7 @@ pub fn set_faults(row: &mut Row, journal: &mut Journal, options: &[&str]) {
     }
 }
 
-// A call of a medium, and its answer; false where there is none of this name.
+// A call of a medium, and its result; false if there is none of this name.
 fn call<M: Source + Medium>(row: &mut Row, medium: &mut M, name: &str, value: &str) -> bool {
     match name {
         "go" => {
@@ -79,7 +79,7 @@ fn get<S: Source>(row: &mut Row, source: &mut S, size: &str, is_read: bool) {
     }
 }
 
-/// `tape BYTES CALL..`; after the word `lent` calls are made of a `&mut` of the tape.
+/// `tape BYTES CALL..`; after the word `lent` calls go to a `&mut` of the tape.
 pub fn tape(row: &mut Row, words: &[&str]) {
     let [bytes, calls @ ..] = words else {
         return row.refuse();
@@ -152,7 +152,7 @@ pub fn show_counts(row: &mut Row, journal: &Journal) {
     row.line.count("flushed", journal.flushed());
 }
 
-/// What a journal held after so many bytes.
+/// What a journal held after this many bytes.
 pub fn show_contents(row: &mut Row, journal: &Journal, k: usize) {
     match bytes_after(row, journal, k) {
         Some(bytes) => row.line.contents(bytes.as_slice()),
@@ -160,7 +160,7 @@ pub fn show_contents(row: &mut Row, journal: &Journal, k: usize) {
     }
 }
 
-/// The bytes of a journal after so many were put, if there were so many.
+/// The bytes of a journal after this many were written, if there were as many.
 pub fn bytes_after(row: &mut Row, journal: &Journal, k: usize) -> Option<Vec<u8>> {
     if k > journal.taken() {
         return None;

@@ -1,4 +1,4 @@
-// What a file is at each moment of its past.
+// What a file is after each byte written.
 use crate::line::Line;
 use crate::media::bytes_after;
 use crate::readers::{Sum, left};
@@ -6,7 +6,7 @@ use crate::repairs::repaired;
 use crate::row::Row;
 use hound::{Error, FloatBits, Journal, SampleFormat, Tape, WavReader};
 
-/// Shows what the file is after each byte from this one on, as it is or once it is repaired, where
+/// Shows what the file is after each byte from this one on, as it is or once it is repaired, if
 /// that differs from what it was before.
 pub fn show_moments(row: &mut Row, journal: &Journal, from: usize, is_repaired: bool) {
     let mut before = Line::new(row.alloc);
@@ -51,7 +51,7 @@ fn put_moment(line: &mut Line, bytes: Vec<u8>) {
     }
 }
 
-// Whether a file is refused for its data length.
+// Whether a file is rejected for its data length.
 fn is_of_length(error: &Error) -> bool {
     match error {
         Error::FormatError(reason) => matches!(
@@ -62,7 +62,7 @@ fn is_of_length(error: &Error) -> bool {
     }
 }
 
-// The data length in the field before the data, from which on so many bytes are left.
+// The data length in the field before the data, if this many bytes are left from the field on.
 fn put_field(line: &mut Line, bytes: &[u8], left: u64) {
     let start = bytes.len().saturating_sub(left as usize);
     if let Some([a, b, c, d]) = bytes.get(start.saturating_sub(4)..start) {

@@ -80,7 +80,7 @@ fn read_journal(row: &mut Row, journal: &mut Journal, asks: &[&str]) -> bool {
     has_begun
 }
 
-// Reads while each range of so many calls fails in turn. A run has begun where there is a reader.
+// Reads while each range of this many calls fails in turn. A run has begun if there is a reader.
 fn sweep(row: &mut Row, bytes: &str, options: &[&str], asks: &[&str]) {
     let calls = row.option(options, "calls", 0u64);
     let mut sweep = Sweep::new();
@@ -116,7 +116,7 @@ pub fn left<S: Source>(source: &mut S) -> u64 {
     left
 }
 
-// Makes a reader and asks it; whether there is one.
+// Makes a reader and reads from it; returns whether there is one.
 fn ask_all<S: Source>(row: &mut Row, source: &mut S, asks: &[&str]) -> bool {
     let mut reader = match WavReader::new(&mut *source) {
         Ok(reader) => reader,
@@ -155,19 +155,19 @@ fn ask_one<S: Source>(row: &mut Row, reader: &mut WavReader<&mut S>, ask: &str) 
     }
 }
 
-// How much is asked of samples.
+// How many samples are read.
 #[derive(Clone, Copy)]
 enum Extent {
-    // So many items, or as many as there are with the None after them.
+    // N items, or as many as there are with the None after them.
     Items(u64),
     All,
     // How many there are, up to the first error, and a sum of them.
     Sum,
-    // How many the iterator says there are.
+    // How many the iterator has by its hint.
     Hint,
 }
 
-// The name of the type that is asked for, and how much.
+// The name of the requested type, and how many samples.
 fn asked<'a>(row: &mut Row, ask: &'a str) -> (&'a str, Extent) {
     if let Some(kind) = ask.strip_prefix("hint=") {
         return (kind, Extent::Hint);
@@ -219,7 +219,7 @@ fn show_hint<T: Value>(line: &mut Line, reader: &mut WavReader<impl io::Read + D
     line.put_shown(samples.len());
 }
 
-// `TYPE*` by an iterator that keeps the reader.
+// `TYPE*` by an iterator that owns the reader.
 fn ask_into(row: &mut Row, reader: WavReader<impl io::Read + Drop>, ask: &str) {
     let (kind, all) = row.split(ask, "*");
     match Kind::of(kind) {
@@ -244,7 +244,7 @@ pub struct Sum {
 }
 
 impl Sum {
-    /// Of the samples that a reader has left.
+    /// For the samples that a reader has left.
     pub fn of<T: Value>(reader: &mut WavReader<impl io::Read + Drop>) -> Sum {
         let mut sum = Sum::none();
         for item in reader.samples::<T>() {
@@ -259,8 +259,8 @@ impl Sum {
         sum
     }
 
-    /// Of the samples that a reader has left, by blocks of as many as this slice has. After an
-    /// error the first of the slice are those that are gone from what was left, but for the last.
+    /// For the samples that a reader has left, by blocks of as many as this slice has. After an
+    /// error the first samples of the slice count by how many fewer are left, less one.
     pub fn of_blocks<T: Value>(
         reader: &mut WavReader<impl io::Read + Drop>,
         samples: &mut [T],
@@ -283,14 +283,14 @@ impl Sum {
         sum
     }
 
-    /// Of all samples of a slice.
+    /// For all samples of a slice.
     pub fn of_slice<T: Value>(samples: &[T]) -> Sum {
         let mut sum = Sum::none();
         sum.add_first(samples, samples.len());
         sum
     }
 
-    /// The sum alone.
+    /// Only the sum.
     pub fn sum(&self) -> i64 {
         self.sum
     }
@@ -303,7 +303,7 @@ impl Sum {
         }
     }
 
-    // Adds so many samples from the front of a slice.
+    // Adds this many samples from the front of a slice.
     fn add_first<T: Value>(&mut self, samples: &[T], count: usize) {
         for sample in samples.iter().take(count) {
             self.add(sample.number());

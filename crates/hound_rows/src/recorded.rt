@@ -1,4 +1,4 @@
-// A journal that keeps the calls that are made of it.
+// A journal that records the calls made of it.
 ghost use Rattle.std.specs.Prelude.{◌≡◌, false};
 ghost use Rattle.std.proofs.lemmas.Bool.{false≢true};
 ghost use Rattle.hound.specs.State.{MediumState, unknown};
@@ -11,7 +11,7 @@ use std::io::ErrorKind;
 /// A call of a medium.
 #[derive(Clone, Copy, Debug, PartialEq, Eq)]
 pub enum Call {
-    /// A put that was handed so many bytes.
+    /// A put of this many bytes.
     Put(usize),
 
     /// A go to this place.
@@ -21,13 +21,13 @@ pub enum Call {
     Flush,
 }
 
-/// A journal that keeps the calls that a writer makes, those that fail too.
+/// A journal that records the calls that a writer makes, also failing ones.
 #[derive(Drop)]
 pub struct Recorded {
-    /// Where it puts.
+    /// The place of the next put.
     pub journal: Journal,
 
-    /// The calls, but for a shift.
+    /// The calls, except for a shift.
     pub calls: Vec<Call>,
 }
 

@@ -1,25 +1,25 @@
-// A row that is read, and answered.
+// A row, and its result.
 use crate::line::Line;
 use hound::{SampleFormat, WavSpec, WavSpecEx};
 use std::alloc::Global;
 use std::io::ErrorKind;
 use std::str::FromStr;
 
-// Bytes that a row before has named.
+// Bytes that an earlier row has named.
 #[derive(Drop)]
 struct Named {
     name: Vec<u8>,
     bytes: Vec<u8>,
 }
 
-/// The row that is read. Its words are looked at in turn, and one that isn't as it should be has
-/// the row refused; what is answered by then doesn't count.
+/// The row that is read. Its words are read in turn; the first bad one makes the whole row an
+/// error, and its result so far is dropped.
 #[derive(Drop)]
 pub struct Row {
     /// For what takes memory.
     pub alloc: Global,
 
-    /// The answer.
+    /// The result.
     pub line: Line,
     is_refused: bool,
     names: Vec<Named>,
@@ -42,12 +42,12 @@ impl Row {
         self.is_refused = false;
     }
 
-    /// The row can't be read.
+    /// Marks the row as an error.
     pub fn refuse(&mut self) {
         self.is_refused = true;
     }
 
-    /// Whether it can't be read.
+    /// Whether the row is an error.
     pub fn is_refused(&self) -> bool {
         self.is_refused
     }
@@ -90,7 +90,7 @@ impl Row {
         self.is_refused = true;
     }
 
-    /// A number; `max` is the greatest of 64 bits.
+    /// A number; `max` is the largest of 64 bits.
     pub fn number<N: FromStr + Default + Drop>(&mut self, word: &str) -> N
     where
         N::Err: Drop,
@@ -109,7 +109,7 @@ impl Row {
         }
     }
 
-    /// So many bytes in hex digits, at most four, as a number that begins with the first.
+    /// Hex digits as a number that begins with the first, at most four bytes.
     pub fn hex(&mut self, word: &str, count: usize) -> u32 {
         match u32::from_str_radix(word, 16) {
             Ok(number) if word.len() / 2 == count && word.len() % 2 == 0 => number,
@@ -167,7 +167,7 @@ impl Row {
         }
     }
 
-    /// Refuses the row where a word isn't one of these, or one with what follows its `=`.
+    /// Makes the row an error if a word isn't one of these, or one with what follows its `=`.
     pub fn allow(&mut self, options: &[&str], names: &[&str]) {
         for option in options {
             let (name, _) = name_and_value(option);
@@ -199,7 +199,7 @@ impl Row {
         self.bytes(word)
     }
 
-    /// The properties that readers and writers tell.
+    /// The properties that readers and writers return.
     pub fn show_spec(&mut self, spec: WavSpec) {
         self.line.shown(spec.channels);
         self.line.shown(spec.sample_rate);

@@ -14,7 +14,7 @@ use hound_spec::header_of;
 // How many of the steps that aren't marked are listed.
 const MOST_LISTED: usize = 20;
 
-// What a row says of a session.
+// What a row shows of a session.
 #[derive(Clone, Copy)]
 struct Script<'a> {
     begin: Begin,
@@ -24,7 +24,7 @@ struct Script<'a> {
 }
 
 /// `session SPEC OPTION.. : STEP.. : END`, or with the option `calls=N` a sweep of such sessions,
-/// in which each range of so many calls fails in turn.
+/// in which each range of N calls fails in turn.
 pub fn session(row: &mut Row, words: &[&str]) {
     let (words, others) = parts(words);
     let (steps, end) = parts(others);
@@ -56,7 +56,7 @@ pub fn session(row: &mut Row, words: &[&str]) {
     }
 }
 
-// Runs a session while each range of its calls fails. It has begun where the whole header was
+// Runs a session while each range of its calls fails. It has begun if the whole header was
 // taken.
 fn sweep(row: &mut Row, script: Script<'_>) {
     let calls = row.option(script.options, "calls", 0u64);
@@ -90,7 +90,7 @@ fn end_of(row: &mut Row, end: &[&str]) -> End {
     }
 }
 
-/// Whether each moment of a file is shown; in a sweep it always is.
+/// Whether the file is shown after each byte; always in a sweep.
 pub fn has_moments(options: &[&str]) -> bool {
     find(options, "moments").is_some() || find(options, "calls").is_some()
 }
@@ -100,7 +100,7 @@ pub fn has_repaired(options: &[&str]) -> bool {
     find(options, "moments") == Some("repaired")
 }
 
-/// How many bytes were put when a file has its whole header.
+/// How many bytes were written when a file has its whole header.
 pub fn first_moment(begin: Begin) -> usize {
     match begin {
         Begin::New(spec_ex) if spec_ex.is_writable() => {
@@ -111,7 +111,7 @@ pub fn first_moment(begin: Begin) -> usize {
     }
 }
 
-// For each word the samples of its batch; none where it is another step.
+// For each word the samples of its batch; none if it is another step.
 fn batches_of(row: &mut Row, words: &[&str]) -> Vec<Vec<i16>> {
     let mut batches = Vec::new(row.alloc);
     for word in words {
@@ -177,7 +177,7 @@ fn push_whole(row: &mut Row, steps: &mut Vec<Step<'_>>, word: &str) {
     }
 }
 
-// Runs a session, says what came of it, and hands the medium back.
+// Runs a session, shows what came of it, and returns the medium.
 fn run_over<M: Kept>(row: &mut Row, script: Script<'_>, medium: M) -> M
     requires { WhereTells M.tells ((M.state medium).place ≡ 0) }
 {

@@ -5,8 +5,8 @@ use crate::row::{Row, find};
 use std::io;
 use std::io::{Error, ErrorKind};
 
-/// A writer that takes at most so many bytes a call, and none once it has so many as there is room
-/// for: then it has a fault, or says that it takes none.
+/// A writer that takes at most this many bytes a call, and none once it is full: then it has a
+/// fault, or takes 0 bytes.
 #[derive(Drop)]
 pub struct Sink {
     taken: Vec<u8>,

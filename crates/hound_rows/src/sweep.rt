@@ -1,4 +1,4 @@
-// Rows that are asked again and again, while other calls of their medium fail each time.
+// Rows that are run again and again, while other calls of their medium fail each time.
 use crate::crc::Crc;
 use crate::row::Row;
 

@@ -5,7 +5,7 @@ use hound_commands::run;
 use std::io;
 use std::io::ErrorKind;
 
-// What the program writes to: it takes so many bytes, and then fails.
+// What the program writes to: it takes this many bytes, and then fails.
 #[derive(Drop)]
 struct Output {
     taken: Vec<u8>,

@@ -1,4 +1,4 @@
-// The types of samples that rows speak of.
+// The types of samples in rows.
 use crate::line::Line;
 use crate::row::Row;
 use hound::{FloatBits, Sample};
@@ -15,7 +15,7 @@ pub trait Value: Sample + Copy {
     /// The value of a word.
     fn of(row: &mut Row, word: &str) -> Self;
 
-    /// The value as a number; of a float that of its pattern.
+    /// The value as a number; for a float that of its pattern.
     fn number(self) -> i64;
 
     /// The value after this one; after the last of the type comes its first.
@@ -158,7 +158,7 @@ impl Kind {
     }
 }
 
-/// Calls a function at a type.
+/// Calls a function for a type.
 macro_rules! at_type {
     ($kind:expr, $function:ident($($argument:expr),*)) => {
         match $kind {

@@ -15,7 +15,7 @@ use hound::{
 use hound_callers::Twelve;
 use std::result;
 
-// What is asked of a writer.
+// What is done with a writer.
 #[derive(Clone, Copy)]
 struct Script<'a> {
     constructor: &'a str,
@@ -57,8 +57,8 @@ pub fn write(row: &mut Row, words: &[&str]) {
     }
 }
 
-// Runs a script while each range of so many calls fails in turn, over a `&mut` of the medium. A run
-// has begun where the whole header was taken.
+// Runs a script while each range of this many calls fails in turn, over a `&mut` of the medium. A
+// run has begun if the whole header was taken.
 fn sweep(row: &mut Row, script: Script<'_>) {
     let calls = row.option(script.options, "calls", 0u64);
     let script = Script {
@@ -123,7 +123,7 @@ fn show<M: Kept>(row: &mut Row, script: Script<'_>, medium: &M) {
     }
 }
 
-// Runs a script, and gives the medium where it is in reach.
+// Runs a script, and returns the medium if it can.
 fn run<M: Source + Medium>(row: &mut Row, script: Script<'_>, medium: M) -> Option<M>
     requires { WhereTells M.tells ((M.state medium).place ≡ 0) }
 {
@@ -144,7 +144,7 @@ fn run<M: Source + Medium>(row: &mut Row, script: Script<'_>, medium: M) -> Opti
     end(row, script, writer)
 }
 
-// A constructor that refuses drops its medium or hands it back.
+// A constructor that returns an error drops its medium or returns it.
 fn begin<M: Source + Medium>(
     row: &mut Row,
     script: Script<'_>,
@@ -202,7 +202,7 @@ fn end_lent<M: Medium>(row: &mut Row, script: Script<'_>, writer: WavWriter<M>) 
     }
 }
 
-// An act, its answer and the writer's length then.
+// An act, its result and the writer's length then.
 fn take<M: Medium>(row: &mut Row, writer: &mut WavWriter<M>, act: &str) {
     let (name, value) = name_and_value(act);
     let block = name.strip_prefix("block:");
@@ -216,7 +216,7 @@ fn take<M: Medium>(row: &mut Row, writer: &mut WavWriter<M>, act: &str) {
     row.line.put_shown(writer.len());
 }
 
-// `TYPE=VALUE`, `TYPE=VALUE*N` or `TYPE=VALUE+N`, up to the first that is refused.
+// `TYPE=VALUE`, `TYPE=VALUE*N` or `TYPE=VALUE+N`, up to the first error.
 fn write_values<T: Value>(
     row: &mut Row,
     writer: &mut WavWriter<impl Medium>,
@@ -270,8 +270,8 @@ fn count_of(row: &mut Row, values: &str) -> u32 {
     count
 }
 
-// Begins a batch for so many samples, writes these, if any, and flushes or drops it. Files of other
-// samples than integers of 16 bits have no batches.
+// Begins a batch for this many samples, writes these, if any, and flushes or drops it. Files of
+// other samples than integers of 16 bits have no batches.
 fn write_batch<M: Medium>(
     row: &mut Row,
     writer: &mut WavWriter<M>,

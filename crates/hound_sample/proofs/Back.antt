@@ -14,7 +14,7 @@ use Rattle.hound_sample.specs.Meaning.{int_meaning, int_refusal, low_short}
 signed_of-pos : (k n : ℕ) → 2 * n < 256 ^ k → signed_of k n ≡ pos n
 signed_of-pos k n h = rw (lt-ltb (2 * n) (256 ^ k) h) refl
 
--- a number less one that is greater
+-- a number less a larger one
 minus : (a p n : ℕ) → a + (n + 1) ≡ p → pos a -ℤ pos p ≡ negsuc n
 minus a zero n e = absurd (omega (arith, e))
 minus a (suc p) n e = let less : a < suc p = omega (arith, e) in
@@ -62,7 +62,7 @@ integers_taken v bits width c is =
     of_pair (λ b w. int_refusal 4 Int w b ≡ None) Int bits width
     (refl, (refl, (refl, (refl, (refl, tt))))) (contained v bits width c is).0
 
--- the number of every container is the one that it was made of
+-- the number of every container is the one it was made from
 pub integers_same : (v : ℤ) (bits width : ℕ) (c : List ℕ) → int_container v bits width ≡ Ok c
     → int_meaning width bits c ≡ v
 integers_same v bits width c is =

@@ -105,7 +105,7 @@ module _ {A : Type 0} (meaning : List ℕ → A) (width : ℕ) where
             (omega (arith, enough, few, length-drop width bytes)) rest,
       )
 
-  -- values that were decoded of a front of the bytes are those of its containers
+  -- values decoded from a front of the bytes are those of its containers
   pub decoded : (count : ℕ) (values : List A) (part : List A) (from bytes : List ℕ)
       → values ≡ map meaning (containers width (length part) from) → length part ≡ count
       → take (count * width) from ≡ take (count * width) bytes
@@ -124,7 +124,7 @@ module _ {A : Type 0} (meaning : List ℕ → A) (width : ℕ) where
       ap (map Ok) (take-put_mid at k xs values (at + count) (omega (arith, size)) within)
       ∙ map-append Ok (take at xs) values ∙ ap (λ vs. map Ok (take at xs) ++ map Ok vs) is
 
-  -- samples that were put behind others were read after them
+  -- samples appended to others were read after them
   pub each_behind : (at k count : ℕ) (bytes : List ℕ) (xs values : List A)
       (old mid new : Option (List ℕ)) → at ≤ length xs → 1 ≤ count
       → length bytes ≡ count * width → Consumes mid new bytes

@@ -23,14 +23,14 @@ offset_byte (negsuc n) = bytes_of 1 (127 - n)
 abbrev pub if_fits : ℕ → ℤ → List ℕ → Result (List ℕ) Refusal
 if_fits bits v container = if fits bits v then Ok container else Err too_wide
 
--- an integer in so many used bits and bytes: one byte counts from -128; more are signed, with zeros
--- behind the used bits
+-- an integer in this many used bits and bytes: one byte counts from -128; more are signed, with
+-- zeros after the used bits
 abbrev pub int_bytes : ℤ → ℕ → ℕ → List ℕ
 int_bytes v bits width =
     if width == 1 then offset_byte v
     else (signed_bytes_of (bits / 8) v ++ replicate (width - bits / 8) 0)
 
--- the container of an integer, by the used bits and the bytes; these are looked at before the value
+-- the container of an integer, by the used bits and the bytes, which are checked before the value
 unfoldable pub int_container : ℤ → ℕ → ℕ → Result (List ℕ) Refusal
 int_container v bits width =
     if is_pair Int bits width then if_fits bits v (int_bytes v bits width) else Err unsupported

@@ -1,4 +1,4 @@
--- What holds of every container.
+-- What holds for every container.
 use Rattle.std.proofs.Common.{◌≡◌, ℕ, ℤ, pos, negsuc, ◌≤◌, Bool, true, false, cond, List, length, Result, Ok, Err, IsTrue, refl, ◌∙◌, ap, lit≤}
 use Rattle.std.specs.List.{AllByRecursion}
 use Rattle.hound_number.specs.Number.{bytes_of}
@@ -26,7 +26,7 @@ contained v bits width c is =
     let (fit, same) = met (fits bits v) (Ok (int_bytes v bits width)) too_wide c fitting in
     (pair, fit, cc)
 
--- a container of an integer has the bytes that it was asked to have, one to four
+-- a container of an integer has the requested number of bytes, one to four
 pub int_container-in_width : (v : ℤ) (bits width : ℕ) (c : List ℕ)
     → int_container v bits width ≡ Ok c
     → (length c ≡ width) × (1 ≤ width) × (width ≤ 4)

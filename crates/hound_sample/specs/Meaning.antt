@@ -6,8 +6,8 @@ use Rattle.hound_spec.specs.Writable.{is_pair}
 use Rattle.hound_spec.specs.declared.spec.SampleFormat.{SampleFormat}
 use Rattle.hound_spec.specs.declared.spec.SampleFormat.TheVariants.{Int, Float}
 
--- why a type doesn't read samples: they are of another format, wider than the type, or have other
--- bytes and bits than it reads
+-- why a type doesn't read samples: they are of another format, wider than the type, or have bits
+-- and bytes that it doesn't read
 pub data ReadRefusal : Type 0 where
   other_format : ReadRefusal
   wider : ReadRefusal
@@ -22,8 +22,8 @@ int_refusal most Int width bits =
     else if is_pair Int bits width then None
     else Some other_pair
 
--- the integer of a container: one byte counts from -128; more are signed, and those behind the used
--- bits say nothing
+-- the integer of a container: one byte counts from -128; more are signed, and those after the used
+-- bits mean nothing
 abbrev pub int_meaning : ℕ → ℕ → List ℕ → ℤ
 int_meaning width bits container =
     if width == 1 then (pos (number container) -ℤ pos 128)

@@ -1,11 +1,11 @@
--- What `read` answers, by the refusal of its type and the meaning of the container.
+-- What `read` returns, by why its type doesn't read the samples and by the container's meaning.
 use Rattle.std.specs.Prelude.{◌≡◌, ℕ, ◌<◌, ◌≤◌, List, length, take, drop, Option, None, Some, Result, Ok, Err}
 use Rattle.hound_number.specs.Input.{Known}
 use Rattle.hound_spec.specs.declared.error.Error.{Error}
 use Rattle.hound_spec.specs.declared.error.Error.TheVariants.{IoError, TooWide, Unsupported, InvalidSampleFormat}
 use Rattle.hound_sample.specs.Meaning.{ReadRefusal, other_format, wider, other_pair}
 
--- the error that says a refusal
+-- the error for why a type doesn't read samples
 abbrev pub error_of_read : ReadRefusal → Error
 error_of_read other_format = InvalidSampleFormat
 error_of_read wider = TooWide
@@ -20,7 +20,7 @@ TakesContainer meaning width value old new = (width ≤ length old)
 abbrev pub TakesPart : ℕ → List ℕ → List ℕ → Type 0
 TakesPart width old new = (n : ℕ) × (n < width) × (n ≤ length old) × (new ≡ drop n old)
 
--- what a type that reads the samples answers: the value of a container, or an `IoError` with less
+-- what a type that reads the samples returns: the value of a container, or an `IoError` with less
 -- than one taken
 abbrev pub ReadsContainer : {A : Type 0} → (List ℕ → A) → ℕ → Option (List ℕ) → Option (List ℕ)
     → Result A Error → Type 0
@@ -28,8 +28,8 @@ ReadsContainer meaning width old new (Ok value) = Known old new (TakesContainer 
 ReadsContainer meaning width old new (Err (IoError e)) = Known old new (TakesPart width)
 ReadsContainer meaning width old new (Err _) = ⊥
 
--- `read`: where the type refuses, that refusal, with the bytes as they were; else the container is
--- read
+-- `read`: the error if the type doesn't read the samples, with the bytes as they were; else the
+-- container is read
 abbrev pub Reads : {A : Type 0} → Option ReadRefusal → (List ℕ → A) → ℕ → Option (List ℕ)
     → Option (List ℕ) → Result A Error → Type 0
 Reads (Some refusal) meaning width old new result = (result ≡ Err (error_of_read refusal))

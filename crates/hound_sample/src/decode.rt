@@ -1,4 +1,4 @@
-// Many samples in few reads: whole containers are taken by pieces, and then decoded.
+// Many samples in few reads: pieces of whole containers are read, and then decoded.
 ghost use Rattle.std.specs.Prelude.{◌≡◌, ◌≤◌, ◌<◌, ◌*◌, ℕ, List, length, map, take, None, Ok, Err, OnErr, OnOk};
 ghost use Rattle.std.specs.Io.KnownBytes.{Consumes};
 ghost use Rattle.hound_sample.specs.Container.{containers};
@@ -9,29 +9,29 @@ use hound_number::early_end;
 use hound_spec::{Error, Result, SampleFormat};
 use std::io;
 
-// The bytes of a piece: enough that a read of them costs little for each sample, and few enough
-// that a call for two samples doesn't pay for them.
+// The bytes of a piece: enough that a read costs little for each sample, and few enough that a
+// call for two samples doesn't pay for them.
 const PIECE: usize = 1024;
 
-/// A type of which a container that was taken has a value in every case.
+/// A type that has a value for every container.
 ///
-/// It is no part of [`Sample`](crate::Sample), whose `read_many` is made of it: the check wants no
-/// cycle between the methods of an `impl`.
+/// It is no part of [`Sample`](crate::Sample), whose `read_many` is made of it: the checker
+/// allows no cycle between the methods of an `impl`.
 pub(crate) trait Decode: Sized + Drop {
-    /// Whether a container of a format, of so many bytes and used bits, is decoded.
+    /// Whether a container of a format, with these bytes and used bits, is decoded.
     ghost Decodes: { SampleFormat → ℕ → ℕ → Type 0 };
 
-    /// The value of a container, in a file of this format, with so many bytes and used bits.
+    /// The value of a container, in a file of this format, with these bytes and used bits.
     ghost value: { SampleFormat → ℕ → ℕ → List ℕ → Self };
 
-    /// The value of a container of so many bytes.
+    /// The value of a container of this many bytes.
     fn decode(container: &[u8], fmt: SampleFormat, bytes: u16, bits: u16) -> Self
         requires decodes { Decodes fmt bytes bits }
         requires width { length container.now ≡ bytes }
         ensures { result ≡ value fmt bytes bits container.now };
 }
 
-// Fills the front of a buffer, all of it unless a read fails or the input ends; how many bytes.
+// Fills the front of a buffer, all of it unless a read fails or the input ends. Returns the count.
 #[inline(always)]
 fn read_piece<R: io::Read>(reader: &mut R, piece: &mut [u8]) -> (usize, io::Result<()>)
     ensures within { result.0 ≤ length piece.new }
@@ -65,7 +65,7 @@ fn decode_each<S: Decode>(from: &[u8], samples: &mut [S], fmt: SampleFormat, byt
     }
 }
 
-/// Reads samples by pieces, as [`Sample::read_many`] does, where the type reads them.
+/// Reads samples by pieces, as [`Sample::read_many`] does, if the type reads them.
 #[inline(always)]
 pub(crate) fn read_pieces<S: Decode, R: io::Read>(
     reader: &mut R,
@@ -104,7 +104,7 @@ pub(crate) fn read_pieces<S: Decode, R: io::Read>(
     (done, Ok(()))
 }
 
-/// What a type answers that doesn't read the samples: the error, unless none is asked for.
+/// What a type returns that doesn't read the samples: the error, unless no sample is requested.
 #[inline(always)]
 pub(crate) fn refuse_many<S>(samples: &[S], refusal: Error) -> (usize, Result<()>)
     ensures none { result.0 ≡ 0 }

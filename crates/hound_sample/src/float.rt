@@ -17,11 +17,11 @@ use std::io;
 /// A floating-point sample of 32 bits, by its bit pattern.
 ///
 /// It is written with 32 bits in four bytes, and read so from samples of format `Float`. Every
-/// pattern is kept as it is. `FloatBits(f32_to_bits_with_nan(number))` is the sample of a number,
+/// pattern stays as it is. `FloatBits(f32_to_bits_with_nan(number))` is the sample of a number,
 /// and `f32_from_bits_with_nan(sample.0)` the number of a sample: both of `std::num`, where
-/// `to_bits` and `from_bits` ask for a proof that there is no NaN. `==` compares patterns, so 0.0
-/// and -0.0 differ. It can't be cast to sixteen bits: generic code can't ask it to, and `as_i16` of
-/// the type itself answers 0.
+/// `to_bits` and `from_bits` need a proof that there is no NaN. `==` compares patterns, so 0.0
+/// and -0.0 differ. It can't be cast to sixteen bits: generic code can't do it, and `as_i16` of
+/// the type itself returns 0.
 #[derive(Clone, Copy, Debug, PartialEq, Eq)]
 pub struct FloatBits(pub u32);
 

@@ -76,7 +76,7 @@ fn encode_24_bits(x: i32) -> Result<[u8; 4]>
     Ok([low, middle, high, 0])
 }
 
-/// The container of an integer in the first `byte_width` bytes, and zeros behind it.
+/// The container of an integer in the first `byte_width` bytes, and zeros after it.
 #[inline(always)]
 #[tactic(auto, unfolding(crate::specs::Container::int_container))]
 pub(crate) fn encode_integer(x: i32, bits: u16, byte_width: u16) -> Result<[u8; 4]>
@@ -106,7 +106,7 @@ pub(crate) fn lowest_16_bits(x: i32) -> i16
     i16_from_le([low, high])
 }
 
-/// Why an integer of at most so many bytes doesn't read samples of another format or pair.
+/// Why an integer of at most this many bytes doesn't read samples of another format or pair.
 #[inline(always)]
 pub(crate) fn integer_refusal(fmt: SampleFormat, bytes: u16, most: u16) -> Error
     ensures format { fmt ≡ Float → result ≡ InvalidSampleFormat }

@@ -1,10 +1,10 @@
-// What holds of all integers and their containers.
+// What holds for all integers and their containers.
 ghost use Rattle.std.specs.Prelude.{◌≡◌, ℕ, ℤ, List, Ok, None, IsTrue};
 ghost use Rattle.hound_sample.specs.Container.{fits, int_container};
 ghost use Rattle.hound_sample.specs.Meaning.{int_meaning, int_refusal, low_short};
 ghost use Rattle.hound_spec.specs.declared.spec.SampleFormat.TheVariants.{Int};
 
-/// Each integer that has a container is read from it as `i32`, as the same number, whatever type it
+/// Each integer that has a container is read back from it as the same `i32`, whatever type it
 /// was written as.
 pub fn integers_come_back()
     ensures taken { (v : ℤ) (bits width : ℕ) (c : List ℕ) → int_container v bits width ≡ Ok c →

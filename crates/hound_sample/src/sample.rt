@@ -16,34 +16,34 @@ use hound_number::write_bytes;
 use hound_spec::{Error, Result, SampleFormat, is_pair};
 use std::io;
 
-/// A type of which samples are read and written.
+/// A type whose samples are read and written.
 ///
 /// Implemented for `i8`, `i16`, `i32` and [`FloatBits`](crate::FloatBits). Integers are written
-/// with each pair of `WavSpecEx::is_writable` for integers, where the value fits its bits; `i8`
+/// with each pair of `WavSpecEx::is_writable` for integers, if the value fits its bits; `i8`
 /// reads 8 bits, `i16` 8 and 16, `i32` all of those pairs, and so every integer that a writer here
-/// takes.
+/// writes.
 ///
-/// A sample of `bits` used bits takes `byte_width` bytes in the file, its container. Which pairs of
-/// the two a type takes, and which values, its tables say: `container` for writing, `refusal` and
-/// `meaning` for reading. A type of your own brings tables of its own, with `read`, `as_i16` and
+/// A sample of `bits` used bits takes `byte_width` bytes in the file, its container. A type's
+/// tables say which pairs of the two it takes, and which values: `container` for writing, `refusal`
+/// and `meaning` for reading. A type of your own has tables of its own, with `read`, `as_i16` and
 /// `encode`; the reader and the writer treat it as any other.
 ///
-/// In writing, the pair is looked at before the value: another pair is `Unsupported`, a value out
-/// of range `TooWide`. In reading, the format is looked at first: another one is
-/// `InvalidSampleFormat`. Then more bytes than the type has are `TooWide`, and every other pair
-/// that it doesn't read is `Unsupported`.
+/// Writing checks the pair before the value: another pair is `Unsupported`, a value out of range
+/// `TooWide`. Reading checks the format first: another one is `InvalidSampleFormat`. Then more
+/// bytes than the type has are `TooWide`, and every other pair that it doesn't read is
+/// `Unsupported`.
 pub trait Sample: Sized + Drop {
-    /// The container of a value for so many used bits in so many bytes, or why there is none.
+    /// The container of a value with these used bits and bytes, or why there is none.
     ghost container: { Self → ℕ → ℕ → Result (List ℕ) Refusal };
 
-    /// Why samples of a format, of so many bytes and used bits, aren't read as this type, if they
+    /// Why samples of a format, with these bytes and used bits, aren't read as this type, if they
     /// aren't.
     ghost refusal: { SampleFormat → ℕ → ℕ → Option ReadRefusal };
 
-    /// The value of a container, in a file of this format, with so many bytes and used bits.
+    /// The value of a container, in a file of this format, with these bytes and used bits.
     ghost meaning: { SampleFormat → ℕ → ℕ → List ℕ → Self };
 
-    /// Whether a value may be cast to sixteen bits: each integer may, and no `FloatBits`.
+    /// Whether a value can be cast to sixteen bits: each integer can, and no `FloatBits`.
     ghost can_cast: { Self → Type 0 };
 
     /// The value cast to sixteen bits.
@@ -58,11 +58,11 @@ pub trait Sample: Sized + Drop {
         self.write_padded(writer, bits, bits / 8)
     }
 
-    /// Writes the container of `byte_width` bytes, of which `bits` are used.
+    /// Writes the container of `byte_width` bytes, `bits` of them used.
     ///
-    /// A refusal of the type comes first and leaves the writer as it was. A fault of the writer is
+    /// An error of the type comes first and leaves the writer as it was. A fault of the writer is
     /// passed on as `IoError`, `Interrupted` too, and a write that takes no byte is one of kind
-    /// `WriteZero`; a beginning of the container may then be out.
+    /// `WriteZero`; a beginning of the container may be written by then.
     fn write_padded<W: io::Write>(self, writer: &mut W, bits: u16, byte_width: u16) -> Result<()>
         ensures writes { WritesContainer (container self bits byte_width)
             (W.contents writer.old) (W.contents writer.new) result }
@@ -73,22 +73,22 @@ pub trait Sample: Sized + Drop {
         Ok(())
     }
 
-    /// Reads a sample of so many bytes and used bits: takes exactly its container.
+    /// Reads a sample with these bytes and used bits: takes exactly its container.
     ///
     /// A fault of the reader is passed on as `IoError`, `Interrupted` too; an early end is an
-    /// `IoError` of kind `Other`. No `IoError` comes from elsewhere, so a `WavReader` tells the
-    /// fault that it met itself. A refusal of the format, the bytes or the bits comes before any
+    /// `IoError` of kind `Other`. No `IoError` comes from elsewhere, so a `WavReader` returns the
+    /// fault that it met itself. An error for the format, the bytes or the bits comes before any
     /// read and leaves the reader untouched.
     fn read<R: io::Read>(reader: &mut R, fmt: SampleFormat, bytes: u16, bits: u16) -> Result<Self>
         ensures reads { Reads (refusal fmt bytes bits) (meaning fmt bytes bits) bytes
             (R.remaining reader.old) (R.remaining reader.new) result }
         ensures untouched { IsSome (refusal fmt bytes bits) → reader.new ≡ reader.old };
 
-    /// Reads samples one after the other, until the slice is full or `read` answers an error (own).
+    /// Reads samples one after the other, until the slice is full or `read` returns an error (own).
     ///
     /// Returns how many samples were read, which are the front of the slice, and the error that
-    /// ended it, if one did. The rest of the slice stays as it was. A type of your own need not give
-    /// it; the types of this crate read many containers at once here.
+    /// ended it, if one did. The rest of the slice stays as it was. A type of your own needn't
+    /// implement it; the types of this crate read many containers at once here.
     fn read_many<R: io::Read>(
         reader: &mut R,
         samples: &mut [Self],
@@ -111,19 +111,18 @@ pub trait Sample: Sized + Drop {
         (samples.len(), Ok(()))
     }
 
-    /// The value cast to sixteen bits: of an integer the lowest sixteen, as a signed number. Code
-    /// that is generic over the type needs `can_cast`; at an integer type it holds by itself.
+    /// The value cast to sixteen bits: for an integer the lowest sixteen, as a signed number. Code
+    /// that is generic over the type needs `can_cast`; for an integer type it always holds.
     fn as_i16(self) -> i16
         requires { can_cast self }
         ensures { result ≡ as_short self };
 
-    /// The container in the first `byte_width` bytes, and zeros behind it, or the refusal of the
-    /// type: `Unsupported` or `TooWide`, and no other error. A writer makes each sample's bytes by
-    /// it.
+    /// The container in the first `byte_width` bytes, and zeros after it, or the error of the
+    /// type: `Unsupported` or `TooWide`, and no other. A writer makes each sample's bytes by it.
     fn encode(self, bits: u16, byte_width: u16) -> Result<[u8; 4]>
         ensures { IsEncoded (container self bits byte_width) result };
 
-    /// A law: a container has as many bytes as it was asked to have, from one to four.
+    /// A law: a container has the requested number of bytes, from one to four.
     ghost in_width: { (v : Self) (bits width : ℕ) (c : List ℕ) → container v bits width ≡ Ok c →
         (length c ≡ width) × (1 ≤ width) × (width ≤ 4) };
 }

@@ -1,4 +1,4 @@
--- To write fields and to read them are inverse.
+-- Writing fields and reading them are inverse.
 use Rattle.std.proofs.Common.{◌≡◌, ℕ, zero, suc, ◌+◌, ◌*◌, ◌/◌, ◌%◌, ◌^◌, ◌<◌, ◌≤◌, List, [], ◌∷◌, ◌++◌, length, take, drop, refl, sym, ap, ◌∙◌, arith, length-drop, take_all}
 use Rattle.std.proofs.lemmas.List.{drop-drop, drop_all}
 use Rattle.hound_number.specs.Number.{number, bytes_of, AreBytes}
@@ -10,7 +10,7 @@ number-bytes_of zero n h = omega (arith, h)
 number-bytes_of (suc k) n h = let less : n / 256 < 256 ^ k = omega (arith, h) in
     omega (arith, number-bytes_of k (n / 256) less)
 
--- what is written is read back, whatever stands behind it
+-- what is written is read back, whatever comes after it
 pub fields_written : (f : FmtFields) (rest : List ℕ) → FieldsFit f
     → fmt_fields (fmt_bytes f ++ rest) ≡ f
 fields_written f rest fit = λ i. record {
@@ -27,7 +27,7 @@ are_bytes-drop zero bytes small = small
 are_bytes-drop (suc n) [] small = small
 are_bytes-drop (suc n) (b ∷ bytes) small = are_bytes-drop n bytes (λ i. small (suc i))
 
--- the bytes of the number that some bytes say, and those behind them
+-- the bytes of the number that some bytes encode, and those after them
 front : (k : ℕ) (bytes : List ℕ) → AreBytes bytes → k ≤ length bytes
     → bytes_of k (number (take k bytes)) ++ drop k bytes ≡ bytes
 front zero bytes small inside = refl

@@ -17,7 +17,7 @@ length-subformat Float = refl
 pub length-long_fmt : (s : WavSpecEx) → length (long_fmt s) ≡ 40
 length-long_fmt s = simp length-append (omega (arith, length-subformat s.spec.sample_format))
 
--- the fmt chunk behind its tag, in both forms
+-- the fmt chunk after its tag, in both forms
 pub sized_fmt-short : (s : WavSpecEx) → is_short s ≡ true
     → sized_fmt s ≡ bytes_of 4 16 ++ short_fmt s
 unfolding sized_fmt
@@ -51,7 +51,7 @@ length-header s size data_length = elim (cases_Bool (is_short s)) [
       ∙ ap (λ n. 24 + n) (length-sized_fmt-long s long))
 ]
 
--- what was written so far, and bytes behind it
+-- what was written so far, and bytes after it
 pub and_then : (more all old new : List ℕ) → old ≡ all → new ≡ old ++ more → new ≡ all ++ more
 and_then more all old new so_far adds = adds ∙ ap (λ l. l ++ more) so_far
 
@@ -71,7 +71,7 @@ data_start_most s =
           (omega arith)
     ]
 
--- what stands in a header between the RIFF size and the data length
+-- what a header has between the RIFF size and the data length
 abbrev pub described : WavSpecEx → List ℕ
 described s = wave_tag ++ (fmt_tag ++ (sized_fmt s ++ data_tag))
 

@@ -1,4 +1,4 @@
--- What holds of every pair of used bits and bytes.
+-- What holds for every pair of used bits and bytes.
 use Rattle.std.proofs.Common.{◌≡◌, ℕ, ◌*◌, ◌%◌, ◌<◌, ◌≤◌, true, ◌&&◌, ◌==◌, List, [], ◌∷◌, sym, subst, inl, inr, arith, eqb-true, lit≤}
 use Rattle.std.proofs.lemmas.Bool.{or_cases, and_parts}
 use Rattle.std.specs.List.{list_any, AllByRecursion}
@@ -6,7 +6,7 @@ use Rattle.hound_spec.specs.declared.spec.SampleFormat.{SampleFormat}
 use Rattle.hound_spec.specs.declared.spec.SampleFormat.TheVariants.{Int, Float}
 use Rattle.hound_spec.specs.Writable.{pairs, IsPair}
 
--- what holds of each row of a list of pairs holds of the pairs that are in it
+-- what holds for each row of a list of pairs holds for the pairs that are in it
 of_row : (P : ℕ → ℕ → Type 0) (rows : List (ℕ × ℕ)) (bits width : ℕ)
     → AllByRecursion (λ (b, w). P b w) rows
     → list_any (λ (b, w). bits == b && width == w) rows ≡ true → P bits width
@@ -19,12 +19,12 @@ of_row P ((b, w) ∷ rows) bits width (here, each) is =
       | inr more ↦ of_row P rows bits width each more
     ]
 
--- what holds of each pair of the one list
+-- what holds for each pair of the one list
 pub of_pair : (P : ℕ → ℕ → Type 0) (f : SampleFormat) (bits width : ℕ)
     → AllByRecursion (λ (b, w). P b w) (pairs f) → IsPair f bits width → P bits width
 of_pair P f bits width each is = of_row P (pairs f) bits width each is
 
--- the used bits are whole bytes, some, and fit in the container, which has one to four bytes
+-- the used bits are whole bytes, one or more, and fit in the container of one to four bytes
 pub record PairFacts (bits width : ℕ) : Type 0 where
   pub some_bits : 0 < bits
   pub whole_bytes : bits % 8 ≡ 0

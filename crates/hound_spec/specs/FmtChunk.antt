@@ -1,10 +1,10 @@
--- The content of a fmt chunk as fields, and the bytes of these (WAVEFORMAT, WAVEFORMATEXTENSIBLE).
+-- The content of a fmt chunk as fields, and their bytes (WAVEFORMAT, WAVEFORMATEXTENSIBLE).
 use Rattle.std.specs.Prelude.{ℕ, ◌<◌, ◌^◌, List, [], ◌∷◌, ◌++◌, slice_range}
 use Rattle.hound_number.specs.Number.{number, bytes_of}
 use Rattle.hound_spec.specs.declared.spec.SampleFormat.{SampleFormat}
 use Rattle.hound_spec.specs.declared.spec.SampleFormat.TheVariants.{Int, Float}
 
--- The greatest numbers that a field of two bytes and one of four can say.
+-- The largest numbers that fit in a field of two bytes and one of four.
 abbrev pub greatest_u16 : ℕ
 greatest_u16 = 65535
 
@@ -30,7 +30,7 @@ pub record FmtFields : Type 0 where
   pub align : ℕ
   pub bits : ℕ
 
--- Their bytes, sixteen in all, and the fields that sixteen bytes say.
+-- Their bytes, sixteen in all, and the fields that sixteen bytes encode.
 abbrev pub fmt_bytes : FmtFields → List ℕ
 fmt_bytes f = bytes_of 2 f.tag ++ bytes_of 2 f.channels ++ bytes_of 4 f.rate
     ++ bytes_of 4 f.byte_rate ++ bytes_of 2 f.align ++ bytes_of 2 f.bits
@@ -45,7 +45,7 @@ fmt_fields bytes = record {
   bits = number (slice_range bytes 14 16);
 }
 
--- Numbers that these bytes can say.
+-- Numbers that fit in these bytes.
 pub record FieldsFit (f : FmtFields) : Type 0 where
   pub tag : f.tag < 256 ^ 2
   pub channels : f.channels < 256 ^ 2
@@ -54,18 +54,18 @@ pub record FieldsFit (f : FmtFields) : Type 0 where
   pub align : f.align < 256 ^ 2
   pub bits : f.bits < 256 ^ 2
 
--- The size of what an extensible chunk has behind those fields (WAVEFORMATEX, "cbSize").
+-- The size of what an extensible chunk has after those fields (WAVEFORMATEX, "cbSize").
 abbrev pub extension_size : ℕ
 extension_size = 22
 
--- What stands there, behind the size (WAVEFORMATEXTENSIBLE: the valid bits, the mask of speakers,
--- the subformat).
+-- What follows that size (WAVEFORMATEXTENSIBLE: the valid bits, the mask of speakers, the
+-- subformat).
 pub record Extension : Type 0 where
   pub valid_bits : ℕ
   pub mask : ℕ
   pub subformat : List ℕ
 
--- Its bytes, and the extension that 22 bytes say.
+-- Its bytes, and the extension that 22 bytes encode.
 abbrev pub extension_bytes : Extension → List ℕ
 extension_bytes e = bytes_of 2 e.valid_bits ++ bytes_of 4 e.mask ++ e.subformat
 

@@ -22,12 +22,12 @@ data_tag = codes "data"
 abbrev pub is_short : WavSpecEx → Bool
 is_short s = nat_le s.spec.channels 2 && nat_le s.spec.bits_per_sample 16
 
--- The speakers of so many channels: as many low bits, of 18 (WAVEFORMATEXTENSIBLE,
+-- The mask of the speakers: one low bit for each channel, of 18 (WAVEFORMATEXTENSIBLE,
 -- "dwChannelMask").
 abbrev pub mask : ℕ → ℕ
 mask channels = 2 ^ min channels 18 - 1
 
--- The fields of a spec, by a format tag and with these bits (WAVEFORMAT).
+-- The fields of a spec, with this format tag and these bits (WAVEFORMAT).
 abbrev pub fields : ℕ → ℕ → WavSpecEx → FmtFields
 fields tag bits s = record {
   tag = tag;
@@ -38,7 +38,7 @@ fields tag bits s = record {
   bits = bits;
 }
 
--- What the extension of a spec says (WAVEFORMATEXTENSIBLE).
+-- The extension of a spec (WAVEFORMATEXTENSIBLE).
 abbrev pub extended : WavSpecEx → Extension
 extended s = record {
   valid_bits = s.spec.bits_per_sample;
@@ -56,17 +56,17 @@ long_fmt s =
     fmt_bytes (fields extensible (8 * s.bytes_per_sample) s)
     ++ bytes_of 2 extension_size ++ extension_bytes (extended s)
 
--- The fmt chunk behind its tag: its length and its content.
+-- The fmt chunk after its tag: its length and its content.
 unfoldable pub sized_fmt : WavSpecEx → List ℕ
 sized_fmt s = if is_short s then bytes_of 4 16 ++ short_fmt s else bytes_of 4 40 ++ long_fmt s
 
--- What stands before the data: RIFF with its size, WAVE, the fmt chunk, and the data chunk's tag
+-- All before the data: RIFF with its size, WAVE, the fmt chunk, and the data chunk's tag
 -- and length (RIFF, "Waveform Audio File Format").
 unfoldable pub header : WavSpecEx → ℕ → ℕ → List ℕ
 header s size data_length = riff_tag ++ bytes_of 4 size ++ wave_tag
     ++ fmt_tag ++ sized_fmt s ++ data_tag ++ bytes_of 4 data_length
 
--- The place of the first data byte behind that header.
+-- The place of the first data byte after that header.
 abbrev pub data_start : WavSpecEx → ℕ
 data_start s = if is_short s then 44 else 68
 
@@ -75,12 +75,12 @@ data_start s = if is_short s then 44 else 68
 abbrev pub padded : ℕ → ℕ
 padded len = len + len % 2
 
--- The RIFF size of a file whose data begin here and are so many bytes: all that stands behind the
--- size field.
+-- The RIFF size of a file whose data begin at this place and have this length: all that comes
+-- after the size field.
 abbrev pub riff_size : ℕ → ℕ → ℕ
 riff_size start data_length = start - 8 + padded data_length
 
--- The pad byte behind data of an odd length, which the data length doesn't count (RIFF, "Chunks").
+-- The pad byte after data of an odd length, which the data length doesn't count (RIFF, "Chunks").
 abbrev pub padding : ℕ → List ℕ
 padding data_length = replicate (data_length % 2) 0
 

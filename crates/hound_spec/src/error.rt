@@ -8,44 +8,44 @@ use thiserror::Error as DeriveError;
 
 /// Why a call on a `WavReader`, a `WavWriter` or a `Sample` failed.
 ///
-/// In which order a call looks for its errors, and what each leaves, the call's own page says.
+/// The page of each call says in which order it looks for its errors, and what each leaves.
 #[derive(Debug, Drop, DeriveError)]
 pub enum Error {
-    /// The reader, the writer or the medium failed, and this is its fault; or the input ended
-    /// early, and the kind is `Other`.
+    /// The reader, the writer or the medium failed, with this fault; or the input ended early,
+    /// and the kind is `Other`.
     #[error(transparent)]
     IoError(io::Error),
     /// The bytes are no WAVE file, for this reason. Only `read_wave_header`, the constructors of
-    /// readers and those that append answer so.
+    /// readers and those that append return it.
     #[error("Ill-formed WAVE file: {0}")]
     FormatError(&'static str),
-    /// The sample has more bits than the type that is read, or than the file that is written has
-    /// room for.
+    /// The sample has more bits than the type that reads it, or than the file that is written
+    /// has room for.
     #[error("The sample has more bits than the destination type.")]
     TooWide,
-    /// The samples are no whole number of frames: some channel lacks its last sample. By then all
-    /// of them are published.
+    /// The samples are no whole number of frames: some channel lacks its last sample. All of them
+    /// are published by then.
     #[error("The number of samples written is not a multiple of the number of channels.")]
     UnfinishedSample,
-    /// The format can't be read or written: a spec, the format tag of a file, or for a type of
-    /// sample the bits and bytes.
+    /// The format can't be read or written: a spec, a file's format tag, or bits and bytes that a
+    /// type of sample doesn't have.
     #[error("The wave format of the file is not supported.")]
     Unsupported,
-    /// The file's samples are integers and floats were asked for, or the other way round. Writing
+    /// The file's samples are integers and floats were requested, or the other way round. Writing
     /// doesn't compare the formats.
     #[error("The sample format differs from the destination format.")]
     InvalidSampleFormat,
-    /// The size fields of the file, of 32 bits, could not say its length: its RIFF size would pass
+    /// The file would get too long for its size fields of 32 bits: its RIFF size would pass
     /// 4294967295.
     #[error("The file would be longer than its size fields can say.")]
     TooLong,
-    /// A request for memory was refused. Only calls that take an allocator answer so: a `Tape` or
-    /// `Journal` that can't grow is an `IoError` of kind `OutOfMemory`.
+    /// An allocation failed. Only calls that take an allocator return it: a `Tape` or `Journal`
+    /// that can't grow is an `IoError` of kind `OutOfMemory`.
     #[error("There is not enough memory.")]
     OutOfMemory,
 }
 
-/// So that `?` on a call that reads or writes is `IoError`, with its fault.
+/// For `?` on a call that reads or writes: an `IoError` with its fault.
 impl From<io::Error> for Error {
     ghost from_gives = { λ e r. r ≡ IoError e };
 
@@ -54,7 +54,7 @@ impl From<io::Error> for Error {
     }
 }
 
-/// So that `?` on a request for memory is `OutOfMemory` in a function that answers an [`Error`].
+/// For `?` on an allocation: `OutOfMemory` in a function that returns an [`Error`].
 impl From<AllocError> for Error {
     ghost from_gives = { λ _ r. r ≡ OutOfMemory };
 
@@ -63,7 +63,7 @@ impl From<AllocError> for Error {
     }
 }
 
-/// The same where the request had a value to store, which is dropped.
+/// The same for an allocation that had a value to store, which is dropped.
 impl<T: Drop> From<AllocFailed<T>> for Error {
     ghost from_gives = { λ _ r. r ≡ OutOfMemory };
 

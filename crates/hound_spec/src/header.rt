@@ -1,4 +1,4 @@
-// The bytes that stand before the data.
+// The bytes before the data.
 ghost use Rattle.std.specs.Prelude.{◌≡◌, ◌+◌, ◌-◌, ◌*◌, ◌^◌, ◌≤◌, ◌++◌, [], List, ℕ, length, take, min};
 ghost use Rattle.hound_spec.specs.Writable.{IsWritable};
 ghost use Rattle.hound_number.specs.Number.{bytes_of};
@@ -47,7 +47,7 @@ impl Header {
         }
     }
 
-    // Adds bytes behind those that are there.
+    // Appends bytes.
     fn write_all(&mut self, bytes: &[u8])
         requires { length self.old + length bytes.now ≤ 68 }
         ensures { self.new ≡ self.old ++ bytes.now }
@@ -94,7 +94,7 @@ fn is_short(spec_ex: WavSpecEx) -> bool
     spec_ex.spec.channels <= 2 && spec_ex.spec.bits_per_sample <= 16
 }
 
-// The fields of a WAVEFORMAT, and the bits behind them.
+// The fields of a WAVEFORMAT, and the bits after them.
 fn write_waveformat(header: &mut Header, tag: u16, bits: u16, spec_ex: WavSpecEx)
     requires writable { IsWritable spec_ex }
     requires room { length header.old + 16 ≤ 68 }
@@ -146,7 +146,7 @@ fn write_subformat(header: &mut Header, format: SampleFormat)
     }
 }
 
-// The fmt chunk's length and its content, in the older form where that is enough.
+// The fmt chunk's length and its content, in the older form if that is enough.
 fn write_fmt(header: &mut Header, spec_ex: WavSpecEx)
     requires writable { IsWritable spec_ex }
     requires room { length header.old + 44 ≤ 68 }
@@ -161,11 +161,11 @@ fn write_fmt(header: &mut Header, spec_ex: WavSpecEx)
 }
 
 /// The header of a file of this spec, up to the first data byte (RIFF, "Waveform Audio File
-/// Format"). The spec has to be writable: ask [`WavSpecEx::is_writable`].
+/// Format"). The spec must be writable: see [`WavSpecEx::is_writable`].
 ///
-/// Both sizes are in bytes. The RIFF size counts all that stands behind its own field, the data
-/// length the content of the data chunk. One or two channels of 8 or 16 bits have the header of 44
-/// bytes with a PCMWAVEFORMAT, every other spec that of 68 with a WAVEFORMATEXTENSIBLE.
+/// Both sizes are in bytes. The RIFF size counts all after its own field, the data length the
+/// content of the data chunk. One or two channels of 8 or 16 bits have the header of 44 bytes
+/// with a PCMWAVEFORMAT, every other spec that of 68 with a WAVEFORMATEXTENSIBLE.
 pub fn header_of(spec_ex: WavSpecEx, riff_size: u32, data_length: u32) -> Header
     requires { IsWritable spec_ex }
     ensures { result ≡ header spec_ex riff_size data_length }
@@ -189,11 +189,11 @@ impl WavSpec {
     ghost use Rattle.hound_spec.specs.Writable.{IsWritable, with_default_width};
 
     /// The header of a stream whose length isn't known when it begins: both sizes are 4294967295.
-    /// It is for outputs that can't be gone back in; the containers follow, each by
+    /// It is for outputs without a way back; the containers follow, each by
     /// `Sample::write_padded`.
     ///
     /// A sample takes the bytes that its bits need: `(bits_per_sample + 7) / 8`, rounded down.
-    /// `WavReader` refuses such a header of 16 or 32 bits, since 4294967295 bytes are no whole
+    /// `WavReader` rejects such a header of 16 or 32 bits, since 4294967295 bytes are no whole
     /// samples of them.
     ///
     /// The errors, in their order: `Unsupported`, for a spec that can't be written; `OutOfMemory`.

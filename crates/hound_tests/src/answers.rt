@@ -1,4 +1,4 @@
-// Answers that the definition of a run's answer excludes, which the prover shows.
+// Results that the definition of a run's result excludes, as the prover shows.
 ghost use Rattle.std.specs.Borrow.{Bor};
 ghost use Rattle.std.specs.Prelude.{◌≡◌, ◌≤◌, ℤ, List, [], ◌∷◌, length, pos, Ok, Err};
 ghost use Rattle.hound.specs.FirstError.{AnswersAll, AnswersSession, AnswersStep};
@@ -7,7 +7,7 @@ ghost use Rattle.hound.specs.declared.Step.{Step};
 ghost use Rattle.hound.specs.declared.Step.TheVariants.{Whole, Batch, Flush};
 ghost use Rattle.hound_tests.specs.Rows.{mono, stereo};
 
-// A sample that is too wide is passed over; the error of a later step is returned; a fault is
+// A sample that is too wide is ignored; the error of a later step is returned; a fault is
 // reported as another error; an unfinished frame is ignored at a flush or at an end; there is no
 // memory for a batch no longer than one before it.
 fn wrong_answers()

@@ -9,22 +9,22 @@ use std::path::{Path, PathBuf};
 use std::test::Fail;
 use std::{env, fs, process};
 
-// What is done to a file, or asked of it.
+// What is done to a file, or checked of it.
 #[derive(Clone, Copy)]
 enum Deed {
     // It has these bytes from now on.
     Put(&'static [u8]),
-    // A writer makes it, with so many channels, and is finalized after these samples.
+    // A writer creates it, with this many channels, and is finalized after these samples.
     Create(u16, &'static [i16]),
     // A writer appends these samples and is finalized.
     Append(&'static [i16]),
     // A writer appends this sample and is dropped.
     AppendOne(i16),
-    // A writer makes it, of one channel, and is finalized after these samples by one call.
+    // A writer creates it, of one channel, and is finalized after these samples by one call.
     CreateBlock(&'static [i16]),
     // A writer appends these samples by one call and is finalized.
     AppendBlock(&'static [i16]),
-    // A durable writer makes it, of one channel, and is finalized after these samples.
+    // A durable writer creates it, of one channel, and is finalized after these samples.
     CreateDurable(&'static [i16]),
     // A durable writer appends these samples, flushes and is dropped.
     AppendDurable(&'static [i16]),
@@ -80,7 +80,7 @@ const HALF_A_FRAME: [u8; 48] = [
     0x04, 0x00, 0x10, 0x00, 0x64, 0x61, 0x74, 0x61, 0x02, 0x00, 0x00, 0x00, 0x02, 0x00, 0xfd, 0xff,
 ];
 
-// What is done to a file, each with its answer, and whether there is a file at the end.
+// What is done to a file, each with its result, and whether there is a file at the end.
 #[derive(Clone, Copy)]
 struct Row {
     name: &'static str,
@@ -352,7 +352,7 @@ fn does(rt: &HostRuntime, path: Path<'_>, deed: Deed) -> hound::Result<bool> {
 }
 
 impl Row {
-    // Whether each deed is answered as said; the file is removed after them.
+    // Whether each deed has its result; the file is removed after them.
     fn holds(&self, rt: &HostRuntime, path: Path<'_>) -> bool {
         let mut holds = true;
         for (deed, answer) in self.deeds {

@@ -1,4 +1,4 @@
-// What the modules of tests share: specs, files in memory, and the names of answers.
+// What the modules of tests share: specs, files in memory, and the names of results.
 ghost use Rattle.std.specs.Prelude.{◌≡◌, IfOk};
 ghost use Rattle.hound.specs.Room.{IsSixteen};
 ghost use Rattle.hound.specs.State.{MediumState};
@@ -12,7 +12,7 @@ use std::alloc::Global;
 use std::io;
 use std::test::Fail;
 
-// Integers, so many bits of a sample in so many bytes.
+// Integers with these bits and bytes of a sample.
 pub(crate) fn integers(
     channels: u16,
     sample_rate: u32,
@@ -71,7 +71,7 @@ pub(crate) fn tape_of(alloc: Global, bytes: &[u8]) -> Result<Tape, Fail>
     Ok(Tape::new(bytes.to_vec(alloc)?))
 }
 
-// Writes these samples, up to the first that is refused.
+// Writes these samples, up to the first error.
 pub(crate) fn write_all<S: Sample + Copy, W: Medium>(
     writer: &mut WavWriter<W>,
     samples: &[S],
@@ -106,7 +106,7 @@ pub(crate) fn write_up<W: Medium>(
     batch.flush()
 }
 
-// The samples that a reader gives, up to the first that is refused.
+// The samples that a reader gives, up to the first error.
 pub(crate) fn read_all<S: Sample, R: io::Read + Drop>(
     alloc: Global,
     reader: WavReader<R>,
@@ -177,7 +177,7 @@ pub(crate) fn name_of(error: Error) -> &'static str {
     }
 }
 
-// "done" where a call did what was asked, "not so" where it found something else.
+// "done" if a call did what it should, "not so" if it found something else.
 pub(crate) fn answer_of(returned: hound::Result<bool>) -> &'static str {
     match returned {
         Ok(true) => "done",

@@ -1,5 +1,5 @@
-//! Tests over the public items of `hound`: what its rows (`hound_rows`) can't ask. Callers that prove
-//! something, files on a disk, memory that is refused, and the words that clauses import.
+//! Tests over the public items of `hound`, for what its rows (`hound_rows`) can't do. Callers that
+//! prove something, files on a disk, allocations that fail, and the words that clauses import.
 #![tactic(auto)]
 
 #[cfg(test)]

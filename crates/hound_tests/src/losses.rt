@@ -1,5 +1,5 @@
 // Losses of power over a medium in memory. A machine that loses power is a medium whose calls all
-// fail from then on; of what was written since the last flush any sector may be kept or lost.
+// fail from then on; of what was written since the last flush any sector may be saved or lost.
 use crate::helpers::integers;
 use hound::{Begin, End, Journal, Step, WavReader, run_durable_session};
 use std::alloc::Global;
@@ -27,7 +27,7 @@ const STEPS: [Step<'static>; 16] = [
 
 const HEADER: usize = 44;
 
-// How many samples these marks say are accepted, and how many of them were published.
+// How many samples are accepted by these marks, and how many of them were published.
 fn counted(marks: &[bool]) -> (u32, u32) {
     let mut accepted = 0u32;
     let mut published = 0;

@@ -1,5 +1,5 @@
-// Calls whose requests for memory are refused, each in turn: all of it is taken by blocks that
-// nothing touches, but for one block, and given back before anything is compared.
+// Calls whose allocations fail, each in turn: all memory is taken by blocks that stay untouched,
+// except for one block, and freed before anything is compared.
 use crate::helpers::{FOUR_SAMPLES, empty_tape, integers, sixteen, tape_of, write_up};
 use hound::{
     Begin, End, Error, Journal, Medium, Placed, SampleFormat, Step, Tape, WavReader, WavWriter,
@@ -11,7 +11,7 @@ use std::path::{Path, PathBuf};
 use std::test::Fail;
 use std::{env, fs, io, process};
 
-// The words of a medium that finds no memory.
+// The words of a medium without memory.
 const NO_MEMORY: &str = "IoError of kind OutOfMemory";
 
 // The words of an error: the reason of an ill-formed file, or the name of the variant.
@@ -27,7 +27,7 @@ fn words_of(error: &Error) -> &'static str {
     }
 }
 
-// Takes what memory there is in blocks of at most so many bytes, and in ever smaller ones down to
+// Takes the memory there is in blocks of at most this many bytes, and in ever smaller ones down to
 // the least.
 fn take_blocks(alloc: Global, most: usize, least: usize) -> Result<Vec<Vec<u8>>, Fail> {
     let mut blocks = Vec::with_capacity(alloc, 200_000)?;
@@ -47,12 +47,12 @@ fn take_blocks(alloc: Global, most: usize, least: usize) -> Result<Vec<Vec<u8>>,
     Ok(blocks)
 }
 
-// Takes most memory, and leaves so much that `take_all_but` is quick.
+// Takes most memory, and leaves so little that `take_all_but` is quick.
 fn take_most(alloc: Global) -> Result<Vec<Vec<u8>>, Fail> {
     take_blocks(alloc, 1 << 34, 1 << 26)
 }
 
-// Takes all memory but one block of so many bytes.
+// Takes all memory except one block of this many bytes.
 fn take_all_but(alloc: Global, room: usize) -> Result<Vec<Vec<u8>>, Fail> {
     let kept: Vec<u8> = Vec::with_capacity(alloc, room)?;
     let blocks = take_blocks(alloc, 1 << 34, 1)?;
@@ -60,7 +60,7 @@ fn take_all_but(alloc: Global, room: usize) -> Result<Vec<Vec<u8>>, Fail> {
     Ok(blocks)
 }
 
-// The words of an error, and none where the answer is Ok.
+// The words of an error, and none for an Ok.
 fn words_of_answer<T>(answer: &hound::Result<T>) -> &'static str {
     match answer {
         Ok(_) => "",
@@ -68,7 +68,7 @@ fn words_of_answer<T>(answer: &hound::Result<T>) -> &'static str {
     }
 }
 
-// The header of a file of unknown length, where all memory but so much is taken.
+// The header of a file of unknown length, with only this much memory.
 fn header_without(
     alloc: Global,
     channels: u16,
@@ -81,7 +81,7 @@ fn header_without(
     Ok(header)
 }
 
-// Whether a header is refused by these words, or is the one that is made with all memory.
+// Whether a header fails with these words, or is the one that is made with all memory.
 fn header_has_words(alloc: Global, channels: u16, room: usize, words: &str) -> Result<bool, Fail> {
     match header_without(alloc, channels, room)? {
         Ok(header) => {
@@ -107,17 +107,17 @@ const PLENTY: usize = 1 << 30;
 // A call of a writer.
 #[derive(Clone, Copy)]
 enum Act {
-    // A batch of so many samples is begun, and let go.
+    // A batch of this many samples is begun, and dropped.
     Begin(u32),
-    // A batch of so many samples that count up from 2.
+    // A batch of this many samples that count up from 2.
     Batch(u32),
     Sample(i16),
     Block(&'static [i16]),
     Flush,
 }
 
-// What a writer is called for, each with so much memory, what it answers and how many samples it
-// has then accepted.
+// The calls of a writer, each with its memory, its result and how many samples are then
+// accepted.
 struct Script {
     name: &'static str,
     acts: &'static [(usize, Act, &'static str, u32)],
@@ -125,7 +125,7 @@ struct Script {
 }
 
 const SCRIPTS: [Script; 4] = [
-    // A batch that is too long for a file is refused before memory, and the one of 1000 takes the
+    // A batch too long for a file is an error before memory is, and the one of 1000 takes the
     // 2000 bytes that there are.
     Script {
         name: "the first batch",
@@ -152,7 +152,7 @@ const SCRIPTS: [Script; 4] = [
         file: b"RIFF\x2c\0\0\0WAVEfmt \x10\0\0\0\x01\0\x01\0\x44\xac\0\0\x88\x58\x01\0\x02\0\x10\0\
             data\x08\0\0\0\x02\0\x03\0\x04\0\x05\0",
     },
-    // The samples wait, and go out once there is memory.
+    // The samples are buffered, and written once there is memory.
     Script {
         name: "a writer over a tape that can't grow keeps its samples",
         acts: &[
@@ -208,7 +208,7 @@ fn take_without(
 }
 
 impl Script {
-    // Whether all comes of it that it says.
+    // Whether every call has its result.
     fn holds(&self, alloc: Global) -> Result<bool, Fail> {
         let mut writer = WavWriter::new(empty_tape(alloc), sixteen(1))?;
         for (room, next, words, len) in self.acts {
@@ -254,7 +254,7 @@ fn is_out_of_memory<T>(answer: &io::Result<T>) -> bool {
     matches!(answer, Err(e) if e.kind() == ErrorKind::OutOfMemory)
 }
 
-// What 3000 bytes more are answered, where all memory but so much is taken.
+// The result for 3000 bytes more, with only this much memory.
 fn put_without<M: Medium>(
     medium: &mut M,
     alloc: Global,
@@ -295,7 +295,7 @@ fn bytes_of_now(journal: &Journal, alloc: Global) -> hound::Result<Vec<u8>> {
     journal.bytes_after(alloc, journal.taken())
 }
 
-// A journal of these bytes, where all memory but so much is taken.
+// A journal of these bytes, with only this much memory.
 fn journal_without(
     alloc: Global,
     bytes: &[u8],
@@ -308,8 +308,8 @@ fn journal_without(
     Ok(journal)
 }
 
-// Whether a journal of the four samples is refused, and one of no bytes is still there. Both
-// while the same blocks are taken: with further blocks taken in between, 52 bytes are at times not
+// Whether a journal of the four samples is an error, and one of no bytes is still there. Both
+// with the same blocks taken: with further blocks taken in between, 52 bytes are at times not
 // enough for the four samples.
 fn begins_without(alloc: Global) -> Result<bool, Fail> {
     let bytes = FOUR_SAMPLES.to_vec(alloc)?;
@@ -329,8 +329,8 @@ fn a_journal_that_begins(rt: HostRuntime) -> Result<(), Fail> {
     Ok(())
 }
 
-// Whether a journal of the four samples takes 3000 bytes more, if not with so much memory then with
-// all; counts the refusals.
+// Whether a journal of the four samples takes 3000 bytes more, if not with this much memory then
+// with all; counts the errors.
 fn journal_grows(alloc: Global, room: usize, refusals: &mut u32) -> Result<bool, Fail> {
     let mut journal = Journal::new(alloc, FOUR_SAMPLES.to_vec(alloc)?)?;
     journal.go(52)?;
@@ -346,7 +346,7 @@ fn journal_grows(alloc: Global, room: usize, refusals: &mut u32) -> Result<bool,
     Ok(journal.taken() == 3000 && bytes_of_now(&journal, alloc)?.len() == 3052)
 }
 
-// A journal's list of what was put grows first, and then its contents.
+// A journal's list of bytes written grows first, and then its contents.
 #[test]
 fn a_journal_that_grows(rt: HostRuntime) -> Result<(), Fail> {
     let _taken = take_most(rt.alloc())?;
@@ -362,7 +362,7 @@ fn a_journal_that_grows(rt: HostRuntime) -> Result<(), Fail> {
 // The beginning of a journal, which then takes 10000 bytes.
 const BEGINNING: [u8; 2000] = [1; 2000];
 
-// All bytes of a journal, where all memory but so much is taken.
+// All bytes of a journal, with only this much memory.
 fn moment_without(
     journal: &Journal,
     alloc: Global,
@@ -374,7 +374,7 @@ fn moment_without(
     Ok(answer)
 }
 
-// How often a moment of the journal is whole, is refused for memory, and is something else, each
+// How often a state of the journal is complete, lacks memory, and is something else, each
 // time with a kibibyte more.
 fn moments_of(journal: &Journal, alloc: Global) -> Result<[u32; 3], Fail> {
     let whole = bytes_of_now(journal, alloc)?;
@@ -390,7 +390,7 @@ fn moments_of(journal: &Journal, alloc: Global) -> Result<[u32; 3], Fail> {
     Ok(counts)
 }
 
-// The bytes of a moment are those of the beginning, of which the list grows several times.
+// The bytes of a state are those of the beginning, whose list grows several times.
 #[test]
 fn a_moment_of_a_journal(rt: HostRuntime) -> Result<(), Fail> {
     let mut journal = journal_without(rt.alloc(), &BEGINNING, PLENTY)??;
@@ -411,8 +411,8 @@ const OVERWRITTEN: &[u8] =
     b"RIFF\x28\0\0\0WAVEfmt \x10\0\0\0\x01\0\x01\0\x44\xac\0\0\x88\x58\x01\0\x02\0\x10\0\
         data\x04\0\0\0\x05\0\xf9\xff\x05\0\xf9\xff";
 
-// A batch that finds no memory isn't done; the steps after it are. The last four bytes are those
-// of the file that was there.
+// A batch without memory isn't done; the steps after it are. The last four bytes are those
+// of the old file.
 #[test]
 fn a_batch_of_a_session(rt: HostRuntime) -> Result<(), Fail> {
     let alloc = rt.alloc();
@@ -443,7 +443,7 @@ enum Opening {
     Append,
 }
 
-// What the call is refused for where all memory but so much is taken.
+// The error of the call with only this much memory.
 fn open_without(
     rt: &HostRuntime,
     path: Path<'_>,
@@ -461,8 +461,8 @@ fn open_without(
     Ok(words)
 }
 
-// Whether the call over the four samples is refused for memory, and the file stays or is empty if
-// it was to be made; with this buffer, whether it is done.
+// Whether the call over the four samples lacks memory, and the file stays or is empty if it was to
+// be created; with this buffer, whether it is done.
 fn opens_as_said(
     rt: &HostRuntime,
     path: Path<'_>,
@@ -482,7 +482,7 @@ fn opens_as_said(
     Ok(is_refused && (stays || is_made && bytes.is_empty()))
 }
 
-// The buffer is all that is asked for.
+// Only the buffer is allocated.
 #[test]
 fn files_that_are_opened(rt: HostRuntime) -> Result<(), Fail> {
     let _taken = take_most(rt.alloc())?;

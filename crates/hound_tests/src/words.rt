@@ -1,5 +1,5 @@
 // Each word that a clause of the library imports can be imported over `hound` alone. The file is
-// made by `words.sh`. The clauses have the imports read.
+// made by `words.sh`. The checker reads the imports because the clauses use them.
 ghost use Rattle.std.specs.Prelude.{◌≡◌};
 
 struct NumberWords;

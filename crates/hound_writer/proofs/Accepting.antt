@@ -35,7 +35,7 @@ length_overlay_max [] p c = omega arith
 length_overlay_max (b ∷ bs) p c =
     omega (arith, length_overlay_max bs (suc p) (put_at p b c), length-put_at p b c)
 
--- what stands after them stays
+-- what comes after them stays
 drop_none : (n : ℕ) → drop {A = ℕ} n [] ≡ []
 drop_none zero = refl
 drop_none (suc n) = refl
@@ -54,7 +54,7 @@ drop_overlay_after (b ∷ bs) n p c after =
     drop_overlay_after bs n (suc p) (put_at p b c) (omega (arith, after))
     ∙ drop_put n p b c (omega (arith, after))
 
--- a refusal, which leaves all as it was
+-- an error before anything changes
 pub accepts_refused : {W : Type 0} (tells keeps : Bool) (state : W → MediumState)
     (w : WriterState W) (memory : Bool) (asked : Result (List (List ℕ)) Refusal) (e : Error)
     → WhereTells tells (IsWhole state w → IsCounted state w)
@@ -114,7 +114,7 @@ room_fits w bytes room whole =
     (data_length w + length (concat (containers width (length bytes / width) bytes))))
     greatest_u32 (omega (arith, room, ap length (joined_bytes width bytes whole)))
 
--- a writer in which nothing waits, and a medium with bytes put after its data
+-- a writer with an empty block, and a medium with bytes written after its data
 module _ {W : Type 0} (tells keeps : Bool) (state : W → MediumState) (w : WriterState W)
     (none : w.waiting ≡ []) (sound : IsSound w)
     (stands : WhereTells tells
@@ -141,7 +141,7 @@ module _ {W : Type 0} (tells keeps : Bool) (state : W → MediumState) (w : Writ
       (stands_front w.spec_ex w.data_start w.out old.contents c (stands told) first long)
       (front_part end w.data_start w.out c old.contents (omega arith) same)
 
-  -- bytes that are put, all or a beginning
+  -- bytes that are written, all or a beginning
   module _ {T E : Type 0} (m : W) (bytes : List ℕ) (result : Result T E) (told : IsTrue tells)
       (puts : PutsAt keeps (w.data_start + w.out) bytes result (state w.medium) (state m)) where
     abbrev new : MediumState
@@ -232,7 +232,7 @@ module _ {W : Type 0} (tells keeps : Bool) (state : W → MediumState) (w : Writ
               old.contents (omega arith) ((fixed whole).each k from to));
         }
 
-    -- all of them went out
+    -- all of them were written
     module _ (all : puts.count ≡ length bytes) where
       put : take puts.count bytes ≡ bytes
       put = take_all puts.count bytes (omega (arith, all))
@@ -284,7 +284,7 @@ module _ {W : Type 0} (tells keeps : Bool) (state : W → MediumState) (w : Writ
     abbrev list : List (List ℕ)
     list = containers width (length bytes / width) bytes
 
-    -- where the medium failed nothing is accepted
+    -- if the medium failed nothing is accepted
     pub accepts_none : (e : IoFault)
         → WhereTells tells
         (PutsAt keeps (w.data_start + w.out) bytes (all_out false) (state w.medium) (state m))
@@ -424,7 +424,7 @@ pub cut : (width : ℕ) (container array : List ℕ)
 cut width container array padded size =
     ap (take width) padded ∙ take_at container (replicate (4 - length container) 0) width size
 
--- what is asked by bytes, of a writer as contracts see it
+-- a call for bytes, for a writer as contracts see it
 pub accepts_seen : {W : Type 0} (tells keeps : Bool) (state : W → MediumState) (bytes : List ℕ)
     (answer : Result (Unit {0}) Error) (a b new seen : WriterState W) → a ≡ b → seen ≡ new
     → Accepts tells keeps state false
@@ -447,7 +447,7 @@ not_refused P (Ok x) failed = tt
 not_refused P (Err (IoError e)) failed = tt
 not_refused P (Err e) failed = absurd failed
 
--- the same of writers that differ in nothing else than the memory that they keep
+-- the same for writers that differ only in the memory that they hold
 pub accepts_swapped : {W : Type 0} (tells keeps : Bool) (state : W → MediumState) (memory : Bool)
     (asked : WriterState W → Result (List (List ℕ)) Refusal) (answer : Result (Unit {0}) Error)
     (a b c d : WriterState W) (before after : List ℕ) → IfErr answer IsIoError
@@ -487,7 +487,7 @@ accepts_swapped tells keeps state memory asked answer a b c d before after faile
           record { counts = at_each.counts; front = at_each.front; stored = at_each.stored };
     }
 
--- the same of writers that keep other memory, which the call leaves as it is
+-- the same for writers that hold other memory, which the call leaves as it is
 pub accepts_beside : {W : Type 0} (tells keeps : Bool) (state : W → MediumState)
     (asked : Result (List (List ℕ)) Refusal) (answer : Result (Unit {0}) Error)
     (a b : WriterState W) (memory : List ℕ) → Accepts tells keeps state false asked answer a b
@@ -520,7 +520,7 @@ accepts_beside tells keeps state asked answer a b memory accepts =
           record { counts = at_each.counts; front = at_each.front; stored = at_each.stored };
     }
 
--- an answer to containers for which there is room and no memory is wanted
+-- the result for containers that have room and need no memory
 pub fit_failed : (answer : Result (Unit {0}) Error) → FitAnswer true false answer
     → IfErr answer IsIoError
 fit_failed (Ok x) here = tt

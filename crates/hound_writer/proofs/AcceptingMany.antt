@@ -1,4 +1,4 @@
--- Many samples, as a writer is asked to accept them, by the bytes of their containers.
+-- Many samples that a writer shall accept, by the bytes of their containers.
 use Rattle.std.proofs.Common.{◌≡◌, ℕ, ◌*◌, ◌/◌, ◌%◌, ◌≤◌, ◌<◌, Bool, true, false, List, [], length, Result, Ok, Err, IfErr, IsOk, refl, sym, subst, ◌∙◌, ap, arith}
 use Rattle.std.proofs.lemmas.List.{append-nil}
 use Rattle.std.proofs.Math.Nat.{mul-div_cancel_left, mul-le-mul_right, mul-mod_right}
@@ -26,7 +26,7 @@ use Rattle.hound_writer.proofs.Later.{accepts_later}
 use Rattle.hound_writer.proofs.Samples.{counts_at}
 use Rattle.hound_writer.proofs.Writing.{bytes_too_long}
 
--- values of a type with this table, whose containers have as many bytes as they are asked to have
+-- values of a type with this table, whose containers have the requested number of bytes
 module _ {V : Type 0} (container : V → ℕ → ℕ → Result (List ℕ) Refusal)
     (sized : (v : V) (bits width : ℕ) (c : List ℕ) → container v bits width ≡ Ok c
     → (length c ≡ width) × (1 ≤ width) × (width ≤ 4)) (values : List V) where
@@ -54,7 +54,7 @@ module _ {V : Type 0} (container : V → ℕ → ℕ → Result (List ℕ) Refus
         room = subst (HasRoom b) (sym size) room;
       })
 
-  -- their bytes are asked to be accepted, of a writer as contracts see it
+  -- a call for their bytes, for a writer as contracts see it
   abbrev pub AcceptsBytes : {W : Type 0} → Bool → Bool → (W → MediumState) →
       Result (Unit {0}) Error → WriterState W → WriterState W → Type 0
   AcceptsBytes tells keeps state answer w new =
@@ -70,7 +70,7 @@ module _ {V : Type 0} (container : V → ℕ → ℕ → Result (List ℕ) Refus
       subst (λ w. AcceptsBytes tells keeps state answer w seen) same
       (subst (λ w. AcceptsBytes tells keeps state answer a w) (sym is) accepts)
 
-  -- once what waited is out
+  -- once the buffered samples are written
   pub many_later : {W : Type 0} (tells keeps : Bool) (state : W → MediumState)
       (a b c : WriterState W) (answer : Result (Unit {0}) Error)
       → GoesOut tells keeps state (data_end a) true a b → IfErr answer IsIoError
@@ -119,7 +119,7 @@ module _ {V : Type 0} (container : V → ℕ → ℕ → Result (List ℕ) Refus
       subst (λ asked. Accepts tells keeps state false asked answer w new)
       (asked_is w.spec_ex some have)
 
-  -- of a writer by its fields and by its value
+  -- for a writer by its fields and by its value
   module _ {W : Type 0} (tells keeps : Bool) (state : W → MediumState) (may_have_moved : Bool)
       (limit : ℕ) (a w : WriterState W) (same : a ≡ w)
       (consistent : IsConsistent tells state a may_have_moved limit)
@@ -181,7 +181,7 @@ module _ {V : Type 0} (container : V → ℕ → ℕ → Result (List ℕ) Refus
         mul-le-mul_right (length values) some_width in
         omega (arith, many, room, wide)
 
--- what becomes of samples whose containers were looked at
+-- the outcome of samples whose containers were checked
 pub looked_at : {T : Type 0} (asked : Result T Refusal) → Accepted ≡ outcome_of asked → IsOk asked
 looked_at (Ok list) is = refl
 looked_at (Err too_wide) is = cc

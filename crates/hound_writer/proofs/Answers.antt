@@ -1,4 +1,4 @@
--- What holds by the answer of a call.
+-- What holds by the result of a call.
 use Rattle.std.proofs.Common.{◌≡◌, ℕ, ◌+◌, ◌/◌, ◌%◌, nat_le, Bool, true, false, IsTrue, List, length, Result, Ok, Err, OnOk, refl, subst, sym, ◌∙◌}
 use Rattle.std.specs.List.{concat}
 use Rattle.std.specs.declared.io.Error.{Error as IoFault}
@@ -44,7 +44,7 @@ pub on_ok_then : {T E P Q : Type 0} (result : Result T E) → (P → Q) → OnOk
 on_ok_then (Ok x) then here = then here
 on_ok_then (Err e) then here = tt
 
--- what holds after an Ok patch holds where its caller says that all was published
+-- what holds after an Ok patch holds if its caller returns that all was published
 pub published : (P : Type 0) (patched : Result (Unit {0}) IoFault) (are_frames : Bool)
     (told : Result (Unit {0}) Error) → IsTold patched are_frames told → OnOk patched P
     → OnPublished told P
@@ -52,7 +52,7 @@ published P (Err e) are_frames told is here = subst (λ t. OnPublished t P) (sym
 published P (Ok x) true told is here = subst (λ t. OnPublished t P) (sym is) here
 published P (Ok x) false told is here = subst (λ t. OnPublished t P) (sym is) here
 
--- an Ok is told for whole frames alone
+-- an Ok is returned only for whole frames
 pub told_ok : (P : Type 0) (patched : Result (Unit {0}) IoFault) (are_frames : Bool)
     (told : Result (Unit {0}) Error) → IsTold patched are_frames told
     → (are_frames ≡ true → OnOk patched P) → OnOk told P
@@ -60,7 +60,7 @@ told_ok P (Err e) are_frames told is here = subst (λ t. OnOk t P) (sym is) tt
 told_ok P (Ok x) true told is here = subst (λ t. OnOk t P) (sym is) (here refl)
 told_ok P (Ok x) false told is here = subst (λ t. OnOk t P) (sym is) tt
 
--- the faults that an answer tells are those of the patch
+-- the faults that a result reports are those of the patch
 pub told_faults : (patched : Result (Unit {0}) IoFault) (are_frames : Bool)
     (told : Result (Unit {0}) Error) (old new : ℕ) → IsTold patched are_frames told
     → new ≡ faults_after patched old → new ≡ faults_told told old
@@ -69,7 +69,7 @@ told_faults (Err e) are_frames told old new is here =
 told_faults (Ok x) true told old new is here = subst (λ t. new ≡ faults_told t old) (sym is) here
 told_faults (Ok x) false told old new is here = subst (λ t. new ≡ faults_told t old) (sym is) here
 
--- an answer that may want memory may do so where more may want it
+-- a result that may lack memory may do so if more may lack it
 pub fit_as : (fits memory more : Bool) (answer : Result (Unit {0}) Error)
     → (IsTrue memory → IsTrue more) → FitAnswer fits memory answer → FitAnswer fits more answer
 fit_as false memory more answer weaker is = is
@@ -78,7 +78,7 @@ fit_as true memory more (Err OutOfMemory) weaker is = weaker is
 fit_as true memory more (Err (IoError e)) weaker is = tt
 fit_as true memory more (Err e) weaker is = absurd is
 
--- writers of as many bytes behind the same head answer the same to what they are asked
+-- writers of as many bytes after the same head return the same for the same containers
 pub accept_as : {V W : Type 0} (memory more : Bool) (asked : Result (List (List ℕ)) Refusal)
     (answer : Result (Unit {0}) Error) (w : WriterState W) (v : WriterState V)
     → (IsTrue memory → IsTrue more) → w.data_start ≡ v.data_start → data_length w ≡ data_length v
@@ -90,7 +90,7 @@ accept_as memory more (Ok list) answer w v weaker start size is =
     (subst (λ n. FitAnswer (nat_le n greatest_u32) memory answer)
     (λ i. riff_size (start i) (size i + length (concat list))) is)
 
--- and so they do where they publish
+-- and so they do if they publish
 pub publishing_as : {V W : Type 0} (answer : Result (Unit {0}) Error) (w : WriterState W)
     (v : WriterState V) → w.spec_ex ≡ v.spec_ex → data_length w ≡ data_length v
     → IsPublishing answer w → IsPublishing answer v

@@ -1,4 +1,4 @@
--- What bytes are where they are to be appended to follows from what they are to a reader.
+-- What bytes are for appending follows from what they are to a reader.
 use Rattle.std.proofs.Common.{◌≡◌, ℕ, List, Option, Some, None, inl, inr, refl, sym, ◌∙◌, ap}
 use Rattle.hound_spec.specs.declared.spec.WavSpecEx.{WavSpecEx}
 use Rattle.hound_reader.specs.Answer.{Answer, readable, unreadable, Answers, HasOneAnswer}

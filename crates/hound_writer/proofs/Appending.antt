@@ -1,4 +1,4 @@
--- Appending to a file that is there.
+-- Appending to an existing file.
 use Rattle.std.proofs.Common.{◌≡◌, ℕ, ◌+◌, ◌-◌, ◌%◌, ◌≤◌, Bool, true, false, not, cond, nat_lt, List, [], drop, Option, Some, None, inl, inr, Result, Ok, Err, MatchResult, refl, sym, ◌∙◌, ap, subst, arith, eqb-true}
 use Rattle.std.proofs.lemmas.Bool.Decides.{nat_tests}
 use Rattle.hound_spec.specs.declared.error.Error.{Error}
@@ -23,7 +23,7 @@ use Rattle.hound_writer.proofs.Heads.{head_field}
 use Rattle.hound_writer.proofs.Samples.{counts_at, whole_out}
 use Rattle.hound_spec.specs.FmtChunk.{greatest_u32}
 
--- where a row of a table isn't met, the rows behind it decide
+-- if a row of a table isn't met, the rows after it decide
 none_behind : {A : Type 0} (b : Bool) (x : A) (rest : Option A) → cond b (Some x) rest ≡ None
     → (b ≡ false) × (rest ≡ None)
 none_behind true x rest e = cc
@@ -88,7 +88,7 @@ follows state medium s len h old sound after head check goes =
           (state medium).contents head goes.stays.contents) refl;
     }
 
--- a walk changes nothing but the place and the faults
+-- a walk changes only the place and the faults
 pub walk_puts_nothing : (result : Result FileHead HeadError) (old new : MediumState)
     → FindsData result old new → PutsNothing old new
 walk_puts_nothing result old new finds = record {
@@ -106,7 +106,7 @@ puts_nothing_then a b c first then = record {
   flushed = then.flushed ∙ first.flushed;
 }
 
--- a walk to the data that found a head, and then the answer of a call that appends there
+-- a walk to the data that found a head, and then the result of a call that appends there
 appends_after : {W : Type 0} (tells : Bool) (state : W → MediumState) (head : FileHead)
     (old mid : MediumState) (w : WriterState W) → WhereTells tells (FindsData (Ok head) old mid)
     → Appends tells state mid w → Appends tells state old w

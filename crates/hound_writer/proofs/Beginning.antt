@@ -1,4 +1,4 @@
--- A file that begins: its header is put, and nothing else.
+-- A file that begins: its header is written, and nothing else.
 use Rattle.std.proofs.Common.{◌≡◌, ℕ, ◌+◌, ◌-◌, ◌≤◌, Bool, List, [], ◌++◌, length, take, drop, Result, Ok, Err, refl, sym, subst, ◌∙◌, ap, arith, append_assoc, length-append}
 use Rattle.std.proofs.lemmas.List.{take_at, take_all, drop_at}
 use Rattle.hound_number.specs.Number.{bytes_of, number}
@@ -22,7 +22,7 @@ use Rattle.hound_writer.specs.Writer.{IsSound, IsWhole, HasHeader}
 use Rattle.hound_writer.proofs.Containers.{none_whole}
 use Rattle.hound_writer.proofs.Samples.{counts_at, whole_out}
 
--- the data length of a header that says 0
+-- the data length of a header with 0 in it
 field-header : (s : WavSpecEx) (p : ℕ) (rest : List ℕ) → p + 4 ≡ data_start s
     → field p (header s 0 0 ++ rest) ≡ 0
 field-header s p rest at =
@@ -57,7 +57,7 @@ module _ {T E : Type 0} (keeps : Bool) (s : WavSpecEx) (bytes : List ℕ) (resul
     (old new : MediumState) (is : bytes ≡ header s 0 0) (begins : old.place ≡ 0)
     (puts : PutsAll keeps bytes result old new)
     (all : puts.count ≡ length bytes) where
-  -- the header, and what stood behind it before
+  -- the header, and what was after it before
   contents_begin : new.contents ≡ header s 0 0 ++ drop (length bytes) old.contents
   contents_begin =
       let put : take puts.count bytes ≡ bytes = take_all puts.count bytes (omega (arith, all)) in
@@ -111,7 +111,7 @@ module _ {T E : Type 0} (keeps : Bool) (s : WavSpecEx) (bytes : List ℕ) (resul
         length-header s 0 0,
       )
 
--- what a constructor has put
+-- what a constructor has written
 pub header_file : {W : Type 0} (keeps : Bool) (state : W → MediumState) (s : WavSpecEx)
     (bytes : List ℕ) (old : MediumState) (medium : W) → bytes ≡ header s 0 0 → old.place ≡ 0
     → IsWritable s
@@ -141,7 +141,7 @@ header_file keeps state s bytes old medium is begins writable puts =
           (state medium).contents whole stands refl;
     }
 
--- a beginning of the header, as callers are told of it
+-- a beginning of the header, as callers see it
 pub header_cut : (keeps : Bool) (bytes all : List ℕ) (x : IoFault) (e : Error)
     (old new : MediumState) → bytes ≡ all → PutsAll {T = Unit {0}} keeps bytes (Err x) old new
     → PutsAll {T = Unit {0}} keeps all (Err e) old new

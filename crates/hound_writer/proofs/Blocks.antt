@@ -1,5 +1,5 @@
--- What the block of accepted samples changes: samples that join it, and what waits in it when it
--- goes out.
+-- What the block of accepted samples changes: samples that join it, and its samples when it is
+-- written.
 use Rattle.std.proofs.Common.{◌≡◌, ℕ, zero, suc, ◌+◌, ◌/◌, ◌%◌, ◌≤◌, Bool, true, false, IsTrue, List, [], ◌++◌, length, take, drop, Result, Ok, inl, refl, sym, subst, ◌∙◌, ap, arith, length-append, length-drop}
 use Rattle.std.proofs.lemmas.List.{append-nil, length-take-le, nil_from_length}
 use Rattle.std.specs.List.{concat}
@@ -67,7 +67,7 @@ module _ {W : Type 0} (tells keeps : Bool) (state : W → MediumState) (w : Writ
         place = known.place;
       }
 
-  -- samples join those that wait
+  -- samples join the buffered ones
   pub accepts_waiting : WhereKeeps tells keeps
       ((state w.medium).contents ≡ overlay (state w.medium).start (state w.medium).past)
       → Accepts tells keeps state false
@@ -111,7 +111,7 @@ module _ {W : Type 0} (tells keeps : Bool) (state : W → MediumState) (w : Writ
         };
       }
 
--- what waits is put after the bytes that are out
+-- the buffered samples are written after the bytes in the medium
 module _ {W : Type 0} (tells keeps : Bool) (state : W → MediumState) (w : WriterState W)
     (moved : Bool) (limit : ℕ) (known : IsConsistent tells state w moved limit)
     (replays : WhereKeeps tells keeps
@@ -121,7 +121,7 @@ module _ {W : Type 0} (tells keeps : Bool) (state : W → MediumState) (w : Writ
       (IsStanding w.spec_ex w.data_start w.out (state w.medium).contents)
   stands = known.stands
 
-  -- the writer without what waits
+  -- the writer without the buffered samples
   abbrev shorter : WriterState W
   shorter = record w { waiting = [] }
 
@@ -278,7 +278,7 @@ module _ {W : Type 0} (tells keeps : Bool) (state : W → MediumState) (w : Writ
     moments = moments_out false puts;
   }
 
-  -- what the writer keeps then
+  -- what the writer has then
   sound_out : IsSound (after_out true m w)
   sound_out = record {
     pair = known.sound.pair;
@@ -313,7 +313,7 @@ module _ {W : Type 0} (tells keeps : Bool) (state : W → MediumState) (w : Writ
   consistent_cut puts =
       consistent_moved tells state w m moved limit known (λ told. (around false puts told).stands)
 
--- where nothing waits nothing goes out
+-- if nothing is buffered nothing is written
 pub goes_out_nothing : {W : Type 0} (tells keeps : Bool) (state : W → MediumState) (far : ℕ)
     (w : WriterState W) (moved : Bool) (limit : ℕ) → IsConsistent tells state w moved limit
     → WhereKeeps tells keeps
@@ -364,7 +364,7 @@ goes_out_nothing tells keeps state far w moved limit known replays none =
       };
     }
 
--- the same bytes were put
+-- the same bytes were written
 pub puts_same : {T E : Type 0} (tells keeps : Bool) (at : ℕ) (bytes same : List ℕ)
     (result : Result T E) (old new : MediumState) → bytes ≡ same
     → WhereTells tells (PutsAt keeps at bytes result old new)
@@ -372,7 +372,7 @@ pub puts_same : {T E : Type 0} (tells keeps : Bool) (at : ℕ) (bytes same : Lis
 puts_same tells keeps at bytes same result old new is puts told =
     subst (λ l. PutsAt keeps at l result old new) is (puts told)
 
--- the same of writers as contracts see them
+-- the same for writers as contracts see them
 pub goes_out_seen : {W : Type 0} (tells keeps : Bool) (state : W → MediumState) (all : Bool)
     (a w new : WriterState W) (m : W) → a ≡ w → new ≡ after_out all m a
     → GoesOut tells keeps state (data_end a) all a (after_out all m a)
@@ -381,7 +381,7 @@ goes_out_seen tells keeps state all a w new m same is out =
     subst (GoesOut tells keeps state (data_end w) all w) (sym is)
     (subst (λ v. GoesOut tells keeps state (data_end v) all v (after_out all m a)) same out)
 
--- containers are put at once, where nothing waits
+-- containers are written at once, if nothing is buffered
 module _ {W : Type 0} (tells keeps : Bool) (state : W → MediumState) (w : WriterState W)
     (moved : Bool) (limit : ℕ) (known : IsConsistent tells state w moved limit)
     (none : w.waiting ≡ [])

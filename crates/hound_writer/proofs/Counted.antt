@@ -1,4 +1,4 @@
--- What the data length counts, where the head and the accepted samples stand.
+-- What the data length counts, if the head and the accepted samples are there.
 use Rattle.std.proofs.Common.{◌≡◌, ℕ, suc, ◌-◌, ◌/◌, ◌%◌, ◌<◌, ◌≤◌, List, ◌++◌, length, take, drop, Option, Some, None, inr, refl, sym, ◌∙◌, ap, arith, length-append}
 use Rattle.std.proofs.lemmas.List.{take_all, take-append-le}
 use Rattle.std.proofs.lemmas.Nat.{le-div, div_below}
@@ -28,7 +28,7 @@ reads_first s start n count contents le head None is = (
 )
 reads_first s start n count contents le head (Some cause) is = inr (s, n, start, head, is)
 
--- where the head stands and the field says at most n, the first n bytes of the data are counted
+-- if the head is there and the field is at most n, the first n bytes of the data are counted
 pub counts_standing : (s : WavSpecEx) (start n : ℕ) (contents : List ℕ) → 1 ≤ s.bytes_per_sample
     → n % s.bytes_per_sample ≡ 0 → Head contents s (field (start - 4) contents) start
     → field (start - 4) contents ≤ n

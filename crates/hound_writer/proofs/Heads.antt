@@ -9,7 +9,7 @@ use Rattle.hound_reader.specs.Chunks.{Head, joined}
 use Rattle.hound_writer.specs.Sizes.{field}
 use Rattle.hound_writer.proofs.Sizes.{take_front}
 
--- contents as their four bytes at 4 and at p, and what stands before, between and behind these
+-- contents as their four bytes at 4 and at p, and what is before, between and after these
 pub in_parts : (p : ℕ) (c : List ℕ) → 8 ≤ p
     → c ≡ take 4 c ++
     (take 4 (drop 4 c) ++ (drop 8 (take p c) ++ (take 4 (drop p c) ++ drop (p + 4) c)))
@@ -47,7 +47,7 @@ module _ (old : List ℕ) (s : WavSpecEx) (len h : ℕ) (head : Head old s len h
     length-append (joined head.chunks) data_tag,
   )
 
-  -- the data begin behind the first twelve bytes and a chunk's header
+  -- the data begin after the first twelve bytes and a chunk's header
   pub head_behind : 20 ≤ h
   head_behind = omega (arith, head.place)
 
@@ -64,7 +64,7 @@ module _ (old : List ℕ) (s : WavSpecEx) (len h : ℕ) (head : Head old s len h
         length-append head.size head.rest,
       )
 
-  -- the data length is what the field says
+  -- the data length is the number in the field
   pub head_field : field (h - 4) old ≡ len
   head_field =
       ap (λ l. number (take 4 (drop (h - 4) l))) split
@@ -88,8 +88,8 @@ module _ (old : List ℕ) (s : WavSpecEx) (len h : ℕ) (head : Head old s len h
       ∙ drop_at (riff_tag ++ head.walk.size) (wave_tag ++ (joined head.chunks ++ data_tag)) 8
       (omega (arith, head.walk.four, length-append riff_tag head.walk.size))
 
-  -- contents with the same bytes but for the two sizes have the same head, with the length that
-  -- their field says
+  -- contents with the same bytes except for the two sizes have the same head, with the length in
+  -- their field
   pub head_with : (new : List ℕ) → h ≤ length new → take 4 new ≡ take 4 old
       → drop 8 (take (h - 4) new) ≡ drop 8 (take (h - 4) old) → Head new s (field (h - 4) new) h
   head_with new inside same_front same_middle =

@@ -12,7 +12,7 @@ use Rattle.hound_writer.specs.Many.{all_containers, and_more, bytes_in, joined_c
 use Rattle.hound_writer.specs.declared.outcome.Outcome.TheVariants.{OutOfRange, WrongPair}
 use Rattle.hound_writer.proofs.Accepting.{cut}
 
--- there is a list where each of the two has what it asks for
+-- there is a list if both results are Ok
 and_more-ok : (first : Result (List ℕ) Refusal) (more : Result (List (List ℕ)) Refusal)
     → is_ok (and_more first more) ≡ (is_ok first && is_ok more)
 and_more-ok (Err refusal) more = refl
@@ -63,7 +63,7 @@ module _ {V : Type 0} (container : V → Result (List ℕ) Refusal) where
       ∙ (λ j. is_ok (all_containers container (take i values ++ sym is j ∷ [])))
       ∙ ok_append (take i values) value
 
-  -- the first refusal is that of all
+  -- the first error is that of all
   refused_after : (before after : List V) (value : V) (refusal : Refusal)
       → IsOk (all_containers container before) → container value ≡ Err refusal
       → all_containers container (before ++ value ∷ after) ≡ Err refusal
@@ -98,7 +98,7 @@ module _ {V : Type 0} (container : V → Result (List ℕ) Refusal) where
       parted (first ∷ values) (suc i) inside =
           ap (λ (l : List V). first ∷ l) (parted values i (omega (arith, inside)))
 
-  -- where all values have containers, each has one
+  -- if all values have containers, each has one
   pub each_has : (values : List V) (i : ℕ) (value : V) → i < length values
       → value ≡ get_or values i value → IsOk (all_containers container values)
       → IsOk (container value)
@@ -228,7 +228,7 @@ pub encoded_ok : (asked : Result (List ℕ) Refusal) (answer : Result (List ℕ)
 encoded_ok (Ok container) answer is = ap is_ok is
 encoded_ok (Err refusal) answer is = ap is_ok is
 
--- what becomes of samples whose first refusal `encode` reports
+-- the outcome of samples whose first error `encode` returns
 pub refused_as : (asked : Result (List ℕ) Refusal) (all : Result (List (List ℕ)) Refusal) (e : Error)
     → IsEncoded asked (Err e) → ((refusal : Refusal) → asked ≡ Err refusal → all ≡ Err refusal)
     → (e ≡ TooWide → outcome_of all ≡ OutOfRange)

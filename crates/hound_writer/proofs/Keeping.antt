@@ -1,4 +1,4 @@
--- What a writer keeps between its calls.
+-- What a writer keeps true between its calls.
 use Rattle.std.proofs.Common.{◌≡◌, ℕ, Bool, true, subst}
 use Rattle.std.proofs.lemmas.Bool.{true≢false}
 use Rattle.hound_medium.specs.State.{MediumState, WhereTells}
@@ -6,7 +6,7 @@ use Rattle.hound_writer.specs.Fields.{IsConsistent}
 use Rattle.hound_writer.specs.Parts.{IsStanding}
 use Rattle.hound_writer.specs.Writer.{WriterState}
 
--- it is kept of a writer that is the same
+-- it holds for a writer that is the same
 pub consistent_seen : {W : Type 0} (tells : Bool) (state : W → MediumState) (moved moved_now : Bool)
     (limit : ℕ) (a b : WriterState W) → a ≡ b → moved ≡ moved_now
     → IsConsistent tells state a moved limit → IsConsistent tells state b moved_now limit
@@ -14,7 +14,7 @@ consistent_seen tells state moved moved_now limit a b same is known =
     subst (λ m. IsConsistent tells state b m limit) is
     (subst (λ v. IsConsistent tells state v moved limit) same known)
 
--- over a medium that may have moved, where the head still stands
+-- over a medium that may have moved, if the head is still there
 pub consistent_moved : {W : Type 0} (tells : Bool) (state : W → MediumState) (w : WriterState W)
     (m : W) (moved : Bool) (limit : ℕ) → IsConsistent tells state w moved limit
     → WhereTells tells (IsStanding w.spec_ex w.data_start w.out (state m).contents)

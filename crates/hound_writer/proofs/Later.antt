@@ -1,4 +1,4 @@
--- A call that goes on once what waited is out.
+-- A call that continues once the buffered samples are written.
 use Rattle.std.proofs.Common.{◌≡◌, ℕ, ◌+◌, ◌-◌, ◌≤◌, ◌%◌, ◌/◌, Bool, true, false, IsTrue, Result, Ok, Err, IfErr, List, ◌++◌, length, take, drop, refl, sym, ◌∙◌, ap, subst, arith}
 use Rattle.std.proofs.lemmas.List.{drop-drop, append-nil}
 use Rattle.std.specs.List.{concat}
@@ -19,7 +19,7 @@ use Rattle.hound_writer.proofs.Sizes.{take_front}
 use Rattle.hound_writer.proofs.Storing.{stored_join}
 use Rattle.hound_writer.specs.Writer.{WriterState, HasRoom, IsWhole, accepted_samples, data_length, data_end}
 
--- bytes behind others that stay, stay
+-- bytes after others that stay, stay
 pub drop_later : (n m : ℕ) (a b : List ℕ) → n ≤ m → drop n a ≡ drop n b → drop m a ≡ drop m b
 drop_later n m a b le same =
     let at : n + (m - n) ≡ m = omega (arith, le) in
@@ -44,14 +44,14 @@ module _ {W : Type 0} (tells keeps : Bool) (state : W → MediumState) (far : �
   abbrev reach_out : ℕ
   reach_out = a.data_start + a.out
 
-  -- what counts at a later moment
+  -- what counts in a later state
   pub counts_later : (told : IsTrue tells) → IsWhole state a → (c : List ℕ)
       → Counts a.spec_ex a.data_start (accepted_samples state b) c
       → Counts a.spec_ex a.data_start (accepted_samples state a) c
   counts_later told whole c =
       subst (λ l. Counts a.spec_ex a.data_start l c) ((out.file told).accepted whole)
 
-  -- what stood up to the end of the bytes that were out at first
+  -- what was up to the end of the bytes in the medium at first
   front_later : (told : IsTrue tells) → IsWhole state a → (c : List ℕ)
       → take (a.data_start + data_length a) c ≡ take (a.data_start + data_length a) then
       → take reach_out c ≡ take reach_out first
@@ -132,7 +132,7 @@ module _ {W : Type 0} (tells keeps : Bool) (state : W → MediumState) (far : �
         moments = λ told kept. at_each_later told kept (state c.medium) (accepts.moments told kept);
       }
 
--- containers that are accepted once what waited is out
+-- containers that are accepted once the buffered samples are written
 pub accepts_later : {W : Type 0} (tells keeps : Bool) (state : W → MediumState)
     (a b c : WriterState W) (bytes : List ℕ) (answer : Result (Unit {0}) Error)
     → GoesOut tells keeps state (data_end a) true a b → IfErr answer IsIoError
@@ -151,7 +151,7 @@ accepts_later tells keeps state a b c bytes answer out failed accepts =
     (Ok (containers v.spec_ex.bytes_per_sample
     (length bytes / v.spec_ex.bytes_per_sample) bytes)) answer v c) out.value accepts)
 
--- containers that aren't, since it didn't go out
+-- containers that aren't, since those weren't written
 pub accepts_cut : {W : Type 0} (tells keeps : Bool) (state : W → MediumState) (far : ℕ)
     (a b : WriterState W) (bytes : List ℕ) (e : IoFault) → GoesOut tells keeps state far false a b
     → HasRoom a (length bytes) → length bytes % a.spec_ex.bytes_per_sample ≡ 0
@@ -183,12 +183,12 @@ accepts_cut tells keeps state far a b bytes e out room whole = record {
   moments = λ told kept. (out.moments told kept).adds;
 }
 
--- the answer of a call that keeps a fault aside is no refusal
+-- the result of a call that saves a fault is no other error
 pub kept_fails : (done : Bool) (fault : IoFault) → IfErr (or_fault done fault) IsIoError
 kept_fails true fault = tt
 kept_fails false fault = tt
 
--- what bytes leave as it was that reach no further than a place, they leave so behind a later one
+-- bytes that reach no further than a place leave all the rest as it was
 pub goes_further : {W : Type 0} (tells keeps : Bool) (state : W → MediumState) (near far : ℕ)
     (all : Bool) (a b : WriterState W) → near ≤ far → GoesOut tells keeps state near all a b
     → GoesOut tells keeps state far all a b

@@ -15,7 +15,7 @@ pub record HasMore {W : Type 0} (state : W → MediumState) (list : List (List �
   pub samples : accepted_samples state new ≡ accepted_samples state old ++ list
   pub size : data_length new ≡ data_length old + length (concat list)
 
--- an Ok accepted all containers that were asked for, which are there
+-- an Ok accepted all containers of its call, which are there
 pub all_accepted : {W : Type 0} (tells keeps : Bool) (state : W → MediumState)
     (asked : Result (List (List ℕ)) Refusal) (old new : WriterState W) → IsTrue tells
     → IsWhole state old → Accepts tells keeps state false asked (Ok tt) old new

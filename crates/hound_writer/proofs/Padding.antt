@@ -1,4 +1,4 @@
--- The pad byte behind the accepted data.
+-- The pad byte after the accepted data.
 use Rattle.std.proofs.Common.{◌≡◌, ℕ, zero, suc, ◌+◌, ◌/◌, ◌%◌, inl, inr, Bool, true, false, IsTrue, List, [], ◌∷◌, ◌++◌, length, take, drop, replicate, refl, sym, subst, ◌∙◌, ap, arith}
 use Rattle.std.proofs.lemmas.Bool.{cases_lt}
 use Rattle.std.proofs.lemmas.List.{take_all}
@@ -15,7 +15,7 @@ use Rattle.hound_writer.proofs.Accepting.{at_each, data_stays, front, front_at_e
 use Rattle.hound_writer.proofs.PutsFrom.{puts_from}
 use Rattle.hound_writer.proofs.Samples.{counts_at}
 
--- a byte that was put stands where it was put
+-- a byte that was written is at its place
 put_stands : (p b : ℕ) (c : List ℕ) → take 1 (drop p (put_at p b c)) ≡ b ∷ []
 put_stands zero b [] = refl
 put_stands zero b (x ∷ c) = refl
@@ -31,8 +31,7 @@ one_left n odd =
           (odd (omega (arith, none)))
     ]
 
--- a writer in which nothing waits, whose data have an odd length, and a byte that was put behind
--- them
+-- a writer with an empty block, whose data have an odd length, and a byte written after them
 module _ {W : Type 0} (tells keeps : Bool) (state : W → MediumState) (w : WriterState W)
     (moved : Bool) (limit : ℕ) (known : IsConsistent tells state w moved limit)
     (none : w.waiting ≡ [])
@@ -61,7 +60,7 @@ module _ {W : Type 0} (tells keeps : Bool) (state : W → MediumState) (w : Writ
     odd_size : data_length w % 2 ≡ 1
     odd_size = ap (λ n. n % 2) size ∙ one_left w.out odd
 
-    -- nothing that waited is no less than all of it
+    -- nothing buffered is no less than all of it
     value : (all : Bool) → record w { medium = m } ≡ after_out all m w
     value true = λ i. record w { medium = m; out = sym size i; waiting = none i }
     value false = refl
@@ -121,13 +120,13 @@ module _ {W : Type 0} (tells keeps : Bool) (state : W → MediumState) (w : Writ
       };
     }
 
-    -- the same of a writer as contracts see it
+    -- the same for a writer as contracts see it
     pub goes_padded : (seen : WriterState W) → w ≡ seen
         → GoesOut tells keeps state (padded_end seen) all seen (record w { medium = m })
     goes_padded seen same =
         subst (λ v. GoesOut tells keeps state (padded_end v) all v new) same goes_out
 
-    -- once it is out it stands
+    -- once it is written it is there
     pub padded_odd : WhereTells tells (IsTrue all → IsPadded w (state m).contents)
     padded_odd told done =
         let p = subst (λ b. PutsAt keeps end pad (all_out b) old (state m)) done (puts told) in

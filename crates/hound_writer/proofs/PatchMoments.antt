@@ -1,4 +1,4 @@
--- The moments of a patch, part after part, and of a call that publishes.
+-- The intermediate states of a patch, part after part, and of a call that publishes.
 use Rattle.std.proofs.Common.{◌≡◌, ℕ, suc, ◌+◌, ◌-◌, ◌<◌, ◌≤◌, ◌^◌, inl, inr, Bool, true, false, IsTrue, Result, Ok, Err, OnOk, IsOk, List, [], ◌∷◌, ◌++◌, length, take, drop, refl, sym, ◌∙◌, ap, subst, arith, length-append, length-take}
 use Rattle.std.proofs.lemmas.Bool.{cases_lt, false≢true}
 use Rattle.std.proofs.lemmas.List.{take-take, length-take-le, get_or_at}
@@ -40,7 +40,7 @@ patched_first p new base has = record {
   field = sym (mix_none (field p base) new (number_at_small p base has.inside has.small));
 }
 
--- from one moment of a patch to a later one
+-- from one intermediate state of a patch to a later one
 module _ (p new : ℕ) (base c : List ℕ) (has : HasSize p base) (small : AreBytes c)
     (so_far : IsPatched p base new 0 c) where
   inside_now : p + 4 ≤ length c
@@ -74,7 +74,7 @@ module _ {T E : Type 0} (keeps : Bool) (p new : ℕ) (base : List ℕ) (result :
     (a b : MediumState) (kept : IsTrue keeps) (replays : a.contents ≡ overlay a.start a.past)
     (small : AreBytes a.contents) (has : HasSize p base)
     (so_far : IsPatched p base new 0 a.contents) where
-  -- the RIFF size is put, which comes before the field
+  -- the RIFF size is written, which comes before the field
   pub riff_span : (size : ℕ) → PutsAt keeps 4 (bytes_of 4 size) result a b
       → Span (IsPatched p base new) (length b.past) a b
   riff_span size puts =
@@ -89,7 +89,7 @@ module _ {T E : Type 0} (keeps : Bool) (p new : ℕ) (base : List ℕ) (result :
       (patched_riff p new base a.contents has small so_far (take k bytes)
       (omega (arith, length-take k bytes, length-take puts.count (bytes_of 4 size)))))
 
-  -- the field is put
+  -- the field is written
   pub field_span : PutsAt keeps p (bytes_of 4 new) result a b
       → Span (IsPatched p base new) (length a.past) a b
   field_span puts =
@@ -156,7 +156,7 @@ patches_both keeps p new result answer a b c kept first second puts all =
           (arith, long, four)) all;
     }
 
--- a patch, and then a call that puts nothing
+-- a patch, and then a call that writes nothing
 pub patches_still : {T E V F : Type 0} (p new : ℕ) (result : Result T E) (answer : Result V F)
     (a b c : MediumState) → b.contents ≡ overlay b.start b.past → Stays b c → FlushedSince b c
     → OnOk answer (IsOk result) → PatchesAtEach p new result a b → PatchesAtEach p new answer a c
@@ -177,7 +177,7 @@ patches_still p new result answer a b c replays stays flushed all patches =
           + 4 = from_ok result ok patches.whole in omega (arith, same, all_put)) all;
     }
 
--- the field has the old or the new number at each moment but those between its four bytes
+-- the field has the old or the new number in each state except those between its four bytes
 old_or_new : (p new split : ℕ) (a b : MediumState) → HasSize p a.contents → new < 2 ^ 32
     → Span (IsPatched p a.contents new) split a b → PutsLast p split a b
     → IsOldOrNew p (field p a.contents) new a b
@@ -197,7 +197,7 @@ old_or_new p new split a b has small span puts k from to outside =
           ∙ mix_none old new (number_at_small p a.contents has.inside has.small))
     ]
 
--- what a patch of a writer's file is at each moment, by the answer of the call that does it
+-- each intermediate state of a patch of a writer's file, by the result of the call that does it
 pub publishes_at_each : {W : Type 0} (state : W → MediumState) (w : WriterState W)
     (none : w.waiting ≡ []) → IsSound w
     → IsStanding w.spec_ex w.data_start w.out (state w.medium).contents
@@ -289,7 +289,7 @@ pub patches_at_each_seen : {W : Type 0} (state : W → MediumState) (a b : Write
 patches_at_each_seen state a b result end same patches =
     subst (λ w. PatchesAtEach (w.data_start - 4) w.out result (state w.medium) end) same patches
 
--- a call of a writer that patches, and the answer by its frames
+-- a call of a writer that patches, and its result by the frames
 module _ {W : Type 0} (tells keeps : Bool) (state : W → MediumState) (w : WriterState W) (end : W)
     (none : w.waiting ≡ []) (sound : IsSound w)
     (stands : WhereTells tells (IsStanding w.spec_ex w.data_start w.out (state w.medium).contents))

@@ -15,7 +15,7 @@ use Rattle.hound_writer.specs.Parts.{PutsAt, Patches}
 use Rattle.hound_writer.specs.Sizes.{SameButSizes, with_sizes, field}
 use Rattle.hound_writer.proofs.Sizes.{same_transitive, same_riff, field_riff, same_length}
 
--- both sizes put, one after the other
+-- both sizes written, one after the other
 pub sizes_put : (p size data_length : ℕ) (c : List ℕ) → 8 ≤ p → p + 4 ≤ length c
     → overlay (overlay c (placed 4 (bytes_of 4 size)))
     (placed p (bytes_of 4 data_length)) ≡ with_sizes p size data_length c
@@ -42,7 +42,7 @@ sizes_put p size data_length c behind inside =
     ∙ ap (λ l. take 4 c ++ l)
     (append_assoc bs (drop 8 (take p c)) (bytes_of 4 data_length ++ drop (p + 4) c))
 
--- a field that was put, all of it or a beginning, over media
+-- a field that was written, all of it or a beginning, over media
 module _ {T E : Type 0} (keeps : Bool) (p size : ℕ) (r : Result T E) (a b : MediumState)
     (behind : 8 ≤ p) (inside : p + 4 ≤ length a.contents)
     (first : PutsAt keeps 4 (bytes_of 4 size) r a b) where
@@ -115,7 +115,7 @@ cut_second keeps p size data_length r s answer a b c err behind inside small fir
     (second.within)
     (then_field keeps p size r a b behind inside first data_length s c small second) faults
 
--- a patch whose puts were Ok
+-- a patch whose writes were Ok
 pub patched : {T E V F X Y : Type 0} (keeps : Bool) (p size data_length : ℕ) (r : Result T E)
     (s : Result V F) (flush : Result X Y) (a b c d : MediumState) → 8 ≤ p
     → p + 4 ≤ length a.contents → AreBytes b.contents
@@ -181,7 +181,7 @@ module _ (p size data_length : ℕ) (c : List ℕ) (behind : 8 ≤ p) (inside : 
         length-take-le p c (omega arith),
       )
 
-  -- what stands before the data length, and the data length with what stands behind it
+  -- what is before the data length, and the data length with what comes after it
   at_length : with_sizes p size data_length c ≡
       (take 4 c ++ (bytes_of 4 size ++ drop 8 (take p c))) ++
       (bytes_of 4 data_length ++ drop (p + 4) c)

@@ -1,5 +1,5 @@
--- A call that publishes: what waits goes out before, and the pad byte, and where they don't nothing
--- is patched.
+-- A call that publishes: the buffered samples are written before, and the pad byte, and if that
+-- fails nothing is patched.
 use Rattle.std.proofs.Common.{◌≡◌, ℕ, ◌+◌, ◌-◌, ◌≤◌, inl, inr, Bool, true, false, IsTrue, ◌%◌, Result, Err, OnOk, List, length, take, drop, refl, sym, ◌∙◌, ap, subst, arith, length-append, length-take}
 use Rattle.std.proofs.lemmas.Bool.{cases_lt}
 use Rattle.std.proofs.lemmas.List.{get_or_append_left}
@@ -56,7 +56,7 @@ module _ {W : Type 0} (state : W → MediumState) (a : WriterState W) (sound : I
       → take a.out (drop start c) ≡ take a.out (drop start first)
   data_of c same = front_part (start + a.out) start a.out c first (omega arith) same
 
-  -- while what waits goes out the data length is the old one
+  -- while the buffered samples are written the data length is the old one
   module _ {far : ℕ} (small : AreBytes (state a.medium).contents) (m : MediumState)
       (around : StaysAround state far a m) (goes : GoesAtEach state a m) where
     there : start ≤ length first
@@ -100,7 +100,7 @@ module _ {W : Type 0} (state : W → MediumState) (a : WriterState W) (sound : I
           };
     }
 
--- nothing is published where it doesn't go out
+-- nothing is published if they aren't written
 module _ {W : Type 0} (tells keeps : Bool) (state : W → MediumState) (a : WriterState W) (m : W)
     (out : GoesOut tells keeps state (padded_end a) false a (after_out false m a))
     (e : IoFault) where
@@ -175,7 +175,7 @@ module _ {W : Type 0} (tells keeps : Bool) (state : W → MediumState) (a : Writ
         moments = λ told kept. publishes_at_each_cut told kept (small told);
       }
 
--- the same of a writer as contracts see it
+-- the same for a writer as contracts see it
 pub checkpoints_cut : {W : Type 0} (tells keeps : Bool) (state : W → MediumState) (far : ℕ)
     (a b : WriterState W) (e : IoFault) → far ≤ padded_end a
     → GoesOut tells keeps state far false a b
@@ -197,7 +197,7 @@ finishes_cut tells keeps state far a b e within out small =
     finishes_of tells keeps state a b.medium
     (subst (GoesOut tells keeps state (padded_end a) false a) out.value further) e small
 
--- what is published once all went out
+-- what is published once all is written
 module _ {W : Type 0} (tells keeps : Bool) (state : W → MediumState) (a : WriterState W) (m : W)
     (out : GoesOut tells keeps state (padded_end a) true a (after_out true m a)) where
   abbrev b : WriterState W
@@ -283,7 +283,7 @@ module _ {W : Type 0} (tells keeps : Bool) (state : W → MediumState) (a : Writ
         length_is = half.length_is ∙ (λ i. mix j (field_same i) (same_length i));
       }
 
-      -- while it goes out the field is the old one
+      -- while it is written the field is the old one
       at_first : (k : ℕ) → length (state a.medium).past ≤ k → k ≤ length (state m).past
           → field (a.data_start - 4) (moment (state end).start (state end).past k) ≡ field
           (a.data_start - 4) old
@@ -310,7 +310,7 @@ module _ {W : Type 0} (tells keeps : Bool) (state : W → MediumState) (a : Writ
             | inr before ↦ inl (at_first k from before)
           ]
 
-      -- no byte is put before the data while it goes out
+      -- no byte is written before the data meanwhile
       padded_later : OncePutBefore a.data_start (IsPadded a) (state a.medium) (state end)
       padded_later i k from to before later last =
           elim (cases_lt i (length (state m).past)) [
@@ -396,7 +396,7 @@ module _ {W : Type 0} (tells keeps : Bool) (state : W → MediumState) (a : Writ
         (g.moments told kept);
   }
 
--- the same of a writer as contracts see it
+-- the same for a writer as contracts see it
 pub finishes_later : {W : Type 0} (tells keeps : Bool) (state : W → MediumState) (far : ℕ)
     (a b : WriterState W) (answer : Result (Unit {0}) Error) (end : W) → far ≤ padded_end a
     → GoesOut tells keeps state far true a b → WhereTells tells (AreBytes (state a.medium).contents)

@@ -65,7 +65,7 @@ module _ (s : WavSpecEx) (size length_before : ℕ) (start p : ℕ) (before : p 
       (sym (append_assoc (described s) (bytes_of 4 data_length) (drop start c)))
       ∙ ap (λ l. l ++ drop start c) (sym (header-parts s n data_length))
 
--- so much data behind a header with its sizes, and their pad byte, are the canonical file of its
+-- this much data after a header with its sizes, and their pad byte, are the canonical file of its
 -- containers
 pub canonical_begins : (s : WavSpecEx) (containers : List (List ℕ)) (n start : ℕ)
     (samples contents : List ℕ) → data_start s ≡ start → n ≤ length samples
@@ -132,7 +132,7 @@ frames_sound s n whole frames =
       eq-eqb (n / s.bytes_per_sample % s.spec.channels) 0 frames,
     ) refl
 
--- where the data length counts all of some samples, which are whole frames, they are read back
+-- if the data length counts all of some samples, which are whole frames, they are read back
 pub reads_all : (s : WavSpecEx) (start n : ℕ) (samples : List (List ℕ)) (contents : List ℕ)
     → n % s.bytes_per_sample ≡ 0 → n / s.bytes_per_sample % s.spec.channels ≡ 0
     → length samples ≡ n / s.bytes_per_sample → field (start - 4) contents ≡ n
@@ -205,7 +205,7 @@ module _ {W : Type 0} (state : W → MediumState) (w : WriterState W) (none : w.
         (put ∙ header_with w.spec_ex size_before length_before w.data_start p before
         (sym at) old front size w.out)
 
-  -- What a patch leaves, and the answer of a call that has done one.
+  -- What a patch leaves, and the result of a call that has done one.
   pub publishes : (patched : Result (Unit {0}) IoFault) (are_frames : Bool)
       (told : Result (Unit {0}) Error) → IsTold patched are_frames told
       → (are_frames ≡ true → AreFrames w) → AreBytes (state end).contents
@@ -284,7 +284,7 @@ module _ {W : Type 0} (state : W → MediumState) (w : WriterState W) (none : w.
             (on_ok_then patched (λ put. is_canonical put whole begun) patches.contents);
       }
 
--- what a writer keeps after a patch, which a fault may have cut
+-- what a writer keeps true after a patch, which a fault may have cut
 pub consistent_patched : {W : Type 0} (tells : Bool) (state : W → MediumState) (w : WriterState W)
     (end : W) (may_have_moved : Bool) (limit : ℕ) (riff : ℕ) (result : Result (Unit {0}) IoFault)
     → IsConsistent tells state w may_have_moved limit

@@ -1,4 +1,4 @@
--- Where the bytes of one put went.
+-- Where the bytes of one call of `put` went.
 use Rattle.std.proofs.Common.{◌≡◌, ℕ, ◌+◌, ◌-◌, ◌<◌, ◌≤◌, List, ◌++◌, length, ◌∙◌, ap, arith, length-append}
 use Rattle.std.proofs.Math.Seq.{get_or-append_right}
 use Rattle.hound_medium.specs.Bytes.{placed}

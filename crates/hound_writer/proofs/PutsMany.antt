@@ -1,4 +1,4 @@
--- The bytes of samples that are put by several calls.
+-- The bytes of samples that are written by several calls.
 use Rattle.std.proofs.Common.{◌≡◌, ℕ, ◌+◌, ◌*◌, ◌≤◌, Bool, List, ◌++◌, length, take, drop, Result, Ok, Err, IsOk, sym, subst, ◌∙◌, ap, arith, length-drop}
 use Rattle.std.proofs.lemmas.List.{length-take-le, take-append-drop, take-append-le}
 use Rattle.std.proofs.Math.Nat.{mul-le-mul_left}
@@ -21,7 +21,7 @@ puts_front keeps a b n old new same puts = record {
   flushed = puts.flushed;
 }
 
--- values that all have containers, each of one width, of which the first `done` were put
+-- values that all have containers, each of one width, of which the first `done` were written
 module _ {V : Type 0} (container : V → Result (List ℕ) Refusal) (width : ℕ)
     (sized : (value : V) (c : List ℕ) → container value ≡ Ok c → length c ≡ width) (keeps : Bool)
     (values : List V) (have : IsOk (all_containers container values)) (done count : ℕ)
@@ -63,7 +63,7 @@ module _ {V : Type 0} (container : V → Result (List ℕ) Refusal) (width : ℕ
       (sym (take-append-le n piece (joined_containers container (drop count (drop done values))) few)
       ∙ ap (take n) (sym rest_is)) puts)
 
-  -- so many more
+  -- this many more
   pub piece_out : {T E : Type 0} (x : T) → PutsAll {T = T} {E = E} keeps piece (Ok x) mid new
       → PutsFirst keeps all (width * (done + count)) old new
   piece_out x puts =
@@ -71,7 +71,7 @@ module _ {V : Type 0} (container : V → Result (List ℕ) Refusal) (width : ℕ
       (let e : width * done + puts.count ≡ width * (done + count) = omega
       (arith, puts.whole, size_piece) in e) (more puts.count puts.within puts.takes)
 
-  -- or a part of them, where the medium failed
+  -- or a part of them, if the medium failed
   pub piece_cut : {T E : Type 0} (e : E) → mid.faults ≡ old.faults
       → PutsAll {T = T} {E = E} keeps piece (Err e) mid new → PutsAll {T = T} {E = E} keeps all (Err e) old new
   piece_cut e none puts = record {

@@ -1,4 +1,4 @@
--- The accepted samples of a writer: those that are out, and those that wait.
+-- The accepted samples of a writer: those in the medium, and the buffered ones.
 use Rattle.std.proofs.Common.{◌≡◌, ℕ, ◌+◌, ◌*◌, ◌/◌, ◌%◌, List, [], ◌++◌, length, take, drop, sym, ◌∙◌, ap, subst, arith, append_assoc, length-append, length-drop}
 use Rattle.std.proofs.lemmas.List.{append-nil, length-take-le}
 use Rattle.std.specs.List.{concat}
@@ -10,7 +10,7 @@ use Rattle.hound_writer.specs.Writer.{WriterState, IsSound, IsWhole, accepted_by
 use Rattle.hound_writer.proofs.Containers.{concat-containers, containers_cut, containers_front, containers_join, count_bytes, length-containers}
 use Rattle.hound_writer.proofs.Counted.{counts_standing, counts_more}
 
--- so many of the bytes stand
+-- this many of the bytes are there
 pub length-out : {W : Type 0} (state : W → MediumState) (w : WriterState W) → IsWhole state w
     → length (take w.out (drop w.data_start (state w.medium).contents)) ≡ w.out
 length-out state w whole =
@@ -18,7 +18,7 @@ length-out state w whole =
     length-take-le w.out data_now
     (omega (arith, whole, length-drop w.data_start (state w.medium).contents))
 
--- whole samples are out
+-- whole samples are in the medium
 module _ {W : Type 0} (state : W → MediumState) (w : WriterState W) (sound : IsSound w)
     (whole_out : w.out % w.spec_ex.bytes_per_sample ≡ 0) where
   abbrev wide : ℕ
@@ -46,7 +46,7 @@ module _ {W : Type 0} (state : W → MediumState) (w : WriterState W) (sound : I
       ∙ (λ i. containers wide (size i / wide) (accepted_bytes state w) ++ containers wide
       (length bytes / wide) bytes)
 
-  -- those that are out, and those that wait
+  -- those in the medium, and the buffered ones
   pub samples_parts : IsWhole state w
       → accepted_samples state w ≡ containers w.spec_ex.bytes_per_sample
       (w.out / w.spec_ex.bytes_per_sample)
@@ -60,7 +60,7 @@ module _ {W : Type 0} (state : W → MediumState) (w : WriterState W) (sound : I
       ∙ ap (λ l. l ++ containers wide (length w.waiting / wide) w.waiting)
       ((λ i. containers wide (size i / wide) first) ∙ containers_cut w.out wide data_now whole_out)
 
-  -- where the head stands and the bytes that are out are the same they count
+  -- if the head is there and the bytes in the medium are the same they count
   pub counts_at : (c : List ℕ) → IsWhole state w → IsStanding w.spec_ex w.data_start w.out c
       → take w.out (drop w.data_start c) ≡ take w.out (drop w.data_start (state w.medium).contents)
       → Counts w.spec_ex w.data_start (accepted_samples state w) c
@@ -80,7 +80,7 @@ module _ {W : Type 0} (state : W → MediumState) (w : WriterState W) (sound : I
       (counts_standing w.spec_ex w.data_start w.out c sound.width whole_out stands.head
       stands.counted))
 
--- a writer in which nothing waits
+-- a writer with an empty block
 module _ {W : Type 0} (state : W → MediumState) (w : WriterState W) (none : w.waiting ≡ []) where
   abbrev width : ℕ
   width = w.spec_ex.bytes_per_sample
@@ -101,7 +101,7 @@ module _ {W : Type 0} (state : W → MediumState) (w : WriterState W) (none : w.
         ((ap (λ l. bytes ++ l) none ∙ append-nil bytes) i))
         ∙ containers_cut w.out width (drop w.data_start (state w.medium).contents) whole_out
 
-    -- of any contents with the same data
+    -- for any contents with the same data
     pub samples_same : (c : List ℕ)
         → take w.out (drop w.data_start c) ≡ take w.out
         (drop w.data_start (state w.medium).contents)

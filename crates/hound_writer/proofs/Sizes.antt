@@ -1,4 +1,4 @@
--- What stays where the two sizes change, and where all before a place does.
+-- What stays if the two sizes change, and if all before a place stays.
 use Rattle.std.proofs.Common.{◌≡◌, ℕ, ◌+◌, ◌-◌, ◌≤◌, List, length, take, drop, refl, sym, ◌∙◌, ap, arith}
 use Rattle.std.proofs.lemmas.List.{take-take}
 use Rattle.std.proofs.lemmas.Slice.{between_is}
@@ -11,7 +11,7 @@ use Rattle.hound_medium.proofs.Inside.{take_before, drop_behind, same_size}
 use Rattle.hound_writer.specs.Sizes.{ChangesSizesOnly, field, SameButSizes}
 use Rattle.hound_writer.specs.Writer.{HasHeader}
 
--- what stands before a place stays, so what stands before an earlier one does
+-- what is before a place stays, so what is before an earlier one does
 pub take_front : (n m : ℕ) (old new : List ℕ) → n ≤ m → take m new ≡ take m old
     → take n new ≡ take n old
 take_front n m old new le same =

@@ -1,4 +1,4 @@
--- A writer's file between its calls: the head stands, and the data length counts no more than was
+-- A writer's file between its calls: the head is there, and the data length counts no more than was
 -- accepted.
 use Rattle.std.proofs.Common.{◌≡◌, ℕ, ◌-◌, ◌≤◌, List, length, take, ap, arith}
 use Rattle.hound_number.specs.Number.{number, mix}
@@ -13,7 +13,7 @@ module _ (s : WavSpecEx) (start n : ℕ) (old new : List ℕ) (stands : IsStandi
   pub inside : start ≤ length old
   inside = head_inside old s (field (start - 4) old) start stands.head
 
-  -- bytes at the data or behind leave it
+  -- bytes at the data or after leave it
   pub stands_front : take start new ≡ take start old → start ≤ length new → IsStanding s start n new
   stands_front same long = record {
     head = head_front old s (field (start - 4) old) start stands.head new same long;

@@ -15,11 +15,11 @@ use Rattle.hound_writer.specs.Writer.{WriterState, IsSound, IsWhole, accepted_by
 use Rattle.hound_writer.proofs.Containers.{joined_bytes}
 use Rattle.hound_durable.proofs.Ascending.{place_placed}
 
--- the byte with this number among all that were put
+-- the byte with this number among all bytes written
 abbrev byte_of : List (ℕ × ℕ) → ℕ → ℕ
 byte_of past i = let x : ℕ × ℕ = get_or past i (0, 0) in x.1
 
--- bytes at the front stay if the byte that is put is elsewhere, or is the right one
+-- bytes at the front stay if the byte written is elsewhere, or is the right one
 same_front : (q b : ℕ) (xs c : List ℕ) → (q < length xs → get_or xs q 0 ≡ b)
     → take (length xs) c ≡ xs → take (length xs) (put_at q b c) ≡ xs
 same_front q b [] c right here = refl
@@ -45,7 +45,7 @@ same_at (suc p) zero b (x ∷ xs) (y ∷ c) right here = here
 same_at (suc p) (suc q) b (x ∷ xs) (y ∷ c) right here =
     same_at p q b (x ∷ xs) c (λ i at few. right i (omega (arith, at)) few) here
 
--- a moment, and the byte that is put next
+-- an intermediate state, and the byte written next
 moment_next : (start : List ℕ) (past : List (ℕ × ℕ)) (k : ℕ) → k < length past
     → moment start past (suc k) ≡ put_at (place_of past k) (byte_of past k) (moment start past k)
 moment_next start [] k few = absurd (omega (arith, few))
@@ -53,7 +53,7 @@ moment_next start (e ∷ past) zero few = refl
 moment_next start (e ∷ past) (suc k) few =
     moment_next (put_at e.0 e.1 start) past k (omega (arith, few))
 
--- what each byte that is put keeps true stays true
+-- what each byte written keeps true stays true
 steps_stay : (P : List ℕ → Type 0) (old new : MediumState)
     → ((k : ℕ) → length old.past ≤ k → k < length new.past → P (moment new.start new.past k)
     → P (moment new.start new.past (suc k)))
@@ -78,7 +78,7 @@ byte_placed at [] j few = absurd (omega (arith, few))
 byte_placed at (b ∷ bytes) zero few = refl
 byte_placed at (b ∷ bytes) (suc j) few = byte_placed (suc at) bytes j (omega (arith, few))
 
--- bytes that are put at their own places keep what is stored of them, and of those before them
+-- bytes that are written at their own places keep what is stored of them, and of those before them
 pub puts_stored : (start at : ℕ) (before bytes : List ℕ) (count : ℕ) (old new : MediumState)
     → start + length before ≡ at → new.past ≡ old.past ++ placed at (take count bytes)
     → KeepsStored start (before ++ bytes) old new
@@ -124,7 +124,7 @@ puts_stored start at before bytes count old new is past a len within =
     (subst (λ c. take (length xs) (drop (start + a) c) ≡ xs)
     (sym (moment_next new.start new.past k to)) next))
 
--- bytes stay stored where the contents at their places don't change
+-- bytes stay stored if the contents at their places don't change
 pub stored_same : (start n : ℕ) (bytes first : List ℕ) (old new : MediumState) → length bytes ≤ n
     → ((k : ℕ) → length old.past ≤ k → k ≤ length new.past
     → take n (drop start (moment new.start new.past k)) ≡ take n (drop start first))
@@ -138,7 +138,7 @@ stored_same start n bytes first old new few same a len within k m from le to her
     part (moment new.start new.past m) (same m (omega (arith, from, le)) to)
     ∙ sym (part (moment new.start new.past k) (same k from (omega (arith, le, to)))) ∙ here
 
--- and where nothing is put
+-- and if nothing is written
 pub stored_still : (start : ℕ) (bytes : List ℕ) (s : MediumState) → KeepsStored start bytes s s
 stored_still start bytes s a len within k m from le to here =
     let e : k ≡ m = omega (arith, from, le, to) in

@@ -1,4 +1,4 @@
--- A sample, as a writer is asked to accept it.
+-- A sample that a writer shall accept.
 use Rattle.std.proofs.Common.{◌≡◌, ℕ, ◌+◌, ◌/◌, ◌%◌, ◌≤◌, nat_le, Bool, false, List, [], ◌∷◌, length, Result, Ok, Err, refl, sym, subst, ◌∙◌, ap, arith}
 use Rattle.std.proofs.lemmas.Bool.Decides.{nat_tests}
 use Rattle.std.specs.List.{concat}
@@ -19,7 +19,7 @@ use Rattle.hound_writer.proofs.Containers.{container_alone, joined_bytes}
 use Rattle.hound_writer.proofs.Samples.{counts_at}
 use Rattle.hound_spec.specs.FmtChunk.{greatest_u32}
 
--- there is no room: the test of it says so
+-- there is no room, as the test finds
 pub no_room : {W : Type 0} (w : WriterState W) (n : ℕ) → (HasRoom w n → ⊥)
     → nat_le (riff_size w.data_start (data_length w + n)) greatest_u32 ≡ false
 no_room w n none = test (riff_size w.data_start (data_length w + n)) none
@@ -27,7 +27,7 @@ no_room w n none = test (riff_size w.data_start (data_length w + n)) none
     test : (n : ℕ) → (n ≤ greatest_u32 → ⊥) → nat_le n greatest_u32 ≡ false
     test n none = grind (arith, nat_tests)
 
--- the file has no room for so many bytes
+-- the file has no room for this many bytes
 pub bytes_too_long : {W : Type 0} (tells keeps : Bool) (state : W → MediumState) (w : WriterState W)
     (bytes : List ℕ) → WhereTells tells (IsWhole state w → IsCounted state w)
     → WhereKeeps tells keeps
@@ -44,7 +44,7 @@ bytes_too_long tells keeps state w bytes counts replays whole none =
     (sym (no_room w (length (concat list))
     (λ room. none (omega (arith, room, ap length (joined_bytes width bytes whole)))))) refl)
 
--- a refusal that isn't `TooWide`
+-- an error of the type that isn't `TooWide`
 pub else_unsupported : (asked : Result (List ℕ) Refusal) (e : Error) → IsEncoded asked (Err e)
     → (e ≡ TooWide → ⊥) → e ≡ Unsupported
 else_unsupported (Ok c) e is other = cc
@@ -75,7 +75,7 @@ module _ {W : Type 0} (tells keeps : Bool) (state : W → MediumState)
   module _
       (replays : WhereKeeps tells keeps
       ((state w.medium).contents ≡ overlay (state w.medium).start (state w.medium).past)) where
-    -- the type refuses it
+    -- the type has no container for it
     pub sample_refused : (e : Error)
         → IsEncoded (container a.spec_ex.spec.bits_per_sample a.spec_ex.bytes_per_sample) (Err e)
         → Accepts tells keeps state false
@@ -96,7 +96,7 @@ module _ {W : Type 0} (tells keeps : Bool) (state : W → MediumState)
             (accepts_refused tells keeps state w false
             (Err unsupported) Unsupported counts replays refl (λ _. refl) refl)
 
-  -- its container was asked to be accepted
+  -- the call was for its container
   pub sample_accepts : (c bytes : List ℕ) (answer : Result (Unit {0}) Error) (new : WriterState W)
       → container w.spec_ex.spec.bits_per_sample w.spec_ex.bytes_per_sample ≡ Ok c → bytes ≡ c
       → length c ≡ w.spec_ex.bytes_per_sample

@@ -1,4 +1,4 @@
--- What a call leaves that was asked to accept samples.
+-- What a call leaves that accepts samples or not.
 use Rattle.std.specs.Prelude.{◌≡◌, ℕ, ◌+◌, ◌≤◌, max, Bool, List, ◌++◌, length, take, drop, Result}
 use Rattle.std.specs.List.{concat}
 use Rattle.hound_spec.specs.declared.error.Error.{Error}
@@ -10,8 +10,8 @@ use Rattle.hound_writer.specs.Answers.{AcceptAnswer, OnRefused, UnlessFailed, fa
 use Rattle.hound_writer.specs.Storing.{KeepsStored}
 use Rattle.hound_writer.specs.Writer.{WriterState, IsWhole, IsCounted, accepted_samples, data_length, data_end}
 
--- What a call did to its writer that was asked to accept these containers, by its answer, over
--- every medium: it accepts all of them or none, and a refusal leaves the writer and its medium as
+-- What a call with these containers did to its writer, by its result, over every medium: it accepts
+-- all of them or none, and an error of the type or the size leaves the writer and its medium as
 -- they were.
 pub record Adds {W : Type 0} (memory : Bool) (asked : Result (List (List ℕ)) Refusal)
     (answer : Result (Unit {0}) Error)
@@ -24,9 +24,9 @@ pub record Adds {W : Type 0} (memory : Bool) (asked : Result (List (List ℕ)) R
       ≡ data_length old + length (concat (if_marked (mark_of answer) asked))
   pub kept : length old.buffer ≤ length new.buffer
 
--- What it left in the medium. A fault is counted exactly at an `IoError`; what stands before the
--- data stays, and unless the medium failed what stands after the accepted data. Where the bytes
--- that are out all stood, they do so after it.
+-- What it left in the medium. A fault is counted exactly at an `IoError`; what is before the data
+-- stays, and unless the medium failed what is after the accepted data. If the bytes in the medium
+-- were all there, they are so afterwards.
 pub record AddsToFile {W : Type 0} (state : W → MediumState)
     (asked : Result (List (List ℕ)) Refusal)
     (answer : Result (Unit {0}) Error) (old new : WriterState W) : Type 0 where
@@ -43,8 +43,8 @@ pub record AddsToFile {W : Type 0} (state : W → MediumState)
       accepted_samples state new ≡ accepted_samples state old ++ if_marked (mark_of answer) asked
   pub counts : IsWhole state old → IsCounted state new
 
--- The medium at each moment of such a call: the samples that were accepted before it count, nothing
--- up to the end of the bytes that were out has changed, and of all accepted bytes those that are
+-- The intermediate states of such a call: the samples accepted before it count, nothing up to the
+-- end of the bytes in the medium has changed, and of all accepted bytes those that are
 -- stored stay stored.
 pub record AddsAtEach {W : Type 0} (state : W → MediumState) (old : WriterState W)
     (new : MediumState) : Type 0 where
@@ -58,8 +58,7 @@ pub record AddsAtEach {W : Type 0} (state : W → MediumState) (old : WriterStat
   pub stored : IsWhole state old →
       KeepsStored old.data_start (concat (accepted_samples state old)) (state old.medium) new
 
--- What a call does that is asked to accept these containers, where it may want memory, by its
--- answer.
+-- What a call with these containers does, by its result; it may lack memory.
 pub record Accepts {W : Type 0} (tells keeps : Bool) (state : W → MediumState) (memory : Bool)
     (asked : Result (List (List ℕ)) Refusal) (answer : Result (Unit {0}) Error)
     (old new : WriterState W) : Type 0 where

@@ -1,4 +1,4 @@
--- What a writer's calls answer.
+-- What a writer's calls return.
 use Rattle.std.specs.Prelude.{◌≡◌, ℕ, ◌+◌, ⊤, nat_le, Bool, true, false, IsTrue, List, [], ◌∷◌, length, Result, Ok, Err}
 use Rattle.std.specs.List.{concat}
 use Rattle.hound_spec.specs.declared.error.Error.{Error}
@@ -21,25 +21,25 @@ UnlessFailed (Ok x) P = P
 UnlessFailed (Err (IoError e)) P = ⊤
 UnlessFailed (Err _) P = P
 
--- P of a refusal: of an error that is no fault of the medium
+-- P for an error that is no fault of the medium
 abbrev pub OnRefused : {T : Type 0} → Result T Error → Type 0 → Type 0
 OnRefused (Ok x) P = ⊤
 OnRefused (Err (IoError e)) P = ⊤
 OnRefused (Err _) P = P
 
--- P, where all accepted samples were published: for an Ok and for `UnfinishedSample`
+-- P, if all accepted samples were published: for an Ok and for `UnfinishedSample`
 abbrev pub OnPublished : {T : Type 0} → Result T Error → Type 0 → Type 0
 OnPublished (Ok x) P = P
 OnPublished (Err UnfinishedSample) P = P
 OnPublished (Err _) P = ⊤
 
--- the mark of an answer: a sample or a batch was accepted, or all was published
+-- the mark of a result: a sample or a batch was accepted, or all was published
 abbrev pub mark_of : {T : Type 0} → Result T Error → Bool
 mark_of (Ok x) = true
 mark_of (Err UnfinishedSample) = true
 mark_of (Err _) = false
 
--- the medium's faults after a call: one more where it answers `IoError`, else the same
+-- the medium's faults after a call: one more at an `IoError`, else the same
 abbrev pub faults_told : {T : Type 0} → Result T Error → ℕ → ℕ
 faults_told (Err (IoError e)) faults = one_more faults
 faults_told _ faults = faults
@@ -50,13 +50,13 @@ if_marked false asked = []
 if_marked true (Ok list) = list
 if_marked true (Err refusal) = []
 
--- one container, or its refusal
+-- one container, or why there is none
 abbrev pub one : Result (List ℕ) Refusal → Result (List (List ℕ)) Refusal
 one (Ok container) = Ok (container ∷ [])
 one (Err refusal) = Err refusal
 
--- What a call answers to containers, by whether the RIFF size has room for them: Ok, an `IoError`,
--- or, where it may want memory, that there is none.
+-- The result for containers, by whether the RIFF size has room for them: Ok, an `IoError`, or, if
+-- the call allocates, that there is no memory.
 abbrev pub FitAnswer : {T : Type 0} → Bool → Bool → Result T Error → Type 0
 FitAnswer false memory answer = answer ≡ Err TooLong
 FitAnswer true memory (Ok x) = ⊤
@@ -64,7 +64,7 @@ FitAnswer true memory (Err (IoError e)) = ⊤
 FitAnswer true memory (Err OutOfMemory) = IsTrue memory
 FitAnswer true memory (Err _) = ⊥
 
--- what a call answers to a sample or a batch: its refusal, or that the file would be too long, or
+-- the result for a sample or a batch: the error of the type, or that the file would be too long, or
 -- as above
 abbrev pub AcceptAnswer : {T W : Type 0} → Bool → Result (List (List ℕ)) Refusal → WriterState W →
     Result T Error → Type 0
@@ -73,7 +73,7 @@ AcceptAnswer memory (Ok list) w answer =
     let size = riff_size w.data_start (data_length w + length (concat list)) in
     FitAnswer (nat_le size greatest_u32) memory answer
 
--- the answer of a call that publishes: Ok exactly for whole frames, else `UnfinishedSample`; or an
+-- the result of a call that publishes: Ok exactly for whole frames, else `UnfinishedSample`; or an
 -- `IoError`
 abbrev pub IsPublishing : {T W : Type 0} → Result T Error → WriterState W → Type 0
 IsPublishing (Ok x) w = AreFrames w

@@ -1,4 +1,4 @@
--- Appending to a file that is there.
+-- Appending to an existing file.
 use Rattle.std.specs.Prelude.{◌≡◌, ℕ, ◌/◌, ◌%◌, ◌==◌, ◌⊎◌, not, nat_lt, if◌then◌else◌, Bool, List, [], Option, None, Some, Result, Ok, Err}
 use Rattle.hound_spec.specs.declared.error.Error.{Error}
 use Rattle.hound_spec.specs.declared.error.Error.TheVariants.{TooLong}
@@ -40,7 +40,7 @@ IsAppendFault bytes fault =
     ⊎ ((s : WavSpecEx) × (len : ℕ) × (h : ℕ) × Head bytes s len h
     × (head_fault s len h ≡ Some fault))
 
--- the spec, the data's length and the place of the data, where the bytes can be appended to; or the
+-- the spec, the data's length and the place of the data, if the bytes can be appended to; or the
 -- fault
 pub data AppendAnswer : Type 0 where
   appendable : WavSpecEx → ℕ → ℕ → AppendAnswer
@@ -57,18 +57,18 @@ HasOneAppendAnswer bytes =
     (a : AppendAnswer) × AnswersAppend bytes a
     × ((b : AppendAnswer) → AnswersAppend bytes b → b ≡ a)
 
--- the error that callers are told
+-- the error that callers get
 abbrev pub NamesFault : Error → AppendFault → Type 0
 NamesFault e (by_bytes cause) = Names e cause
 NamesFault e too_long = e ≡ TooLong
 
--- nothing was put, and nothing but the place and the faults has changed
+-- nothing was written, and only the place and the faults have changed
 pub record PutsNothing (old new : MediumState) : Type 0 where
   pub stays : Stays old new
   pub flushed : new.flushed ≡ old.flushed
 
--- A writer that appends to a file, over a medium that tells: the file's head stands and fails no
--- check, the data chunk is what was accepted, and the next sample goes to its end.
+-- A writer that appends to a file, over a medium whose bytes are known: the file's head is there
+-- and fails no check, the data chunk is what was accepted, and the next sample goes to its end.
 pub record FollowsData {W : Type 0} (old : MediumState) (state : W → MediumState)
     (w : WriterState W) : Type 0 where
   pub head : Head old.contents w.spec_ex (data_length w) w.data_start
@@ -93,7 +93,7 @@ pub record IsNotAppended (old new : MediumState) (e : Error) : Type 0 where
       × (new.faults ≡ old.faults))
       ⊎ (IsIoError e × (new.faults ≡ one_more old.faults))
 
--- what a check answers: Ok where a head has no fault, else the error of its fault
+-- the result of a check: Ok if a head has no fault, else the error of its fault
 abbrev pub FailsCheck : {T : Type 0} → Result T Error → Option AppendFault → Type 0
 FailsCheck (Ok x) fault = fault ≡ None
 FailsCheck (Err e) None = ⊥

@@ -15,7 +15,7 @@ pub record IsSameFile {W : Type 0} (old new : WriterState W) : Type 0 where
   pub waiting : new.waiting ≡ old.waiting
 
 module _ {W B : Type 0} {medium : Ghosts W} {memory : MemoryGhosts B} where
-  -- the writer that a batch goes to, as it is now, with the memory that the batch has of it
+  -- the writer that a batch goes to, as it is now, with the memory that it has lent to the batch
   abbrev pub batch_writer : SampleWriter16 W B medium memory → WriterState W
   batch_writer batch = record batch.parent.now { buffer = memory.bytes batch.memory }
 

@@ -1,4 +1,4 @@
--- How a file begins that is written anew.
+-- How a new file begins.
 use Rattle.std.specs.Prelude.{◌≡◌, ◌⊎◌, Bool, [], length, Err}
 use Rattle.hound_spec.specs.declared.error.Error.{Error}
 use Rattle.hound_spec.specs.declared.error.Error.TheVariants.{Unsupported}
@@ -9,8 +9,8 @@ use Rattle.hound_medium.specs.State.{MediumState, PutsFirst, PutsAll, WhereTells
 use Rattle.hound_writer.specs.Answers.{IsIoError}
 use Rattle.hound_writer.specs.Writer.{WriterState, HasHeader, IsSound, IsWhole, IsCounted}
 
--- The whole header was put where the medium stood, with both sizes 0, and nothing else; all that
--- was accepted, which is nothing, stands and is counted.
+-- The whole header was written where the medium was, with both sizes 0, and nothing else; all that
+-- was accepted, which is nothing, is there and counted.
 pub record PutsHeader {W : Type 0} (keeps : Bool) (state : W → MediumState) (old : MediumState)
     (w : WriterState W) : Type 0 where
   pub puts : PutsFirst keeps (header w.spec_ex 0 0) (length (header w.spec_ex 0 0)) old
@@ -20,7 +20,7 @@ pub record PutsHeader {W : Type 0} (keeps : Bool) (state : W → MediumState) (o
   pub whole : IsWhole state w
   pub counts : IsCounted state w
 
--- A writer of a new file of this spec, which can be written: nothing is accepted yet.
+-- A writer of a new file of this writable spec: nothing is accepted yet.
 pub record HasBegun {W : Type 0} (spec_ex : WavSpecEx) (w : WriterState W) : Type 0 where
   pub writable : IsWritable spec_ex
   pub sound : IsSound w
@@ -30,7 +30,7 @@ pub record HasBegun {W : Type 0} (spec_ex : WavSpecEx) (w : WriterState W) : Typ
   pub none_waits : w.waiting ≡ []
   pub buffer : w.buffer ≡ []
 
--- how it began: just its header was put
+-- how it began: only its header was written
 pub record Begins {W : Type 0} (tells keeps : Bool) (state : W → MediumState) (spec_ex : WavSpecEx)
     (old : MediumState)
     (w : WriterState W) : Type 0 where
@@ -38,7 +38,7 @@ pub record Begins {W : Type 0} (tells keeps : Bool) (state : W → MediumState) 
   pub file : WhereTells tells (PutsHeader keeps state old w)
 
 -- Why no file is begun: a spec that can't be written, and the medium is as it was; or the medium
--- failed, and a beginning of the header was put.
+-- failed, and a beginning of the header was written.
 abbrev pub IsNotBegun : {W : Type 0} → Bool → Bool → (W → MediumState) → WavSpecEx → W → W → Error →
     Type 0
 IsNotBegun tells keeps state spec_ex old new e =

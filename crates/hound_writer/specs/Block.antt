@@ -1,4 +1,4 @@
--- What becomes of the accepted samples that wait.
+-- What becomes of the buffered samples.
 use Rattle.std.specs.Prelude.{◌≡◌, ℕ, ◌+◌, ◌≤◌, max, Bool, true, false, [], length, take, drop, Result, Ok, Err}
 use Rattle.std.specs.declared.io.Error.{Error as IoFault}
 use Rattle.hound_spec.specs.declared.error.Error.{Error}
@@ -14,17 +14,17 @@ use Rattle.hound_writer.specs.declared.outcome.Outcome.TheVariants.{Accepted, Ou
 use Rattle.hound_writer.specs.Writer.{WriterState, IsSound, IsWhole, IsCounted, accepted_samples, data_length}
 use Rattle.hound_spec.specs.FmtChunk.{greatest_u32}
 
--- Ok where all went out, else an Err
+-- Ok if all were written, else an Err
 abbrev pub all_out : Bool → Result (Unit {0}) (Unit {0})
 all_out true = Ok tt
 all_out false = Err tt
 
--- the answer of a call that was done, or else kept this fault of the medium aside
+-- the result of a call that was done, or else saved this fault of the medium
 abbrev pub or_fault : Bool → IoFault → Result (Unit {0}) Error
 or_fault true fault = Ok tt
 or_fault false fault = Err (IoError fault)
 
--- the answer to a sample that this became of, where this fault was kept aside
+-- the result for a sample with this outcome, with this saved fault
 abbrev pub answer_of : Outcome → IoFault → Result (Unit {0}) Error
 answer_of Accepted fault = Ok tt
 answer_of OutOfRange fault = Err TooWide
@@ -32,13 +32,13 @@ answer_of WrongPair fault = Err Unsupported
 answer_of NoRoom fault = Err TooLong
 answer_of Failed fault = Err (IoError fault)
 
--- a writer over this medium once what waited is out, or else as it was
+-- a writer over this medium once the buffered samples are written, or else as it was
 abbrev pub after_out : {W : Type 0} → Bool → W → WriterState W → WriterState W
 after_out true medium w = record w { medium = medium; out = data_length w; waiting = [] }
 after_out false medium w = record w { medium = medium }
 
--- What bytes leave as it was that are put after those that are out, up to `end`: the head stands,
--- and nothing before them nor after `end` has changed.
+-- What bytes after those in the medium, up to `end`, leave as is: the head is there, and nothing
+-- before them nor after `end` has changed.
 pub record StaysAround {W : Type 0} (state : W → MediumState) (end : ℕ) (old : WriterState W)
     (new : MediumState) : Type 0 where
   pub stands : IsStanding old.spec_ex old.data_start old.out new.contents
@@ -59,7 +59,7 @@ pub record GoesToFile {W : Type 0} (state : W → MediumState) (end : ℕ) (all 
   pub accepted : IsWhole state old → accepted_samples state new ≡ accepted_samples state old
   pub counts : IsWhole state old → IsCounted state new
 
--- the medium at each moment meanwhile: nothing is put before the data
+-- the intermediate states meanwhile: nothing is written before the data
 pub record GoesAtEach {W : Type 0} (state : W → MediumState) (old : WriterState W)
     (new : MediumState) : Type 0 where
   pub adds : AddsAtEach state old new
@@ -68,8 +68,8 @@ pub record GoesAtEach {W : Type 0} (state : W → MediumState) (old : WriterStat
       (state old.medium) new
   pub behind : PutsFrom old.data_start (state old.medium) new
 
--- What waits goes out, and after it bytes up to `end` may, or a beginning of that where the medium
--- fails, and then all that waited goes on waiting.
+-- The buffered samples are written, and then perhaps bytes up to `end`; or a beginning of all that
+-- if the medium fails, and then all samples stay buffered.
 pub record GoesOut {W : Type 0} (tells keeps : Bool) (state : W → MediumState) (end : ℕ)
     (all : Bool) (old new : WriterState W) : Type 0 where
   pub value : new ≡ after_out all new.medium old
@@ -77,7 +77,7 @@ pub record GoesOut {W : Type 0} (tells keeps : Bool) (state : W → MediumState)
   pub file : WhereTells tells (GoesToFile state end all old new)
   pub moments : WhereKeeps tells keeps (GoesAtEach state old (state new.medium))
 
--- Below so many waiting bytes there is room for a sample of any width: in the block, and in the
+-- Below this many buffered bytes there is room for a sample of any width: in the block, and in the
 -- file for a whole block.
 pub record IsLimit (start out limit : ℕ) : Type 0 where
   pub block : limit ≤ 4093

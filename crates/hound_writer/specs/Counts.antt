@@ -16,8 +16,8 @@ ReadsFirst None s start n accepted contents =
     ≡ take (n / s.bytes_per_sample) accepted)
 ReadsFirst (Some cause) s start n accepted contents = Unreadable contents cause
 
--- The data length counts no more than the accepted samples, of which so many stand as to cover it;
--- and reading gives exactly the first ones it counts, or refuses a length of no whole frames (RIFF,
+-- The data length counts no more than the accepted samples, enough of which are there to cover it;
+-- and reading gives exactly the first ones it counts, or rejects a length of no whole frames (RIFF,
 -- "Waveform Audio File Format": the data chunk).
 pub record Counts (s : WavSpecEx) (start : ℕ) (accepted : List (List ℕ))
     (contents : List ℕ) : Type 0 where

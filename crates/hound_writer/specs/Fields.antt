@@ -1,4 +1,4 @@
--- What a writer's fields keep.
+-- What a writer's fields keep true.
 use Rattle.std.specs.Prelude.{◌≡◌, ℕ, ◌+◌, ◌%◌, ◌≤◌, List, [], length, Bool, false, Option, None, Some}
 use Rattle.hound_spec.specs.declared.spec.WavSpecEx.{WavSpecEx}
 use Rattle.hound_medium.specs.State.{MediumState, WhereTells}
@@ -18,9 +18,9 @@ of_fields medium spec_ex start out waiting buffer = record {
   buffer = buffer;
 }
 
--- What a writer keeps between its calls: the samples that are out are whole and so are those that
--- wait, in one block; the head of its file stands, the data length counts no more than the bytes
--- that are out, and the next ones go after these.
+-- What a writer keeps true between its calls: the samples in the medium are whole and so are the
+-- buffered ones, in one block; the head of its file is there, the data length counts no more than
+-- the bytes in the medium, and the next ones go after these.
 pub record IsConsistent {W : Type 0} (tells : Bool) (state : W → MediumState) (w : WriterState W)
     (may_have_moved : Bool) (limit : ℕ) : Type 0 where
   pub sound : IsSound w
@@ -32,7 +32,7 @@ pub record IsConsistent {W : Type 0} (tells : Bool) (state : W → MediumState) 
   pub place : WhereTells tells
       (may_have_moved ≡ false → (state w.medium).place ≡ w.data_start + w.out)
 
--- the bytes of the memory that a writer keeps for its batches, if it has some
+-- the bytes of the memory that a writer holds for its batches, if it has some
 abbrev pub bytes_kept : {V : Type 0} → (V → List ℕ) → Option V → List ℕ
 bytes_kept items None = []
 bytes_kept items (Some buffer) = items buffer

@@ -1,4 +1,4 @@
--- The containers of many samples, which are asked to be accepted by one call.
+-- The containers of many samples, for one call.
 use Rattle.std.specs.Prelude.{◌≡◌, ℕ, Bool, false, List, [], ◌∷◌, Result, Ok, Err}
 use Rattle.std.specs.List.{flat_map}
 use Rattle.hound_spec.specs.declared.spec.WavSpecEx.{WavSpecEx}
@@ -10,21 +10,21 @@ use Rattle.hound_writer.specs.Writer.{WriterState}
 use Rattle.hound_writer.specs.declared.outcome.Outcome.{Outcome}
 use Rattle.hound_writer.specs.declared.outcome.Outcome.TheVariants.{Accepted, OutOfRange, WrongPair}
 
--- a container and those after it, or the first refusal among them
+-- a container and those after it, or the first error among them
 abbrev pub and_more : Result (List ℕ) Refusal → Result (List (List ℕ)) Refusal →
     Result (List (List ℕ)) Refusal
 and_more (Err refusal) more = Err refusal
 and_more (Ok container) (Err refusal) = Err refusal
 and_more (Ok container) (Ok list) = Ok (container ∷ list)
 
--- the containers of values, in their order, or the refusal of the first value that has none
+-- the containers of values, in their order, or the error of the first value that has none
 abbrev pub all_containers : {V : Type 0} → (V → Result (List ℕ) Refusal) → List V →
     Result (List (List ℕ)) Refusal
 all_containers container [] = Ok []
 all_containers container (value ∷ values) =
     and_more (container value) (all_containers container values)
 
--- the bytes of a container, and none of a refusal
+-- the bytes of a container, if there is one
 abbrev pub bytes_in : Result (List ℕ) Refusal → List ℕ
 bytes_in (Ok container) = container
 bytes_in (Err refusal) = []
@@ -33,13 +33,13 @@ bytes_in (Err refusal) = []
 abbrev pub joined_containers : {V : Type 0} → (V → Result (List ℕ) Refusal) → List V → List ℕ
 joined_containers container values = flat_map (λ value. bytes_in (container value)) values
 
--- what becomes of samples by their containers alone
+-- the outcome of samples by their containers only
 abbrev pub outcome_of : {T : Type 0} → Result T Refusal → Outcome
 outcome_of (Ok list) = Accepted
 outcome_of (Err too_wide) = OutOfRange
 outcome_of (Err unsupported) = WrongPair
 
--- the containers of samples in a file of this spec, by their type's table, or the first refusal
+-- the containers of samples in a file of this spec, by their type's table, or the first error
 abbrev pub containers_in : {V : Type 0} → (V → ℕ → ℕ → Result (List ℕ) Refusal) → WavSpecEx → List V →
     Result (List (List ℕ)) Refusal
 containers_in container s values =
@@ -51,7 +51,7 @@ abbrev pub sample_bytes : {V : Type 0} → (V → ℕ → ℕ → Result (List �
 sample_bytes container s values =
     joined_containers (λ v. container v s.spec.bits_per_sample s.bytes_per_sample) values
 
--- Samples that were written one by one, each where the one before left off, and all accepted.
+-- Samples that were written one by one, each where the one before ended, and all accepted.
 abbrev pub AcceptsEach : {V W : Type 0} → Bool → Bool → (W → MediumState) →
     (V → ℕ → ℕ → Result (List ℕ) Refusal) → List V → WriterState W → WriterState W → Type 0
 AcceptsEach tells keeps state container [] old new = new ≡ old

@@ -12,7 +12,7 @@ use Rattle.hound_reader.specs.Chunks.{Head}
 use Rattle.hound_writer.specs.Publishing.{PutsLast}
 use Rattle.hound_writer.specs.Sizes.{SameButSizes, field, with_sizes}
 
--- these bytes were put at a place, or at an Err a beginning of them
+-- these bytes were written at a place, or at an Err a beginning of them
 pub record PutsAt {T E : Type 0} (keeps : Bool) (at : ℕ) (bytes : List ℕ) (result : Result T E)
     (old new : MediumState) : Type 0 where
   pub count : ℕ
@@ -25,8 +25,8 @@ pub record PutsAt {T E : Type 0} (keeps : Bool) (at : ℕ) (bytes : List ℕ) (r
   pub flushed : new.flushed ≡ old.flushed
   pub faults : new.faults ≡ faults_after result old.faults
 
--- A patch: at an Ok both sizes stand, and the medium was flushed. A fault may have cut either size,
--- and nothing else has changed.
+-- A patch: at an Ok both sizes are there, and the medium was flushed. A fault may have cut either
+-- size, and nothing else has changed.
 pub record Patches {T E : Type 0} (p size data_length : ℕ) (result : Result T E)
     (old new : MediumState) : Type 0 where
   pub contents : OnOk result (new.contents ≡ with_sizes p size data_length old.contents)
@@ -41,13 +41,13 @@ pub record HasSize (p : ℕ) (contents : List ℕ) : Type 0 where
   pub inside : p + 4 ≤ length contents
   pub small : AreBytes contents
 
--- the field at p has its j low bytes from the new number and the others from the base, and nothing
--- else but the RIFF size has changed
+-- the field at p has its j low bytes from the new number and the others from the base; else only
+-- the RIFF size has changed
 pub record IsPatched (p : ℕ) (base : List ℕ) (new j : ℕ) (contents : List ℕ) : Type 0 where
   pub same : SameButSizes p base contents
   pub field : field p contents ≡ mix j (field p base) new
 
--- the moments of a patch: the field at p has all four bytes of the new number at an Ok
+-- the intermediate states of a patch: the field at p has all four bytes of the new number at an Ok
 pub record PatchesAtEach {T E : Type 0} (p new : ℕ) (result : Result T E)
     (before after : MediumState) : Type 0 where
   pub split : ℕ
@@ -55,12 +55,12 @@ pub record PatchesAtEach {T E : Type 0} (p new : ℕ) (result : Result T E)
   pub puts : PutsLast p split before after
   pub whole : OnOk result (length after.past ≡ split + 4)
 
--- a file between a writer's calls: its head stands, and the data length counts at most n bytes
+-- a file between a writer's calls: its head is there, and the data length counts at most n bytes
 pub record IsStanding (s : WavSpecEx) (start n : ℕ) (contents : List ℕ) : Type 0 where
   pub head : Head contents s (field (start - 4) contents) start
   pub counted : field (start - 4) contents ≤ n
 
--- the answer of a call that has patched the header, or met a fault: Ok exactly for whole frames
+-- the result of a call that has patched the header, or met a fault: Ok exactly for whole frames
 abbrev pub IsTold : Result (Unit {0}) IoFault → Bool → Result (Unit {0}) Error → Type 0
 IsTold (Err e) are_frames told = told ≡ Err (IoError e)
 IsTold (Ok x) true told = told ≡ Ok x

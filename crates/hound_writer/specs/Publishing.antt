@@ -24,10 +24,10 @@ pub record ReadsAs (s : WavSpecEx) (start : ℕ) (samples : List (List ℕ))
   pub readable : Readable contents s (length samples) start
   pub containers : containers s.bytes_per_sample (length samples) (drop start contents) ≡ samples
 
--- What a call that publishes leaves in the medium, by its answer. Whatever it is, before the data
--- only the two sizes changed, the bytes that were out stand where they all did, what stands after
+-- What a call that publishes leaves in the medium, by its result. In each case, before the data
+-- only the two sizes changed, the bytes in the medium are there if they all were, what is after
 -- the accepted data and their pad byte stays, and the data length counts no more than the accepted
--- samples. Where all was published both sizes are right, all samples stand and so does the pad
+-- samples. If all was published both sizes are right, all samples are there and so is the pad
 -- byte, the medium was flushed, and whole frames are read back; a file that was begun with its
 -- header is then the canonical one.
 pub record Publishes {W : Type 0} (state : W → MediumState) (w : WriterState W)
@@ -59,9 +59,9 @@ pub record Publishes {W : Type 0} (state : W → MediumState) (w : WriterState W
       OnPublished answer
       (StartsWith (state end).contents (canonical w.spec_ex (accepted_samples state w)))
 
--- The file of a writer while its sizes are put: but for these all is as at first up to the end of
--- the bytes that were out, and the data length has the j low bytes of the new one, and the others
--- from the first.
+-- The file of a writer while its sizes are written: except for these all is as at first up to the
+-- end of the bytes in the medium, and the data length has the j low bytes of the new one, and the
+-- others from the first.
 pub record IsHalfPublished {W : Type 0} (w : WriterState W) (first : List ℕ) (j : ℕ)
     (contents : List ℕ) : Type 0 where
   pub front : ChangesSizesOnly w.data_start first contents
@@ -70,39 +70,39 @@ pub record IsHalfPublished {W : Type 0} (w : WriterState W) (first : List ℕ) (
   pub length_is : field (w.data_start - 4) contents
       ≡ mix j (field (w.data_start - 4) first) (data_length w)
 
--- no byte was put before this place
+-- no byte was written before this place
 abbrev pub PutsFrom : ℕ → MediumState → MediumState → Type 0
 PutsFrom p old new = (i : ℕ) → length old.past ≤ i → i < length new.past → p ≤ place_of new.past i
 
--- P of the contents at each moment from the first byte on that was put before this place
+-- P for the contents after each byte, from the first one on that was written before this place
 abbrev pub OncePutBefore : ℕ → (List ℕ → Type 0) → MediumState → MediumState → Type 0
 OncePutBefore p P old new =
     (i k : ℕ) → length old.past ≤ i → i < length new.past → place_of new.past i < p → i ≤ k →
     k ≤ length new.past → P (moment new.start new.past k)
 
--- The last bytes that were put, from the moment `split` on, are at most four, and the first of them
--- went to p.
+-- The last bytes written, from number `split` on, are at most four, and the first of them went to
+-- p.
 pub record PutsLast (p split : ℕ) (before after : MediumState) : Type 0 where
   pub later : length before.past ≤ split
   pub within : length after.past ≤ split + 4
   pub first : split < length after.past → place_of after.past split ≡ p
 
--- the moment is not between four bytes of the field at p
+-- this state is not between four bytes of the field at p
 abbrev pub IsOutside : ℕ → MediumState → MediumState → ℕ → Type 0
 IsOutside p old new k =
     (i : ℕ) → length old.past ≤ i → i < length new.past → place_of new.past i ≡ p → i < k →
     i + 4 ≤ k
 
--- the field at p has the one number or the other at each moment that is not between its four bytes
+-- the field at p has the one number or the other in each state that is not between its four bytes
 abbrev pub IsOldOrNew : ℕ → ℕ → ℕ → MediumState → MediumState → Type 0
 IsOldOrNew p before after old new =
     (k : ℕ) → length old.past ≤ k → k ≤ length new.past → IsOutside p old new k →
     (field p (moment new.start new.past k) ≡ before)
     ⊎ (field p (moment new.start new.past k) ≡ after)
 
--- The medium at each moment of such a call: the accepted samples count, and the data length takes
--- on the bytes of their length one by one, the low one first, from the moment `split` on, all four
--- where all was published. Once a byte was put before the data the pad byte stands. Of all accepted
+-- The intermediate states of such a call: the accepted samples count, and the data length takes on
+-- the bytes of their length one by one, the low one first, after byte `split`, all four if all was
+-- published. Once a byte was written before the data the pad byte is there. Of all accepted
 -- bytes those that are stored stay stored.
 pub record PublishesAtEach {W : Type 0} (state : W → MediumState) (w : WriterState W)
     (answer : Result (Unit {0}) Error) (end : W) : Type 0 where
@@ -120,8 +120,8 @@ pub record PublishesAtEach {W : Type 0} (state : W → MediumState) (w : WriterS
   pub stored : IsWhole state w →
       KeepsStored w.data_start (concat (accepted_samples state w)) (state w.medium) (state end)
 
--- What `flush` does, by its answer: it publishes, and the writer goes on with the same samples.
--- Where all was published the medium is at the end of the accepted data.
+-- What `flush` does, by its result: it publishes, and the writer continues with the same samples.
+-- If all was published the medium is at the end of the accepted data.
 pub record Checkpoints {W : Type 0} (tells keeps : Bool) (state : W → MediumState)
     (answer : Result (Unit {0}) Error)
     (old new : WriterState W) : Type 0 where
@@ -134,7 +134,7 @@ pub record Checkpoints {W : Type 0} (tells keeps : Bool) (state : W → MediumSt
   pub place : WhereTells tells (OnPublished answer ((state new.medium).place ≡ data_end new))
   pub moments : WhereKeeps tells keeps (PublishesAtEach state old answer new.medium)
 
--- What the end of a writer does, by its answer: it publishes, and leaves the medium where the data
+-- What the end of a writer does, by its result: it publishes, and leaves the medium where the data
 -- begin.
 pub record Finishes {W : Type 0} (tells keeps : Bool) (state : W → MediumState) (w : WriterState W)
     (answer : Result (Unit {0}) Error) (end : W) : Type 0 where

@@ -17,7 +17,7 @@ with_sizes p size data_length contents =
     take 4 contents ++ (bytes_of 4 size ++ (drop 8
     (take p contents) ++ (bytes_of 4 data_length ++ drop (p + 4) contents)))
 
--- all but the four bytes at 4 and the four at p is the same
+-- only the four bytes at 4 and the four at p differ
 pub record SameButSizes (p : ℕ) (old new : List ℕ) : Type 0 where
   pub front : take 4 new ≡ take 4 old
   pub middle : drop 8 (take p new) ≡ drop 8 (take p old)

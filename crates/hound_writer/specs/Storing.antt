@@ -1,10 +1,10 @@
--- What stays stored while bytes are put.
+-- What stays stored while bytes are written.
 use Rattle.std.specs.Prelude.{◌≡◌, ℕ, ◌+◌, ◌≤◌, List, length, take, drop}
 use Rattle.hound_medium.specs.Bytes.{moment}
 use Rattle.hound_medium.specs.State.{MediumState}
 
--- P stays true from one state of a medium to a later one: true at a moment, it is true at each
--- later moment
+-- P stays true from one state of a medium to a later one: true after some byte, it is true after
+-- each later byte
 abbrev pub StaysTrue : (List ℕ → Type 0) → MediumState → MediumState → Type 0
 StaysTrue P old new = (k m : ℕ) → length old.past ≤ k → k ≤ m → m ≤ length new.past →
     P (moment new.start new.past k) → P (moment new.start new.past m)

@@ -10,8 +10,8 @@ use Rattle.hound_writer.specs.Counts.{Counts}
 use Rattle.hound_spec.specs.FmtChunk.{greatest_u32}
 
 -- A writer: its medium, the spec, the place of the first data byte, how many bytes of the accepted
--- samples are out, and the others, which wait in the writer. Then the memory that it keeps for
--- batches.
+-- samples are in the medium, and the others, which are buffered in the writer. Then the memory that
+-- it holds for batches.
 pub record WriterState (W : Type 0) : Type 0 where
   pub medium : W
   pub spec_ex : WavSpecEx
@@ -28,11 +28,11 @@ data_length w = w.out + length w.waiting
 abbrev pub data_end : {W : Type 0} → WriterState W → ℕ
 data_end w = w.data_start + data_length w
 
--- the place after the pad byte that data of an odd length have behind them
+-- the place after the pad byte that follows data of an odd length
 abbrev pub padded_end : {W : Type 0} → WriterState W → ℕ
 padded_end w = w.data_start + padded (data_length w)
 
--- behind the accepted data these contents have the pad byte, where the data have an odd length
+-- after the accepted data these contents have the pad byte, if the data have an odd length
 abbrev pub IsPadded : {W : Type 0} → WriterState W → List ℕ → Type 0
 IsPadded w contents = StartsWith (drop (data_end w) contents) (padding (data_length w))
 
@@ -44,12 +44,12 @@ sample_count w = data_length w / w.spec_ex.bytes_per_sample
 abbrev pub AreFrames : {W : Type 0} → WriterState W → Type 0
 AreFrames w = sample_count w % w.spec_ex.spec.channels ≡ 0
 
--- the RIFF size of the file with so many more bytes fits 32 bits
+-- the RIFF size of the file with this many more bytes fits 32 bits
 abbrev pub HasRoom : {W : Type 0} → WriterState W → ℕ → Type 0
 HasRoom w more = riff_size w.data_start (data_length w + more) ≤ greatest_u32
 
--- What holds of every writer, whatever its medium tells: its bits and width are a known pair, it
--- can divide by the channels and the width, its samples are whole, and the RIFF size fits its
+-- What holds for every writer, over any medium: its bits and width are a known pair, it can divide
+-- by the channels and the width, its samples are whole, and the RIFF size fits its
 -- field.
 pub record IsSound {W : Type 0} (w : WriterState W) : Type 0 where
   pub pair : IsPair w.spec_ex.spec.sample_format w.spec_ex.spec.bits_per_sample
@@ -60,7 +60,7 @@ pub record IsSound {W : Type 0} (w : WriterState W) : Type 0 where
   pub after_head : 20 ≤ w.data_start
   pub fits : riff_size w.data_start (data_length w) ≤ greatest_u32
 
--- The accepted bytes: those that are out stand where the data begin, and those that wait follow
+-- The accepted bytes: those in the medium are where the data begin, and the buffered ones follow
 -- them.
 abbrev pub accepted_bytes : {W : Type 0} → (W → MediumState) → WriterState W → List ℕ
 accepted_bytes state w = take w.out (drop w.data_start (state w.medium).contents) ++ w.waiting
@@ -70,7 +70,7 @@ abbrev pub accepted_samples : {W : Type 0} → (W → MediumState) → WriterSta
 accepted_samples state w =
     containers w.spec_ex.bytes_per_sample (sample_count w) (accepted_bytes state w)
 
--- the medium has all accepted bytes that are out
+-- the medium has all accepted bytes that were written
 abbrev pub IsWhole : {W : Type 0} → (W → MediumState) → WriterState W → Type 0
 IsWhole state w = w.data_start + w.out ≤ length (state w.medium).contents
 
@@ -89,8 +89,8 @@ abbrev pub IsBegun : {W : Type 0} → (W → MediumState) → WriterState W → 
 IsBegun state w =
     HasHeader w.spec_ex (state w.medium).contents × (w.data_start ≡ data_start w.spec_ex)
 
--- A writer of the same samples: of its value only the medium has changed, and what waited may have
--- gone out.
+-- A writer of the same samples: of its value only the medium has changed, and the buffered samples
+-- may have been written.
 pub record KeepsSamples {W : Type 0} (old new : WriterState W) : Type 0 where
   pub spec_ex : new.spec_ex ≡ old.spec_ex
   pub data_start : new.data_start ≡ old.data_start

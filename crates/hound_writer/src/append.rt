@@ -1,4 +1,4 @@
-// Appending to files that are there.
+// Appending to existing files.
 ghost use Rattle.std.specs.Prelude.{◌≡◌, MatchResult};
 ghost use Rattle.hound_medium.specs.State.{WhereTells};
 ghost use Rattle.hound_reader.specs.Fmt.{IsSoundSpec};
@@ -20,7 +20,7 @@ fn refused(cause: Cause) -> Error
     error_of(HeadError::Refused(cause))
 }
 
-// Looks whether a file with this head can be appended to.
+// Checks whether a file with this head can be appended to.
 #[tactic(auto, unfolding(crate::specs::Appending::head_fault))]
 fn check_head(head: FileHead) -> Result<()>
     requires sound { IsSoundSpec head.spec_ex }
@@ -67,8 +67,8 @@ pub(crate) fn append_at<W: Medium>(
 }
 
 impl<W: Source + Medium> WavWriter<W> {
-    /// Appends to the file in a medium, as [`WavWriter::try_append`] does, which hands the medium
-    /// back at an error: conditions and errors are the same. Here it is dropped, unless it was
+    /// Appends to the file in a medium, as [`WavWriter::try_append`] does, which returns the medium
+    /// at an error: conditions and errors are the same. Here it is dropped, unless it was
     /// lent.
     pub fn new_append(writer: W) -> Result<WavWriter<W>>
         requires { WhereTells W.tells ((W.state writer).place ≡ 0) }
@@ -81,17 +81,17 @@ impl<W: Source + Medium> WavWriter<W> {
         }
     }
 
-    /// Appends to the file in a medium that stands at its beginning, and hands the medium back
-    /// where it can't. The next sample goes after the data chunk, over what may stand there.
+    /// Appends to the file in a medium that is at its beginning, and returns the medium at an
+    /// error. The next sample goes after the data chunk, over what may be there.
     ///
-    /// The medium stands at 0, as each new one does; `go(0)` leads there. This call puts nothing,
-    /// and later ones change before the data the two sizes alone: so a fact chunk keeps the count
-    /// that it had.
+    /// The medium must be at 0, as each new one is; `go(0)` leads there. This call writes nothing,
+    /// and later ones change before the data only the two sizes: so a fact chunk keeps its old
+    /// count.
     ///
     /// The errors, in their order: those of a reader's walk to the data, by the bytes; a
     /// `FormatError`, for data that are no whole samples; `Unsupported`, for samples that are not
     /// written with these bits, bytes and format; a `FormatError`, for data that are no whole
-    /// frames; `TooLong`, where the RIFF size would pass 4294967295; `IoError`, where the medium
+    /// frames; `TooLong`, if the RIFF size would pass 4294967295; `IoError`, if the medium
     /// failed. An early end is an `IoError` of kind `Other`.
     pub fn try_append(writer: W) -> result::Result<WavWriter<W>, (W, Error)>
         requires { WhereTells W.tells ((W.state writer).place ≡ 0) }

@@ -8,13 +8,13 @@ use hound_spec::Result;
 
 /// A batch of samples of sixteen bits for a writer, all of which are accepted by one call.
 ///
-/// [`WavWriter::get_i16_writer`] makes it, for a number of samples; each is written, and then
-/// [`SampleWriter16::flush`] ends it. Dropped without that nothing is accepted.
+/// [`WavWriter::get_i16_writer`] makes it, for a number of samples; write each, and then end it
+/// with [`SampleWriter16::flush`]. If it is dropped without that nothing is accepted.
 pub struct SampleWriter16<'parent, W: Medium, B: BatchMemory = Vec<u8>> {
     // The writer that the batch goes to.
     pub(crate) parent: &'parent mut WavWriter<W>,
 
-    // The writer's memory for batches, which goes back to it at the end of the batch.
+    // The writer's memory for batches, which is returned to it at the end of the batch.
     pub(crate) memory: B,
 
     // The bytes of the samples that were written.
@@ -35,11 +35,11 @@ impl<W: Medium, B: BatchMemory> SampleWriter16<'_, W, B> {
     ghost use Rattle.hound_writer.specs.Accepting.{Accepts};
     ghost use Rattle.hound_writer.specs.Batch.{batch_bytes, batch_writer, remaining};
 
-    /// Accepts all samples of a batch that is full, or none of them. It publishes nothing: that
-    /// [`WavWriter::flush`] does.
+    /// Accepts all samples of a batch that is full, or none of them. It publishes nothing:
+    /// [`WavWriter::flush`] does that.
     ///
-    /// The batch must be full: [`SampleWriter16::remaining`] is 0, so ask it. The one error is
-    /// `IoError`, where the medium failed: none of the batch is accepted, and the writer may go on.
+    /// The batch must be full: [`SampleWriter16::remaining`] must be 0. The one error is
+    /// `IoError`, if the medium failed: none of the batch is accepted, and writing can continue.
     #[inline]
     pub fn flush(self) -> Result<()>
         requires { remaining self ≡ 0 }
@@ -61,7 +61,7 @@ impl<W: Medium, B: BatchMemory> SampleWriter16<'_, W, B> {
 impl<W: Medium, B: BatchMemory> Drop for SampleWriter16<'_, W, B> {
     ghost use Rattle.hound_writer.specs.Batch.{batch_writer};
 
-    // Gives the writer its memory back, and leaves it as it is: nothing is accepted.
+    // Returns the writer's memory to it, and leaves it as it is: nothing is accepted.
     fn drop(self)
         ensures { self.exit.0.now ≡ batch_writer self.entry }
     {

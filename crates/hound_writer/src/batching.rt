@@ -21,7 +21,7 @@ use std::alloc::Global;
 use std::io;
 
 impl<W: Medium> Output<W> {
-    // Hands out the memory for batches, with at least so many bytes.
+    // Lends the memory for batches, with at least this many bytes.
     fn lend_memory(&mut self, alloc: Global, num_bytes: usize) -> Result<Vec<u8>>
         ensures stays { self.new ≡ record self.old { buffer = self.new.buffer } }
         ensures lent { OnOk result (self.new.buffer ≡ []) }
@@ -43,7 +43,7 @@ impl<W: Medium> Output<W> {
         }
     }
 
-    /// Keeps memory for later batches.
+    /// Takes memory back for later batches.
     pub(crate) fn keep(&mut self, memory: Vec<u8>)
         ensures { self.new ≡ record self.old { buffer = memory.items } }
     {
@@ -66,7 +66,7 @@ impl<W: Medium> Output<W> {
     }
 }
 
-// Fills up with zeros, where a buffer is shorter.
+// Fills up with zeros, if a buffer is shorter.
 fn grow(buffer: &mut Vec<u8>, num_bytes: usize) -> Result<()>
     ensures kept { OnOk result (length buffer.new.items ≡ max (length buffer.old.items) num_bytes) }
     ensures refused { IfErr result (λ e. (e ≡ OutOfMemory) × (buffer.new.items ≡ buffer.old.items)
@@ -82,8 +82,8 @@ fn grow(buffer: &mut Vec<u8>, num_bytes: usize) -> Result<()>
 }
 
 impl<W: Medium> WavWriter<W> {
-    /// Accepts the samples in the first bytes of the memory of a batch, or none of them, and keeps
-    /// the memory.
+    /// Accepts the samples in the first bytes of the memory of a batch, or none of them, and takes
+    /// the memory back.
     pub(crate) fn accept_batch(&mut self, memory: Vec<u8>, num_bytes: usize) -> Result<()>
         requires long { num_bytes ≤ length memory.items }
         requires few { num_bytes ≤ 2 ^ 33 }
@@ -102,14 +102,14 @@ impl<W: Medium> WavWriter<W> {
         accepted
     }
 
-    /// A batch of so many samples of sixteen bits, which are accepted by one call. They are
+    /// A batch of this many samples of sixteen bits, which are accepted by one call. They are
     /// samples, not frames: the channels of a frame follow one another. There may be 0.
     ///
-    /// The writer must be one of integers with sixteen bits: ask [`WavWriter::spec`], whose format
-    /// is `Int` then and whose bits are 16. A batch takes two bytes of memory a sample, which are
-    /// kept for later batches. The errors, in their order: `TooLong`, where the RIFF size of the
-    /// longer file would pass 4294967295; `OutOfMemory`, where the batch needs more memory than is
-    /// kept and there is none. Either leaves the writer as it was.
+    /// The writer must be one of integers with sixteen bits: [`WavWriter::spec`] must have the
+    /// format `Int` and 16 bits. A batch takes two bytes of memory a sample, which the writer
+    /// reuses for later batches. The errors, in their order: `TooLong`, if the RIFF size of the
+    /// longer file would pass 4294967295; `OutOfMemory`, if the batch needs more memory than the
+    /// writer has and there is none. Either leaves the writer as it was.
     pub fn get_i16_writer<'s>(
         &'s mut self,
         alloc: Global,
@@ -147,9 +147,10 @@ impl<W: Medium> WavWriter<W> {
 impl<'parent, W: Medium, B: BatchMemory> SampleWriter16<'parent, W, B> {
     /// Writes a sample to the batch: its lowest sixteen bits, as a signed number.
     ///
-    /// The batch must have room for it: [`SampleWriter16::remaining`] is above 0, so ask it, or
-    /// write as many as the batch was made for. And the sample must have such bits, as `can_cast`
-    /// says: each `i8`, `i16` and `i32` has. Higher bits of an `i32` are lost without an error.
+    /// The batch must have room for it: [`SampleWriter16::remaining`] must be above 0, as it is
+    /// for as many samples as the batch was made for. And the sample must have such bits, as
+    /// `can_cast` says: each `i8`, `i16` and `i32` has. Higher bits of an `i32` are lost without an
+    /// error.
     #[inline]
     pub fn write_sample<S: Sample>(&mut self, sample: S)
         requires room { 1 ≤ remaining self.old }

@@ -1,4 +1,4 @@
-// A block of samples that wait to be put out.
+// A block of buffered samples.
 ghost use Rattle.std.specs.Prelude.{◌≡◌, ◌+◌, ◌*◌, ◌≤◌, ◌++◌, [], IsOk, length, take};
 ghost use Rattle.hound_writer.specs.Many.{all_containers, joined_containers};
 
@@ -9,10 +9,10 @@ use std::marker::Model;
 /// How many bytes a block holds.
 pub(crate) const BLOCK_LENGTH: usize = 4096;
 
-/// Containers that were accepted and wait, one after the other.
+/// Accepted containers that are buffered, one after the other.
 #[derive(Drop)]
 pub(crate) struct Block {
-    // Their bytes; what comes after these means nothing.
+    // Their bytes; those after these mean nothing.
     bytes: [u8; 4096],
 
     // How many bytes they have.
@@ -30,7 +30,7 @@ impl Model for Block {
 }
 
 impl Block {
-    /// A block in which nothing waits.
+    /// An empty block.
     pub(crate) fn new() -> Block
         ensures { result ≡ [] }
     {
@@ -40,7 +40,7 @@ impl Block {
         }
     }
 
-    /// How many bytes wait.
+    /// How many bytes are buffered.
     #[inline(always)]
     pub(crate) fn len(&self) -> usize
         ensures length { result ≡ length self.now }
@@ -49,14 +49,14 @@ impl Block {
         self.waiting
     }
 
-    /// The bytes that wait.
+    /// The buffered bytes.
     pub(crate) fn as_slice(&self) -> &[u8]
         ensures { result.now ≡ self.now }
     {
         &self.bytes[..self.waiting]
     }
 
-    /// Takes a container, of which so many bytes count, where there is room for four.
+    /// Appends a container of this many bytes, if there is room for four.
     #[inline(always)]
     pub(crate) fn push(&mut self, container: [u8; 4], width: usize)
         requires room { length self.old ≤ 4092 }
@@ -72,7 +72,7 @@ impl Block {
         self.waiting = at + width;
     }
 
-    /// Takes containers, where there is room.
+    /// Appends containers, if there is room.
     pub(crate) fn extend(&mut self, containers: &[u8])
         requires { length self.old + length containers.now ≤ 4096 }
         ensures { self.new ≡ self.old ++ containers.now }
@@ -83,7 +83,7 @@ impl Block {
         self.waiting = end;
     }
 
-    /// Takes the containers of samples, each of which has one, where there is room.
+    /// Appends the containers of samples, each of which has one, if there is room.
     pub(crate) fn extend_by<S: Sample + Copy>(&mut self, samples: &[S], bits: u16, width: u16)
         requires have { IsOk (all_containers (λ s. S.container s bits width) samples.now) }
         requires width { width ≤ 4 }
@@ -96,7 +96,7 @@ impl Block {
         self.waiting = at + width as usize * samples.len();
     }
 
-    /// Forgets what waits.
+    /// Empties the block.
     pub(crate) fn clear(&mut self)
         ensures { self.new ≡ [] }
     {

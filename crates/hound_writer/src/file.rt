@@ -17,10 +17,10 @@ use std::path::Path;
 use std::rt::Files;
 use std::{fs, io};
 
-// How many bytes a writer to a file keeps back.
+// How many bytes a writer to a file buffers.
 const KEPT_BACK: usize = 65536;
 
-// A writer to a file, which keeps bytes back until there are many.
+// A writer to a file, which buffers bytes until there are many.
 fn buffered(alloc: Global, file: fs::File) -> Result<io::BufWriter<fs::File>>
     ensures { IfErr result (λ e. e ≡ OutOfMemory) }
 {
@@ -30,7 +30,7 @@ fn buffered(alloc: Global, file: fs::File) -> Result<io::BufWriter<fs::File>>
     }
 }
 
-// Waits until the disk has the name of this file, which its folder holds.
+// Returns once the disk has the name of this file, which its folder holds.
 fn sync_folder(rt: &impl Files<File = fs::File>, path: Path<'_>) -> Result<()>
     ensures { IfErr result (λ e. IsIoError e) }
 {
@@ -46,14 +46,14 @@ fn sync_folder(rt: &impl Files<File = fs::File>, path: Path<'_>) -> Result<()>
 }
 
 impl WavWriter<io::BufWriter<fs::File>> {
-    /// Makes a file, or empties the one that is there, and begins it with this spec, as
-    /// [`WavWriter::new`] does. `rt` is what `main` and each test are given, `alloc` is
+    /// Creates a file, or empties an existing one, and begins it with this spec, as
+    /// [`WavWriter::new`] does. `rt` is what `main` and each test get, `alloc` is
     /// `rt.alloc()`.
     ///
-    /// The file is made or emptied before the spec is looked at, so a refused spec leaves it empty.
-    /// The errors, in their order: `IoError`, where the file can't be made; `OutOfMemory`, where
-    /// there is none for the buffer; `Unsupported`, for a spec that can't be written; `IoError`,
-    /// where the header can't be put.
+    /// The file is created or emptied before the spec is checked, so a bad spec leaves it empty.
+    /// The errors, in their order: `IoError`, if the file can't be created; `OutOfMemory`, if there
+    /// is no memory for the buffer; `Unsupported`, for a spec that can't be written; `IoError`,
+    /// if the header can't be written.
     pub fn create(
         rt: &impl Files<File = fs::File>,
         alloc: Global,
@@ -68,13 +68,15 @@ impl WavWriter<io::BufWriter<fs::File>> {
         WavWriter::new(writer, spec)
     }
 
-    /// Appends to a file that is there, which is neither made nor emptied: the next sample goes
-    /// after its data chunk, over what may stand there.
+    /// Appends to an existing file, which is neither created nor emptied: the next sample goes
+    /// after its data chunk, over what may be there.
     ///
-    /// A refusal leaves the file as it was. `rt` and `alloc` are those of [`WavWriter::create`].
-    /// The errors, in their order: `IoError`, where the file can't be opened for reading and
-    /// writing or has no place, as a pipe; `OutOfMemory`, where there is no memory for the buffer
-    /// of the walk; those of a reader's walk to the data; `OutOfMemory`, where there is none for
+    /// An error leaves the file as it was. If the recording was cut off, the sizes may say less than
+    /// the file holds, or be torn: `repair_file` of the crate `hound` mends it first.
+    /// `rt` and `alloc` are those of [`WavWriter::create`].
+    /// The errors, in their order: `IoError`, if the file can't be opened for reading and
+    /// writing or has no place, as a pipe; `OutOfMemory`, if there is no memory for the buffer
+    /// of the walk; those of a reader's walk to the data; `OutOfMemory`, if there is none for
     /// the writer's buffer; those of [`WavWriter::try_append`] after the walk.
     pub fn append(
         rt: &impl Files<File = fs::File>,
@@ -88,7 +90,7 @@ impl WavWriter<io::BufWriter<fs::File>> {
             .write(true)
             .open(rt, path)?;
 
-        // A pipe or a terminal has no place, and a read of it may wait for ever.
+        // A pipe or a terminal has no place, and a read of it may block.
         file.stream_position()?;
         let Ok(mut reader) = io::BufReader::new(alloc, file) else {
             return Err(Error::OutOfMemory);
@@ -106,13 +108,13 @@ impl WavWriter<io::BufWriter<fs::File>> {
 }
 
 impl WavWriter<Durable<SyncedFile>> {
-    /// Creates a file as [`WavWriter::create`] does, and waits for the disk: here until it has the
-    /// file's name, and at each `flush` first for the samples, then for the sizes that count them.
+    /// Creates a file as [`WavWriter::create`] does, and syncs it: here until the disk has the
+    /// file's name, and at each `flush` first the samples, then the sizes that count them.
     ///
-    /// What a loss of power leaves is proved of a [`Durable`] medium whose bytes are known to
-    /// contracts; of a real file the order of the calls is tested, and nothing is proved but the
-    /// errors. They are those of `create`, in the same order, and after the file was made `IoError`
-    /// where its folder can't be opened or synced.
+    /// What a loss of power leaves is proved for a [`Durable`] medium whose bytes are known to
+    /// contracts; for a real file the order of the calls is tested, and only the errors are proved.
+    /// They are those of `create`, in the same order, and after the file was created `IoError`
+    /// if its folder can't be opened or synced.
     pub fn create_durable(
         rt: &impl Files<File = fs::File>,
         alloc: Global,
@@ -128,7 +130,7 @@ impl WavWriter<Durable<SyncedFile>> {
         WavWriter::new(Durable::new(file), spec)
     }
 
-    /// Appends to a file as [`WavWriter::append`] does, and waits for the disk as
+    /// Appends to a file as [`WavWriter::append`] does, and syncs it at each `flush` as
     /// [`WavWriter::create_durable`] does.
     ///
     /// The errors are those of `append`, in the same order.
@@ -144,7 +146,7 @@ impl WavWriter<Durable<SyncedFile>> {
             .write(true)
             .open(rt, path)?;
 
-        // A pipe or a terminal has no place, and a read of it may wait for ever.
+        // A pipe or a terminal has no place, and a read of it may block.
         file.stream_position()?;
         let Ok(mut reader) = io::BufReader::new(alloc, file) else {
             return Err(Error::OutOfMemory);

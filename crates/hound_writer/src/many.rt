@@ -13,7 +13,7 @@ use hound_sample::Sample;
 use hound_spec::{Error, WavSpecEx};
 use std::io;
 
-// Whether all samples have containers of so many bits and bytes. It looks at all of them, so that
+// Whether all samples have containers with these bits and bytes. It checks all of them, so that
 // LLVM makes a loop of vectors of it.
 #[inline(always)]
 fn have_containers<S: Sample + Copy>(samples: &[S], bits: u16, width: u16) -> bool
@@ -49,7 +49,7 @@ fn have_containers_by_pair<S: Sample + Copy>(samples: &[S], bits: u16, width: u1
     have_containers(samples, bits, width)
 }
 
-// What becomes of samples by the first one that has no container, if there is one.
+// The outcome of samples by the first one that has no container, if there is one.
 #[cold]
 #[inline(never)]
 fn first_refusal<S: Sample + Copy>(samples: &[S], bits: u16, width: u16) -> Outcome
@@ -66,7 +66,7 @@ fn first_refusal<S: Sample + Copy>(samples: &[S], bits: u16, width: u16) -> Outc
     Outcome::Accepted
 }
 
-/// What becomes of samples by their containers of so many bits and bytes alone.
+/// The outcome of samples, only by their containers with these bits and bytes.
 #[inline(always)]
 pub(crate) fn look_at<S: Sample + Copy>(samples: &[S], bits: u16, width: u16) -> Outcome
     ensures { result ≡ outcome_of (all_containers (λ s. S.container s bits width) samples.now) }
@@ -77,7 +77,7 @@ pub(crate) fn look_at<S: Sample + Copy>(samples: &[S], bits: u16, width: u16) ->
     first_refusal(samples, bits, width)
 }
 
-// Stores a container, of which so many bytes count. Where the width is a constant, LLVM makes one
+// Stores a container of this many bytes. If the width is a constant, LLVM makes one
 // store of it, or a vector of many.
 #[inline(always)]
 fn store_container(bytes: &mut [u8; 4096], at: usize, container: [u8; 4], width: usize)
@@ -160,7 +160,7 @@ pub(crate) fn store_by_pair<S: Sample + Copy>(
     }
 }
 
-// Puts the containers of samples, a block at a time, or stops at the first `put` that fails.
+// Writes the containers of samples, a block at a time, or stops at the first `put` that fails.
 fn put_samples<M: Medium, S: Sample + Copy>(
     medium: &mut M,
     block: &mut Block,
@@ -189,8 +189,8 @@ fn put_samples<M: Medium, S: Sample + Copy>(
     Ok(())
 }
 
-/// Puts the containers of samples at the end of the data that are out, as `put_at_end` puts bytes.
-/// The block is used for it, and nothing may wait in it.
+/// Writes the containers of samples at the end of the written data, as `put_at_end` writes bytes.
+/// The block is used for it, and must be empty.
 pub(crate) fn put_samples_at_end<M: Medium, S: Sample + Copy>(
     medium: &mut M,
     may_have_moved: &mut bool,

@@ -1,8 +1,8 @@
-// The memory that a batch is put together in.
+// The memory that a batch is collected in.
 ghost use Rattle.std.specs.Prelude.{◌≡◌, ◌+◌, ◌≤◌, ◌++◌, List, ℕ, length, take};
 
-/// Memory of a fixed length that a batch is put together in: a `Vec<u8>`, the only type that has
-/// this trait.
+/// Memory of a fixed length that a batch is collected in: a `Vec<u8>`, the only type with this
+/// trait.
 ///
 /// A batch has a type parameter for it since contracts follow a `&mut` through a struct that owns
 /// memory only where the memory's type is a parameter.

@@ -1,4 +1,4 @@
-// What becomes of a sample.
+// The outcome of a sample.
 ghost use Rattle.std.specs.Prelude.{◌≡◌, Err};
 ghost use Rattle.hound_writer.specs.Block.{answer_of};
 ghost use Rattle.hound_writer.specs.declared.outcome.Outcome.TheVariants.{Accepted};
@@ -6,7 +6,7 @@ ghost use Rattle.hound_writer.specs.declared.outcome.Outcome.TheVariants.{Accept
 use hound_spec::Error;
 use std::io;
 
-/// What becomes of a sample: it is accepted, or refused for one of these reasons.
+/// The outcome of a sample: it is accepted, or rejected for one of these reasons.
 ///
 /// A `Result` of this library has 104 bytes, which would be filled with zeros and copied for each
 /// sample; this has one.
@@ -15,7 +15,7 @@ pub(crate) enum Outcome {
     /// It is accepted.
     Accepted,
 
-    /// It is out of the range of the file's bits.
+    /// It doesn't fit in the file's bits.
     OutOfRange,
 
     /// Its type isn't written with the file's bits and bytes.
@@ -24,14 +24,14 @@ pub(crate) enum Outcome {
     /// The file has no room for it.
     NoRoom,
 
-    /// The medium failed, by a fault that was kept aside.
+    /// The medium failed, by a fault that was saved.
     Failed,
 }
 
-/// The error of a sample that was refused, where this fault was kept aside.
+/// The error of a sample that was rejected, with this saved fault.
 ///
 /// It begins as the fault and is changed in its place: so the one copy that is made of the fault
-/// goes to where the caller wants the error.
+/// goes to where the caller needs the error.
 #[inline(always)]
 pub(crate) fn error_of(outcome: Outcome, fault: &io::Error) -> Error
     ensures { (outcome ≡ Accepted → ⊥) → answer_of outcome fault.now ≡ Err result }

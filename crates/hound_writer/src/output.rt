@@ -1,4 +1,4 @@
-// The file that a writer puts out.
+// The file that a writer writes.
 ghost use Rattle.std.specs.Prelude.{◌≡◌, ◌+◌, ◌^◌, ◌≤◌, IsTrue};
 ghost use Rattle.hound_spec.specs.Header.{riff_size};
 ghost use Rattle.hound_writer.specs.Block.{IsLimit};
@@ -14,7 +14,7 @@ use hound_spec::{Error, Result, WavSpec, WavSpecEx};
 use std::io;
 use std::marker::Model;
 
-/// A file that is being written: what a writer has, but for the fault that is kept aside.
+/// A file that is being written: what a writer has, except for the saved fault.
 #[derive(Drop)]
 pub(crate) struct Output<W: Medium> {
     // The properties of the audio data, and the bytes of a container.
@@ -26,19 +26,19 @@ pub(crate) struct Output<W: Medium> {
     // The place of the first data byte.
     data_start: u64,
 
-    // The bytes of the accepted samples that are out.
+    // How many bytes of the accepted samples are written.
     data_bytes_written: u32,
 
-    // Whether the medium may stand elsewhere than after these.
+    // Whether the medium may be elsewhere than after these.
     may_have_moved: bool,
 
-    // The accepted samples that wait, which go out after these.
+    // The buffered accepted samples, which are written after these.
     block: Block,
 
-    // Below so many waiting bytes there is room for a sample, in the block and in the file.
+    // Below this many buffered bytes there is room for a sample, in the block and in the file.
     limit: usize,
 
-    // The memory that batches use, which is kept for later ones.
+    // The memory that batches use, which later ones reuse.
     pub(crate) buffer: Option<Vec<u8>>,
 }
 
@@ -55,7 +55,7 @@ impl<W: Medium> Model for Output<W> {
         (bytes_kept (λ buffer. buffer.items) w.buffer)) w.may_have_moved w.limit };
 }
 
-/// The RIFF size of a file whose data begin here and are so many bytes, with their pad byte.
+/// The RIFF size of a file whose data begin at this place and have this length, pad byte included.
 #[inline(always)]
 pub fn riff_size(data_start: u64, data_length: u64) -> u64
     requires behind { 8 ≤ data_start }
@@ -66,8 +66,8 @@ pub fn riff_size(data_start: u64, data_length: u64) -> u64
     data_start - 8 + data_length + data_length % 2
 }
 
-// Below how many waiting bytes a block has room for a sample of any width, where so many bytes are
-// out: 0 where the RIFF size may not fit a whole block more.
+// Below how many buffered bytes a block has room for a sample of any width, if this many bytes are
+// written: 0 if the RIFF size may not fit a whole block more.
 fn limit_of(data_start: u64, data_bytes_written: u32) -> usize
     requires behind { 8 ≤ data_start }
     requires small { data_start ≤ 2 ^ 33 }
@@ -81,7 +81,7 @@ fn limit_of(data_start: u64, data_bytes_written: u32) -> usize
     }
 }
 
-// What a call answers that has patched the header, or met a fault.
+// The result of a call that has patched the header, or met a fault.
 fn told(patched: io::Result<()>, are_frames: bool) -> Result<()>
     ensures { IsTold patched are_frames result }
 {
@@ -106,7 +106,7 @@ impl<W: Medium> Output<W> {
     ghost use Rattle.hound_writer.specs.Publishing.{Checkpoints, Finishes};
     ghost use Rattle.hound_writer.specs.Writer.{AreFrames, HasRoom, IsPadded, IsSound, IsWhole, IsCounted, data_end, data_length, padded_end, sample_count};
 
-    /// A file whose data begin here and have so many bytes, after which its medium stands.
+    /// A file whose data begin at this place and have this length, with its medium after them.
     pub(crate) fn at_end(
         writer: W,
         spec_ex: WavSpecEx,
@@ -131,7 +131,7 @@ impl<W: Medium> Output<W> {
         }
     }
 
-    /// Whether so many more bytes leave the RIFF size within 32 bits.
+    /// Whether the RIFF size of a file with this many more bytes fits 32 bits.
     #[inline(always)]
     pub(crate) fn has_room(&self, more: u64) -> bool
         requires { more ≤ 2 ^ 34 }
@@ -151,7 +151,7 @@ impl<W: Medium> Output<W> {
         self.data_bytes_written + self.block.len() as u32
     }
 
-    // Puts out what waits, and keeps a fault aside: then all of it goes on waiting.
+    // Writes the buffered samples, and saves a fault: then all of them stay buffered.
     #[inline(never)]
     fn put_block(&mut self, fault: &mut io::Error) -> bool
         ensures { GoesOut W.tells W.keeps W.state (data_end self.old) result self.old self.new }
@@ -176,8 +176,8 @@ impl<W: Medium> Output<W> {
         true
     }
 
-    // Puts the pad byte behind data of an odd length, once nothing waits, and keeps a fault aside.
-    // The medium then stands elsewhere than where the next sample goes.
+    // Writes the pad byte after data of an odd length, once nothing is buffered, and saves a fault.
+    // The medium is then elsewhere than where the next sample goes.
     fn put_pad(&mut self, fault: &mut io::Error) -> bool
         requires { self.old.waiting ≡ [] }
         ensures goes { GoesOut W.tells W.keeps W.state
@@ -194,7 +194,7 @@ impl<W: Medium> Output<W> {
         is_put
     }
 
-    // Puts out whole containers that nothing waits before, and accepts them once they are out.
+    // Writes whole containers, with nothing buffered before them, and then accepts them.
     fn accept_at_once(&mut self, bytes: &[u8], fault: &mut io::Error) -> bool
         requires room { HasRoom self.old (length bytes.now) }
         requires whole { length bytes.now % self.old.spec_ex.bytes_per_sample ≡ 0 }
@@ -230,8 +230,8 @@ impl<W: Medium> Output<W> {
         self.block.extend(bytes);
     }
 
-    // Accepts whole containers: in the block, which goes out first where it has no room for them. A
-    // fault is kept aside, and none of them is accepted.
+    // Accepts whole containers: in the block, which is written first if it has no room for them. A
+    // fault is saved, and none of them is accepted.
     fn accept(&mut self, bytes: &[u8], fault: &mut io::Error) -> bool
         requires room { HasRoom self.old (length bytes.now) }
         requires whole { length bytes.now % self.old.spec_ex.bytes_per_sample ≡ 0 }
@@ -268,7 +268,7 @@ impl<W: Medium> Output<W> {
         Err(Error::IoError(*fault))
     }
 
-    // Accepts a container where the block, or the file, may have no room for it.
+    // Accepts a container if the block, or the file, may have no room for it.
     #[cold]
     #[inline(never)]
     fn accept_slowly(&mut self, container: [u8; 4], fault: &mut io::Error) -> Outcome
@@ -287,7 +287,7 @@ impl<W: Medium> Output<W> {
         Outcome::Accepted
     }
 
-    /// Accepts a sample, or says why it doesn't, and keeps a fault aside.
+    /// Accepts a sample, or returns why it doesn't, and saves a fault.
     #[inline(always)]
     pub(crate) fn accept_sample<S: Sample>(&mut self, sample: S, fault: &mut io::Error) -> Outcome
         ensures accepts { Accepts W.tells W.keeps W.state false
@@ -326,8 +326,8 @@ impl<W: Medium> Output<W> {
         self.block.extend_by(samples, spec.bits_per_sample, self.spec_ex.bytes_per_sample);
     }
 
-    // Puts out samples, each of which has a container, that nothing waits before, and accepts them
-    // once all are out.
+    // Writes samples, each of which has a container, with nothing buffered before them, and then
+    // accepts them.
     fn accept_samples_at_once<S: Sample + Copy>(
         &mut self,
         samples: &[S],
@@ -361,8 +361,8 @@ impl<W: Medium> Output<W> {
         true
     }
 
-    // Accepts samples, each of which has a container: in the block, which goes out first where it
-    // has no room for them. A fault is kept aside, and none of them is accepted.
+    // Accepts samples, each of which has a container: in the block, which is written first if it
+    // has no room for them. A fault is saved, and none of them is accepted.
     fn accept_encoded<S: Sample + Copy>(&mut self, samples: &[S], fault: &mut io::Error) -> bool
         requires have { IsOk (containers_in S.container self.old.spec_ex samples.now) }
         requires room { HasRoom self.old
@@ -387,7 +387,7 @@ impl<W: Medium> Output<W> {
         true
     }
 
-    /// Accepts all samples or none, or says why it doesn't, and keeps a fault aside.
+    /// Accepts all samples or none, or returns why it doesn't, and saves a fault.
     pub(crate) fn accept_samples<S: Sample + Copy>(
         &mut self,
         samples: &[S],
@@ -421,8 +421,8 @@ impl<W: Medium> Output<W> {
         self.len() % self.spec_ex.spec.channels as u32 == 0
     }
 
-    // Puts both sizes, once nothing waits, and flushes the medium, which then stands where the data
-    // begin.
+    // Writes both sizes, once nothing is buffered, and flushes the medium, which is then where the
+    // data begin.
     fn publish(&mut self) -> io::Result<()>
         requires { self.old.waiting ≡ [] }
         ensures stays { self.new ≡ record self.old { medium = self.new.medium } }
@@ -449,7 +449,7 @@ impl<W: Medium> Output<W> {
         )
     }
 
-    // Goes to the end of the accepted samples that are out.
+    // Goes to the end of the accepted samples that are written.
     fn go_to_end(&mut self) -> io::Result<()>
         ensures stays { self.new ≡ record self.old { medium = self.new.medium } }
         ensures goes { WhereTells W.tells (Goes (self.old.data_start + self.old.out) result
@@ -482,7 +482,7 @@ impl<W: Medium> Output<W> {
         self.go_to_end()
     }
 
-    /// Publishes, and goes on.
+    /// Publishes, and continues.
     pub(crate) fn flush(&mut self, fault: &mut io::Error) -> Result<()>
         ensures { Checkpoints W.tells W.keeps W.state result self.old self.new }
     {
@@ -510,7 +510,7 @@ impl<W: Medium> Output<W> {
         told(published, self.are_frames())
     }
 
-    /// The medium, of which nothing more is wanted.
+    /// The medium, once the writer is done with it.
     pub(crate) fn into_medium(self) -> W
         ensures { result ≡ self.medium }
     {

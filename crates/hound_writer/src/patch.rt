@@ -1,4 +1,4 @@
-// The parts that a writer's calls are put together from.
+// The parts of a writer's calls.
 ghost use Rattle.hound_medium.specs.State.{WhereKeeps, WhereTells};
 ghost use Rattle.std.specs.Prelude.{◌≡◌, ◌+◌, ◌≤◌, ◌^◌, ◌<◌, ℕ, List, length, false, IsTrue, OnOk, not};
 ghost use Rattle.hound_number.specs.Number.{bytes_of};
@@ -10,8 +10,8 @@ use hound_medium::{Medium, put_all};
 use hound_number::le_u32;
 use std::io;
 
-/// Puts bytes at the end of the data that are out, where the medium may stand already. A fault is
-/// kept aside, and the medium may have moved then.
+/// Writes bytes at the end of the written data, where the medium may be already. A fault is
+/// saved, and the medium may have moved then.
 pub(crate) fn put_at_end<M: Medium>(
     medium: &mut M,
     may_have_moved: &mut bool,
@@ -37,7 +37,7 @@ pub(crate) fn put_at_end<M: Medium>(
     }
 }
 
-// Puts bytes at a place, where the medium may stand already.
+// Writes bytes at a place, where the medium may be already.
 fn go_and_put<M: Medium>(
     medium: &mut M,
     may_have_moved: bool,
@@ -54,7 +54,7 @@ fn go_and_put<M: Medium>(
     put_all(medium, bytes)
 }
 
-// Puts a size into its field.
+// Writes a size into its field.
 fn put_size<M: Medium>(medium: &mut M, at: u64, size: u32) -> io::Result<()>
     ensures { WhereTells M.tells (PutsAt M.keeps at (bytes_of 4 size) result (M.state medium.old)
         (M.state medium.new)) }
@@ -64,7 +64,7 @@ fn put_size<M: Medium>(medium: &mut M, at: u64, size: u32) -> io::Result<()>
     put_all(medium, &bytes)
 }
 
-// Puts the RIFF size.
+// Writes the RIFF size.
 fn put_riff_size<M: Medium>(medium: &mut M, riff_size: u32) -> io::Result<()>
     ensures puts { WhereTells M.tells (PutsAt M.keeps 4 (bytes_of 4 riff_size) result
         (M.state medium.old) (M.state medium.new)) }
@@ -75,7 +75,7 @@ fn put_riff_size<M: Medium>(medium: &mut M, riff_size: u32) -> io::Result<()>
     put_size(medium, 4, riff_size)
 }
 
-// Puts the data length.
+// Writes the data length.
 fn put_data_length<M: Medium>(medium: &mut M, at: u64, data_length: u32) -> io::Result<()>
     ensures puts { WhereTells M.tells (PutsAt M.keeps at (bytes_of 4 data_length) result
         (M.state medium.old) (M.state medium.new)) }
@@ -86,7 +86,7 @@ fn put_data_length<M: Medium>(medium: &mut M, at: u64, data_length: u32) -> io::
     put_size(medium, at, data_length)
 }
 
-/// Puts both sizes, the RIFF size first, and flushes the medium, which then stands after the data
+/// Writes both sizes, the RIFF size first, and flushes the medium, which is then after the data
 /// length. It ends at the first fault.
 pub fn patch<M: Medium>(
     medium: &mut M,

@@ -7,19 +7,19 @@ use hound_spec::{Error, Result, WavSpec, WavSpecEx, header_of, with_default_widt
 use std::marker::Model;
 use std::{io, result};
 
-/// A writer that puts samples into a medium, as a WAVE file (RIFF, "Waveform Audio File Format").
+/// A writer of samples into a medium, as a WAVE file (RIFF, "Waveform Audio File Format").
 ///
 /// The medium is a `Tape`, a `Journal`, a `BufWriter<File>`, a `&mut` to one, or a `Medium` of your
 /// own. `create`, `new`, `new_with_spec_ex` and `try_new` begin a file; `append`, `new_append` and
-/// `try_append` go on with one.
+/// `try_append` append to one.
 ///
-/// Up to 4096 bytes of accepted samples wait in the writer. They go out when no more fit, and
-/// before the sizes are put. Where the medium fails meanwhile all of them go on waiting, and go out
-/// again from the first one on. Behind an odd number of bytes a pad byte (RIFF, "Chunks") goes out
-/// before the sizes are put, and the next sample goes over it.
+/// Up to 4096 bytes of accepted samples are buffered in the writer. They are written when no more
+/// fit, and before the sizes are. If the medium fails meanwhile all of them stay buffered, and are
+/// written again from the first one on. After an odd number of bytes a pad byte (RIFF, "Chunks") is
+/// written before the sizes, and the next sample goes over it.
 ///
 /// A writer that is dropped publishes what was accepted, as [`WavWriter::finalize`] does, and its
-/// fault goes unseen: who has to know calls `finalize`.
+/// fault goes unseen: call `finalize` to see it.
 pub struct WavWriter<W: Medium> {
     // The file that it writes.
     pub(crate) output: Output<W>,
@@ -52,10 +52,10 @@ impl<W: Medium> WavWriter<W> {
     ghost use Rattle.hound_writer.specs.Publishing.{Checkpoints, Finishes};
     ghost use Rattle.hound_writer.specs.Writer.{AreFrames, HasRoom, IsSound, IsWhole, IsCounted, data_length, sample_count};
 
-    /// Begins a file of this spec in a medium that stands at 0, as each new one does. A sample
+    /// Begins a file of this spec in a medium that is at 0, as each new one is. A sample
     /// takes the bytes that its bits need: `(bits_per_sample + 7) / 8`, rounded down.
     ///
-    /// The errors are those of [`WavWriter::try_new`], which hands the medium back; here it is
+    /// The errors are those of [`WavWriter::try_new`], which returns the medium too; here it is
     /// dropped at an error, unless it was lent.
     pub fn new(writer: W, spec: WavSpec) -> Result<WavWriter<W>>
         requires { WhereTells W.tells ((W.state writer).place ≡ 0) }
@@ -66,7 +66,7 @@ impl<W: Medium> WavWriter<W> {
         WavWriter::new_with_spec_ex(writer, with_default_width(spec))
     }
 
-    /// Begins a file of this spec, with this many bytes to a sample, as [`WavWriter::new`] does
+    /// Begins a file of this spec, with this many bytes a sample, as [`WavWriter::new`] does
     /// with the bytes that the bits need: condition and errors are the same.
     pub fn new_with_spec_ex(writer: W, spec_ex: WavSpecEx) -> Result<WavWriter<W>>
         requires { WhereTells W.tells ((W.state writer).place ≡ 0) }
@@ -79,15 +79,15 @@ impl<W: Medium> WavWriter<W> {
         }
     }
 
-    /// Begins a file of this spec in a medium that stands at its beginning, puts the header with
-    /// both sizes 0, 44 or 68 bytes, and hands the medium back where it can't.
+    /// Begins a file of this spec in a medium that is at its beginning, writes the header with
+    /// both sizes 0, 44 or 68 bytes, and returns the medium at an error.
     ///
-    /// The medium stands at 0, as each new one does; `go(0)` leads there. Nothing is cut off: bytes
-    /// that it held already stay, until samples go over them.
+    /// The medium must be at 0, as each new one is; `go(0)` leads there. Nothing is cut off: bytes
+    /// that it held already stay, until samples overwrite them.
     ///
     /// The errors, in their order: `Unsupported`, for a spec that can't be written, and the medium
-    /// is as it was; `IoError`, where the medium failed, and a beginning of the header may be out.
-    /// No error leaves anything behind that would put more.
+    /// is as it was; `IoError`, if the medium failed, and a beginning of the header may be written.
+    /// After an error nothing more is written.
     pub fn try_new(writer: W, spec_ex: WavSpecEx) -> result::Result<WavWriter<W>, (W, Error)>
         requires { WhereTells W.tells ((W.state writer).place ≡ 0) }
         ensures { MatchResult result (Begins W.tells W.keeps W.state spec_ex (W.state writer))
@@ -106,8 +106,8 @@ impl<W: Medium> WavWriter<W> {
         }
     }
 
-    // A writer of a file whose data begin here and have so many bytes, after which its medium
-    // stands.
+    // A writer of a file whose data begin at this place and have this length, with its medium after
+    // them.
     pub(crate) fn at_end(
         writer: W,
         spec_ex: WavSpecEx,
@@ -127,12 +127,12 @@ impl<W: Medium> WavWriter<W> {
     }
 
     /// Writes a sample of one channel; the channels of a frame follow one another. An Ok accepts
-    /// it: it is in the file at the next `flush` or end that publishes, and may wait till then.
+    /// it: it is in the file at the next `flush` or end that publishes, and buffered till then.
     ///
-    /// The errors, in the order in which they are looked for: `Unsupported` or `TooWide`, as the
-    /// type's table says of the file's bits and bytes; `TooLong`, where the RIFF size of the longer
-    /// file would pass 4294967295; `IoError`, where the medium failed. At each of them nothing is
-    /// accepted, and the writer may go on: the next sample goes where this one should have gone.
+    /// The errors, in the order in which they are checked: `Unsupported` or `TooWide`, as in the
+    /// type's table for the file's bits and bytes; `TooLong`, if the RIFF size of the longer
+    /// file would pass 4294967295; `IoError`, if the medium failed. At each of them nothing is
+    /// accepted, and writing can continue: the next sample goes where this one should have gone.
     #[inline(always)]
     pub fn write_sample<S: Sample>(&mut self, sample: S) -> Result<()>
         ensures accepts { Accepts W.tells W.keeps W.state false
@@ -147,15 +147,15 @@ impl<W: Medium> WavWriter<W> {
     }
 
     /// Writes samples, all of them or none; the channels of a frame follow one another, and a frame
-    /// may be cut between two calls. An Ok accepts them as [`WavWriter::write_sample`] of each, one
-    /// after the other, does. It needs no memory. Of many samples a call takes a small part of the
-    /// time of single ones.
+    /// can be cut between two calls. An Ok accepts them as [`WavWriter::write_sample`] of each, one
+    /// after the other, does. It needs no memory. With many samples a call takes a small part of
+    /// the time of single ones.
     ///
-    /// The errors, in the order in which they are looked for: `Unsupported` or `TooWide`, that of
+    /// The errors, in the order in which they are checked: `Unsupported` or `TooWide`, that of
     /// the first sample which has no container with the file's bits and bytes; `TooLong`, where the
-    /// RIFF size of the file with all of them would pass 4294967295; `IoError`, where the medium
-    /// failed. At each of them none of the samples is accepted, also not those before a refused one
-    /// or a fault, and the writer may go on: the next sample goes where the first of these should
+    /// RIFF size of the file with all of them would pass 4294967295; `IoError`, if the medium
+    /// failed. At each of them none of the samples is accepted, nor those before a rejected one
+    /// or a fault, and writing can continue: the next sample goes where the first of these should
     /// have gone.
     pub fn write_samples<S: Sample + Copy>(&mut self, samples: &[S]) -> Result<()>
         ensures accepts { Accepts W.tells W.keeps W.state false
@@ -169,15 +169,15 @@ impl<W: Medium> WavWriter<W> {
         Err(error_of(outcome, &self.fault))
     }
 
-    /// Publishes the accepted samples: puts out those that wait, the pad byte behind an odd number
+    /// Publishes the accepted samples: writes the buffered ones, the pad byte after an odd number
     /// of bytes, then both sizes into the header, and flushes the medium, so that a reader finds
-    /// them all, whatever becomes of the writer until it patches the header again. The next sample
+    /// them all, whatever becomes of the writer, until it patches the header again. The next sample
     /// follows them, over the pad byte.
     ///
     /// The errors, in their order: `IoError`, at the first fault of the medium, after which writing
-    /// may go on; `UnfinishedSample`, where the samples are no whole number of frames, although all
+    /// can continue; `UnfinishedSample`, if the samples are no whole number of frames, although all
     /// of them are published and the medium is flushed. A recorder relies on it for checkpoints. Of
-    /// a file the system has all bytes then; nothing here asks it to put them on the disk.
+    /// a file the system has all bytes then; nothing here syncs them to the disk.
     pub fn flush(&mut self) -> Result<()>
         ensures { Checkpoints W.tells W.keeps W.state result self.old self.new }
     {
@@ -191,7 +191,7 @@ impl<W: Medium> WavWriter<W> {
         self.output.finish(&mut self.fault)
     }
 
-    // The medium, of which nothing more is wanted.
+    // The medium, once the writer is done with it.
     fn into_medium(self) -> W
         ensures { result ≡ self.medium }
     {
@@ -199,10 +199,10 @@ impl<W: Medium> WavWriter<W> {
         output.into_medium()
     }
 
-    /// Publishes the accepted samples and closes the file. Behind a [`WavWriter::flush`] with
+    /// Publishes the accepted samples and closes the file. After a [`WavWriter::flush`] with
     /// nothing accepted since then it leaves the same bytes.
     ///
-    /// The errors are those of [`WavWriter::finalize_into`], which hands the medium back.
+    /// The errors are those of [`WavWriter::finalize_into`], which also returns the medium.
     pub fn finalize(self) -> Result<()>
         ensures { (end : W) × Finishes W.tells W.keeps W.state self result end }
     {
@@ -210,12 +210,12 @@ impl<W: Medium> WavWriter<W> {
         result
     }
 
-    /// Puts out the samples that wait, the pad byte behind an odd number of bytes, then both sizes
-    /// into the header, flushes the medium, and hands it back. Where that published, it stands
-    /// where the data begin.
+    /// Writes the buffered samples, the pad byte after an odd number of bytes, then both sizes
+    /// into the header, flushes the medium, and returns it. If that published, it is where the
+    /// data begin.
     ///
     /// The errors, in their order: `IoError`, at the first fault of the medium, after which nothing
-    /// is tried again; `UnfinishedSample`, where the samples are no whole number of frames,
+    /// is tried again; `UnfinishedSample`, if the samples are no whole number of frames,
     /// although all of them are published and the medium is flushed.
     pub fn finalize_into(self) -> (W, Result<()>)
         ensures { Finishes W.tells W.keeps W.state self result.1 result.0 }
@@ -225,7 +225,7 @@ impl<W: Medium> WavWriter<W> {
         (last.into_medium(), result)
     }
 
-    /// Does what a drop does, and hands the medium back: it publishes the accepted samples as
+    /// Does what a drop does, and returns the medium: it publishes the accepted samples as
     /// [`WavWriter::finalize_into`] does, and its error goes unseen.
     pub fn drop_into(self) -> W
         ensures { (answer : Result Unit Error)
@@ -235,8 +235,8 @@ impl<W: Medium> WavWriter<W> {
         writer
     }
 
-    /// The spec that the file was begun with, or that was found in the file that is gone on with.
-    /// It tells whether batches can be written: integers of 16 bits.
+    /// The spec that the file was begun with, or that was found in the file that is appended to.
+    /// It shows whether batches can be written: integers of 16 bits.
     pub fn spec(&self) -> WavSpec
         ensures spec { result ≡ self.now.spec_ex.spec }
         ensures sound { IsSound self.now }
@@ -246,8 +246,8 @@ impl<W: Medium> WavWriter<W> {
         self.output.spec()
     }
 
-    /// The number of frames in the file so far, those that wait too, rounded down: samples for each
-    /// channel. Divided by the sample rate it is the time in seconds.
+    /// The number of frames in the file so far, with the buffered ones, rounded down: samples for
+    /// each channel. Divided by the sample rate it is the time in seconds.
     pub fn duration(&self) -> u32
         ensures frames { result ≡ sample_count self.now / self.now.spec_ex.spec.channels }
         ensures sound { IsSound self.now }
@@ -258,8 +258,7 @@ impl<W: Medium> WavWriter<W> {
     }
 
     /// The number of samples in the file so far, of all channels together: those that were
-    /// accepted, whether they wait or are out, and those that a file had before it was gone on
-    /// with.
+    /// accepted, whether buffered or written, and those that a file had before it was appended to.
     pub fn len(&self) -> u32
         ensures samples { result ≡ sample_count self.now }
         ensures sound { IsSound self.now }

@@ -41,7 +41,7 @@ returns-clause-gives g c =
     ∙ ap (λ t. by_tag t len c.in_ok-found.found (take (n - 16) ys)) (sym c.u16_at.ensures))
     c.read_by_tag.ensures.gives
 
--- after the first sixteen bytes so many more are taken
+-- after the first sixteen bytes this many more are taken
 more_are_taken : (h : List ℕ) (tag len : ℕ) (o m n : Option (List ℕ))
     (r : Result WavSpecEx HeadError) → Consumes o m h → length h ≡ 16
     → tag ≡ number (slice_range h 0 2)

@@ -15,17 +15,17 @@ front_of_front n m bytes more few within =
     take-take n n (bytes ++ more) (omega arith)
     ∙ take-append-le n bytes more (omega (arith, few, within)) ∙ sym (take-take n m bytes few)
 
--- as many containers as are wanted fit into a piece
+-- as many containers as are needed fit into a piece
 wanted_fit : (wanted room width : ℕ) → wanted ≡ min room (1024 / width) → wanted * width ≤ 1024
 wanted_fit wanted room width is =
     let few : wanted ≤ 1024 / width = omega (arith, is) in
     omega (arith, mul-le-mul_right {m = wanted} {n = 1024 / width} width few, div-mul-le_self 1024 width)
 
--- no more are read than are wanted
+-- no more are read than are needed
 count_fits : (taken wanted width : ℕ) → taken ≤ wanted * width → taken / width ≤ wanted
 count_fits taken wanted width within = div-le_of_le-mul width (omega (arith, within))
 
--- where all bytes were taken, all are read
+-- if all bytes were taken, all are read
 count_all : (taken wanted width : ℕ) → 1 ≤ width → taken ≡ wanted * width → taken / width ≡ wanted
 count_all taken wanted width some all =
     let turned : taken ≡ width * wanted = omega (arith, all) in
