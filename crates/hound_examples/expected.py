@@ -8,6 +8,7 @@ python that has audioop, chunk and wave, as 3.11."""
 import array
 import audioop
 import chunk
+import math
 import os
 import subprocess
 import sys
@@ -44,26 +45,21 @@ def record(name, numbers):
         file.writeframes(array.array("h", numbers).tobytes())
 
 
-def bar(part):
-    return "#" * int(part * 20) + "." * (20 - int(part * 20))
-
-
 def levels(name):
     numbers = samples_of(name)
     for start in range(0, len(numbers), 4410):
         tenth = numbers[start : start + 4410]
         peak = max(abs(number) for number in tenth) / 32768
         mean_square = sum((number / 32768) ** 2 for number in tenth) / len(tenth)
-        seconds = start / 44100
-        print(f"{seconds:.1f} s  peak {peak:.6f} {bar(peak)}", end="")
-        print(f"  mean square {mean_square:.6f} {bar(mean_square)}")
+        seconds, rms = start / 44100, 10 * math.log10(mean_square)
+        print(f"{seconds:.1f} s  RMS {rms:.2f} dBFS, peak {20 * math.log10(peak):.2f} dBFS")
 
 
 def mulaw(name):
     numbers = samples_of(name)
     coded = audioop.ulaw2lin(audioop.lin2ulaw(numbers.tobytes(), 2), 2)
     errors = [abs(a - b) for a, b in zip(numbers, array.array("h", coded))]
-    print(f"greatest error {max(errors)}, mean error {sum(errors) / len(errors):.3f}")
+    print(f"largest error {max(errors)}, mean error {sum(errors) / len(errors):.3f}")
 
 
 def info(name):

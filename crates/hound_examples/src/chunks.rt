@@ -10,7 +10,7 @@ pub struct Chunk {
     /// Four characters that say what it is.
     pub tag: [u8; 4],
 
-    /// The place of its content in the file, behind the eight bytes of its header.
+    /// The place of its content in the file, after the eight bytes of its header.
     pub start: u64,
 
     /// The length of its content, as its header says it.
@@ -28,7 +28,7 @@ impl Chunk {
         self.start.saturating_add(u64::from(self.length))
     }
 
-    /// The place of the next chunk: behind one of odd length stands a pad byte.
+    /// The place of the next chunk: a pad byte follows one of odd length.
     pub fn next(&self) -> u64 {
         self.end().saturating_add(u64::from(self.length % 2))
     }

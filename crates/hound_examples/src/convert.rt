@@ -1,7 +1,7 @@
 // A file with another number of bits: `convert IN OUT BITS`, with 8, 16, 24 or 32 of them.
 //
 // Samples are read as `i32`, whatever their width. More bits are got by a shift; fewer by rounding,
-// where a half goes up, and what then passes the greatest sample is clipped to it, and counted.
+// where a half goes up, and what then passes the largest sample is clipped to it, and counted.
 ghost use Rattle.std.specs.Prelude.{◌<◌, IfSome};
 
 use crate::failure::Failure;
@@ -70,8 +70,7 @@ fn shift_of(bits: u16) -> Option<u16>
     }
 }
 
-// A sample of the one width as one of the other, each told by its shift; and whether that clipped
-// it.
+// A sample of one width as one of the other, each given by its shift, and whether it was clipped.
 fn fitted(sample: i32, old_shift: u16, new_shift: u16) -> (i32, bool)
     requires old { old_shift < 32 }
     requires new { new_shift < 32 }
@@ -79,9 +78,9 @@ fn fitted(sample: i32, old_shift: u16, new_shift: u16) -> (i32, bool)
     let wide = i64::from(sample) << old_shift;
     let half = 1 << new_shift >> 1;
     let rounded = wide.saturating_add(half) >> new_shift;
-    let greatest = i32::MAX >> new_shift;
+    let largest = i32::MAX >> new_shift;
     match i32::try_from(rounded) {
-        Ok(sample) if sample <= greatest => (sample, false),
-        _ => (greatest, true),
+        Ok(sample) if sample <= largest => (sample, false),
+        _ => (largest, true),
     }
 }

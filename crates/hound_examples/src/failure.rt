@@ -9,7 +9,8 @@ use thiserror::Error as DeriveError;
 pub enum Failure {
     /// No example has these words.
     #[error("usage: hound_examples sine FILE | record FILE COUNT [durable] | convert IN OUT BITS \
-        | join OUT IN.. | levels FILE | mulaw FILE | mend FILE [--yes] | info FILE")]
+        | join OUT IN.. | reverse IN OUT | split IN OUT.. | merge OUT IN.. | stream | floats FILE \
+        | memory NUMBER.. | session CALL | levels FILE | mulaw FILE | mend FILE [--yes] | info FILE")]
     Usage,
     /// What should be a number is none, or doesn't fit sixteen bits.
     #[error("bad number")]
@@ -17,13 +18,13 @@ pub enum Failure {
     /// The file that is to be written is one of those that are to be read.
     #[error("a file can't be read and written at once")]
     SameFile,
-    /// The files that are to be joined have more than one spec.
-    #[error("the files differ in channels, rate, bits or format")]
+    /// The files have more than one spec, or differ in length.
+    #[error("the files differ in channels, rate, bits, format or length")]
     OtherSpec,
     /// The file can't be read, which shows before this byte.
     #[error("at byte {0}: {1}")]
     Unreadable(u64, Error),
-    /// The library refused, or the input or the output failed.
+    /// The library returned an error, or the input or the output failed.
     #[error(transparent)]
     Hound(#[from] Error),
 }

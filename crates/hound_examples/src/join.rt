@@ -1,7 +1,6 @@
-// Files of one spec behind each other: `join OUT IN..`.
+// Files of one spec, one after the other: `join OUT IN..`.
 //
-// Appending goes on with a file that is there, so that the joined file is whole behind each of its
-// parts. Integers are read as `i32` and floats as `FloatBits`, which keep every sample as it is.
+// Each is appended to the joined file, which is whole after each of its parts. Integers are read as `i32` and floats as `FloatBits`, which keep every sample as it is.
 use crate::failure::Failure;
 use hound::{FloatBits, Medium, Sample, SampleFormat, WavReader, WavWriter};
 use std::io;
@@ -28,7 +27,7 @@ pub fn join(rt: &HostRuntime, to: &str, from: &[&str]) -> Result<(), Failure> {
     Ok(())
 }
 
-// Puts the samples of a file behind those of another.
+// Appends the samples of a file to those of another.
 fn append(rt: &HostRuntime, to: Path<'_>, part: Path<'_>) -> hound::Result<()> {
     let mut reader = WavReader::open(rt, rt.alloc(), part)?;
     let mut writer = WavWriter::append(rt, rt.alloc(), to)?;

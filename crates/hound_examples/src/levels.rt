@@ -1,19 +1,11 @@
 // How loud a file is, tenth by tenth of a second: `levels FILE`.
 //
-// `seek` leads to the first frame of each tenth, and one call reads it. Its peak and its mean square,
-// both as parts of the greatest that there can be, are written and drawn as bars.
+// `seek` leads to the first frame of each tenth, and one call reads it. Its root mean square (RMS)
+// and its peak are in decibels relative to full scale (dBFS): 0 is the largest, silence is -inf.
 use crate::failure::Failure;
 use hound::WavReader;
 use std::io;
-use std::num::saturating_f64_to_usize;
 use std::path::Path;
-
-// How loud some samples are.
-#[derive(Clone, Copy)]
-struct Level {
-    peak: f64,
-    mean_square: f64,
-}
 
 /// Writes a line for each tenth of a second.
 pub fn levels<O: io::Write>(
@@ -27,44 +19,32 @@ pub fn levels<O: io::Write>(
     let tenth = (rate / 10).max(1) as usize;
     let most = (tenth * spec.channels as usize).min(reader.len() as usize);
     let mut samples = vec![in rt.alloc(); 0i32; most]?;
+    let full = 2f64.powi(i32::from(spec.bits_per_sample) - 1);
     for frame in (0..reader.duration()).step_by(tenth) {
         reader.seek(frame)?;
         let count = reader.read_samples(&mut samples)?;
-        let Level { peak, mean_square } = level_of(&samples[..count], spec.bits_per_sample);
+        let (square, peak) = level_of(&samples[..count]);
         let seconds = f64::from(frame) / f64::from(rate);
-        write!(output, "{seconds:.1} s  peak {peak:.6} ")?;
-        draw(peak, output)?;
-        write!(output, "  mean square {mean_square:.6} ")?;
-        draw(mean_square, output)?;
-        writeln!(output)?;
+        let rms = 20.0 * (square.sqrt() / full).log10();
+        let peak = 20.0 * (peak / full).log10();
+        writeln!(
+            output,
+            "{seconds:.1} s  RMS {rms:.2} dBFS, peak {peak:.2} dBFS"
+        )?;
     }
     Ok(())
 }
 
-// How loud samples of so many bits are.
-fn level_of(samples: &[i32], bits: u16) -> Level {
-    let full = 2f64.powi(i32::from(bits) - 1);
+// The mean square of some samples, and the largest of them.
+fn level_of(samples: &[i32]) -> (f64, f64) {
     let mut peak = 0f64;
     let mut squares = 0f64;
     let mut count = 0f64;
     for sample in samples {
-        let part = f64::from(*sample) / full;
-        peak = peak.max(part.abs());
-        squares += part * part;
+        let sample = f64::from(*sample);
+        peak = peak.max(sample.abs());
+        squares += sample * sample;
         count += 1.0;
     }
-    Level {
-        peak,
-        mean_square: squares / count,
-    }
-}
-
-// Draws a bar for a part of 1.
-fn draw<O: io::Write>(part: f64, output: &mut O) -> io::Result<()> {
-    let length = saturating_f64_to_usize(part * 20.0);
-    for place in 0..20 {
-        let mark = if place < length { '#' } else { '.' };
-        write!(output, "{mark}")?;
-    }
-    Ok(())
+    (squares / count, peak)
 }

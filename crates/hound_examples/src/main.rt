@@ -1,17 +1,23 @@
 //! The program `hound_examples`: examples of what the library is used for, a module each.
 #![tactic(auto)]
 
+mod channels;
 mod chunks;
 mod convert;
 mod failure;
+mod floats;
 mod info;
 mod join;
 mod levels;
+mod memory;
 mod mend;
 mod mulaw;
 mod record;
+mod reverse;
 mod run;
+mod session;
 mod sine;
+mod stream;
 
 use run::run;
 use std::io::BufWriter;

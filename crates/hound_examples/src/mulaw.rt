@@ -7,35 +7,35 @@ use hound::WavReader;
 use std::io;
 use std::path::Path;
 
-/// Writes a line with the greatest error and the mean one.
+/// Writes a line with the largest error and the mean one.
 pub fn mulaw<O: io::Write>(
     rt: &HostRuntime,
     path: Path<'_>,
     output: &mut O,
 ) -> Result<(), Failure> {
     let mut reader = WavReader::open(rt, rt.alloc(), path)?;
-    let mut greatest = 0u16;
+    let mut largest = 0u16;
     let mut sum = 0f64;
     for sample in reader.samples::<i16>() {
         let sample = sample?;
         let error = decode(encode(sample)).abs_diff(sample);
-        greatest = greatest.max(error);
+        largest = largest.max(error);
         sum += f64::from(error);
     }
     let mean = sum / f64::from(reader.len().max(1));
-    writeln!(output, "greatest error {greatest}, mean error {mean:.3}")?;
+    writeln!(output, "largest error {largest}, mean error {mean:.3}")?;
     Ok(())
 }
 
-// What is added to a magnitude of thirteen bits, and the greatest sum.
+// What is added to a magnitude of thirteen bits, and the largest sum.
 const BIAS: u16 = 33;
 
-const GREATEST: u16 = 8191;
+const LARGEST: u16 = 8191;
 
 // Fourteen bits as eight, each of them turned over: a sign, three bits for the segment, of which
 // each is twice as long as the one before it, and four for one of its sixteen steps.
 fn encode(sample: i16) -> u8 {
-    let magnitude = (sample >> 2).unsigned_abs().min(GREATEST - BIAS) + BIAS;
+    let magnitude = (sample >> 2).unsigned_abs().min(LARGEST - BIAS) + BIAS;
     let segment = 10u32.saturating_sub(magnitude.leading_zeros());
     let step = (magnitude >> (segment + 1)) & 0x0f;
     let sign = if sample < 0 { 0x80 } else { 0 };
@@ -47,7 +47,7 @@ fn decode(code: u8) -> i16 {
     let bits = !code;
     let segment = (bits >> 4) & 0x07;
     let step = u16::from(bits & 0x0f);
-    let magnitude = ((2 * step + BIAS) << segment).clamp(BIAS, GREATEST) - BIAS;
+    let magnitude = ((2 * step + BIAS) << segment).clamp(BIAS, LARGEST) - BIAS;
     let sample = (4 * magnitude) as i16;
     if bits & 0x80 == 0 { sample } else { -sample }
 }

@@ -1,0 +1,75 @@
+// Channels: `split IN OUT..` writes each channel of a file into one of its own, `merge OUT IN..`
+// makes one file of them again.
+//
+// A frame has a sample of each channel, in their order: `read_samples` and `write_samples` of a
+// slice with a place for each channel read and write one frame.
+use crate::failure::Failure;
+use hound::{WavReader, WavSpec, WavWriter};
+use std::path::Path;
+use std::slice;
+
+/// Writes as many files as the file has channels.
+pub fn split(rt: &HostRuntime, from: &str, to: &[&str]) -> Result<(), Failure> {
+    let mut reader = WavReader::open(rt, rt.alloc(), Path::new(from))?;
+    let spec = reader.spec();
+    if to.len() != spec.channels as usize {
+        return Err(Failure::Usage);
+    }
+    let mono = WavSpec {
+        channels: 1,
+        ..spec
+    };
+    let mut writers = Vec::new(rt.alloc());
+    for path in to {
+        if *path == from {
+            return Err(Failure::SameFile);
+        }
+        writers.push(WavWriter::create(rt, rt.alloc(), Path::new(path), mono)?)?;
+    }
+    let mut frame = vec![in rt.alloc(); 0i32; to.len()]?;
+    for _ in 0..reader.duration() {
+        reader.read_samples(&mut frame)?;
+        for (writer, sample) in writers.iter_mut().zip(&frame) {
+            writer.write_sample(*sample)?;
+        }
+    }
+    for writer in writers {
+        writer.finalize()?;
+    }
+    Ok(())
+}
+
+/// Writes a file with a channel for each of these files, which have one channel and are equally
+/// long.
+pub fn merge(rt: &HostRuntime, to: &str, from: &[&str]) -> Result<(), Failure> {
+    let Some(first) = from.first() else {
+        return Err(Failure::Usage);
+    };
+    let first = WavReader::open(rt, rt.alloc(), Path::new(first))?;
+    let (spec, frames) = (first.spec(), first.duration());
+    let mut readers = Vec::new(rt.alloc());
+    for path in from {
+        if *path == to {
+            return Err(Failure::SameFile);
+        }
+        let reader = WavReader::open(rt, rt.alloc(), Path::new(path))?;
+        if reader.spec() != spec || spec.channels != 1 || reader.duration() != frames {
+            return Err(Failure::OtherSpec);
+        }
+        readers.push(reader)?;
+    }
+    let Ok(channels) = u16::try_from(from.len()) else {
+        return Err(Failure::Usage);
+    };
+    let spec = WavSpec { channels, ..spec };
+    let mut writer = WavWriter::create(rt, rt.alloc(), Path::new(to), spec)?;
+    let mut frame = vec![in rt.alloc(); 0i32; from.len()]?;
+    for _ in 0..frames {
+        for (reader, sample) in readers.iter_mut().zip(&mut frame) {
+            reader.read_samples(slice::from_mut(sample))?;
+        }
+        writer.write_samples(&frame)?;
+    }
+    writer.finalize()?;
+    Ok(())
+}
