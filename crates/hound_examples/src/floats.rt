@@ -1,10 +1,11 @@
 // Floats: `floats FILE` writes each sample as its pattern of bits and as a number.
 //
-// The library keeps floats as patterns (`FloatBits`), so that every one comes back, a NaN too.
-// `f32::from_bits` makes a number of a pattern that isn't a NaN. Each error has its own line here.
+// The library keeps floats as patterns (`FloatBits`), so that every one comes back, a NaN too. The
+// standard library makes numbers of them, in which all NaNs are one. Each error has its own line.
 use crate::failure::Failure;
 use hound::{Error, FloatBits, WavReader};
 use std::io;
+use std::num::f32_from_bits_with_nan;
 use std::path::Path;
 
 /// Writes a line for each sample, or a line that says why there are none.
@@ -27,12 +28,8 @@ fn show<O: io::Write>(rt: &HostRuntime, path: Path<'_>, output: &mut O) -> hound
     let mut reader = WavReader::open(rt, rt.alloc(), path)?;
     for sample in reader.samples::<FloatBits>() {
         let FloatBits(pattern) = sample?;
-        if pattern & 0x7fff_ffff <= 0x7f80_0000 {
-            let number = f32::from_bits(pattern);
-            writeln!(output, "{pattern:08x} {number}")?;
-        } else {
-            writeln!(output, "{pattern:08x} NaN")?;
-        }
+        let number = f32_from_bits_with_nan(pattern);
+        writeln!(output, "{pattern:08x} {number}")?;
     }
     Ok(())
 }

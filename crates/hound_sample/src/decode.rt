@@ -9,9 +9,11 @@ use hound_number::early_end;
 use hound_spec::{Error, Result, SampleFormat};
 use std::io;
 
-// The bytes of a piece: enough that a read costs little for each sample, and few enough that a
-// call for two samples doesn't pay for them.
+// The bytes of a piece: enough that a read costs little for each sample.
 const PIECE: usize = 1024;
+
+// The bytes of a piece for few samples, which are cleared at each call.
+const SMALL_PIECE: usize = 64;
 
 /// A type that has a value for every container.
 ///
@@ -65,6 +67,46 @@ fn decode_each<S: Decode>(from: &[u8], samples: &mut [S], fmt: SampleFormat, byt
     }
 }
 
+// Reads samples by pieces that a buffer has room for.
+#[inline(always)]
+fn read_through<S: Decode, R: io::Read>(
+    reader: &mut R,
+    samples: &mut [S],
+    piece: &mut [u8],
+    fmt: SampleFormat,
+    bytes: u16,
+    bits: u16,
+) -> (usize, Result<()>)
+    requires decodes { S.Decodes fmt bytes bits }
+    requires some { 1 ≤ bytes }
+    requires few { bytes ≤ 4 }
+    requires room { 4 ≤ length piece.old }
+    ensures each { ReadsEach None (S.value fmt bytes bits) bytes
+        (items_of (take result.0 samples.new) result.1)
+        (R.remaining reader.old) (R.remaining reader.new) }
+    ensures front { FillsFront result.0 result.1 samples.old samples.new }
+{
+    let width = bytes as usize;
+    let mut done = 0;
+    while done < samples.len() {
+        let wanted = (samples.len() - done).min(piece.len() / width);
+        let (taken, answer) = read_piece(reader, &mut piece[..wanted * width]);
+        let count = taken / width;
+        decode_each(
+            &piece[..count * width],
+            &mut samples[done..done + count],
+            fmt,
+            bytes,
+            bits,
+        );
+        done += count;
+        if let Err(error) = answer {
+            return (done, Err(Error::IoError(error)));
+        }
+    }
+    (done, Ok(()))
+}
+
 /// Reads samples by pieces, as [`Sample::read_many`] does, if the type reads them.
 #[inline(always)]
 pub(crate) fn read_pieces<S: Decode, R: io::Read>(
@@ -82,26 +124,10 @@ pub(crate) fn read_pieces<S: Decode, R: io::Read>(
         (R.remaining reader.old) (R.remaining reader.new) }
     ensures front { FillsFront result.0 result.1 samples.old samples.new }
 {
-    let width = bytes as usize;
-    let mut piece = [0; PIECE];
-    let mut done = 0;
-    while done < samples.len() {
-        let wanted = (samples.len() - done).min(PIECE / width);
-        let (taken, answer) = read_piece(reader, &mut piece[..wanted * width]);
-        let count = taken / width;
-        decode_each(
-            &piece[..count * width],
-            &mut samples[done..done + count],
-            fmt,
-            bytes,
-            bits,
-        );
-        done += count;
-        if let Err(error) = answer {
-            return (done, Err(Error::IoError(error)));
-        }
+    if samples.len() <= SMALL_PIECE / 4 {
+        return read_through(reader, samples, &mut [0; SMALL_PIECE], fmt, bytes, bits);
     }
-    (done, Ok(()))
+    read_through(reader, samples, &mut [0; PIECE], fmt, bytes, bits)
 }
 
 /// What a type returns that doesn't read the samples: the error, unless no sample is requested.

@@ -6,7 +6,7 @@ use Rattle.std.proofs.Math.Nat.{div-mul-le_self, div-le_of_le-mul, lt-div-mul-ad
 use Rattle.std.proofs.lemmas.Slice.{drop-put_mid}
 use Rattle.hound_sample.specs.Container.{containers}
 use Rattle.hound_sample.proofs.Many.{decoded, each_behind, each_ended, drop_further}
-use Rattle.hound_sample.proofs.decode.read_pieces.Goals as goal
+use Rattle.hound_sample.proofs.decode.read_through.Goals as goal
 
 -- a front of a front of bytes that more follow
 front_of_front : (n m : ℕ) (bytes more : List ℕ) → n ≤ m → m ≤ length bytes
@@ -16,10 +16,10 @@ front_of_front n m bytes more few within =
     ∙ take-append-le n bytes more (omega (arith, few, within)) ∙ sym (take-take n m bytes few)
 
 -- as many containers as are needed fit into a piece
-wanted_fit : (wanted room width : ℕ) → wanted ≡ min room (1024 / width) → wanted * width ≤ 1024
-wanted_fit wanted room width is =
-    let few : wanted ≤ 1024 / width = omega (arith, is) in
-    omega (arith, mul-le-mul_right {m = wanted} {n = 1024 / width} width few, div-mul-le_self 1024 width)
+wanted_fit : (wanted room size width : ℕ) → wanted ≡ min room (size / width) → wanted * width ≤ size
+wanted_fit wanted room size width is =
+    let few : wanted ≤ size / width = omega (arith, is) in
+    omega (arith, mul-le-mul_right {m = wanted} {n = size / width} width few, div-mul-le_self size width)
 
 -- no more are read than are needed
 count_fits : (taken wanted width : ℕ) → taken ≤ wanted * width → taken / width ≤ wanted
@@ -41,7 +41,7 @@ returns-in-Err-clause-each g c =
     let count = taken / width in
     let done = c.loop-done.done in
     let wanted = c.min-wanted.result in
-    let room = wanted_fit wanted _ width c.min-wanted.ensures in
+    let room = wanted_fit wanted _ _ width c.min-wanted.ensures in
     let piece_size : length piece ≡ wanted * width =
     c.read_piece-taken.auto.piece
     ∙ length-take-le (wanted * width) c.loop-done.piece (omega (arith, room, c.loop-done.invariant.room)) in
@@ -66,7 +66,7 @@ returns-in-Err-clause-front g c =
     let count = c.read_piece-taken.result.0 / c.args.bytes in
     let done = c.loop-done.done in
     let wanted = c.min-wanted.result in
-    let room = wanted_fit wanted _ c.args.bytes c.min-wanted.ensures in
+    let room = wanted_fit wanted _ _ c.args.bytes c.min-wanted.ensures in
     let piece_size : length c.read_piece-taken.new.piece ≡ wanted * c.args.bytes =
     c.read_piece-taken.auto.piece
     ∙ length-take-le (wanted * c.args.bytes) c.loop-done.piece (omega (arith, room, c.loop-done.invariant.room)) in
@@ -107,7 +107,7 @@ loop-done-preserved g c =
     let count = taken / width in
     let done = c.loop-done.done in
     let wanted = c.min-wanted.result in
-    let room = wanted_fit wanted _ width c.min-wanted.ensures in
+    let room = wanted_fit wanted _ _ width c.min-wanted.ensures in
     let piece_size : length piece ≡ wanted * width =
     c.read_piece-taken.auto.piece
     ∙ length-take-le (wanted * width) c.loop-done.piece (omega (arith, room, c.loop-done.invariant.room)) in
@@ -121,9 +121,9 @@ loop-done-preserved g c =
     (omega (arith, end, length-drop done c.loop-done.samples)) ∙ omega arith in
     let size : length c.decode_each.new.samples ≡ count = c.decode_each.auto.samples ∙ part in
     let bytes_size : length bytes ≡ taken = length-take-le taken piece c.read_piece-taken.ensures.within in
-    let one : 1 ≤ 1024 / width =
-    (le-div_iff_mul-le {k = width} {x = 1} {y = 1024} c.requires.some).1
-    (omega (arith, c.requires.few)) in
+    let one : 1 ≤ length c.loop-done.piece / width =
+    (le-div_iff_mul-le {k = width} {x = 1} {y = length c.loop-done.piece} c.requires.some).1
+    (omega (arith, c.requires.few, c.requires.room, c.loop-done.invariant.room)) in
     let some : 1 ≤ count = omega (arith, all, one, c.min-wanted.ensures, c.loop-done-test.true) in
     let values : c.decode_each.new.samples ≡ map meaning (containers width count bytes) =
     decoded meaning width count _ _ _ bytes c.decode_each.ensures part

@@ -1,10 +1,10 @@
 use Rattle.std.proofs.Common.{◌≡◌, ◌≤◌, ◌-◌, length, map, take, drop, None, Ok}
 use Rattle.hound_sample.specs.ManyReads.{ReadsEach}
-use Rattle.hound_sample.proofs.decode.read_pieces.Given as goal
+use Rattle.hound_sample.proofs.decode.read_through.Given as goal
 
 abbrev pub invariant-loop-done : goal.invariant-loop-done
 invariant-loop-done g l = record {
-  room : length l.piece ≡ 1024;
+  room : length l.piece ≡ length l.fn.piece;
   within : l.done ≤ length l.samples;
   same : length l.samples ≡ length l.fn.samples;
   rest : drop l.done l.samples ≡ drop l.done l.fn.samples;
