@@ -20,7 +20,7 @@ ghost use Rattle.hound_reader.specs.Samples.{lent_reader, lender, taken_reader};
 use crate::chunks::{read_riff_header, read_until_data};
 use crate::counting::{read_counted, read_many_counted};
 use crate::fault::{Cause, HeadError, Reason, error_of};
-use crate::item::{NoSample, error_of_item, taken_without};
+use crate::item::{ItemError, error_of_item, taken_without};
 use crate::keeping::KeepingReader;
 use crate::samples::{WavIntoSamples, WavSamples};
 use hound_medium::{Placed, Source};
