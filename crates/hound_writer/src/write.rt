@@ -1,5 +1,5 @@
 // The writer of samples.
-use crate::outcome::{Outcome, error_of};
+use crate::outcome::{Outcome, error_of_outcome};
 use crate::output::Output;
 use hound_medium::{Medium, put_all};
 use hound_sample::Sample;
@@ -143,7 +143,7 @@ impl<W: Medium> WavWriter<W> {
         if let Outcome::Accepted = outcome {
             return Ok(());
         }
-        Err(error_of(outcome, &self.fault))
+        Err(error_of_outcome(outcome, &self.fault))
     }
 
     /// Writes samples, all of them or none; the channels of a frame follow one another, and a frame
@@ -166,7 +166,7 @@ impl<W: Medium> WavWriter<W> {
         if let Outcome::Accepted = outcome {
             return Ok(());
         }
-        Err(error_of(outcome, &self.fault))
+        Err(error_of_outcome(outcome, &self.fault))
     }
 
     /// Publishes the accepted samples: writes the buffered ones, the pad byte after an odd number
