@@ -170,7 +170,7 @@ impl<R: io::Read + Drop> WavReader<R> {
     }
 
     /// The number of samples in the file, of all channels together, whatever was read: the data
-    /// length by the bytes of a sample. `len` of [`WavReader::samples`] is how many are left.
+    /// length divided by the bytes of a sample. `len` of [`WavReader::samples`] counts those left.
     pub fn len(&self) -> u32
         ensures { result ≡ self.now.num_samples }
     {

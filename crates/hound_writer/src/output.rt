@@ -67,7 +67,7 @@ pub fn riff_size(data_start: u64, data_length: u64) -> u64
 }
 
 // Below how many buffered bytes a block has room for a sample of any width, if this many bytes are
-// written: 0 if the RIFF size may not fit a whole block more.
+// written: 0 if a whole block more might not fit the RIFF size.
 fn fast_path_limit_of(data_start: u64, data_bytes_written: u32) -> usize
     requires behind { 8 ≤ data_start }
     requires small { data_start ≤ 2 ^ 33 }

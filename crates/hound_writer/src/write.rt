@@ -152,7 +152,7 @@ impl<W: Medium> WavWriter<W> {
     /// the time of single ones.
     ///
     /// The errors, in the order in which they are checked: `Unsupported` or `TooWide`, that of
-    /// the first sample which has no container with the file's bits and bytes; `TooLong`, where the
+    /// the first sample which has no container with the file's bits and bytes; `TooLong`, if the
     /// RIFF size of the file with all of them would pass 4294967295; `IoError`, if the medium
     /// failed. At each of them none of the samples is accepted, nor those before a rejected one
     /// or a fault, and writing can continue: the next sample goes where the first of these should
