@@ -23,7 +23,7 @@ use Rattle.hound_writer.proofs.Answers.{on_ok_then, published, told_faults, told
 use Rattle.hound_writer.proofs.Keeping.{consistent_moved}
 use Rattle.hound_writer.proofs.Later.{drop_later}
 use Rattle.hound_writer.proofs.Samples.{concat-samples, counts_at, length-samples, length_out, whole_out}
-use Rattle.hound_reader.specs.declared.fault.Cause.{Cause}
+use Rattle.hound_reader.specs.declared.cause.Cause.{Cause}
 use Rattle.hound_reader.specs.Chunks.{Readable, data_fault}
 use Rattle.hound_writer.proofs.Patching.{riff_size_of_sizes, data_length_of_sizes}
 use Rattle.hound_writer.proofs.Heads.{in_parts}
