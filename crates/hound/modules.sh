@@ -11,7 +11,7 @@ for crate in number spec sample medium durable reader writer repair; do
     sed -n "s/^pub mod /pub use Rattle.hound_$crate.specs./p" ../hound_$crate/specs/Lib.antt | grep -v '\.Rows$'
     case $crate in
         number) types=input.ReadError ;;
-        reader) types='fault.Reason fault.Cause fault.HeadError' ;;
+        reader) types='cause.Reason cause.Cause cause.HeadError' ;;
         *) types= ;;
     esac
     for type in $types; do

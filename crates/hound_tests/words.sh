@@ -29,7 +29,7 @@ for crate in number spec sample medium durable reader writer session; do
                 is_variants = path ~ /TheVariants$/
                 if (is_variants != (kind == "variants")) next
                 # `Rows` serves tests alone, what is made of a contract is private, and so are
-                # `Outcome` of the writer and `NoSample` of the reader.
+                # `Outcome` of the writer and `ItemError` of the reader.
                 if (path == "Rows" || path ~ /^contracts|^declared\.(outcome|item)/) next
                 if (path ~ /^declared\./) {
                     split(path, parts, ".")

@@ -18,9 +18,9 @@ use Rattle.hound_medium.specs.Bytes.{moment, placed, overlay}
 use Rattle.hound_medium.proofs.Overlays.{length-placed, overlay_is}
 use Rattle.hound_medium.proofs.Spans.{moment_last}
 use Rattle.hound_durable.specs.Losses.{Ascends, SurvivesLoss}
-use Rattle.hound_reader.specs.declared.fault.Cause.{Cause}
-use Rattle.hound_reader.specs.declared.fault.Cause.TheVariants.{Format}
-use Rattle.hound_reader.specs.declared.fault.Reason.TheVariants.{DataLength, FrameLength}
+use Rattle.hound_reader.specs.declared.cause.Cause.{Cause}
+use Rattle.hound_reader.specs.declared.cause.Cause.TheVariants.{Format}
+use Rattle.hound_reader.specs.declared.cause.Reason.TheVariants.{DataLength, FrameLength}
 use Rattle.hound_reader.specs.Chunks.{Head, data_fault}
 use Rattle.hound_writer.specs.Answers.{IsPublishing, OnPublished, faults_told, mark_of}
 use Rattle.hound_writer.specs.Counts.{Counts, ReadsFirst}

@@ -13,8 +13,8 @@ use Rattle.hound_spec.proofs.HeaderLemmas.{length-canonical, length-header, data
 use Rattle.hound_medium.specs.State.{MediumState, one_more}
 use Rattle.hound_medium.specs.Bytes.{placed, overlay}
 use Rattle.hound_reader.specs.Chunks.{Head, data_fault}
-use Rattle.hound_reader.specs.declared.fault.Cause.TheVariants.{Format}
-use Rattle.hound_reader.specs.declared.fault.Reason.TheVariants.{DataLength, FrameLength}
+use Rattle.hound_reader.specs.declared.cause.Cause.TheVariants.{Format}
+use Rattle.hound_reader.specs.declared.cause.Reason.TheVariants.{DataLength, FrameLength}
 use Rattle.hound_sample.specs.Container.{Refusal, too_wide, unsupported, containers}
 use Rattle.hound_medium.proofs.Torn.{number_at_small}
 use Rattle.hound_writer.proofs.Heads.{head_field, head_inside}

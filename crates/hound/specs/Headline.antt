@@ -61,7 +61,7 @@ IsUncut p n cuts medium k = (j i : ℕ) → j ≤ n → cut_point cuts medium j 
     (i + 4 ≤ cut_point cuts medium (suc j)) × (i + 4 ≤ k)
 
 -- What a flush has published is never undercut: from the return of a flush with a mark to the end of
--- the run, the length field counts at least the samples that were accepted before the flush, at each
+-- the run, the length field counts at least the samples accepted before the flush, in each
 -- state in which no write of it since then is cut.
 abbrev pub NeverLess : WavSpecEx → ℕ → List (List ℕ) → List Step → List Bool → List ℕ →
     MediumState → Type 0

@@ -40,9 +40,9 @@ pub use Rattle.hound_reader.specs.Item
 pub use Rattle.hound_reader.specs.Items
 pub use Rattle.hound_reader.specs.Seeking
 pub use Rattle.hound_reader.specs.Taken
-pub use Rattle.hound_reader.specs.declared.fault.Reason
-pub use Rattle.hound_reader.specs.declared.fault.Cause
-pub use Rattle.hound_reader.specs.declared.fault.HeadError
+pub use Rattle.hound_reader.specs.declared.cause.Reason
+pub use Rattle.hound_reader.specs.declared.cause.Cause
+pub use Rattle.hound_reader.specs.declared.cause.HeadError
 pub use Rattle.hound_writer.specs.Accepting
 pub use Rattle.hound_writer.specs.Answers
 pub use Rattle.hound_writer.specs.Appending

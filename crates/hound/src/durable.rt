@@ -20,7 +20,7 @@ use hound_spec::Result;
 use std::alloc::Global;
 
 /// Runs a session as [`run_session`] does, over the medium within a [`Durable`], and returns the
-/// medium back.
+/// medium.
 ///
 /// A new file on an empty medium that loses power after its header was flushed, which the first
 /// `Flush` does, counts no more than what it holds: whatever sectors keep what was written since

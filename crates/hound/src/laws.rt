@@ -28,9 +28,9 @@ pub fn a_batch_is_its_values<M: Medium>(values: &[i16])
 
 /// Calls that are made one by one leave what a run leaves: a constructor that is Ok, steps, and an
 /// end.
+///
 /// So what [`run_session`](crate::run_session) promises of each intermediate state, of checkpoints
 /// and of a loss of power holds for these calls too, over every medium.
-/// of a loss of power holds of these calls too, over every medium.
 pub fn calls_are_a_run<M: Medium>(steps: &[Step])
     ensures { (begin : Begin) (end : End) (old medium : M) (first last : WriterState M)
         (answers : List (Result Unit Error)) (cuts : List ℕ) (answer : Result Unit Error)

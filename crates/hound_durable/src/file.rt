@@ -10,7 +10,7 @@ use std::io::{BufWriter, Write};
 use std::{fs, io};
 
 // How many bytes are buffered in memory.
-const KEPT_BACK: usize = 65536;
+const FILE_BUFFER_SIZE: usize = 65536;
 
 /// A file on disk whose `flush` returns when the disk has what was written.
 ///
@@ -29,7 +29,7 @@ impl SyncedFile {
     pub fn new(alloc: Global, file: fs::File) -> Result<SyncedFile>
         ensures { IfErr result (λ e. e ≡ Error.OutOfMemory) }
     {
-        match BufWriter::with_capacity(alloc, KEPT_BACK, file) {
+        match BufWriter::with_capacity(alloc, FILE_BUFFER_SIZE, file) {
             Ok(writer) => Ok(SyncedFile {
                 writer,
                 has_synced: false,

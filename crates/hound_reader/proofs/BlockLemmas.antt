@@ -18,8 +18,8 @@ use Rattle.hound_reader.specs.Counting.{HasGiven}
 use Rattle.hound_reader.specs.Item.{reason_of, error_of_item, taken_without}
 use Rattle.hound_reader.specs.Items.{GivesItems}
 use Rattle.hound_reader.specs.Reader.{ReaderState, IsNext, AreTaken, TookBytes, CountsTaken, refusal_at, meaning_at, samples_left}
-use Rattle.hound_reader.specs.declared.item.NoSample.{NoSample}
-use Rattle.hound_reader.specs.declared.item.NoSample.TheVariants.{Failed, OtherFormat, Wider, OtherPair}
+use Rattle.hound_reader.specs.declared.item.ItemError.{ItemError}
+use Rattle.hound_reader.specs.declared.item.ItemError.TheVariants.{Failed, OtherFormat, Wider, OtherPair}
 use Rattle.hound_reader.proofs.ItemLemmas.{a_container_is_taken}
 
 -- an Ok of a type that doesn't read the samples
@@ -57,7 +57,7 @@ error_by_reason None meaning width old new TooLong fault read = absurd read
 error_by_reason None meaning width old new OutOfMemory fault read = absurd read
 
 pub each_by_reason : {A : Type 0} (refusal : Option ReadRefusal) (meaning : List ℕ → A) (width : ℕ)
-    (values : List A) (e : Error) (reason : NoSample) (fault : IoFault) (old new : Option (List ℕ))
+    (values : List A) (e : Error) (reason : ItemError) (fault : IoFault) (old new : Option (List ℕ))
     → reason ≡ reason_of e
     → ReadsEach refusal meaning width (map Ok values ++ (Err e ∷ [])) old new
     → ReadsEach refusal meaning width (map Ok values ++ (Err (error_of_item reason fault) ∷ [])) old new
@@ -147,7 +147,7 @@ no_refusal fault wider is = cc
 no_refusal fault other_pair is = cc
 
 torn_after : {A : Type 0} (refusal : Option ReadRefusal) (meaning : List ℕ → A) (width count : ℕ)
-    (reason : NoSample) (fault : IoFault) (given : ℕ) (xs ms ys : List ℕ)
+    (reason : ItemError) (fault : IoFault) (given : ℕ) (xs ms ys : List ℕ)
     → count * width ≤ length xs → length ms ≡ length xs - count * width
     → count * width + width < 2 ^ 64 → given ≡ min (length xs - length ys) (2 ^ 64 - 1)
     → Reads refusal meaning width (Some ms) (Some ys) (Err (error_of_item reason fault))
@@ -171,7 +171,7 @@ torn_after None meaning width count OtherPair fault given xs ms ys enough size f
 
 -- an item without a sample took as many bytes as were given after the samples
 pub torn_takes : {A : Type 0} (refusal : Option ReadRefusal) (meaning : List ℕ → A) (width : ℕ)
-    (values : List A) (reason : NoSample) (fault : IoFault) (given : ℕ)
+    (values : List A) (reason : ItemError) (fault : IoFault) (given : ℕ)
     (old mid new : Option (List ℕ)) → length values * width + width < 2 ^ 64
     → HasGiven old given new → ReadsEach refusal meaning width (map Ok values) old mid
     → Reads refusal meaning width mid new (Err (error_of_item reason fault))
@@ -193,7 +193,7 @@ torn_takes refusal meaning width values reason fault given (Some xs) mid (Some y
     read))
 
 -- an item without a sample took no more than a container
-took_of_reason : (A : Type 0) (reason : NoSample) (fault : IoFault) (given width old : ℕ)
+took_of_reason : (A : Type 0) (reason : ItemError) (fault : IoFault) (given width old : ℕ)
     → TookBytes {A = A} width (Err (error_of_item reason fault)) old
     (old + taken_without reason given width)
 took_of_reason A Failed fault given width old = (omega arith, omega arith)
@@ -201,7 +201,7 @@ took_of_reason A OtherFormat fault given width old = omega arith
 took_of_reason A Wider fault given width old = omega arith
 took_of_reason A OtherPair fault given width old = omega arith
 
-pub taken_few : (reason : NoSample) (given width : ℕ) → taken_without reason given width ≤ width
+pub taken_few : (reason : ItemError) (given width : ℕ) → taken_without reason given width ≤ width
 taken_few Failed given width = omega arith
 taken_few OtherFormat given width = omega arith
 taken_few Wider given width = omega arith
@@ -280,7 +280,7 @@ module _ {A : Type 0} (refusal : SampleFormat → ℕ → ℕ → Option ReadRef
       (next, given, items_more items item next mid new before step)
 
   -- samples that were read, and the error that ended them, are items
-  pub error_is_item : (values : List A) (reason : NoSample) (fault : IoFault) (given : ℕ)
+  pub error_is_item : (values : List A) (reason : ItemError) (fault : IoFault) (given : ℕ)
       (old : ReaderState (Option (List ℕ))) (new : Option (List ℕ))
       → length values < samples_left old
       → length values * old.spec_ex.bytes_per_sample + old.spec_ex.bytes_per_sample < 2 ^ 64
@@ -333,7 +333,7 @@ module _ {A : Type 0} (refusal : SampleFormat → ℕ → ℕ → Option ReadRef
       subst (λ n. Gives (map Ok values) old (later old n (n * old.spec_ex.bytes_per_sample) new)) size
       (samples_are_items values old new (omega (arith, size, few)) each)
 
-  pub block_of_error : (values : List A) (count : ℕ) (reason : NoSample) (fault : IoFault)
+  pub block_of_error : (values : List A) (count : ℕ) (reason : ItemError) (fault : IoFault)
       (given : ℕ) (old : ReaderState (Option (List ℕ))) (new : Option (List ℕ))
       → length values ≡ count → count < samples_left old
       → count * old.spec_ex.bytes_per_sample + old.spec_ex.bytes_per_sample < 2 ^ 64

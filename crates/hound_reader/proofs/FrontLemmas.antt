@@ -4,7 +4,7 @@ use Rattle.std.proofs.Math.Seq.{drop-length}
 use Rattle.std.proofs.lemmas.Bool.{ltb-true}
 use Rattle.std.specs.Str.{bytes_eq}
 use Rattle.hound_spec.specs.Header.{riff_tag, wave_tag}
-use Rattle.hound_reader.specs.declared.fault.Reason.TheVariants.{NoRiffTag, NoWaveTag}
+use Rattle.hound_reader.specs.declared.cause.Reason.TheVariants.{NoRiffTag, NoWaveTag}
 use Rattle.std.specs.Io.KnownBytes.{Consumes}
 use Rattle.std.proofs.KnownBytes.{Consumes-trans}
 use Rattle.hound_number.specs.Input.{Known}
@@ -16,9 +16,9 @@ use Rattle.hound_reader.specs.Reader.{AreTaken}
 use Rattle.hound_reader.specs.Refusals.{ReportsError}
 use Rattle.hound_spec.specs.declared.error.Error.{Error}
 use Rattle.hound_spec.specs.declared.error.Error.TheVariants as errors
-use Rattle.hound_reader.specs.declared.fault.Cause.TheVariants.{Ended, Format, Unsupported}
-use Rattle.hound_reader.specs.declared.fault.HeadError.{HeadError}
-use Rattle.hound_reader.specs.declared.fault.HeadError.TheVariants.{Failed, Refused}
+use Rattle.hound_reader.specs.declared.cause.Cause.TheVariants.{Ended, Format, Unsupported}
+use Rattle.hound_reader.specs.declared.cause.HeadError.{HeadError}
+use Rattle.hound_reader.specs.declared.cause.HeadError.TheVariants.{Failed, Refused}
 
 -- these bytes were taken
 pub all_taken : (bytes : List ℕ) (k : ℕ) (o n : Option (List ℕ)) → Consumes o n bytes

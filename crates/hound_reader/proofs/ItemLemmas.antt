@@ -12,7 +12,7 @@ use Rattle.hound_sample.specs.Meaning.{ReadRefusal}
 use Rattle.hound_sample.specs.Reads.{Reads}
 use Rattle.hound_reader.specs.Reader.{ReaderState, IsNext, AreTaken, refusal_at, meaning_at, samples_left}
 use Rattle.hound_reader.specs.Item.{answer_of}
-use Rattle.hound_reader.specs.declared.item.NoSample.{NoSample}
+use Rattle.hound_reader.specs.declared.item.ItemError.{ItemError}
 use Rattle.hound_reader.specs.Items.{AreItems, GivesItems}
 
 -- an Ok took exactly a container
@@ -28,7 +28,7 @@ a_container_is_taken None meaning width (Some xs) (Some ys) value read = (read.0
 -- a sample was given, as `read` of its type does it
 pub a_sample_is_given : {R A : Type 0} (left : R → Option (List ℕ))
     (refusal : SampleFormat → ℕ → ℕ → Option ReadRefusal) (meaning : SampleFormat → ℕ → ℕ → List ℕ → A)
-    (old new : ReaderState R) (answer : Result A NoSample) (fault : IoFault) (value : A)
+    (old new : ReaderState R) (answer : Result A ItemError) (fault : IoFault) (value : A)
     → old.samples_read < old.num_samples
     → new ≡ record {
       reader = new.reader;

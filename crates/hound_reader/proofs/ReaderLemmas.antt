@@ -3,9 +3,9 @@ use Rattle.std.proofs.Common.{◌≡◌, ℕ, drop, inl, inr, ◌/◌, ◌∙◌
 use Rattle.std.specs.Prelude.{⊤, IfSome}
 use Rattle.std.proofs.lemmas.Option.{same_Some}
 use Rattle.hound_spec.specs.declared.spec.WavSpecEx.{WavSpecEx}
-use Rattle.hound_reader.specs.declared.fault.Cause.{Cause}
-use Rattle.hound_reader.specs.declared.fault.HeadError.{HeadError}
-use Rattle.hound_reader.specs.declared.fault.HeadError.TheVariants.{Failed, Refused as Refused'}
+use Rattle.hound_reader.specs.declared.cause.Cause.{Cause}
+use Rattle.hound_reader.specs.declared.cause.HeadError.{HeadError}
+use Rattle.hound_reader.specs.declared.cause.HeadError.TheVariants.{Failed, Refused as Refused'}
 use Rattle.hound_spec.specs.declared.error.Error.{Error}
 use Rattle.hound_spec.specs.declared.error.Error.TheVariants as errors
 use Rattle.hound_reader.specs.Outcome.{Refuses}

@@ -9,8 +9,8 @@ use Rattle.hound_reader.specs.Chunks.{Head, Refused}
 use Rattle.hound_reader.specs.Outcome.{Refuses, CountsFailed}
 use Rattle.hound_reader.specs.Sources.{Untouched, unread, account_of, FindsData}
 use Rattle.hound_reader.specs.declared.chunks.FileHead.{FileHead}
-use Rattle.hound_reader.specs.declared.fault.HeadError.{HeadError}
-use Rattle.hound_reader.specs.declared.fault.HeadError.TheVariants as variants
+use Rattle.hound_reader.specs.declared.cause.HeadError.{HeadError}
+use Rattle.hound_reader.specs.declared.cause.HeadError.TheVariants as variants
 
 none_known : {E : Type 0} (buf : List ℕ) (result : Result ℕ E) → ReadConsumes None None result buf
 none_known buf (Ok n) = (tt, λ _ _. tt)

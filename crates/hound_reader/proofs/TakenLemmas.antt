@@ -19,11 +19,11 @@ use Rattle.hound_reader.specs.Fmt.{by_subformat, spec_of, wave_format, width_of,
 use Rattle.hound_spec.specs.FmtChunk.{FmtFields, Extension, fmt_fields, greatest_u16, greatest_u32, subformat}
 use Rattle.hound_spec.specs.declared.spec.SampleFormat.TheVariants.{Int, Float}
 use Rattle.hound_spec.specs.declared.spec.WavSpecEx.{WavSpecEx}
-use Rattle.hound_reader.specs.declared.fault.Cause.{Cause}
-use Rattle.hound_reader.specs.declared.fault.Cause.TheVariants.{Ended, Format, Unsupported}
-use Rattle.hound_reader.specs.declared.fault.Reason.TheVariants.{ZeroChannels, BitsExceedWidth, Inconsistent, BitsNotWholeBytes, ZeroBits}
-use Rattle.hound_reader.specs.declared.fault.HeadError.{HeadError}
-use Rattle.hound_reader.specs.declared.fault.HeadError.TheVariants.{Failed, Refused}
+use Rattle.hound_reader.specs.declared.cause.Cause.{Cause}
+use Rattle.hound_reader.specs.declared.cause.Cause.TheVariants.{Ended, Format, Unsupported}
+use Rattle.hound_reader.specs.declared.cause.Reason.TheVariants.{ZeroChannels, BitsExceedWidth, Inconsistent, BitsNotWholeBytes, ZeroBits}
+use Rattle.hound_reader.specs.declared.cause.HeadError.{HeadError}
+use Rattle.hound_reader.specs.declared.cause.HeadError.TheVariants.{Failed, Refused}
 
 -- the front of what begins with h
 pub take_within : (n : ℕ) (h ys : List ℕ) → n ≤ length h → take n (h ++ ys) ≡ take n h

@@ -4,8 +4,8 @@ use Rattle.std.specs.Str.{bytes_eq}
 use Rattle.std.proofs.lemmas.Slice.Eq.{bytes_eq-Decides}
 use Rattle.std.proofs.lemmas.List.{take-append-drop}
 use Rattle.hound_spec.specs.declared.spec.WavSpecEx.{WavSpecEx}
-use Rattle.hound_reader.specs.declared.fault.Cause.TheVariants.{Format}
-use Rattle.hound_reader.specs.declared.fault.Reason.TheVariants.{NoRiffTag}
+use Rattle.hound_reader.specs.declared.cause.Cause.TheVariants.{Format}
+use Rattle.hound_reader.specs.declared.cause.Reason.TheVariants.{NoRiffTag}
 use Rattle.hound_reader.specs.declared.chunks.ChunkRead.{ChunkRead}
 use Rattle.hound_reader.specs.declared.chunks.ChunkRead.TheVariants.{Data, Other}
 use Rattle.hound_number.specs.Number.{number}

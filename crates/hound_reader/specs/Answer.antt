@@ -3,9 +3,9 @@ use Rattle.std.specs.Prelude.{◌≡◌, ℕ, List, drop, ⊤, Result, Ok, Err}
 use Rattle.hound_reader.specs.Chunks.{Head, Refused, Readable, Unreadable}
 use Rattle.hound_spec.specs.declared.spec.WavSpecEx.{WavSpecEx}
 use Rattle.hound_reader.specs.declared.chunks.FileHead.{FileHead}
-use Rattle.hound_reader.specs.declared.fault.Cause.{Cause}
-use Rattle.hound_reader.specs.declared.fault.HeadError.{HeadError}
-use Rattle.hound_reader.specs.declared.fault.HeadError.TheVariants.{Failed, Refused as Refuses}
+use Rattle.hound_reader.specs.declared.cause.Cause.{Cause}
+use Rattle.hound_reader.specs.declared.cause.HeadError.{HeadError}
+use Rattle.hound_reader.specs.declared.cause.HeadError.TheVariants.{Failed, Refused as Refuses}
 
 -- the spec, the data's length or the number of samples, and the place of the data; or the cause
 pub data Answer : Type 0 where

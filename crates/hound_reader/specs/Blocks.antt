@@ -9,7 +9,7 @@ use Rattle.hound_sample.specs.Meaning.{ReadRefusal}
 use Rattle.hound_reader.specs.Item.{answer_of}
 use Rattle.hound_reader.specs.Items.{GivesItems}
 use Rattle.hound_reader.specs.Reader.{ReaderState, refusal_at, meaning_at, samples_left}
-use Rattle.hound_reader.specs.declared.item.NoSample.{NoSample}
+use Rattle.hound_reader.specs.declared.item.ItemError.{ItemError}
 
 -- a reader with the bytes that are left in place of what it reads from
 abbrev pub over_bytes : {R : Type 0} → (R → Option (List ℕ)) → ReaderState R
@@ -46,7 +46,7 @@ pub record ReadsBlock {R A : Type 0} (left : R → Option (List ℕ))
 -- samples of a spec are read as `read` of a type does it, whichever the fault is
 abbrev pub AnswersReadMany : {A : Type 0} → (SampleFormat → ℕ → ℕ → Option ReadRefusal)
     → (SampleFormat → ℕ → ℕ → List ℕ → A) → WavSpecEx → Option (List ℕ) → Option (List ℕ) → List A
-    → Result (Unit {0}) NoSample → Type 0
+    → Result (Unit {0}) ItemError → Type 0
 AnswersReadMany refusal meaning s old new values answer = (fault : IoFault)
     → ReadsEach (refusal_at refusal s) (meaning_at meaning s) s.bytes_per_sample
     (items_of values (answer_of answer fault)) old new

@@ -7,9 +7,9 @@ use Rattle.hound_spec.specs.FmtChunk.{greatest_u32}
 use Rattle.hound_spec.specs.Header.{padded, riff_tag, wave_tag, fmt_tag, data_tag}
 use Rattle.hound_reader.specs.Fmt.{fmt_of}
 use Rattle.hound_spec.specs.declared.spec.WavSpecEx.{WavSpecEx}
-use Rattle.hound_reader.specs.declared.fault.Cause.{Cause}
-use Rattle.hound_reader.specs.declared.fault.Cause.TheVariants.{Ended, Format}
-use Rattle.hound_reader.specs.declared.fault.Reason.TheVariants.{NoRiffTag, NoWaveTag, NoDataChunk, NoFmtChunk, DataLength, FrameLength}
+use Rattle.hound_reader.specs.declared.cause.Cause.{Cause}
+use Rattle.hound_reader.specs.declared.cause.Cause.TheVariants.{Ended, Format}
+use Rattle.hound_reader.specs.declared.cause.Reason.TheVariants.{NoRiffTag, NoWaveTag, NoDataChunk, NoFmtChunk, DataLength, FrameLength}
 
 -- A chunk of the file: the tag, the length as four bytes, and the content with its
 -- pad byte, if it has one (RIFF, "Chunks").

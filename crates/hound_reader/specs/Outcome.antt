@@ -1,9 +1,9 @@
 -- What a call of the walk returns: a value, a cause that the bytes decide, or a failed read.
 use Rattle.std.specs.Prelude.{◌≡◌, ℕ, ◌≤◌, List, length, drop, ⊤, Option, Result, Ok, Err}
 use Rattle.hound_number.specs.Input.{Account, Known, NoneFailed, OneFailed}
-use Rattle.hound_reader.specs.declared.fault.HeadError.{HeadError}
-use Rattle.hound_reader.specs.declared.fault.HeadError.TheVariants.{Failed, Refused}
-use Rattle.hound_reader.specs.declared.fault.Cause.{Cause}
+use Rattle.hound_reader.specs.declared.cause.HeadError.{HeadError}
+use Rattle.hound_reader.specs.declared.cause.HeadError.TheVariants.{Failed, Refused}
+use Rattle.hound_reader.specs.declared.cause.Cause.{Cause}
 
 -- P for the cause, unless a read failed
 abbrev pub Refuses : HeadError → (Cause → Type 0) → Type 0

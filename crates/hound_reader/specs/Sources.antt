@@ -4,8 +4,8 @@ use Rattle.hound_number.specs.Input.{Account}
 use Rattle.hound_medium.specs.State.{MediumState, one_more}
 use Rattle.hound_reader.specs.Chunks.{Head, Refused as Refused'}
 use Rattle.hound_reader.specs.declared.chunks.FileHead.{FileHead}
-use Rattle.hound_reader.specs.declared.fault.HeadError.{HeadError}
-use Rattle.hound_reader.specs.declared.fault.HeadError.TheVariants.{Failed, Refused}
+use Rattle.hound_reader.specs.declared.cause.HeadError.{HeadError}
+use Rattle.hound_reader.specs.declared.cause.HeadError.TheVariants.{Failed, Refused}
 
 -- the bytes from the place on
 abbrev pub unread : MediumState → List ℕ

@@ -9,10 +9,10 @@ use Rattle.hound_reader.specs.Front.{front_taken}
 use Rattle.hound_reader.specs.Outcome.{Refuses}
 use Rattle.hound_reader.specs.Reader.{AreTaken}
 use Rattle.hound_reader.specs.Walk.{Walked}
-use Rattle.hound_reader.specs.declared.fault.Cause.{Cause}
-use Rattle.hound_reader.specs.declared.fault.Cause.TheVariants.{Ended, Format, Unsupported}
-use Rattle.hound_reader.specs.declared.fault.HeadError.{HeadError}
-use Rattle.hound_reader.specs.declared.fault.Reason.TheVariants.{NoDataChunk, NoFmtChunk, FmtSize, BitsNot8Or16, ExSize, BitsNot32, ExtensibleSize}
+use Rattle.hound_reader.specs.declared.cause.Cause.{Cause}
+use Rattle.hound_reader.specs.declared.cause.Cause.TheVariants.{Ended, Format, Unsupported}
+use Rattle.hound_reader.specs.declared.cause.HeadError.{HeadError}
+use Rattle.hound_reader.specs.declared.cause.Reason.TheVariants.{NoDataChunk, NoFmtChunk, FmtSize, BitsNot8Or16, ExSize, BitsNot32, ExtensibleSize}
 
 -- How many of the n bytes after the header of a chunk are taken for a fault, by the chunk's length
 -- and a fmt chunk's format tag: none for what the header decides, all at an early end (WAVEFORMAT,

@@ -15,7 +15,7 @@ ghost use Rattle.hound_reader.specs.Taken.{MeetsFaultAfter, RefusedAfter, TakesA
 ghost use Rattle.hound_reader.specs.Answer.{Answer, Answers, ReportsAnswer};
 ghost use Rattle.hound_reader.specs.Walk.{ReadsChunk, ReadsContent, ReadsFmt, Advances, ReachesData, MeetsFault, IsSoundOption, IsSoundChunk};
 
-use crate::fault::{Cause, HeadError, Reason};
+use crate::cause::{Cause, HeadError, Reason};
 use crate::fmt::read_fmt_chunk;
 use crate::input::{Counted, fill};
 use hound_medium::Source;

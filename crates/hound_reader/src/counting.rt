@@ -4,14 +4,14 @@ ghost use Rattle.hound_sample.specs.ManyReads.{FillsFront};
 ghost use Rattle.hound_sample.specs.Reads.{Reads};
 ghost use Rattle.hound_reader.specs.Blocks.{AnswersReadMany};
 ghost use Rattle.hound_reader.specs.Reader.{refusal_at, meaning_at};
-ghost use Rattle.hound_reader.specs.declared.item.NoSample.{NoSample};
+ghost use Rattle.hound_reader.specs.declared.item.ItemError.{ItemError};
 ghost use Rattle.hound_reader.specs.Item.{answer_of, AnswersRead};
 ghost use Rattle.std.specs.Borrow.{GName};
 ghost use Rattle.std.specs.Io.KnownBytes.{Consumes, IsAtEnd, Keeps};
 ghost use Rattle.hound_spec.specs.declared.spec.WavSpecEx.{WavSpecEx};
 ghost use Rattle.hound_reader.specs.Counting.{HasGiven, HasGiven-prop};
 
-use crate::item::{NoSample, reason_of};
+use crate::item::{ItemError, reason_of};
 use crate::keeping::KeepingReader;
 use hound_sample::Sample;
 use hound_spec::WavSpecEx;
@@ -20,7 +20,7 @@ use std::{io, result};
 
 /// Where counting begins, as contracts see it. A `Brand` is one, whose members are chosen where it
 /// is passed.
-pub(crate) trait Beginning {
+pub(crate) trait CountStart {
     /// The bytes that were left then, if they are known.
     ghost left: { Option (List ℕ) };
 
@@ -28,14 +28,14 @@ pub(crate) trait Beginning {
     ghost lender: { GName };
 }
 
-impl Beginning for Brand {
+impl CountStart for Brand {
     ghost left = { None };
 
     ghost lender = { 0 };
 }
 
 /// A reference to a reader, which stays the same reference: that to a [`KeepingReader`].
-pub(crate) trait Lent: Sized {
+pub(crate) trait ReaderRef: Sized {
     /// The bytes that are left, if they are known.
     ghost left: { Self → Option (List ℕ) };
 
@@ -43,7 +43,7 @@ pub(crate) trait Lent: Sized {
     ghost name: { Self → GName };
 
     /// How many bytes a read gives, or more than the buffer has if it fails.
-    fn give(&mut self, buf: &mut [u8]) -> usize
+    fn read_or_save_error(&mut self, buf: &mut [u8]) -> usize
         ensures bytes { result ≤ length buf.new →
             Consumes (left self.old) (left self.new) (take result buf.new) }
         ensures end { result ≡ 0 → 0 < length buf.new → IsAtEnd (left self.new) }
@@ -54,14 +54,14 @@ pub(crate) trait Lent: Sized {
     fn last_fault(&self) -> &io::Error;
 }
 
-impl<R: io::Read> Lent for &mut KeepingReader<R> {
+impl<R: io::Read> ReaderRef for &mut KeepingReader<R> {
     ghost left = { λ r. R.remaining r.now.reader };
 
     ghost name = { λ r. r.ghost_name };
 
     #[inline(always)]
-    fn give(&mut self, buf: &mut [u8]) -> usize {
-        KeepingReader::give(*self, buf)
+    fn read_or_save_error(&mut self, buf: &mut [u8]) -> usize {
+        KeepingReader::read_or_save_error(*self, buf)
     }
 
     #[inline(always)]
@@ -72,7 +72,7 @@ impl<R: io::Read> Lent for &mut KeepingReader<R> {
 
 /// A reader, and the number of bytes that it gave since counting began, at most `u64::MAX`.
 #[derive(Drop)]
-pub(crate) struct CountingReader<R: Lent, B: Beginning> {
+pub(crate) struct CountingReader<R: ReaderRef, B: CountStart> {
     pub(crate) reader: R,
     pub(crate) given: u64,
     pub(crate) since: PhantomData<B>,
@@ -80,12 +80,12 @@ pub(crate) struct CountingReader<R: Lent, B: Beginning> {
     ghost stays: { R.name reader ≡ B.lender },
 }
 
-impl<R: Lent, B: Beginning> io::Read for CountingReader<R, B> {
+impl<R: ReaderRef, B: CountStart> io::Read for CountingReader<R, B> {
     ghost remaining = { λ c. R.left c.reader };
 
     #[inline(always)]
     fn read(&mut self, buf: &mut [u8]) -> io::Result<usize> {
-        let count = self.reader.give(buf);
+        let count = self.reader.read_or_save_error(buf);
         if count > 0 && count <= buf.len() {
             self.given = self.given.saturating_add(count as u64);
             return Ok(count);
@@ -98,38 +98,41 @@ impl<R: Lent, B: Beginning> io::Read for CountingReader<R, B> {
 }
 
 /// A call that reads, whose value has a type of its own: each [`Sample`] is one, by its `read`.
-pub(crate) trait Ask {
+pub(crate) trait TypedRead {
     type Value: Drop;
 
     /// What is returned, by the bytes that were left and those that are left.
     ghost Answers: { WavSpecEx → Option (List ℕ) → Option (List ℕ)
-        → Result Self.Value NoSample → Type 0 };
+        → Result Self.Value ItemError → Type 0 };
 
     /// What is returned for many values that are requested at once: those that were read.
     ghost AnswersMany: { WavSpecEx → Option (List ℕ) → Option (List ℕ)
-        → List Self.Value → Result (Unit {0}) NoSample → Type 0 };
+        → List Self.Value → Result (Unit {0}) ItemError → Type 0 };
 
     /// Whether no byte is requested.
     ghost Refuses: { WavSpecEx → Type 0 };
 
     /// The value, or why there is none.
-    fn ask<R: io::Read>(reader: &mut R, spec_ex: WavSpecEx) -> result::Result<Self::Value, NoSample>
+    fn read_typed<R: io::Read>(
+        reader: &mut R,
+        spec_ex: WavSpecEx,
+    ) -> result::Result<Self::Value, ItemError>
         ensures answers { Answers spec_ex (R.remaining reader.old) (R.remaining reader.new) result }
         ensures untouched { Refuses spec_ex → reader.new ≡ reader.old };
 
     /// How many values were read into the front of a slice, and why no more if it isn't full.
-    fn ask_many<R: io::Read>(
+    fn read_many_typed<R: io::Read>(
         reader: &mut R,
         spec_ex: WavSpecEx,
         values: &mut [Self::Value],
-    ) -> (usize, result::Result<(), NoSample>)
+    ) -> (usize, result::Result<(), ItemError>)
         ensures answers { AnswersMany spec_ex (R.remaining reader.old) (R.remaining reader.new)
             (take result.0 values.new) result.1 }
         ensures front { FillsFront result.0 result.1 values.old values.new }
         ensures untouched { Refuses spec_ex → reader.new ≡ reader.old };
 }
 
-impl<S: Sample> Ask for S {
+impl<S: Sample> TypedRead for S {
     type Value = S;
 
     ghost Answers = { λ s old new answer. AnswersRead S.refusal S.meaning s old new answer };
@@ -140,7 +143,7 @@ impl<S: Sample> Ask for S {
     ghost Refuses = { λ s. IsSome (refusal_at S.refusal s) };
 
     #[inline(always)]
-    fn ask<R: io::Read>(reader: &mut R, spec_ex: WavSpecEx) -> result::Result<S, NoSample> {
+    fn read_typed<R: io::Read>(reader: &mut R, spec_ex: WavSpecEx) -> result::Result<S, ItemError> {
         let spec = spec_ex.spec;
         let width = spec_ex.bytes_per_sample;
         match S::read(reader, spec.sample_format, width, spec.bits_per_sample) {
@@ -150,11 +153,11 @@ impl<S: Sample> Ask for S {
     }
 
     #[inline(always)]
-    fn ask_many<R: io::Read>(
+    fn read_many_typed<R: io::Read>(
         reader: &mut R,
         spec_ex: WavSpecEx,
         samples: &mut [S],
-    ) -> (usize, result::Result<(), NoSample>) {
+    ) -> (usize, result::Result<(), ItemError>) {
         let spec = spec_ex.spec;
         let width = spec_ex.bytes_per_sample;
         let (count, read) = S::read_many(
@@ -173,12 +176,12 @@ impl<S: Sample> Ask for S {
 
 // A reference to a reader that was read, and how many bytes it gave.
 #[derive(Drop)]
-struct Asked<'a, R> {
+struct CountedRead<'a, R> {
     reader: &'a mut KeepingReader<R>,
     given: u64,
 }
 
-impl<R> Asked<'_, R> {
+impl<R> CountedRead<'_, R> {
     // Drops the reference.
     #[inline(always)]
     fn done(self) -> u64
@@ -191,11 +194,11 @@ impl<R> Asked<'_, R> {
 
 // What is returned, and how many bytes the reader gave for it, where counting begins now.
 #[inline(always)]
-fn ask_since<'a, R: io::Read, A: Ask, B: Beginning>(
+fn read_typed_since<'a, R: io::Read, A: TypedRead, B: CountStart>(
     reader: &'a mut KeepingReader<R>,
     spec_ex: WavSpecEx,
-    answer: &mut result::Result<A::Value, NoSample>,
-) -> Asked<'a, R>
+    answer: &mut result::Result<A::Value, ItemError>,
+) -> CountedRead<'a, R>
     requires left { B.left ≡ R.remaining reader.now.reader }
     requires lender { B.lender ≡ reader.ghost_name }
     ensures answers { A.Answers spec_ex (R.remaining reader.entry.now.reader)
@@ -210,19 +213,19 @@ fn ask_since<'a, R: io::Read, A: Ask, B: Beginning>(
         given: 0,
         since: PhantomData::<B>,
     };
-    *answer = A::ask(&mut counting, spec_ex);
+    *answer = A::read_typed(&mut counting, spec_ex);
     let CountingReader { reader, given, .. } = counting;
-    Asked { reader, given }
+    CountedRead { reader, given }
 }
 
-// As `ask_since`, for values that are requested at once.
+// As `read_typed_since`, for values that are requested at once.
 #[inline(always)]
-fn ask_many_since<'a, R: io::Read, A: Ask, B: Beginning>(
+fn read_many_typed_since<'a, R: io::Read, A: TypedRead, B: CountStart>(
     reader: &'a mut KeepingReader<R>,
     spec_ex: WavSpecEx,
     values: &mut [A::Value],
-    answer: &mut (usize, result::Result<(), NoSample>),
-) -> Asked<'a, R>
+    answer: &mut (usize, result::Result<(), ItemError>),
+) -> CountedRead<'a, R>
     requires left { B.left ≡ R.remaining reader.now.reader }
     requires lender { B.lender ≡ reader.ghost_name }
     ensures answers { A.AnswersMany spec_ex (R.remaining reader.entry.now.reader)
@@ -238,9 +241,9 @@ fn ask_many_since<'a, R: io::Read, A: Ask, B: Beginning>(
         given: 0,
         since: PhantomData::<B>,
     };
-    *answer = A::ask_many(&mut counting, spec_ex, values);
+    *answer = A::read_many_typed(&mut counting, spec_ex, values);
     let CountingReader { reader, given, .. } = counting;
-    Asked { reader, given }
+    CountedRead { reader, given }
 }
 
 /// How many samples of this spec the type reads into the front of a slice, why no more if it isn't
@@ -250,7 +253,7 @@ pub(crate) fn read_many_counted<R: io::Read, S: Sample>(
     reader: &mut KeepingReader<R>,
     spec_ex: WavSpecEx,
     samples: &mut [S],
-) -> (usize, result::Result<(), NoSample>, u64)
+) -> (usize, result::Result<(), ItemError>, u64)
     ensures each { AnswersReadMany S.refusal S.meaning spec_ex (R.remaining reader.old.reader)
         (R.remaining reader.new.reader) (take result.0 samples.new) result.1 }
     ensures front { FillsFront result.0 result.1 samples.old samples.new }
@@ -258,9 +261,9 @@ pub(crate) fn read_many_counted<R: io::Read, S: Sample>(
     ensures given { HasGiven (R.remaining reader.old.reader) result.2
         (R.remaining reader.new.reader) }
 {
-    let mut answer = (0, Err(NoSample::Failed));
-    let asked = ask_many_since::<R, S, Brand>(reader, spec_ex, samples, &mut answer);
-    let given = asked.done();
+    let mut answer = (0, Err(ItemError::Failed));
+    let read = read_many_typed_since::<R, S, Brand>(reader, spec_ex, samples, &mut answer);
+    let given = read.done();
     (answer.0, answer.1, given)
 }
 
@@ -269,7 +272,7 @@ pub(crate) fn read_many_counted<R: io::Read, S: Sample>(
 pub(crate) fn read_counted<R: io::Read, S: Sample>(
     reader: &mut KeepingReader<R>,
     spec_ex: WavSpecEx,
-) -> (result::Result<S, NoSample>, u64)
+) -> (result::Result<S, ItemError>, u64)
     ensures read { Reads (refusal_at S.refusal spec_ex) (meaning_at S.meaning spec_ex)
         spec_ex.bytes_per_sample (R.remaining reader.old.reader) (R.remaining reader.new.reader)
         (answer_of result.0 reader.new.fault) }
@@ -277,8 +280,8 @@ pub(crate) fn read_counted<R: io::Read, S: Sample>(
     ensures given { HasGiven (R.remaining reader.old.reader) result.1
         (R.remaining reader.new.reader) }
 {
-    let mut answer = Err(NoSample::Failed);
-    let asked = ask_since::<R, S, Brand>(reader, spec_ex, &mut answer);
-    let given = asked.done();
+    let mut answer = Err(ItemError::Failed);
+    let read = read_typed_since::<R, S, Brand>(reader, spec_ex, &mut answer);
+    let given = read.done();
     (answer, given)
 }

@@ -5,7 +5,7 @@ ghost use Rattle.hound_reader.specs.Outcome.{Gives, CountsFailed, Refuses};
 ghost use Rattle.hound_reader.specs.Taken.{TakesFor, content_taken};
 ghost use Rattle.hound_reader.specs.Fmt.{wave_format, wave_format_pcm, wave_format_ieee_float, wave_format_extensible, by_subformat, by_tag, fmt_len, fmt_of, IsSoundSpec};
 
-use crate::fault::{Cause, HeadError, Reason};
+use crate::cause::{Cause, HeadError, Reason};
 use crate::input::fill;
 use hound_number::{Input, u16_at, u32_at};
 use hound_spec::{

@@ -5,7 +5,7 @@ ghost use Rattle.hound_number.specs.Input.{Known};
 ghost use Rattle.hound_reader.specs.Outcome.{Refuses, CountsFailed};
 ghost use Rattle.hound_reader.specs.Sources.{Untouched, account_of, unread};
 
-use crate::fault::{Cause, HeadError};
+use crate::cause::{Cause, HeadError};
 use hound_medium::Source;
 use hound_number::{Input, ReadError, read_into};
 use std::io;

@@ -10,7 +10,7 @@ use std::io;
 /// An `Error` has 96 bytes, which would be filled with zeros and copied for each item; this has
 /// one.
 #[derive(Clone, Copy)]
-pub(crate) enum NoSample {
+pub(crate) enum ItemError {
     /// A read failed or the input ended, by a fault that was saved.
     Failed,
 
@@ -26,14 +26,14 @@ pub(crate) enum NoSample {
 
 /// The reason that an error of `Sample::read` gives; there are no others than these.
 #[inline(always)]
-pub(crate) fn reason_of(error: Error) -> NoSample
+pub(crate) fn reason_of(error: Error) -> ItemError
     ensures { result ≡ reason_of error }
 {
     match error {
-        Error::IoError(_) => NoSample::Failed,
-        Error::InvalidSampleFormat => NoSample::OtherFormat,
-        Error::TooWide => NoSample::Wider,
-        _ => NoSample::OtherPair,
+        Error::IoError(_) => ItemError::Failed,
+        Error::InvalidSampleFormat => ItemError::OtherFormat,
+        Error::TooWide => ItemError::Wider,
+        _ => ItemError::OtherPair,
     }
 }
 
@@ -42,17 +42,17 @@ pub(crate) fn reason_of(error: Error) -> NoSample
 /// It begins as the fault and is changed in its place: so the one copy that is made of the fault
 /// goes to where the caller needs the item.
 #[inline(always)]
-pub(crate) fn error_of_item(no_sample: NoSample, fault: &io::Error) -> Error
+pub(crate) fn error_of_item(no_sample: ItemError, fault: &io::Error) -> Error
     ensures { result ≡ error_of_item no_sample fault.now }
 {
     let mut error = Error::IoError(*fault);
-    if let NoSample::OtherFormat = no_sample {
+    if let ItemError::OtherFormat = no_sample {
         error = Error::InvalidSampleFormat;
     }
-    if let NoSample::Wider = no_sample {
+    if let ItemError::Wider = no_sample {
         error = Error::TooWide;
     }
-    if let NoSample::OtherPair = no_sample {
+    if let ItemError::OtherPair = no_sample {
         error = Error::Unsupported;
     }
     error
@@ -60,11 +60,11 @@ pub(crate) fn error_of_item(no_sample: NoSample, fault: &io::Error) -> Error
 
 /// How many bytes an item without a sample took, of those given for it.
 #[inline(always)]
-pub(crate) fn taken_without(no_sample: NoSample, given: u64, width: u16) -> u64
+pub(crate) fn taken_without(no_sample: ItemError, given: u64, width: u16) -> u64
     ensures { result ≡ taken_without no_sample given width }
 {
     match no_sample {
-        NoSample::Failed => given.min(width as u64),
+        ItemError::Failed => given.min(width as u64),
         _ => 0,
     }
 }

@@ -26,7 +26,7 @@ impl<R: io::Read> KeepingReader<R> {
     /// How many bytes a read gives, or more than the buffer has if it fails. The fault is saved,
     /// and so is the end.
     #[inline]
-    pub(crate) fn give(&mut self, buf: &mut [u8]) -> usize
+    pub(crate) fn read_or_save_error(&mut self, buf: &mut [u8]) -> usize
         ensures bytes { result ≤ length buf.new →
             Consumes (R.remaining self.old.reader) (R.remaining self.new.reader) (take result buf.new) }
         ensures end { result ≡ 0 → 0 < length buf.new → IsAtEnd (R.remaining self.new.reader) }
@@ -52,7 +52,7 @@ impl<R: io::Read> io::Read for KeepingReader<R> {
 
     #[inline(always)]
     fn read(&mut self, buf: &mut [u8]) -> io::Result<usize> {
-        let count = self.give(buf);
+        let count = self.read_or_save_error(buf);
         if count <= buf.len() {
             return Ok(count);
         }

@@ -4,9 +4,9 @@
 //! takes no byte of it, and then gives its samples, one container for each.
 #![tactic(auto)]
 
+mod cause;
 mod chunks;
 mod counting;
-mod fault;
 mod file;
 mod fmt;
 mod input;
@@ -16,8 +16,8 @@ mod laws;
 mod reader;
 mod samples;
 
+pub use cause::{Cause, HeadError, Reason, error_of};
 pub use chunks::{ChunkRead, FileHead, find_data, read_until_data};
-pub use fault::{Cause, HeadError, Reason, error_of};
 pub use input::Counted;
 pub use laws::{
     a_block_is_its_items, a_reader_stands_as_counted, a_seek_leads_to_its_frame,

@@ -9,7 +9,7 @@ ghost use Rattle.hound_reader.specs.Fmt.{IsSoundSpec};
 ghost use Rattle.hound_reader.specs.Chunks.{Readable, Unreadable};
 ghost use Rattle.hound_reader.specs.Front.{ReportsFront};
 ghost use Rattle.hound_reader.specs.Taken.{TakesAll, UnreadableAfter};
-ghost use Rattle.hound_reader.specs.declared.fault.Cause.{Cause};
+ghost use Rattle.hound_reader.specs.declared.cause.Cause.{Cause};
 ghost use Rattle.hound_reader.specs.Refusals.{IsRefusal, OpensAs, FailsAs};
 ghost use Rattle.hound_medium.specs.State.{Shifts, WhereTells};
 ghost use Rattle.hound_reader.specs.Reader.{IsNext, HasWholeFrames, samples_left};
@@ -17,10 +17,10 @@ ghost use Rattle.hound_reader.specs.Blocks.{ReadsBlock};
 ghost use Rattle.hound_reader.specs.Seeking.{Recounts, way_to};
 ghost use Rattle.hound_reader.specs.Samples.{lent_reader, lender, taken_reader};
 
+use crate::cause::{Cause, HeadError, Reason, error_of};
 use crate::chunks::{read_riff_header, read_until_data};
 use crate::counting::{read_counted, read_many_counted};
-use crate::fault::{Cause, HeadError, Reason, error_of};
-use crate::item::{NoSample, error_of_item, taken_without};
+use crate::item::{ItemError, error_of_item, taken_without};
 use crate::keeping::KeepingReader;
 use crate::samples::{WavIntoSamples, WavSamples};
 use hound_medium::{Placed, Source};
@@ -170,7 +170,7 @@ impl<R: io::Read + Drop> WavReader<R> {
     }
 
     /// The number of samples in the file, of all channels together, whatever was read: the data
-    /// length by the bytes of a sample. `len` of [`WavReader::samples`] is how many are left.
+    /// length divided by the bytes of a sample. `len` of [`WavReader::samples`] counts those left.
     pub fn len(&self) -> u32
         ensures { result ≡ self.now.num_samples }
     {

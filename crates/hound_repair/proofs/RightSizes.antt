@@ -6,8 +6,8 @@ use Rattle.std.proofs.Math.Nat.{mul_assoc}
 use Rattle.hound_number.specs.Number.{bytes_of, number}
 use Rattle.hound_spec.specs.declared.spec.WavSpecEx.{WavSpecEx}
 use Rattle.hound_medium.specs.Bytes.{placed, overlay}
-use Rattle.hound_reader.specs.declared.fault.Cause.TheVariants.{Format}
-use Rattle.hound_reader.specs.declared.fault.Reason.TheVariants.{DataLength, FrameLength}
+use Rattle.hound_reader.specs.declared.cause.Cause.TheVariants.{Format}
+use Rattle.hound_reader.specs.declared.cause.Reason.TheVariants.{DataLength, FrameLength}
 use Rattle.hound_reader.specs.Chunks.{Head, Readable, data_fault}
 use Rattle.hound_writer.specs.Sizes.{SameButSizes, field, with_sizes}
 use Rattle.hound_writer.proofs.Heads.{head_behind, head_inside, head_with}

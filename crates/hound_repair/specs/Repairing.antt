@@ -7,8 +7,8 @@ use Rattle.hound_spec.specs.Header.{riff_size}
 use Rattle.hound_spec.specs.Writable.{is_pair}
 use Rattle.hound_number.specs.Number.{mix}
 use Rattle.hound_medium.specs.State.{MediumState, faults_after, one_more}
-use Rattle.hound_reader.specs.declared.fault.Cause.{Cause}
-use Rattle.hound_reader.specs.declared.fault.Cause.TheVariants.{Unsupported}
+use Rattle.hound_reader.specs.declared.cause.Cause.{Cause}
+use Rattle.hound_reader.specs.declared.cause.Cause.TheVariants.{Unsupported}
 use Rattle.hound_reader.specs.Chunks.{Head, Readable, Refused}
 use Rattle.hound_writer.specs.Answers.{IsIoError}
 use Rattle.hound_writer.specs.Appending.{AppendFault, by_bytes, too_long, NamesFault, PutsNothing}

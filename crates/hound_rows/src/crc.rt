@@ -1,5 +1,5 @@
 // Checksums, as zlib's `crc32` makes them.
-// The remainder of four bits at the low end.
+// The effect of the four low bits of the remainder.
 const TABLE: [u32; 16] = [
     0x0000_0000,
     0x1db7_1064,

@@ -260,7 +260,7 @@ impl Sum {
     }
 
     /// For the samples that a reader has left, by blocks of as many as this slice has. After an
-    /// error the first samples of the slice count by how many fewer are left, less one.
+    /// error the samples read are the first of the slice: as many as fewer are left, less one.
     pub fn of_blocks<T: Value>(
         reader: &mut WavReader<impl io::Read + Drop>,
         samples: &mut [T],

@@ -148,7 +148,7 @@ impl WriterWords {
     ghost use Rattle.hound.specs.Counts.{Counts};
     ghost use Rattle.hound.specs.Fields.{IsConsistent, bytes_kept, of_fields};
     ghost use Rattle.hound.specs.Many.{AcceptsEach, all_containers, containers_in, joined_containers, outcome_of, sample_bytes};
-    ghost use Rattle.hound.specs.Parts.{HasSize, IsPatched, IsStanding, IsTold, Patches, PatchesAtEach, PutsAt};
+    ghost use Rattle.hound.specs.Parts.{HasSize, IsPatched, IsPublishResult, IsStanding, Patches, PatchesAtEach, PutsAt};
     ghost use Rattle.hound.specs.Publishing.{Checkpoints, Finishes};
     ghost use Rattle.hound.specs.Room.{IsSixteen};
     ghost use Rattle.hound.specs.Sizes.{field};

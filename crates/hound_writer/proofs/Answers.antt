@@ -9,7 +9,7 @@ use Rattle.hound_spec.specs.Header.{riff_size}
 use Rattle.hound_medium.specs.State.{faults_after}
 use Rattle.hound_sample.specs.Container.{Refusal}
 use Rattle.hound_writer.specs.Answers.{AcceptAnswer, FitAnswer, IsPublishing, OnRefused, OnPublished, UnlessFailed, faults_told}
-use Rattle.hound_writer.specs.Parts.{IsTold}
+use Rattle.hound_writer.specs.Parts.{IsPublishResult}
 use Rattle.hound_writer.specs.Writer.{WriterState, data_length, sample_count}
 
 pub on_refused : {T P : Type 0} (answer : Result T Error) → P → OnRefused answer P
@@ -46,7 +46,7 @@ on_ok_then (Err e) then here = tt
 
 -- what holds after an Ok patch holds if its caller returns that all was published
 pub published : (P : Type 0) (patched : Result (Unit {0}) IoFault) (are_frames : Bool)
-    (told : Result (Unit {0}) Error) → IsTold patched are_frames told → OnOk patched P
+    (told : Result (Unit {0}) Error) → IsPublishResult patched are_frames told → OnOk patched P
     → OnPublished told P
 published P (Err e) are_frames told is here = subst (λ t. OnPublished t P) (sym is) tt
 published P (Ok x) true told is here = subst (λ t. OnPublished t P) (sym is) here
@@ -54,7 +54,7 @@ published P (Ok x) false told is here = subst (λ t. OnPublished t P) (sym is) h
 
 -- an Ok is returned only for whole frames
 pub told_ok : (P : Type 0) (patched : Result (Unit {0}) IoFault) (are_frames : Bool)
-    (told : Result (Unit {0}) Error) → IsTold patched are_frames told
+    (told : Result (Unit {0}) Error) → IsPublishResult patched are_frames told
     → (are_frames ≡ true → OnOk patched P) → OnOk told P
 told_ok P (Err e) are_frames told is here = subst (λ t. OnOk t P) (sym is) tt
 told_ok P (Ok x) true told is here = subst (λ t. OnOk t P) (sym is) (here refl)
@@ -62,7 +62,7 @@ told_ok P (Ok x) false told is here = subst (λ t. OnOk t P) (sym is) tt
 
 -- the faults that a result reports are those of the patch
 pub told_faults : (patched : Result (Unit {0}) IoFault) (are_frames : Bool)
-    (told : Result (Unit {0}) Error) (old new : ℕ) → IsTold patched are_frames told
+    (told : Result (Unit {0}) Error) (old new : ℕ) → IsPublishResult patched are_frames told
     → new ≡ faults_after patched old → new ≡ faults_told told old
 told_faults (Err e) are_frames told old new is here =
     subst (λ t. new ≡ faults_told t old) (sym is) here

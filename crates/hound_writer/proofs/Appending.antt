@@ -6,8 +6,8 @@ use Rattle.hound_spec.specs.declared.spec.WavSpecEx.{WavSpecEx}
 use Rattle.hound_spec.specs.Header.{riff_size}
 use Rattle.hound_medium.specs.State.{MediumState, Goes, WhereTells, one_more}
 use Rattle.hound_reader.specs.declared.chunks.FileHead.{FileHead}
-use Rattle.hound_reader.specs.declared.fault.HeadError.{HeadError}
-use Rattle.hound_reader.specs.declared.fault.HeadError.TheVariants.{Failed, Refused}
+use Rattle.hound_reader.specs.declared.cause.HeadError.{HeadError}
+use Rattle.hound_reader.specs.declared.cause.HeadError.TheVariants.{Failed, Refused}
 use Rattle.hound_reader.specs.Fmt.{IsSoundSpec as IsSoundHead}
 use Rattle.hound_reader.specs.Chunks.{Head, Refused as RefusedFor}
 use Rattle.hound_reader.specs.Refusals.{ReportsError}

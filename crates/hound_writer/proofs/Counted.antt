@@ -6,7 +6,7 @@ use Rattle.std.proofs.Math.Nat.{div-mul-le_self}
 use Rattle.std.specs.List.{concat}
 use Rattle.hound_spec.specs.declared.spec.WavSpecEx.{WavSpecEx}
 use Rattle.hound_sample.specs.Container.{containers}
-use Rattle.hound_reader.specs.declared.fault.Cause.{Cause}
+use Rattle.hound_reader.specs.declared.cause.Cause.{Cause}
 use Rattle.hound_reader.specs.Chunks.{Head, data_fault}
 use Rattle.hound_writer.specs.Sizes.{field}
 use Rattle.hound_writer.specs.Counts.{Counts, ReadsFirst}

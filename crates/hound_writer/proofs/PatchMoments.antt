@@ -19,7 +19,7 @@ use Rattle.hound_medium.proofs.Spans.{span_puts, join, and_still}
 use Rattle.hound_medium.proofs.Torn.{number_at_small, number_at_mix}
 use Rattle.hound_spec.specs.declared.error.Error.{Error}
 use Rattle.hound_writer.specs.Counts.{Counts}
-use Rattle.hound_writer.specs.Parts.{HasSize, IsPatched, Patches, PatchesAtEach, PutsAt, IsStanding, IsTold}
+use Rattle.hound_writer.specs.Parts.{HasSize, IsPatched, Patches, PatchesAtEach, PutsAt, IsStanding, IsPublishResult}
 use Rattle.hound_writer.specs.Answers.{IsPublishing}
 use Rattle.hound_durable.specs.Losses.{place_of}
 use Rattle.hound_writer.specs.Publishing.{Checkpoints, Finishes, Publishes, IsHalfPublished, IsOldOrNew, PublishesAtEach, PutsLast}
@@ -203,7 +203,7 @@ pub publishes_at_each : {W : Type 0} (state : W → MediumState) (w : WriterStat
     → IsStanding w.spec_ex w.data_start w.out (state w.medium).contents
     → IsPadded w (state w.medium).contents → AreBytes (state w.medium).contents
     → (end : W) (patched : Result (Unit {0}) IoFault) (are_frames : Bool)
-    (told : Result (Unit {0}) Error) → IsTold patched are_frames told
+    (told : Result (Unit {0}) Error) → IsPublishResult patched are_frames told
     → PatchesAtEach (w.data_start - 4) w.out patched (state w.medium) (state end)
     → PublishesAtEach state w told end
 publishes_at_each state w none sound stands padded small end patched are_frames told is patches =
@@ -295,7 +295,7 @@ module _ {W : Type 0} (tells keeps : Bool) (state : W → MediumState) (w : Writ
     (stands : WhereTells tells (IsStanding w.spec_ex w.data_start w.out (state w.medium).contents))
     (padded : WhereTells tells (IsPadded w (state w.medium).contents))
     (patched : Result (Unit {0}) IoFault) (are_frames : Bool) (told : Result (Unit {0}) Error)
-    (is : IsTold patched are_frames told)
+    (is : IsPublishResult patched are_frames told)
     (new : WriterState W) (same : new ≡ record w { medium = end })
     (of_new : (IsTrue are_frames → AreFrames new) × (AreFrames new → IsTrue are_frames))
     (before : WhereTells tells (AreBytes (state w.medium).contents))
@@ -313,7 +313,7 @@ module _ {W : Type 0} (tells keeps : Bool) (state : W → MediumState) (w : Writ
   answers = go patched are_frames told is frames
     where
       go : (patched : Result (Unit {0}) IoFault) (are_frames : Bool)
-          (told : Result (Unit {0}) Error) → IsTold patched are_frames told
+          (told : Result (Unit {0}) Error) → IsPublishResult patched are_frames told
           → (IsTrue are_frames → AreFrames w) × (AreFrames w → IsTrue are_frames)
           → IsPublishing told w
       go (Err e) are_frames told is frames = subst (λ t. IsPublishing t w) (sym is) tt

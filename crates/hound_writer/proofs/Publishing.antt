@@ -14,7 +14,7 @@ use Rattle.hound_spec.specs.Header.{riff_tag, data_start, header, riff_size, pad
 use Rattle.hound_spec.proofs.HeaderLemmas.{described, header-parts, length-header, length-described}
 use Rattle.hound_sample.specs.Container.{containers}
 use Rattle.hound_writer.specs.Fields.{IsConsistent}
-use Rattle.hound_writer.specs.Parts.{IsTold, Patches, IsStanding}
+use Rattle.hound_writer.specs.Parts.{IsPublishResult, Patches, IsStanding}
 use Rattle.hound_writer.specs.Sizes.{SameButSizes, with_sizes, field}
 use Rattle.hound_writer.specs.Counts.{Counts, ReadsFirst}
 use Rattle.hound_writer.specs.Publishing.{Publishes, ReadsAs}
@@ -23,7 +23,7 @@ use Rattle.hound_writer.proofs.Answers.{on_ok_then, published, told_faults, told
 use Rattle.hound_writer.proofs.Keeping.{consistent_moved}
 use Rattle.hound_writer.proofs.Later.{drop_later}
 use Rattle.hound_writer.proofs.Samples.{concat-samples, counts_at, length-samples, length_out, whole_out}
-use Rattle.hound_reader.specs.declared.fault.Cause.{Cause}
+use Rattle.hound_reader.specs.declared.cause.Cause.{Cause}
 use Rattle.hound_reader.specs.Chunks.{Readable, data_fault}
 use Rattle.hound_writer.proofs.Patching.{riff_size_of_sizes, data_length_of_sizes}
 use Rattle.hound_writer.proofs.Heads.{in_parts}
@@ -207,7 +207,7 @@ module _ {W : Type 0} (state : W → MediumState) (w : WriterState W) (none : w.
 
   -- What a patch leaves, and the result of a call that has done one.
   pub publishes : (patched : Result (Unit {0}) IoFault) (are_frames : Bool)
-      (told : Result (Unit {0}) Error) → IsTold patched are_frames told
+      (told : Result (Unit {0}) Error) → IsPublishResult patched are_frames told
       → (are_frames ≡ true → AreFrames w) → AreBytes (state end).contents
       → Patches (w.data_start - 4) (riff_size w.data_start w.out) w.out patched (state w.medium)
       (state end) → Publishes state w told end

@@ -1,4 +1,4 @@
--- What a call leaves that accepts samples or not.
+-- What a call for samples leaves, whether it accepts them or not.
 use Rattle.std.specs.Prelude.{◌≡◌, ℕ, ◌+◌, ◌≤◌, max, Bool, List, ◌++◌, length, take, drop, Result}
 use Rattle.std.specs.List.{concat}
 use Rattle.hound_spec.specs.declared.error.Error.{Error}

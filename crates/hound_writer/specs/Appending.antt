@@ -7,9 +7,9 @@ use Rattle.hound_spec.specs.FmtChunk.{greatest_u32}
 use Rattle.hound_spec.specs.Header.{riff_size}
 use Rattle.hound_spec.specs.Writable.{is_pair}
 use Rattle.hound_medium.specs.State.{MediumState, Stays, WhereTells, one_more}
-use Rattle.hound_reader.specs.declared.fault.Cause.{Cause}
-use Rattle.hound_reader.specs.declared.fault.Cause.TheVariants.{Format, Unsupported}
-use Rattle.hound_reader.specs.declared.fault.Reason.TheVariants.{DataLength, FrameLength}
+use Rattle.hound_reader.specs.declared.cause.Cause.{Cause}
+use Rattle.hound_reader.specs.declared.cause.Cause.TheVariants.{Format, Unsupported}
+use Rattle.hound_reader.specs.declared.cause.Reason.TheVariants.{DataLength, FrameLength}
 use Rattle.hound_reader.specs.Chunks.{Head, Refused}
 use Rattle.hound_reader.specs.Refusals.{Names}
 use Rattle.hound_writer.specs.Answers.{IsIoError}

@@ -61,7 +61,7 @@ pub record IsStanding (s : WavSpecEx) (start n : ℕ) (contents : List ℕ) : Ty
   pub counted : field (start - 4) contents ≤ n
 
 -- the result of a call that has patched the header, or met a fault: Ok exactly for whole frames
-abbrev pub IsTold : Result (Unit {0}) IoFault → Bool → Result (Unit {0}) Error → Type 0
-IsTold (Err e) are_frames told = told ≡ Err (IoError e)
-IsTold (Ok x) true told = told ≡ Ok x
-IsTold (Ok x) false told = told ≡ Err UnfinishedSample
+abbrev pub IsPublishResult : Result (Unit {0}) IoFault → Bool → Result (Unit {0}) Error → Type 0
+IsPublishResult (Err e) are_frames told = told ≡ Err (IoError e)
+IsPublishResult (Ok x) true told = told ≡ Ok x
+IsPublishResult (Ok x) false told = told ≡ Err UnfinishedSample

@@ -71,6 +71,6 @@ impl<W: Medium, B: BatchMemory> Drop for SampleWriter16<'_, W, B> {
             written: _,
             left: _,
         } = self;
-        parent.output.keep(memory.into_vec());
+        parent.output.take_back_memory(memory.into_vec());
     }
 }

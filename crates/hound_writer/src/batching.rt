@@ -44,7 +44,7 @@ impl<W: Medium> Output<W> {
     }
 
     /// Takes memory back for later batches.
-    pub(crate) fn keep(&mut self, memory: Vec<u8>)
+    pub(crate) fn take_back_memory(&mut self, memory: Vec<u8>)
         ensures { self.new ≡ record self.old { buffer = memory.items } }
     {
         self.buffer = Some(memory);
@@ -98,7 +98,7 @@ impl<W: Medium> WavWriter<W> {
         let accepted = self
             .output
             .accept_batch(&memory[..num_bytes], &mut self.fault);
-        self.output.keep(memory);
+        self.output.take_back_memory(memory);
         accepted
     }
 

@@ -18,13 +18,13 @@ use std::rt::Files;
 use std::{fs, io};
 
 // How many bytes a writer to a file buffers.
-const KEPT_BACK: usize = 65536;
+const FILE_BUFFER_SIZE: usize = 65536;
 
 // A writer to a file, which buffers bytes until there are many.
 fn buffered(alloc: Global, file: fs::File) -> Result<io::BufWriter<fs::File>>
     ensures { IfErr result (λ e. e ≡ OutOfMemory) }
 {
-    match io::BufWriter::with_capacity(alloc, KEPT_BACK, file) {
+    match io::BufWriter::with_capacity(alloc, FILE_BUFFER_SIZE, file) {
         Ok(writer) => Ok(writer),
         Err(_) => Err(Error::OutOfMemory),
     }

@@ -33,7 +33,7 @@ pub(crate) enum Outcome {
 /// It begins as the fault and is changed in its place: so the one copy that is made of the fault
 /// goes to where the caller needs the error.
 #[inline(always)]
-pub(crate) fn error_of(outcome: Outcome, fault: &io::Error) -> Error
+pub(crate) fn error_of_outcome(outcome: Outcome, fault: &io::Error) -> Error
     ensures { (outcome ≡ Accepted → ⊥) → answer_of outcome fault.now ≡ Err result }
 {
     let mut error = Error::IoError(*fault);

@@ -2,7 +2,7 @@
 ghost use Rattle.std.specs.Prelude.{◌≡◌, ◌+◌, ◌^◌, ◌≤◌, IsTrue};
 ghost use Rattle.hound_spec.specs.Header.{riff_size};
 ghost use Rattle.hound_writer.specs.Block.{IsLimit};
-ghost use Rattle.hound_writer.specs.Parts.{IsTold};
+ghost use Rattle.hound_writer.specs.Parts.{IsPublishResult};
 
 use crate::block::{BLOCK_LENGTH, Block};
 use crate::many::{look_at, put_samples_at_end};
@@ -36,7 +36,7 @@ pub(crate) struct Output<W: Medium> {
     block: Block,
 
     // Below this many buffered bytes there is room for a sample, in the block and in the file.
-    limit: usize,
+    fast_path_limit: usize,
 
     // The memory that batches use, which later ones reuse.
     pub(crate) buffer: Option<Vec<u8>>,
@@ -52,7 +52,7 @@ impl<W: Medium> Model for Output<W> {
         (bytes_kept (λ buffer. buffer.items) w.buffer) };
 
     ghost invariant = { λ w. IsConsistent W.tells W.state (of_fields w.writer w.spec_ex w.data_start w.data_bytes_written w.block
-        (bytes_kept (λ buffer. buffer.items) w.buffer)) w.may_have_moved w.limit };
+        (bytes_kept (λ buffer. buffer.items) w.buffer)) w.may_have_moved w.fast_path_limit };
 }
 
 /// The RIFF size of a file whose data begin at this place and have this length, pad byte included.
@@ -67,8 +67,8 @@ pub fn riff_size(data_start: u64, data_length: u64) -> u64
 }
 
 // Below how many buffered bytes a block has room for a sample of any width, if this many bytes are
-// written: 0 if the RIFF size may not fit a whole block more.
-fn limit_of(data_start: u64, data_bytes_written: u32) -> usize
+// written: 0 if a whole block more might not fit the RIFF size.
+fn fast_path_limit_of(data_start: u64, data_bytes_written: u32) -> usize
     requires behind { 8 ≤ data_start }
     requires small { data_start ≤ 2 ^ 33 }
     ensures room { IsLimit data_start data_bytes_written result }
@@ -82,8 +82,8 @@ fn limit_of(data_start: u64, data_bytes_written: u32) -> usize
 }
 
 // The result of a call that has patched the header, or met a fault.
-fn told(patched: io::Result<()>, are_frames: bool) -> Result<()>
-    ensures { IsTold patched are_frames result }
+fn publish_result(patched: io::Result<()>, are_frames: bool) -> Result<()>
+    ensures { IsPublishResult patched are_frames result }
 {
     patched?;
     if !are_frames {
@@ -126,7 +126,7 @@ impl<W: Medium> Output<W> {
             data_bytes_written: data_length,
             may_have_moved: false,
             block: Block::new(),
-            limit: limit_of(data_start, data_length),
+            fast_path_limit: fast_path_limit_of(data_start, data_length),
             buffer: None,
         }
     }
@@ -172,7 +172,7 @@ impl<W: Medium> Output<W> {
         }
         self.data_bytes_written += self.block.len() as u32;
         self.block.clear();
-        self.limit = limit_of(self.data_start, self.data_bytes_written);
+        self.fast_path_limit = fast_path_limit_of(self.data_start, self.data_bytes_written);
         true
     }
 
@@ -214,7 +214,7 @@ impl<W: Medium> Output<W> {
             return false;
         }
         self.data_bytes_written += bytes.len() as u32;
-        self.limit = limit_of(self.data_start, self.data_bytes_written);
+        self.fast_path_limit = fast_path_limit_of(self.data_start, self.data_bytes_written);
         true
     }
 
@@ -297,7 +297,7 @@ impl<W: Medium> Output<W> {
         let width = self.spec_ex.bytes_per_sample;
         match sample.encode(self.spec_ex.spec.bits_per_sample, width) {
             Ok(container) => {
-                if self.block.len() < self.limit {
+                if self.block.len() < self.fast_path_limit {
                     self.block.push(container, width as usize);
                     return Outcome::Accepted;
                 }
@@ -357,7 +357,7 @@ impl<W: Medium> Output<W> {
         }
         self.block.clear();
         self.data_bytes_written += samples.len() as u32 * self.spec_ex.bytes_per_sample as u32;
-        self.limit = limit_of(self.data_start, self.data_bytes_written);
+        self.fast_path_limit = fast_path_limit_of(self.data_start, self.data_bytes_written);
         true
     }
 
@@ -493,7 +493,7 @@ impl<W: Medium> Output<W> {
             return Err(Error::IoError(*fault));
         }
         let published = self.publish_and_return();
-        told(published, self.are_frames())
+        publish_result(published, self.are_frames())
     }
 
     /// Publishes for the last time.
@@ -507,7 +507,7 @@ impl<W: Medium> Output<W> {
             return Err(Error::IoError(*fault));
         }
         let published = self.publish();
-        told(published, self.are_frames())
+        publish_result(published, self.are_frames())
     }
 
     /// The medium, once the writer is done with it.
@@ -521,7 +521,7 @@ impl<W: Medium> Output<W> {
             data_bytes_written: _,
             may_have_moved: _,
             block: _,
-            limit: _,
+            fast_path_limit: _,
             buffer: _,
         } = self;
         writer

@@ -1,5 +1,5 @@
 // The writer of samples.
-use crate::outcome::{Outcome, error_of};
+use crate::outcome::{Outcome, error_of_outcome};
 use crate::output::Output;
 use hound_medium::{Medium, put_all};
 use hound_sample::Sample;
@@ -143,7 +143,7 @@ impl<W: Medium> WavWriter<W> {
         if let Outcome::Accepted = outcome {
             return Ok(());
         }
-        Err(error_of(outcome, &self.fault))
+        Err(error_of_outcome(outcome, &self.fault))
     }
 
     /// Writes samples, all of them or none; the channels of a frame follow one another, and a frame
@@ -152,7 +152,7 @@ impl<W: Medium> WavWriter<W> {
     /// the time of single ones.
     ///
     /// The errors, in the order in which they are checked: `Unsupported` or `TooWide`, that of
-    /// the first sample which has no container with the file's bits and bytes; `TooLong`, where the
+    /// the first sample which has no container with the file's bits and bytes; `TooLong`, if the
     /// RIFF size of the file with all of them would pass 4294967295; `IoError`, if the medium
     /// failed. At each of them none of the samples is accepted, nor those before a rejected one
     /// or a fault, and writing can continue: the next sample goes where the first of these should
@@ -166,7 +166,7 @@ impl<W: Medium> WavWriter<W> {
         if let Outcome::Accepted = outcome {
             return Ok(());
         }
-        Err(error_of(outcome, &self.fault))
+        Err(error_of_outcome(outcome, &self.fault))
     }
 
     /// Publishes the accepted samples: writes the buffered ones, the pad byte after an odd number

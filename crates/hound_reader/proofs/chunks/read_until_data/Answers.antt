@@ -5,8 +5,8 @@ use Rattle.hound_number.specs.Input.{Known}
 use Rattle.hound_reader.specs.Chunks.{Head, Refused}
 use Rattle.hound_reader.specs.Answer.{Answer, Answers, ReportsAnswer}
 use Rattle.hound_reader.specs.declared.chunks.FileHead.{FileHead}
-use Rattle.hound_reader.specs.declared.fault.HeadError.{HeadError}
-use Rattle.hound_reader.specs.declared.fault.HeadError.TheVariants.{Failed, Refused as Refused'}
+use Rattle.hound_reader.specs.declared.cause.HeadError.{HeadError}
+use Rattle.hound_reader.specs.declared.cause.HeadError.TheVariants.{Failed, Refused as Refused'}
 use Rattle.hound_number.proofs.KnownSteps.{known_weaker}
 use Rattle.hound_reader.proofs.Exists.{tells_ok, tells_err}
 use Rattle.hound_reader.proofs.chunks.read_until_data.Goals as goal

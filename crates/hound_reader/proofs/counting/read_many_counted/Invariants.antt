@@ -1,5 +1,5 @@
 use Rattle.hound_reader.proofs.counting.read_many_counted.Given as goal
 
-abbrev pub ghosts-ask_many_since : goal.ghosts-ask_many_since
-ghosts-ask_many_since g a =
+abbrev pub ghosts-read_many_typed_since : goal.ghosts-read_many_typed_since
+ghosts-read_many_typed_since g a =
     record { left = g.R.Read.remaining a.reader.now.reader; lender = a.reader.ghost_name }

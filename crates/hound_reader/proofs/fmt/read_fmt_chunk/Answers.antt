@@ -11,7 +11,7 @@ use Rattle.hound_reader.specs.Taken.{TakesFor, content_taken}
 use Rattle.hound_number.specs.Number.{number}
 use Rattle.hound_reader.specs.Outcome.{Refuses}
 use Rattle.hound_spec.specs.declared.spec.WavSpecEx.{WavSpecEx}
-use Rattle.hound_reader.specs.declared.fault.HeadError.{HeadError}
+use Rattle.hound_reader.specs.declared.cause.HeadError.{HeadError}
 use Rattle.hound_reader.proofs.fmt.read_fmt_chunk.Goals as goal
 
 pub returns-in_err-found-clause-gives : goal.returns-in_err-found-clause-gives

@@ -1,7 +1,7 @@
 use Rattle.std.proofs.Common.{◌≡◌, ◌%◌, ◌/◌, ◌==◌, false, true, refl, arith}
 use Rattle.std.proofs.lemmas.Bool.Decides.{nat_tests}
-use Rattle.hound_reader.specs.declared.fault.Cause.TheVariants.{Format}
-use Rattle.hound_reader.specs.declared.fault.Reason.TheVariants.{DataLength, FrameLength}
+use Rattle.hound_reader.specs.declared.cause.Cause.TheVariants.{Format}
+use Rattle.hound_reader.specs.declared.cause.Reason.TheVariants.{DataLength, FrameLength}
 use Rattle.hound_reader.proofs.TakenLemmas.{length_takes}
 use Rattle.hound_reader.proofs.reader.read_until_samples.Goals as goal
 

@@ -26,8 +26,8 @@ invariant_of-self-2 g c =
     let W = g.W.Placed in
     consistent_seen W.tells W.state _ _ _ _ _ refl (sym c.if-not-put_at_end.ensures.moved)
     (kept_at_once W.tells W.keeps W.state _ _ _ c.self.invariant
-    (search rules) c.put_at_end.new.medium c.args.bytes.now c.limit_of-self-inside.result
-    c.limit_of-self-inside.ensures.room (search rules) (search rules)
+    (search rules) c.put_at_end.new.medium c.args.bytes.now c.fast_path_limit_of-self-inside.result
+    c.fast_path_limit_of-self-inside.ensures.room (search rules) (search rules)
     c.if-not-put_at_end.ensures.puts)
 
 pub returns-clause-accepts : goal.returns-clause-accepts

@@ -60,9 +60,9 @@ invariant_of-self-2 g c =
     ((none ∙ sym c.clear-2.ensures) j) (bytes_kept (λ buffer. buffer.items) i.buffer))
     (sym c.if-not-put_samples_at_end.ensures.moved)
     (kept_at_once W.tells W.keeps W.state _ _ _ c.self.invariant none new.medium bytes
-    c.limit_of-self-inside.result
-    (subst (λ n. IsLimit i.data_start (i.data_bytes_written + n) c.limit_of-self-inside.result)
-    (sym more) c.limit_of-self-inside.ensures.room) fits.room fits.whole
+    c.fast_path_limit_of-self-inside.result
+    (subst (λ n. IsLimit i.data_start (i.data_bytes_written + n) c.fast_path_limit_of-self-inside.result)
+    (sym more) c.fast_path_limit_of-self-inside.ensures.room) fits.room fits.whole
     c.if-not-put_samples_at_end.ensures.puts)
 
 pub returns-clause-accepts : goal.returns-clause-accepts

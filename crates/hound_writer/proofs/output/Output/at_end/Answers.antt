@@ -17,7 +17,7 @@ invariant_of-result g c =
           ∙ c.requires.sound.whole;
       whole_waiting = none_whole width;
       block = omega arith;
-      room = c.limit_of.ensures.room;
+      room = c.fast_path_limit_of.ensures.room;
       stands = c.requires.stands;
       place = λ tells _. c.requires.place tells;
     }

@@ -35,13 +35,13 @@ returns g c =
     let publish = c.publish-published in
     let e = publish.ensures in
     finishes_later W.tells W.keeps W.state
-    (data_end first) first mid c.told.result publish.new.self.medium (omega arith) out
+    (data_end first) first mid c.publish_result.result publish.new.self.medium (omega arith) out
     (g.met.W.Placed.bytes first.medium)
     (finishes_later W.tells W.keeps W.state
-    (padded_end mid) mid padded c.told.result publish.new.self.medium (omega arith) pad.goes
+    (padded_end mid) mid padded c.publish_result.result publish.new.self.medium (omega arith) pad.goes
     (g.met.W.Placed.bytes mid.medium)
     (finishes W.tells W.keeps W.state padded publish.new.self.medium none e.sound e.stands
     (λ told.
-    pad.padded told refl) publish.result c.are_frames.result c.told.result c.told.ensures
+    pad.padded told refl) publish.result c.are_frames.result c.publish_result.result c.publish_result.ensures
     publish.new.self e.stays c.are_frames.ensures (g.met.W.Placed.bytes padded.medium)
     (g.met.W.Placed.bytes publish.new.self.medium) e.patches e.moments e.place))

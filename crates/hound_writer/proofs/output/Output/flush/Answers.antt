@@ -35,13 +35,13 @@ returns g c =
     let publish = c.publish_and_return-published in
     let e = publish.ensures in
     checkpoints_later W.tells W.keeps W.state
-    (data_end first) first mid publish.new.self c.told.result (omega arith) out
+    (data_end first) first mid publish.new.self c.publish_result.result (omega arith) out
     (g.met.W.Placed.bytes first.medium)
     (checkpoints_later W.tells W.keeps W.state
-    (padded_end mid) mid padded publish.new.self c.told.result (omega arith) pad.goes
+    (padded_end mid) mid padded publish.new.self c.publish_result.result (omega arith) pad.goes
     (g.met.W.Placed.bytes mid.medium)
     (checkpoints W.tells W.keeps W.state padded publish.new.self.medium none e.sound e.stands
     (λ told.
-    pad.padded told refl) publish.result c.are_frames.result c.told.result c.told.ensures
+    pad.padded told refl) publish.result c.are_frames.result c.publish_result.result c.publish_result.ensures
     publish.new.self e.stays c.are_frames.ensures (g.met.W.Placed.bytes padded.medium)
     (g.met.W.Placed.bytes publish.new.self.medium) e.patches e.moments e.place))

@@ -46,10 +46,10 @@ invariant_of-self-2 g c =
     (consistent_out W.tells W.keeps W.state _ _ _ c.self.invariant
     (λ tells keeps.
     g.met.W.Medium.replays c.self.inside.writer tells keeps) c.put_at_end.new.medium
-    c.limit_of-self-inside.result
+    c.fast_path_limit_of-self-inside.result
     (subst (λ n. IsLimit i.data_start
-    (i.data_bytes_written + n) c.limit_of-self-inside.result) c.len-2.ensures.length
-    c.limit_of-self-inside.ensures.room)
+    (i.data_bytes_written + n) c.fast_path_limit_of-self-inside.result) c.len-2.ensures.length
+    c.fast_path_limit_of-self-inside.ensures.room)
     (puts_same W.tells W.keeps _ _ _ _ _ _ c.as_slice-bytes.ensures
     c.if-not-put_at_end.ensures.puts))
 

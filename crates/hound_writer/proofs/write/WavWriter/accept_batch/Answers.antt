@@ -15,9 +15,9 @@ returns-clause-accepts g c =
     let old = record w { buffer = items } in
     let bytes = take c.args.num_bytes c.deref.result.now in
     subst (λ bytes. Accepts W.tells W.keeps W.state false (asked bytes) accept.result old
-    c.keep.new.self) (ap (take c.args.num_bytes) c.deref.ensures.value)
+    c.take_back_memory.new.self) (ap (take c.args.num_bytes) c.deref.ensures.value)
     (subst (Accepts W.tells W.keeps W.state false (asked bytes) accept.result old)
-    (sym c.keep.ensures)
+    (sym c.take_back_memory.ensures)
     (accepts_beside W.tells W.keeps W.state (asked bytes) accept.result w
     accept.new.self items
     (accepts_seen W.tells W.keeps W.state bytes accept.result _ _ _ _ c.self.view_is refl

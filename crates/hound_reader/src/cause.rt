@@ -1,6 +1,6 @@
 // Why the bytes before the data can't be read.
 ghost use Rattle.std.specs.Prelude.{◌≡◌};
-ghost use Rattle.hound_reader.specs.declared.fault.HeadError.TheVariants.{Refused};
+ghost use Rattle.hound_reader.specs.declared.cause.HeadError.TheVariants.{Refused};
 ghost use Rattle.hound_reader.specs.Refusals.{reason_text, ReportsError};
 
 use hound_number::ReadError;
