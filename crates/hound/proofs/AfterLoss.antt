@@ -18,27 +18,8 @@ use Rattle.hound_writer.proofs.Heads.{head_behind}
 use Rattle.hound.specs.declared.session.Step.{Step}
 use Rattle.hound.specs.Headline.{CountedAtEach, CountedAfterLoss, StoredAtEach, accepted_after, cut_point}
 use Rattle.hound.specs.Steps.{accepted_by, accepted_by_all}
-use Rattle.hound.proofs.Leading.{concat-append}
+use Rattle.hound_repair.proofs.Joining.{AreWide, concat-append, concat_front, wide_front, wide_take}
 use Rattle.hound.proofs.Losing.{few_after, head_after, says_chosen, stored_after}
-
--- containers of one width
-abbrev AreWide : ℕ → List (List ℕ) → Type 0
-AreWide w list = AllByRecursion (λ c. length c ≡ w) list
-
-wide_front : (w : ℕ) (xs ys : List (List ℕ)) → AreWide w (xs ++ ys) → AreWide w xs
-wide_front w [] ys all = tt
-wide_front w (x ∷ xs) ys (one, each) = (one, wide_front w xs ys each)
-
-wide_take : (w n : ℕ) (list : List (List ℕ)) → AreWide w list → AreWide w (take n list)
-wide_take w n list all =
-    wide_front w (take n list) (drop n list)
-    (subst (AreWide w) (sym (take-append-drop n list)) all)
-
--- the first of a list, joined, are the front of all joined
-concat_front : (n : ℕ) (list : List (List ℕ))
-    → concat list ≡ concat (take n list) ++ concat (drop n list)
-concat_front n list =
-    ap concat (sym (take-append-drop n list)) ∙ concat-append (take n list) (drop n list)
 
 -- those of whole bytes are of their width
 pub wide_containers : (w n : ℕ) (bytes : List ℕ) → n * w ≤ length bytes

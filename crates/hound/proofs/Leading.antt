@@ -12,6 +12,7 @@ use Rattle.hound.specs.declared.session.Step.{Step}
 use Rattle.hound.specs.Run.{Runs, NoFault}
 use Rattle.hound.specs.Steps.{accepted_by, accepted_by_all}
 use Rattle.hound_writer.proofs.Sizes.{sizes_then}
+use Rattle.hound_repair.proofs.Joining.{concat-append}
 use Rattle.hound.proofs.Stepping.{did, sizes_still}
 
 -- faults only grow, up to the largest count
@@ -54,11 +55,6 @@ pub unless_told : {P : Type 0} (answer : Result (Unit {0}) Error) (f : ℕ) → 
 unless_told (Err (IoError e)) f small same here = absurd (omega (arith, small, same))
 unless_told (Ok x) f small same here = here
 unless_told (Err e) f small same here = here
-
-pub concat-append : (xs ys : List (List ℕ)) → concat (xs ++ ys) ≡ concat xs ++ concat ys
-concat-append [] ys = refl
-concat-append (x ∷ xs) ys =
-    ap (λ l. x ++ l) (concat-append xs ys) ∙ sym (append_assoc x (concat xs) (concat ys))
 
 pub length-concat-append : (xs ys : List (List ℕ))
     → length (concat (xs ++ ys)) ≡ length (concat xs) + length (concat ys)

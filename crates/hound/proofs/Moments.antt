@@ -26,7 +26,8 @@ use Rattle.hound.specs.declared.session.Step.TheVariants.{Whole, Bits, Batch, Fl
 use Rattle.hound.specs.Headline.{CountedAtEach, PublishedByFlushes, StoredAtEach, accepted_after, cut_point}
 use Rattle.hound.specs.Run.{Takes, Runs}
 use Rattle.hound.specs.Steps.{accepted_by, accepted_by_all, HoldsNoFlush}
-use Rattle.hound.proofs.Leading.{concat-append, length-concat-append}
+use Rattle.hound_repair.proofs.Joining.{concat-append}
+use Rattle.hound.proofs.Leading.{length-concat-append}
 use Rattle.hound.proofs.Stepping.{did, step_sizes, step_span, step_stored}
 
 -- from one state of a medium to a later one bytes were appended to the past

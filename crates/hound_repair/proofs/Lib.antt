@@ -4,3 +4,5 @@ pub mod Chunking
 pub mod Measuring
 pub mod Mending
 pub mod RightSizes
+pub mod Joining
+pub mod Keeping

@@ -15,7 +15,7 @@ use Rattle.hound_writer.proofs.Patching.{data_length_of_sizes, riff_size_of_size
 use Rattle.hound_writer.proofs.Sizes.{same_length, same_riff, same_transitive}
 
 -- two sizes that were put change nothing else
-same_sizes : (p riff n : ℕ) (c : List ℕ) → 8 ≤ p → p + 4 ≤ length c
+pub same_sizes : (p riff n : ℕ) (c : List ℕ) → 8 ≤ p → p + 4 ≤ length c
     → SameButSizes p c (with_sizes p riff n c)
 same_sizes p riff n c behind inside =
     let first = same_riff p c behind inside (bytes_of 4 riff) (omega arith) in

@@ -1,5 +1,5 @@
 -- What a file is found as, and what repairing it leaves.
-use Rattle.std.specs.Prelude.{◌≡◌, ℕ, ◌-◌, ◌*◌, ◌/◌, ◌%◌, ◌≤◌, ◌⊎◌, Bool, true, false, ◌&&◌, not, nat_lt, if◌then◌else◌, ⊤, List, ◌++◌, length, drop, Option, Some, None, Result}
+use Rattle.std.specs.Prelude.{◌≡◌, ℕ, ◌-◌, ◌*◌, ◌/◌, ◌%◌, ◌≤◌, ◌⊎◌, Bool, true, false, ◌&&◌, not, nat_lt, if◌then◌else◌, ⊤, List, ◌++◌, length, take, drop, Option, Some, None, Result}
 use Rattle.hound_spec.specs.declared.error.Error.{Error}
 use Rattle.hound_spec.specs.declared.spec.WavSpecEx.{WavSpecEx}
 use Rattle.hound_spec.specs.FmtChunk.{greatest_u32}
@@ -7,6 +7,7 @@ use Rattle.hound_spec.specs.Header.{riff_size}
 use Rattle.hound_spec.specs.Writable.{is_pair}
 use Rattle.hound_number.specs.Number.{mix}
 use Rattle.hound_medium.specs.State.{MediumState, faults_after, one_more}
+use Rattle.hound_sample.specs.Container.{containers}
 use Rattle.hound_reader.specs.declared.cause.Cause.{Cause}
 use Rattle.hound_reader.specs.declared.cause.Cause.TheVariants.{Unsupported}
 use Rattle.hound_reader.specs.Chunks.{Head, Readable, Refused}
@@ -154,3 +155,22 @@ pub record IsNotRepaired (looks : Bool) (old new : MediumState) (e : Error) : Ty
   pub why : ((fault : AppendFault) × IsRepairFault old.contents fault × NamesFault e fault
       × PutsNothing old new × (new.faults ≡ old.faults))
       ⊎ (IsIoError e × LeavesHalf looks old new × (new.faults ≡ one_more old.faults))
+
+-- the first of these samples, as many as whole frames have
+abbrev pub whole_frames : WavSpecEx → List (List ℕ) → List (List ℕ)
+whole_frames s list = take (length list / s.spec.channels * s.spec.channels) list
+
+-- these samples, as many as whole frames have, are read first in a file that was repaired
+pub record ReadsFrames (found : Repair) (start : ℕ) (list : List (List ℕ)) (contents : List ℕ) :
+    Type 0 where
+  pub among : length (whole_frames found.spec_ex list) ≤ found.frames * found.spec_ex.spec.channels
+  pub first :
+      take (length (whole_frames found.spec_ex list))
+      (containers found.spec_ex.bytes_per_sample (found.frames * found.spec_ex.spec.channels)
+      (drop start contents))
+      ≡ whole_frames found.spec_ex list
+
+-- The last byte of these samples can't be taken for a pad byte: a frame has more than one byte, or
+-- the data length counts all of them.
+abbrev pub IsNoPad : WavSpecEx → ℕ → List (List ℕ) → Type 0
+IsNoPad s len list = (2 ≤ frame_length s) ⊎ (length list * s.bytes_per_sample ≤ len)

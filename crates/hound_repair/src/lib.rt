@@ -6,11 +6,13 @@
 #![tactic(auto)]
 
 mod file;
+mod laws;
 mod look;
 mod mend;
 mod sizes;
 
 pub use file::{find_damage_in_file, repair_file};
+pub use laws::a_repair_keeps_stored_samples;
 pub use look::find_damage;
 pub use mend::{repair, repair_to_end};
 pub use sizes::{Repair, RepairState};

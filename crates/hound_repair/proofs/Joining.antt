@@ -1,0 +1,27 @@
+-- Containers of one width, joined.
+use Rattle.std.proofs.Common.{◌≡◌, ℕ, List, [], ◌∷◌, ◌++◌, length, take, drop, refl, sym, ap, ◌∙◌, subst, append_assoc, take-append-drop}
+use Rattle.std.specs.List.{concat, AllByRecursion}
+
+pub concat-append : (xs ys : List (List ℕ)) → concat (xs ++ ys) ≡ concat xs ++ concat ys
+concat-append [] ys = refl
+concat-append (x ∷ xs) ys =
+    ap (λ l. x ++ l) (concat-append xs ys) ∙ sym (append_assoc x (concat xs) (concat ys))
+
+-- containers of one width
+abbrev pub AreWide : ℕ → List (List ℕ) → Type 0
+AreWide w list = AllByRecursion (λ c. length c ≡ w) list
+
+pub wide_front : (w : ℕ) (xs ys : List (List ℕ)) → AreWide w (xs ++ ys) → AreWide w xs
+wide_front w [] ys all = tt
+wide_front w (x ∷ xs) ys (one, each) = (one, wide_front w xs ys each)
+
+pub wide_take : (w n : ℕ) (list : List (List ℕ)) → AreWide w list → AreWide w (take n list)
+wide_take w n list all =
+    wide_front w (take n list) (drop n list)
+    (subst (AreWide w) (sym (take-append-drop n list)) all)
+
+-- the first of a list, joined, are the front of all joined
+pub concat_front : (n : ℕ) (list : List (List ℕ))
+    → concat list ≡ concat (take n list) ++ concat (drop n list)
+concat_front n list =
+    ap concat (sym (take-append-drop n list)) ∙ concat-append (take n list) (drop n list)

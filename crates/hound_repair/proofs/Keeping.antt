@@ -1,0 +1,207 @@
+-- What is stored is read again once a file is repaired.
+use Rattle.std.proofs.Common.{◌≡◌, ◌⊎◌, ℕ, zero, suc, ◌+◌, ◌-◌, ◌*◌, ◌/◌, ◌%◌, ◌<◌, ◌≤◌, Bool, true, false, cond, ◌&&◌, List, [], ◌∷◌, ◌++◌, length, take, drop, inl, inr, refl, sym, ap, ◌∙◌, subst, arith, length-take, length-drop, eqb-true}
+use Rattle.std.specs.Prelude.{◌==◌, min}
+use Rattle.std.specs.List.{concat, AllByRecursion}
+use Rattle.std.proofs.lemmas.Bool.{cases_lt}
+use Rattle.std.proofs.lemmas.List.{take-take, take-append-le, drop-append-le, length-take-le, take_all}
+use Rattle.std.proofs.lemmas.Nat.{div-add-mod', mul-le}
+use Rattle.std.proofs.Math.Nat.{div-mul-le_self, le-div_iff_mul-le, mul_assoc}
+use Rattle.hound_spec.specs.declared.spec.WavSpecEx.{WavSpecEx}
+use Rattle.hound_spec.specs.Header.{riff_size}
+use Rattle.hound_medium.specs.State.{MediumState}
+use Rattle.hound_sample.specs.Container.{containers}
+use Rattle.hound_reader.specs.Chunks.{Head}
+use Rattle.hound_reader.specs.Fmt.{IsSoundSpec}
+use Rattle.hound_reader.proofs.Unique.{heads_agree}
+use Rattle.hound_reader.proofs.WrittenLemmas.{length-concat, containers-concat}
+use Rattle.hound_writer.proofs.Containers.{containers_front}
+use Rattle.hound_writer.proofs.Heads.{head_behind, head_inside}
+use Rattle.hound_writer.specs.Sizes.{with_sizes}
+use Rattle.hound_writer.specs.Storing.{IsStored}
+use Rattle.hound_repair.specs.Held.{data_held, ends_with_pad, frame_length, frames_held, held, mended, missing_pad}
+use Rattle.hound_repair.specs.Repairing.{IsFoundAt, IsNoPad, LeavesFor, ReadsFrames, Repairs, found_length, frames_found, whole_frames}
+use Rattle.hound_repair.specs.declared.sizes.Repair.{Repair}
+use Rattle.hound_repair.specs.declared.sizes.RepairState.{RepairState}
+use Rattle.hound_repair.specs.declared.sizes.RepairState.TheVariants.{Whole, CutOff, HasChunksAfterData}
+use Rattle.hound_repair.proofs.Joining.{AreWide, concat_front, wide_take}
+use Rattle.hound_repair.proofs.RightSizes.{same_sizes}
+
+-- the first of more containers are those of fewer
+pub containers_fewer : (w n m : ℕ) (bytes : List ℕ) → n ≤ m
+    → take n (containers w m bytes) ≡ containers w n bytes
+containers_fewer w zero m bytes le = refl
+containers_fewer w (suc n) zero bytes le = absurd (omega (arith, le))
+containers_fewer w (suc n) (suc m) bytes le =
+    ap (λ l. take w bytes ∷ l) (containers_fewer w n m (drop w bytes) (omega (arith, le)))
+
+-- of bytes that hold at least this many whole frames, so many are found, unless the last byte is
+-- taken for a pad byte and is one of them
+pub frames_kept : (f len n q : ℕ) → 1 ≤ f → q * f ≤ n → (2 ≤ f) ⊎ (q * f ≤ len)
+    → q ≤ data_held f len n / f
+unfolding data_held ends_with_pad
+frames_kept f len n q some few no_pad = by (n == len + 1) (len % 2 == 1) (len % f == 0) refl refl refl
+  where
+    fits : (d : ℕ) → q * f ≤ d → q ≤ d / f
+    fits d le = (le-div_iff_mul-le {k = f} {x = q} {y = d} some).1 le
+
+    by : (a b c : Bool) → (n == len + 1) ≡ a → (len % 2 == 1) ≡ b → (len % f == 0) ≡ c
+        → q ≤ (cond (a && (b && c)) len n) / f
+    by false b c ea eb ec = fits n few
+    by true false c ea eb ec = fits n few
+    by true true false ea eb ec = fits n few
+    by true true true ea eb ec = elim no_pad [
+      | inr le ↦ fits len le
+      | inl two ↦
+          let m = len / f in
+          let whole : m * f ≡ len =
+          omega (arith, div-add-mod' len f, eqb-true (len % f) 0 ec) in
+          elim (cases_lt m q) [
+            | inr le ↦ le
+            | inl more ↦
+                absurd (omega (
+                  arith,
+                  mul-le (m + 1) f q f (omega (arith, more)) (omega arith),
+                  whole,
+                  two,
+                  few,
+                  eqb-true n (len + 1) ea,
+                  (let e : (m + 1) * f ≡ m * f + f = omega arith in e),
+                ))
+          ]
+    ]
+
+-- where no chunks follow the data, what is reported is what is held
+held_frames : (was : RepairState) (s : WavSpecEx) (len n : ℕ) → (was ≡ HasChunksAfterData → ⊥)
+    → frames_found was s len n ≡ frames_held s len n
+held_frames Whole s len n alone = refl
+held_frames CutOff s len n alone = refl
+held_frames HasChunksAfterData s len n alone = absurd (alone refl)
+
+-- and the data stay
+data_stay : (was : RepairState) (found : Repair) (start m : ℕ) (old new : MediumState)
+    → (was ≡ HasChunksAfterData → ⊥) → LeavesFor was found start old new → 20 ≤ start
+    → start ≤ length old.contents → m ≤ held start old.contents
+    → take m (drop start new.contents) ≡ take m (drop start old.contents)
+data_stay Whole found start m old new alone leaves behind inside few =
+    ap (λ c. take m (drop start c)) leaves.stays.contents
+data_stay HasChunksAfterData found start m old new alone leaves behind inside few =
+    absurd (alone refl)
+data_stay CutOff found start m old new alone leaves behind inside few =
+    let n = found_length found in
+    let c = old.contents in
+    let sizes = with_sizes (start - 4) (riff_size start n) n c in
+    let pad = missing_pad n (held start c) in
+    let same = same_sizes (start - 4) (riff_size start n) n c (omega (arith, behind)) (omega (arith, behind, inside)) in
+    let at : start - 4 + 4 ≡ start = omega (arith, behind) in
+    let rest : drop start sizes ≡ drop start c =
+    ap (λ k. drop k sizes) (sym at) ∙ same.behind ∙ ap (λ k. drop k c) at in
+    ap (λ l. take m (drop start l)) leaves.0
+    ∙ ap (take m) (drop-append-le start sizes pad (omega (arith, inside, same.long)))
+    ∙ take-append-le m (drop start sizes) pad (omega (arith, few, ap length rest))
+    ∙ ap (take m) rest
+
+module _ (looks : Bool) (old new : MediumState) (found : Repair)
+    (r : Repairs looks old found new) (alone : found.was ≡ HasChunksAfterData → ⊥)
+    (list : List (List ℕ)) (sound : IsSoundSpec found.spec_ex)
+    (wide : AreWide found.spec_ex.bytes_per_sample list)
+    (stored : IsStored r.start (concat list) 0 (length (concat list)) old.contents)
+    (no_pad : IsNoPad found.spec_ex r.len list) where
+  abbrev s : WavSpecEx
+  s = found.spec_ex
+
+  abbrev w : ℕ
+  w = s.bytes_per_sample
+
+  abbrev channels : ℕ
+  channels = s.spec.channels
+
+  -- how many frames they are, and how many samples these have
+  abbrev q : ℕ
+  q = length list / channels
+
+  abbrev n : ℕ
+  n = q * channels
+
+  abbrev rest : List ℕ
+  rest = drop r.start old.contents
+
+  few : n ≤ length list
+  few = div-mul-le_self (length list) channels
+
+  size : length (concat list) ≡ length list * w
+  size = length-concat w list wide
+
+  at_start : r.start + 0 ≡ r.start
+  at_start = omega arith
+
+  there : take (length (concat list)) rest ≡ concat list
+  there =
+      ap (λ k. take (length (concat list)) (drop k old.contents)) (sym at_start) ∙ stored
+      ∙ take_all (length (concat list)) (concat list) (omega arith)
+
+  long : length (concat list) ≤ length rest
+  long = omega (arith, ap length there, length-take (length (concat list)) rest)
+
+  bytes : q * frame_length s ≡ n * w
+  bytes = sym (mul_assoc q channels w)
+
+  inside : n * w ≤ length list * w
+  inside = mul-le n w (length list) w few (omega arith)
+
+  frame : 1 ≤ frame_length s
+  frame = mul-le 1 1 channels w sound.0 sound.1
+
+  not_pad : (2 ≤ frame_length s) ⊎ (q * frame_length s ≤ r.len)
+  not_pad = elim no_pad [ inl two ↦ inl two | inr le ↦ inr (omega (arith, bytes, inside, le)) ]
+
+  frames : q ≤ found.frames
+  frames =
+      let kept = frames_kept (frame_length s) r.len (length rest) q frame
+      (omega (arith, bytes, inside, size, long)) not_pad in
+      omega (arith, kept, r.is.frames, held_frames found.was s r.len (length rest) alone)
+
+  same : take (n * w) (drop r.start new.contents) ≡ take (n * w) (concat list)
+  same =
+      data_stay found.was found r.start (n * w) old new alone r.leaves
+      (head_behind old.contents s r.len r.start r.is.head)
+      (head_inside old.contents s r.len r.start r.is.head)
+      (omega (arith, inside, size, long))
+      ∙ sym (take-take (n * w) (length (concat list)) rest (omega (arith, inside, size)))
+      ∙ ap (take (n * w)) there
+
+  taken : length (take n list) ≡ n
+  taken = length-take-le n list few
+
+  pub reads_frames : ReadsFrames found r.start list new.contents
+  reads_frames =
+      let all = found.frames * channels in
+      let within : n ≤ all = mul-le q channels found.frames channels frames (omega arith) in
+      let after = drop r.start new.contents in
+      record {
+        among = omega (arith, taken, within);
+        first =
+            ap (λ k. take k (containers w all after)) taken
+            ∙ containers_fewer w n all after within
+            ∙ containers_front w n after (concat list) same
+            ∙ (λ i. containers w (sym taken i) (concat_front n list i))
+            ∙ containers-concat w (take n list) (concat (drop n list)) (wide_take w n list wide);
+      }
+
+-- samples that are stored are read first once a file is repaired
+pub keeps_stored : (looks : Bool) (old new : MediumState) (found : Repair) (s : WavSpecEx)
+    (len start : ℕ) (list : List (List ℕ)) → Repairs looks old found new
+    → (found.was ≡ HasChunksAfterData → ⊥) → Head old.contents s len start → IsSoundSpec s
+    → AllByRecursion (λ c. length c ≡ s.bytes_per_sample) list
+    → IsStored start (concat list) 0 (length (concat list)) old.contents → IsNoPad s len list
+    → (found.spec_ex ≡ s) × ReadsFrames found start list new.contents
+keeps_stored looks old new found s len start list r alone head sound wide stored no_pad =
+    let agree = heads_agree old.contents found.spec_ex s r.len len r.start start r.is.head head in
+    let bytes = concat list in (
+      agree.0,
+      subst (λ h. ReadsFrames found h list new.contents) agree.2
+          (reads_frames looks old new found r alone list (subst IsSoundSpec (sym agree.0) sound)
+          (subst (λ (x : WavSpecEx). AreWide x.bytes_per_sample list) (sym agree.0) wide)
+          (subst (λ h. IsStored h bytes 0 (length bytes) old.contents) (sym agree.2) stored)
+          (subst (λ (x : WavSpecEx × ℕ). IsNoPad x.0 x.1 list)
+          (λ i. (sym agree.0 i, sym agree.1 i)) no_pad)),
+    )
