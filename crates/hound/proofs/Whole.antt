@@ -30,7 +30,7 @@ use Rattle.hound_writer.specs.Writer.{WriterState, IsSound, IsWhole, IsBegun, ac
 use Rattle.hound_writer.proofs.Accepting.{length_overlay_max}
 use Rattle.hound_writer.proofs.Answers.{on_published_then}
 use Rattle.hound_writer.proofs.Containers.{none_whole}
-use Rattle.hound_writer.proofs.Heads.{head_inside}
+use Rattle.hound_writer.proofs.Heads.{head_inside, head_with}
 use Rattle.hound_writer.proofs.Samples.{concat-samples, length-out, length_out, samples_out}
 use Rattle.hound_writer.proofs.Sizes.{sizes_then}
 use Rattle.hound.specs.declared.session.Step.{Step}
@@ -38,7 +38,7 @@ use Rattle.hound.specs.declared.session.Begin.{Begin}
 use Rattle.hound.specs.declared.session.Begin.TheVariants.{New, Append}
 use Rattle.hound.specs.declared.session.End.{End}
 use Rattle.hound.specs.declared.session.End.TheVariants.{Finalize, Drop}
-use Rattle.hound.specs.Headline.{AppendedSurvives, CanonicalAtEnd, CountedAfterLoss, LosesNothing, accepted_after, cut_point}
+use Rattle.hound.specs.Headline.{AppendedSurvives, CanonicalAtEnd, CountedAfterLoss, HeadAtEach, LosesNothing, accepted_after, cut_point}
 use Rattle.hound.specs.Run.{Begins, Ends, IsNotBegun, IsSession, Leaves, LeavesAtEach, NoFault, Ran, Runs}
 use Rattle.hound.specs.Steps.{accepted_by, accepted_by_all}
 use Rattle.hound.proofs.Lasting.{kept_after_loss, later_cut, never_less, stays_flushed}
@@ -262,6 +262,60 @@ module _ {M : Type 0} (tells keeps : Bool) (state : M → MediumState) (begin : 
       (wide_containers w (data_length last / w) bytes
       (omega (arith, size, div-mul-le_self (data_length last) w)))
 
+  -- in each intermediate state only the two sizes of the header have changed, and it is all there
+  fronts :
+      ((m : M)
+      → WhereKeeps tells keeps ((state m).contents ≡ overlay (state m).start (state m).past))
+      → IsTrue tells → IsTrue keeps → IsWhole state first
+      → (k : ℕ) → cut_point cuts (state medium) 0 ≤ k → k ≤ length (state medium).past
+      → ChangesSizesOnly first.data_start (state first.medium).contents
+      (moment (state medium).start (state medium).past k)
+      × (first.data_start ≤ length (moment (state medium).start (state medium).past k))
+  fronts replays told kept whole k from to =
+      let law = λ (m : M). replays m told kept in
+      let l = lead told in
+      let e = ended tells keeps state end last answer medium ends in
+      let at_each = e.1.moments told kept in
+      let h = first.data_start in
+      let base = (state first.medium).contents in
+      let after =
+      span_later (λ _. Counts last.spec_ex last.data_start (accepted_samples state last)) 0
+      (state last.medium) (state medium) (at_each.counts (l.whole whole)) in
+      let later =
+      later_then (state first.medium) (state last.medium) (state medium)
+      (run_later tells keeps state told kept law steps answers cuts first last runs whole) after in
+      let begins_at =
+      first_cut tells keeps state told kept law steps answers cuts first last (state medium) runs in
+      let same : moment (state medium).start (state medium).past
+      (length (state first.medium).past) ≡ base =
+      sym (same_moment (state first.medium) (state medium) (length (state first.medium).past) later
+      (omega arith)) ∙ moment_last (state first.medium) (law first.medium) in
+      let head = head_of_begun tells keeps state begin old first told begins whole in
+      let since : length (state first.medium).past ≤ k = omega (arith, from, begins_at) in (
+        sizes_at_each tells keeps state told kept law steps answers cuts first last (state medium)
+            runs after (λ j since until. (at_each.half.each j since until).front) behind whole k
+            since to,
+        omega (
+          arith,
+          head_inside base first.spec_ex head.0 h head.1,
+          ap length same,
+          moments_grow (state medium).start (state medium).past (length (state first.medium).past) k
+              since,
+        ),
+      )
+
+  -- so it has the head of its spec
+  head_at_each :
+      ((m : M)
+      → WhereKeeps tells keeps ((state m).contents ≡ overlay (state m).start (state m).past))
+      → IsTrue tells → IsTrue keeps → IsWhole state first
+      → HeadAtEach first.spec_ex first.data_start cuts (state medium)
+  head_at_each replays told kept whole k from to =
+      let f = fronts replays told kept whole k from to in
+      let head = head_of_begun tells keeps state begin old first told begins whole in
+      head_with (state first.medium).contents first.spec_ex head.0 first.data_start head.1
+      (moment (state medium).start (state medium).past k) f.1 f.0.front f.0.middle
+
   after_loss :
       ((m : M)
       → WhereKeeps tells keeps ((state m).contents ≡ overlay (state m).start (state m).past))
@@ -273,42 +327,22 @@ module _ {M : Type 0} (tells keeps : Bool) (state : M → MediumState) (begin : 
       let l = lead told in
       let e = ended tells keeps state end last answer medium ends in
       let at_each = e.1.moments told kept in
-      let h = first.data_start in
       let base = (state first.medium).contents in
       let last_whole = l.whole whole in
       let span = at_each.counts last_whole in
       let after =
       span_later (λ _. Counts last.spec_ex last.data_start (accepted_samples state last)) 0
       (state last.medium) (state medium) span in
-      let later =
-      later_then (state first.medium) (state last.medium) (state medium)
-      (run_later tells keeps state told kept law steps answers cuts first last runs whole) after in
-      let begins_at =
-      first_cut tells keeps state told kept law steps answers cuts first last (state medium) runs in
-      let same : moment (state medium).start (state medium).past
-      (length (state first.medium).past) ≡ base =
-      sym (same_moment (state first.medium) (state medium) (length (state first.medium).past) later
-      (omega arith)) ∙ moment_last (state first.medium) (law first.medium) in
       let head = head_of_begun tells keeps state begin old first told begins whole in
-      let tall = head_inside base first.spec_ex head.0 h head.1 in
-      counted_after_loss first.spec_ex h head.0 (accepted_samples state first) steps
+      let tall = head_inside base first.spec_ex head.0 first.data_start head.1 in
+      counted_after_loss first.spec_ex first.data_start head.0 (accepted_samples state first) steps
       (map mark_of answers) cuts (state medium) base facts.0.width
       (counted tells keeps state told kept law steps answers cuts first last (state medium) runs
       after (λ k from to. span.each k from to) whole)
       (stored tells keeps state told kept law steps answers cuts first last (state medium) runs
       after (at_each.stored last_whole) whole)
-      (λ k from to.
-      sizes_at_each tells keeps state told kept law steps answers cuts first last (state medium)
-      runs after (λ j since until. (at_each.half.each j since until).front) behind whole k
-      (omega (arith, from, begins_at)) to)
-      (λ k from to.
-      omega (
-        arith,
-        tall,
-        ap length same,
-        moments_grow (state medium).start (state medium).past (length (state first.medium).past) k
-            (omega (arith, from, begins_at)),
-      )) head.1 tall (all_wide told whole)
+      (λ k from to. (fronts replays told kept whole k from to).0)
+      (λ k from to. (fronts replays told kept whole k from to).1) head.1 tall (all_wide told whole)
 
   moments :
       ((m : M)
@@ -331,6 +365,7 @@ module _ {M : Type 0} (tells keeps : Bool) (state : M → MediumState) (begin : 
       stays_flushed tells keeps state told kept law (last.data_start - 4) steps answers cuts first
       last (state medium) runs (later whole) whole in
       let all : LeavesAtEach state steps (map mark_of answers) cuts first medium = record {
+        head = λ whole. head_at_each replays told kept whole;
         counted =
             λ whole. counted tells keeps state told kept
             (λ m. replays m told kept) steps answers cuts first last (state medium) runs

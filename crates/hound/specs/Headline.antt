@@ -40,6 +40,12 @@ CountedAtEach s start found steps marks cuts medium = (i k : ℕ) → i ≤ leng
     cut_point cuts medium i ≤ k → k ≤ cut_point cuts medium (suc i) →
     Counts s start (accepted_after s found steps marks i) (moment medium.start medium.past k)
 
+-- In each intermediate state the file has the head of its spec, with the length that its field says.
+abbrev pub HeadAtEach : WavSpecEx → ℕ → List ℕ → MediumState → Type 0
+HeadAtEach s start cuts medium = (k : ℕ) → cut_point cuts medium 0 ≤ k → k ≤ length medium.past →
+    let contents = moment medium.start medium.past k in
+    Head contents s (field (start - 4) contents) start
+
 -- An Ok `flush` counts them all: from the return of a flush with a mark, over m further steps that
 -- are no flushes, to where the next call begins, the length field is that of all samples that were
 -- accepted before it.

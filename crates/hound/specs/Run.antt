@@ -18,7 +18,7 @@ use Rattle.hound.specs.declared.session.Begin.{Begin}
 use Rattle.hound.specs.declared.session.Begin.TheVariants.{New, Append}
 use Rattle.hound.specs.declared.session.End.{End}
 use Rattle.hound.specs.declared.session.End.TheVariants.{Finalize, Drop}
-use Rattle.hound.specs.Headline.{CanonicalAtEnd, CountedAfterLoss, CountedAtEach, FlushedByFlushes, KeptAfterLoss, NeverLess, PublishedByFlushes, StoredAtEach}
+use Rattle.hound.specs.Headline.{CanonicalAtEnd, CountedAfterLoss, CountedAtEach, FlushedByFlushes, HeadAtEach, KeptAfterLoss, NeverLess, PublishedByFlushes, StoredAtEach}
 use Rattle.hound.specs.Steps.{OnBatched, accepted_by_all, step_containers, wants_memory}
 
 -- What a step does to its writer, by its result: a flush publishes, and any other step accepts its
@@ -102,6 +102,8 @@ pub record Leaves {M : Type 0} (state : M → MediumState) (steps : List Step) (
 pub record LeavesAtEach {M : Type 0} (state : M → MediumState) (steps : List Step)
     (marks : List Bool) (cuts : List ℕ)
     (first : WriterState M) (medium : M) : Type 0 where
+  pub head : IsWhole state first →
+      HeadAtEach first.spec_ex first.data_start cuts (state medium)
   pub counted : IsWhole state first →
       CountedAtEach first.spec_ex first.data_start (accepted_samples state first) steps marks cuts
       (state medium)

@@ -1,5 +1,5 @@
 -- What is stored is read again once a file is repaired.
-use Rattle.std.proofs.Common.{◌≡◌, ◌⊎◌, ℕ, zero, suc, ◌+◌, ◌-◌, ◌*◌, ◌/◌, ◌%◌, ◌<◌, ◌≤◌, Bool, true, false, cond, ◌&&◌, List, [], ◌∷◌, ◌++◌, length, take, drop, inl, inr, refl, sym, ap, ◌∙◌, subst, arith, length-take, length-drop, eqb-true}
+use Rattle.std.proofs.Common.{None, ◌≡◌, ◌⊎◌, ℕ, zero, suc, ◌+◌, ◌-◌, ◌*◌, ◌/◌, ◌%◌, ◌<◌, ◌≤◌, Bool, true, false, cond, ◌&&◌, List, [], ◌∷◌, ◌++◌, length, take, drop, inl, inr, refl, sym, ap, ◌∙◌, subst, arith, length-take, length-drop, eqb-true}
 use Rattle.std.specs.Prelude.{◌==◌, min}
 use Rattle.std.specs.List.{concat, AllByRecursion}
 use Rattle.std.proofs.lemmas.Bool.{cases_lt}
@@ -12,14 +12,18 @@ use Rattle.hound_medium.specs.State.{MediumState}
 use Rattle.hound_sample.specs.Container.{containers}
 use Rattle.hound_reader.specs.Chunks.{Head}
 use Rattle.hound_reader.specs.Fmt.{IsSoundSpec}
-use Rattle.hound_reader.proofs.Unique.{heads_agree}
+use Rattle.hound_reader.proofs.Unique.{head_no_fault, heads_agree}
 use Rattle.hound_reader.proofs.WrittenLemmas.{length-concat, containers-concat}
 use Rattle.hound_writer.proofs.Containers.{containers_front}
 use Rattle.hound_writer.proofs.Heads.{head_behind, head_inside}
 use Rattle.hound_writer.specs.Sizes.{with_sizes}
 use Rattle.hound_writer.specs.Storing.{IsStored}
 use Rattle.hound_repair.specs.Held.{data_held, ends_with_pad, frame_length, frames_held, held, mended, missing_pad}
-use Rattle.hound_repair.specs.Repairing.{IsFoundAt, IsNoPad, LeavesFor, ReadsFrames, Repairs, found_length, frames_found, whole_frames}
+use Rattle.hound_spec.specs.declared.error.Error.{Error}
+use Rattle.hound_medium.specs.State.{one_more}
+use Rattle.hound_writer.specs.Answers.{IsIoError}
+use Rattle.hound_writer.specs.Appending.{AppendFault, NamesFault, PutsNothing}
+use Rattle.hound_repair.specs.Repairing.{IsFoundAt, IsNoPad, IsNotRepaired, IsRepairFault, LeavesFor, LeavesHalf, ReadsFrames, Repairs, found_length, frames_found, repair_fault, whole_frames}
 use Rattle.hound_repair.specs.declared.sizes.Repair.{Repair}
 use Rattle.hound_repair.specs.declared.sizes.RepairState.{RepairState}
 use Rattle.hound_repair.specs.declared.sizes.RepairState.TheVariants.{Whole, CutOff, HasChunksAfterData}
@@ -205,3 +209,24 @@ keeps_stored looks old new found s len start list r alone head sound wide stored
           (subst (λ (x : WavSpecEx × ℕ). IsNoPad x.0 x.1 list)
           (λ i. (sym agree.0 i, sym agree.1 i)) no_pad)),
     )
+
+-- a head that fails no check isn't repaired only if the medium failed
+pub only_io : (looks : Bool) (old new : MediumState) (e : Error) (s : WavSpecEx) (len start : ℕ)
+    → Head old.contents s len start → repair_fault s len start (held start old.contents) ≡ None
+    → IsNotRepaired looks old new e → IsIoError e
+only_io looks old new e s len start head none not = by not.why
+  where
+    by : ((fault : AppendFault) × IsRepairFault old.contents fault × NamesFault e fault
+        × PutsNothing old new × (new.faults ≡ old.faults))
+        ⊎ (IsIoError e × LeavesHalf looks old new × (new.faults ≡ one_more old.faults))
+        → IsIoError e
+    by (inr (io, leaves, faults)) = io
+    by (inl (fault, inl (cause, is, refused), names, puts, faults)) =
+        absurd (head_no_fault old.contents s len start cause head refused)
+    by (inl (fault, inr (t, m, h, other, some), names, puts, faults)) =
+        let agree = heads_agree old.contents t s m len h start other head in
+        let same : repair_fault t m h (held h old.contents)
+        ≡ repair_fault s len start (held start old.contents) =
+        λ i. repair_fault (agree.0 i) (agree.1 i) (agree.2 i) (held (agree.2 i) old.contents) in
+        let never = sym none ∙ sym same ∙ some in
+        absurd (let h : ⊥ = cc in h)

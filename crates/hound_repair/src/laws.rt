@@ -1,25 +1,34 @@
 // What holds of every repair.
-ghost use Rattle.std.specs.Prelude.{◌≡◌, ℕ, Bool, List, length};
+ghost use Rattle.std.specs.Prelude.{◌≡◌, ℕ, Bool, List, None, length};
 ghost use Rattle.std.specs.List.{concat, AllByRecursion};
 ghost use Rattle.hound_medium.specs.State.{MediumState};
 ghost use Rattle.hound_reader.specs.Chunks.{Head};
 ghost use Rattle.hound_reader.specs.Fmt.{IsSoundSpec};
+ghost use Rattle.hound_spec.specs.declared.error.Error.{Error};
 ghost use Rattle.hound_spec.specs.declared.spec.WavSpecEx.{WavSpecEx};
+ghost use Rattle.hound_writer.specs.Answers.{IsIoError};
+ghost use Rattle.hound_repair.specs.Held.{held};
 ghost use Rattle.hound_writer.specs.Storing.{IsStored};
-ghost use Rattle.hound_repair.specs.Repairing.{IsNoPad, ReadsFrames, Repairs};
+ghost use Rattle.hound_repair.specs.Repairing.{IsNoPad, IsNotRepaired, ReadsFrames, Repairs, repair_fault};
 ghost use Rattle.hound_repair.specs.declared.sizes.Repair.{Repair};
 ghost use Rattle.hound_repair.specs.declared.sizes.RepairState.TheVariants.{HasChunksAfterData};
 
 /// A repair loses no sample that is stored: samples whose containers are stored from the data on are
 /// read first, as many as whole frames have, with the spec of the head, whatever the sizes said.
 ///
+/// Where this head has samples that are written and sizes that fit, the only error is `IoError`.
+///
 /// Where a frame has one byte (8 bits, mono) and the data length counts all of these bytes but the
 /// last, that one is taken for a pad byte. Where chunks follow the data, `repair` writes nothing.
 pub fn a_repair_keeps_stored_samples()
-    ensures { (looks : Bool) (old new : MediumState) (found : Repair) (s : WavSpecEx)
+    ensures read { (looks : Bool) (old new : MediumState) (found : Repair) (s : WavSpecEx)
         (len start : ℕ) (list : List (List ℕ)) → Repairs looks old found new
         → (found.was ≡ HasChunksAfterData → ⊥) → Head old.contents s len start → IsSoundSpec s
         → AllByRecursion (λ c. length c ≡ s.bytes_per_sample) list
         → IsStored start (concat list) 0 (length (concat list)) old.contents → IsNoPad s len list →
         (found.spec_ex ≡ s) × ReadsFrames found start list new.contents }
+    ensures error { (looks : Bool) (old new : MediumState) (e : Error) (s : WavSpecEx)
+        (len start : ℕ) → Head old.contents s len start
+        → repair_fault s len start (held start old.contents) ≡ None
+        → IsNotRepaired looks old new e → IsIoError e }
 {}
