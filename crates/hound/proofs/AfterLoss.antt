@@ -97,7 +97,7 @@ accepted_earlier s found steps marks i n le =
           ∙ sym (append_assoc found first part.0),
     )
 
-accepted_all : (s : WavSpecEx) (found : List (List ℕ)) (steps : List Step) (marks : List Bool)
+pub accepted_all : (s : WavSpecEx) (found : List (List ℕ)) (steps : List Step) (marks : List Bool)
     (i : ℕ) → (more : List (List ℕ))
     × (found ++ accepted_by_all s steps marks ≡ accepted_after s found steps marks i ++ more)
 accepted_all s found steps marks i =
@@ -108,7 +108,7 @@ accepted_all s found steps marks i =
     )
 
 -- the step during which this many bytes had been written
-step_of : (n : ℕ) (cuts : List ℕ) (end : MediumState) (j : ℕ) → cut_point cuts end 0 ≤ j
+pub step_of : (n : ℕ) (cuts : List ℕ) (end : MediumState) (j : ℕ) → cut_point cuts end 0 ≤ j
     → j ≤ cut_point cuts end (suc n)
     → (i : ℕ) × (i ≤ n) × (cut_point cuts end i ≤ j) × (j ≤ cut_point cuts end (suc i))
 step_of zero cuts end j from to = (0, omega arith, from, to)
@@ -226,11 +226,11 @@ module _ (s : WavSpecEx) (h len : ℕ) (found : List (List ℕ)) (steps : List S
             ))
         | inr under ↦ under
       ] in
-      let chosen = lost.sectors ((h - 4) / sector) in (
-        counts_stored s h q (list i) c some (wide_after i)
-            (head_after h bytes base end.start end.past (cover w) f k behind within ascends
-            tall fits kept changes sector sized one c lost s len head whole)
-            (le_cover w v some) among here,
+      let chosen = lost.sectors ((h - 4) / sector) in
+      let head_is =
+      head_after h bytes base end.start end.past (cover w) f k behind within ascends
+      tall fits kept changes sector sized one c lost s len head whole in (
+        counts_stored s h q (list i) c some (wide_after i) head_is (le_cover w v some) among here,
         (
           chosen.0,
           chosen.1,
@@ -238,4 +238,5 @@ module _ (s : WavSpecEx) (h len : ℕ) (found : List (List ℕ)) (steps : List S
           says_chosen h bytes base end.start end.past (cover w) f k behind within ascends tall
               fits kept changes sector sized one c lost,
         ),
+        head_is,
       )

@@ -11,3 +11,4 @@ pub mod Batching
 pub mod Chaining
 pub mod WholeSessions
 pub mod OneByOne
+pub mod Recovering

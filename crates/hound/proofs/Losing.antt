@@ -10,6 +10,7 @@ use Rattle.hound_medium.proofs.Overlays.{front_part, length-put_at, overlay-appe
 use Rattle.hound_medium.proofs.Inside.{drop_behind}
 use Rattle.hound_reader.specs.Chunks.{Head}
 use Rattle.hound_writer.specs.Sizes.{ChangesSizesOnly, field}
+use Rattle.hound_writer.specs.Storing.{IsStored}
 use Rattle.hound_writer.proofs.Counted.{samples_le}
 use Rattle.hound_writer.proofs.Heads.{head_with}
 use Rattle.hound_durable.specs.Losses.{Ascends, SurvivesLoss, place_of}
@@ -35,6 +36,33 @@ same_part p q n c d inside within each =
     (λ i few. let less : i < n = omega (arith, few, length_part p n c inside) in
     get_or-take n (drop p c) i 0 less ∙ get_or-drop p c i 0 ∙ each i less
     ∙ sym (get_or-take n (drop q d) i 0 less ∙ get_or-drop q d i 0))
+
+-- what is stored in each of these states is stored in whatever a loss of power leaves of them
+pub stored_survives : (h n sector f k : ℕ) (bytes start : List ℕ) (past : List (ℕ × ℕ)) (c : List ℕ)
+    → n ≤ length bytes → SurvivesLoss sector start past f k c
+    → ((j : ℕ) → f ≤ j → j ≤ k → IsStored h bytes 0 n (moment start past j))
+    → IsStored h bytes 0 n c
+stored_survives h zero sector f k bytes start past c few lost each = refl
+stored_survives h (suc n) sector f k bytes start past c few lost each =
+    let l = lost.long in
+    let there = each l.0 l.1 l.2 in
+    let longest = moment start past l.0 in
+    let inside : h + 0 + suc n ≤ length c =
+    omega (
+      arith,
+      l.3,
+      few,
+      ap length there,
+      length-take (suc n) (drop (h + 0) longest),
+      length-take (suc n) (drop 0 bytes),
+      length-drop (h + 0) longest,
+      length-drop 0 bytes,
+    ) in
+    same_part (h + 0) 0 (suc n) c bytes inside (omega (arith, few))
+    (λ i less.
+    let s = lost.sectors ((h + 0 + i) / sector) in
+    s.3 (h + 0 + i) refl (omega (arith, less, inside))
+    ∙ byte_in (h + 0) 0 (suc n) (moment start past s.0) bytes i less (each s.0 s.1 s.2))
 
 -- a byte before the data, except for the two sizes
 same_before : (h : ℕ) (c d : List ℕ) (i : ℕ) → 8 ≤ h → ChangesSizesOnly h c d → i < h - 4

@@ -414,6 +414,19 @@ module _ {M : Type 0} (tells keeps : Bool) (state : M → MediumState) (begin : 
     moments = moments replays;
   }
 
+-- the samples of a run all have the width of its spec
+pub wide_run : {M : Type 0} (tells keeps : Bool) (state : M → MediumState) (begin : Begin)
+    (steps : List Step) (marks : List Bool) (end : End) (old : M) (answer : Result (Unit {0}) Error)
+    (medium : M) (r : Ran tells keeps state begin steps marks end old answer medium) → IsTrue tells
+    → IsWhole state r.first
+    → AllByRecursion (λ c. length c ≡ r.first.spec_ex.bytes_per_sample)
+    (accepted_samples state r.first ++ accepted_by_all r.first.spec_ex steps marks)
+wide_run tells keeps state begin steps marks end old answer medium r told whole =
+    subst (λ l. AllByRecursion (λ c. length c ≡ r.first.spec_ex.bytes_per_sample)
+    (accepted_samples state r.first ++ accepted_by_all r.first.spec_ex steps l)) (sym r.marked)
+    (all_wide tells keeps state begin steps marks end old answer medium r.first r.last r.answers
+    r.cuts r.begins r.runs r.marked r.ends told whole)
+
 -- a run over a new file
 module _ {M : Type 0} (tells keeps : Bool) (state : M → MediumState) (s : WavSpecEx)
     (steps : List Step) (marks : List Bool) (old : M) (answer : Result (Unit {0}) Error)

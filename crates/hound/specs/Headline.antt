@@ -1,6 +1,6 @@
 -- What a run of a writer promises, whatever failed: counted in each state, published at a flush,
 -- canonical at the end.
-use Rattle.std.specs.Prelude.{◌≡◌, ℕ, suc, ◌+◌, ◌-◌, ◌/◌, ◌<◌, ◌≤◌, ⊤, Bool, true, false, List, ◌++◌, length, take, drop, slice_index_or, Result}
+use Rattle.std.specs.Prelude.{◌≡◌, ◌⊎◌, ℕ, suc, ◌+◌, ◌-◌, ◌/◌, ◌<◌, ◌≤◌, ⊤, Bool, true, false, List, ◌++◌, length, take, drop, slice_index_or, Result}
 use Rattle.std.specs.List.{concat}
 use Rattle.std.specs.Io.{StartsWith}
 use Rattle.hound_spec.specs.declared.error.Error.{Error}
@@ -115,6 +115,7 @@ CountedAfterLoss s start found steps marks cuts medium =
     × ((j : ℕ) × (f ≤ j) × (j ≤ k)
     × (field (start - 4) contents
     ≡ field (start - 4) (moment medium.start medium.past j)))
+    × Head contents s (field (start - 4) contents) start
 
 -- These contents, which a loss of power left, have lost no published sample: their length field is
 -- that of a state since the medium was last flushed, and if no write of it is cut in that state, it
@@ -171,3 +172,14 @@ abbrev pub CanonicalAtEnd : WavSpecEx → List (List ℕ) → List Step → List
 CanonicalAtEnd s found steps marks end answer medium =
     OnFinalized end answer
     (StartsWith medium.contents (canonical s (found ++ accepted_by_all s steps marks)))
+
+-- What a run leaves at some point after so many bytes were written: the contents of an intermediate
+-- state, or what a loss of power leaves of a medium that has written bytes at ascending places only
+-- since it was flushed, if the length field lies within one sector.
+abbrev pub IsLeftAfter : ℕ → ℕ → MediumState → List ℕ → Type 0
+IsLeftAfter start from medium contents =
+    ((k : ℕ) × (from ≤ k) × (k ≤ length medium.past)
+    × (contents ≡ moment medium.start medium.past k))
+    ⊎ ((f : ℕ) × (k : ℕ) × (sector : ℕ) × (from ≤ f) × (f ≤ k) × (k ≤ length medium.past)
+    × Ascends medium.past f k × (1 ≤ sector) × ((start - 4) / sector ≡ (start - 1) / sector)
+    × SurvivesLoss sector medium.start medium.past f k contents)

@@ -1,11 +1,18 @@
 // What holds for every run.
-ghost use Rattle.std.specs.Prelude.{◌≡◌, ◌<◌, ◌≤◌, ℕ, List, [], Ok, Result, length, map};
+ghost use Rattle.std.specs.Prelude.{◌≡◌, ◌<◌, ◌≤◌, ◌-◌, ℕ, suc, Bool, true, false, List, [], Ok, Result, length, drop, map, slice_index_or};
 ghost use Rattle.hound_spec.specs.declared.error.Error.{Error};
-ghost use Rattle.hound_spec.specs.Header.{canonical};
-ghost use Rattle.hound_medium.specs.State.{WhereTells};
+ghost use Rattle.hound_spec.specs.declared.spec.WavSpecEx.{WavSpecEx};
+ghost use Rattle.hound_spec.specs.Header.{canonical, data_start};
+ghost use Rattle.hound_medium.specs.State.{MediumState, WhereKeeps, WhereTells};
 ghost use Rattle.hound_writer.specs.Answers.{mark_of};
 ghost use Rattle.hound_writer.specs.Writer.{WriterState, IsWhole, accepted_samples, data_length};
-ghost use Rattle.hound.specs.declared.session.Step.TheVariants.{Whole, Batch};
+ghost use Rattle.hound_writer.specs.Sizes.{field};
+ghost use Rattle.hound_repair.specs.Repairing.{IsNoPad, ReadsFrames, Repairs};
+ghost use Rattle.hound_repair.specs.declared.sizes.Repair.{Repair};
+ghost use Rattle.hound_repair.specs.declared.sizes.RepairState.TheVariants.{HasChunksAfterData};
+ghost use Rattle.hound.specs.declared.session.Step.TheVariants.{Whole, Batch, Flush};
+ghost use Rattle.hound.specs.declared.session.Begin.TheVariants.{New};
+ghost use Rattle.hound.specs.Headline.{IsLeftAfter, accepted_after, cut_point};
 ghost use Rattle.hound.specs.declared.session.Begin.{Begin};
 ghost use Rattle.hound.specs.declared.session.End.{End};
 ghost use Rattle.hound.specs.Run.{Begins, Ends, Ran, Runs, Takes};
@@ -49,4 +56,28 @@ pub fn sessions_leave_one_file<'a, M: Medium>(spec_ex: WavSpecEx, sessions: &'a 
         → (M.state old).contents ≡ [] → 0 < length sessions.now
         → AreSessions M.tells M.keeps M.state spec_ex sessions.now old (Ok tt) new →
         (M.state new).contents ≡ canonical spec_ex (containers_of spec_ex (all_steps sessions.now))) }
+{}
+
+/// A repair loses no sample that a flush has published, whatever became of the recorder after it.
+///
+/// It holds of a new file over a medium whose bytes are known and that records every byte written:
+/// from the return of a marked `Flush` on, in each intermediate state, and in what a loss of power
+/// leaves of a medium that wrote bytes at ascending places only since it was flushed, as a `Durable`
+/// does. Frames of the samples accepted before that flush are read first once the contents are
+/// repaired, unless chunks follow the data, or, with frames of one byte, the last one is taken for a
+/// pad byte.
+pub fn a_repair_loses_no_published_sample<M: Medium>(steps: &[Step])
+    ensures { WhereKeeps M.tells M.keeps ((spec_ex : WavSpecEx) (marks : List Bool) (end : End)
+        (old medium : M) (answer : Result Unit Error)
+        (run : Ran M.tells M.keeps M.state (New spec_ex) steps.now marks end old answer medium)
+        (i : ℕ) (looks : Bool) (cut mended : MediumState) (found : Repair)
+        → i < length steps.now → slice_index_or steps.now i Flush ≡ Flush
+        → slice_index_or marks i false ≡ true
+        → IsLeftAfter (data_start spec_ex) (cut_point (drop (suc i) run.cuts) (M.state medium) 0)
+        (M.state medium) cut.contents
+        → Repairs looks cut found mended → (found.was ≡ HasChunksAfterData → ⊥) →
+        let published = accepted_after spec_ex [] steps.now marks i in
+        IsNoPad spec_ex (field (data_start spec_ex - 4) cut.contents) published →
+        (found.spec_ex ≡ spec_ex)
+        × ReadsFrames found (data_start spec_ex) published mended.contents) }
 {}

@@ -86,14 +86,18 @@ pub use hound_reader::{
     read_wave_header, written_is_head, written_is_read,
 };
 pub use hound_repair::{
-    Repair, RepairState, find_damage, find_damage_in_file, repair, repair_file, repair_to_end,
+    Repair, RepairState, a_repair_keeps_stored_samples, find_damage, find_damage_in_file, repair,
+    repair_file, repair_to_end,
 };
 pub use hound_sample::{FloatBits, Sample, integers_come_back, short_integers_are_kept};
 pub use hound_spec::{
     Error, Result, SampleFormat, WavSpec, WavSpecEx, extensions_come_back, fields_come_back,
 };
 pub use hound_writer::{SampleWriter16, WavWriter, a_block_is_its_samples, one_append_answer};
-pub use laws::{a_batch_is_its_values, calls_are_a_run, sessions_leave_one_file};
+pub use laws::{
+    a_batch_is_its_values, a_repair_loses_no_published_sample, calls_are_a_run,
+    sessions_leave_one_file,
+};
 pub use runs::run_session;
 pub use session::{Begin, End, Step};
 pub use sessions::run_sessions;
