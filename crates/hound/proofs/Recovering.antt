@@ -220,7 +220,7 @@ module _ {M : Type 0} (tells keeps : Bool) (state : M → MediumState) (told : I
 
   pub none_lost : (looks : Bool) (cut mended : MediumState) (found : Repair)
       → IsLeftAfter (data_start s) from_run (state medium) cut.contents
-      → Repairs looks cut found mended → (found.was ≡ HasChunksAfterData → ⊥)
+      → Repairs looks cut found mended → (IsTrue looks → found.was ≡ HasChunksAfterData → ⊥)
       → IsNoPad s (field (data_start s - 4) cut.contents) (accepted_after s [] steps marks i)
       → (found.spec_ex ≡ s)
       × ReadsFrames found (data_start s) (accepted_after s [] steps marks i) mended.contents

@@ -1,5 +1,5 @@
 // What holds for every run.
-ghost use Rattle.std.specs.Prelude.{◌≡◌, ◌<◌, ◌≤◌, ◌-◌, ℕ, suc, Bool, true, false, List, [], Ok, Result, length, drop, map, slice_index_or};
+ghost use Rattle.std.specs.Prelude.{◌≡◌, ◌<◌, ◌≤◌, ◌-◌, ℕ, suc, Bool, true, false, IsTrue, List, [], Ok, Result, length, drop, map, slice_index_or};
 ghost use Rattle.hound_spec.specs.declared.error.Error.{Error};
 ghost use Rattle.hound_spec.specs.declared.spec.WavSpecEx.{WavSpecEx};
 ghost use Rattle.hound_spec.specs.Header.{canonical, data_start};
@@ -75,7 +75,8 @@ pub fn a_repair_loses_no_published_sample<M: Medium>(steps: &[Step])
         → slice_index_or marks i false ≡ true
         → IsLeftAfter (data_start spec_ex) (cut_point (drop (suc i) run.cuts) (M.state medium) 0)
         (M.state medium) cut.contents
-        → Repairs looks cut found mended → (found.was ≡ HasChunksAfterData → ⊥) →
+        → Repairs looks cut found mended
+        → (IsTrue looks → found.was ≡ HasChunksAfterData → ⊥) →
         let published = accepted_after spec_ex [] steps.now marks i in
         IsNoPad spec_ex (field (data_start spec_ex - 4) cut.contents) published →
         (found.spec_ex ≡ spec_ex)

@@ -1,29 +1,37 @@
 // Functions of a user of the library, whose contracts follow from its public ones.
-ghost use Rattle.std.specs.Prelude.{◌≡◌, ℕ, ◌+◌, ◌-◌, ◌/◌, ◌≤◌, ◌++◌, Bool, true, List, length, [], ◌∷◌, Ok, OnOk};
+ghost use Rattle.std.specs.Prelude.{◌≡◌, ℕ, suc, ◌+◌, ◌-◌, ◌/◌, ◌<◌, ◌≤◌, ◌++◌, Bool, false, true, List, length, drop, [], ◌∷◌, slice_index_or, Ok, Result, IfOk, OnOk};
 ghost use Rattle.hound.specs.Batch.{IsSameFile};
 ghost use Rattle.hound.specs.Container.{containers};
 ghost use Rattle.hound.specs.Containers.{AreContainers};
 ghost use Rattle.hound.specs.Counts.{Counts};
 ghost use Rattle.hound.specs.Header.{canonical, data_start};
+ghost use Rattle.hound.specs.Headline.{IsLeftAfter, accepted_after, cut_point};
+ghost use Rattle.hound.specs.Held.{frame_length};
 ghost use Rattle.hound.specs.Losses.{SurvivesLoss};
 ghost use Rattle.hound.specs.Many.{containers_in};
 ghost use Rattle.hound.specs.Publishing.{ReadsAs};
 ghost use Rattle.hound.specs.Reader.{samples_left};
 ghost use Rattle.hound.specs.Refusals.{OpensAs};
+ghost use Rattle.hound.specs.Repairing.{ReadsFrames};
 ghost use Rattle.hound.specs.Room.{IsSixteen};
+ghost use Rattle.hound.specs.Run.{Ran};
 ghost use Rattle.hound.specs.State.{WhereKeeps, WhereTells};
 ghost use Rattle.hound.specs.Steps.{accepted_by_all};
+ghost use Rattle.hound.specs.declared.Error.{Error};
+ghost use Rattle.hound.specs.declared.session.Begin.TheVariants.{New};
+ghost use Rattle.hound.specs.declared.session.End.{End};
 ghost use Rattle.hound.specs.declared.session.Step.TheVariants.{Batch, Flush};
 ghost use Rattle.hound.specs.Writable.{IsWritable};
 ghost use Rattle.hound.specs.Writer.{IsWhole, accepted_samples, sample_count};
 ghost use Rattle.hound.specs.declared.WavSpecEx.{WavSpecEx};
 
 use hound::{
-    Begin, End, Medium, Sample, Source, Step, WavReader, WavSpecEx, WavWriter, one_answer,
-    run_durable_session, written_is_read,
+    Begin, End, Error, Medium, Repair, Sample, Source, Step, WavReader, WavSpecEx, WavWriter,
+    a_repair_loses_no_published_sample, one_answer, repair_to_end, run_durable_session,
+    written_is_read,
 };
 use std::alloc::Global;
-use std::io;
+use std::{io, result};
 
 /// Publishes what was accepted so far, and says how many samples these are.
 pub fn publish<M: Medium>(writer: &mut WavWriter<M>) -> hound::Result<u32>
@@ -96,6 +104,27 @@ pub fn record_through_a_loss<M: Source + Medium>(
     let begin = Begin::New(spec_ex);
     let (medium, _) = run_durable_session(alloc, medium, begin, &steps, &mut marks, End::Drop);
     (medium, marks[1])
+}
+
+/// Repairs what a recorder has left, whichever run over a medium of type `M` it was: no sample is
+/// missing that a flush of this run has published, whether calls failed or the power went.
+pub fn repair_recording<M: Medium, N: Source + Medium>(
+    left: N,
+    steps: &[Step],
+) -> result::Result<(N, Repair), (N, Error)>
+    requires place { WhereTells N.tells ((N.state left).place ≡ 0) }
+    ensures { WhereTells N.tells (WhereKeeps M.tells M.keeps ((spec_ex : WavSpecEx)
+        (marks : List Bool) (end : End) (old medium : M) (answer : Result Unit Error)
+        (run : Ran M.tells M.keeps M.state (New spec_ex) steps.now marks end old answer medium)
+        (i : ℕ) → i < length steps.now → slice_index_or steps.now i Flush ≡ Flush
+        → slice_index_or marks i false ≡ true
+        → IsLeftAfter (data_start spec_ex) (cut_point (drop (suc i) run.cuts) (M.state medium) 0)
+        (M.state medium) (N.state left).contents → 2 ≤ frame_length spec_ex →
+        IfOk result (λ done. (done.1.spec_ex ≡ spec_ex) × ReadsFrames done.1 (data_start spec_ex)
+        (accepted_after spec_ex [] steps.now marks i) (N.state done.0).contents))) }
+{
+    a_repair_loses_no_published_sample::<M>(steps);
+    repair_to_end(left)
 }
 
 /// Writes all samples that a reader has left, whatever the widths of the two are.

@@ -9,7 +9,7 @@ mod twelve;
 
 pub use callers::{
     convert, give_up_batch, open_written, publish, record_blocks, record_checkpoint,
-    record_through_a_loss,
+    record_through_a_loss, repair_recording,
 };
 pub use either::EitherSample;
 pub use example::record_and_read;

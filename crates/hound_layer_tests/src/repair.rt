@@ -1,6 +1,8 @@
 // Files that were cut off, repaired in memory.
-use hound_medium::Tape;
-use hound_repair::{Repair, RepairState, find_damage, repair, repair_to_end};
+use hound_medium::{Journal, Tape};
+use hound_repair::{
+    Repair, RepairState, a_repair_keeps_stored_samples, find_damage, repair, repair_to_end,
+};
 use std::alloc::Global;
 use std::test::Fail;
 
@@ -79,5 +81,32 @@ fn chunks_after_the_data_stay(rt: HostRuntime) -> Result<(), Fail> {
     assert_eq!(rt; numbers(found), (6, 0, true, false));
     let mended = file(rt.alloc(), MONO_16, 48, 12, b"\x02\0note\x02\0\0\0hi")?;
     assert_eq!(rt; tape.bytes() == mended.as_slice(), true);
+    Ok(())
+}
+
+#[test]
+fn a_repair_that_fails_is_repaired_again(rt: HostRuntime) -> Result<(), Fail> {
+    let alloc = rt.alloc();
+    let mended = file(alloc, MONO_8, 40, 3, b"\x80\x81\x82\0")?;
+    let mut failed = 0u32;
+    for call in 1..120u64 {
+        for last in [call, u64::MAX] {
+            let cut = file(alloc, MONO_8, 9, 0, b"\x80\x81\x82")?;
+            let mut journal = Journal::new(alloc, cut)?;
+            journal.fail(call, last);
+            let journal = match repair(journal) {
+                Ok((journal, _)) => journal,
+                Err((journal, _)) => {
+                    failed = failed.wrapping_add(1);
+                    journal
+                }
+            };
+            let left = journal.bytes_after(alloc, journal.taken())?;
+            let (tape, _) = repair(Tape::new(left)).ok().ok_or("repaired")?;
+            assert_eq!(rt; tape.bytes() == mended.as_slice(), true);
+        }
+    }
+    assert_eq!(rt; failed > 100, true);
+    a_repair_keeps_stored_samples();
     Ok(())
 }

@@ -1,5 +1,5 @@
 -- What is stored is read again once a file is repaired.
-use Rattle.std.proofs.Common.{None, ◌≡◌, ◌⊎◌, ℕ, zero, suc, ◌+◌, ◌-◌, ◌*◌, ◌/◌, ◌%◌, ◌<◌, ◌≤◌, Bool, true, false, cond, ◌&&◌, List, [], ◌∷◌, ◌++◌, length, take, drop, inl, inr, refl, sym, ap, ◌∙◌, subst, arith, length-take, length-drop, eqb-true}
+use Rattle.std.proofs.Common.{None, ◌≡◌, ◌⊎◌, ℕ, zero, suc, ◌+◌, ◌-◌, ◌*◌, ◌/◌, ◌%◌, ◌<◌, ◌≤◌, Bool, true, false, IsTrue, cond, ◌&&◌, List, [], ◌∷◌, ◌++◌, length, take, drop, inl, inr, refl, sym, ap, ◌∙◌, subst, arith, length-take, length-drop, eqb-true}
 use Rattle.std.specs.Prelude.{◌==◌, min}
 use Rattle.std.specs.List.{concat, AllByRecursion}
 use Rattle.std.proofs.lemmas.Bool.{cases_lt}
@@ -23,7 +23,7 @@ use Rattle.hound_spec.specs.declared.error.Error.{Error}
 use Rattle.hound_medium.specs.State.{one_more}
 use Rattle.hound_writer.specs.Answers.{IsIoError}
 use Rattle.hound_writer.specs.Appending.{AppendFault, NamesFault, PutsNothing}
-use Rattle.hound_repair.specs.Repairing.{IsFoundAt, IsNoPad, IsNotRepaired, IsRepairFault, LeavesFor, LeavesHalf, ReadsFrames, Repairs, found_length, frames_found, repair_fault, whole_frames}
+use Rattle.hound_repair.specs.Repairing.{IsFoundAt, IsNoPad, IsNotRepaired, IsRepairFault, LeavesFor, LeavesHalf, ReadsFrames, Repairs, found_length, frames_found, repair_fault, state_of, whole_frames}
 use Rattle.hound_repair.specs.declared.sizes.Repair.{Repair}
 use Rattle.hound_repair.specs.declared.sizes.RepairState.{RepairState}
 use Rattle.hound_repair.specs.declared.sizes.RepairState.TheVariants.{Whole, CutOff, HasChunksAfterData}
@@ -191,11 +191,19 @@ module _ (looks : Bool) (old new : MediumState) (found : Repair)
             ∙ containers-concat w (take n list) (concat (drop n list)) (wide_take w n list wide);
       }
 
+-- chunks that aren't looked for aren't found
+not_followed : (looks right followed : Bool) (was : RepairState)
+    → was ≡ state_of right (looks && followed)
+    → (IsTrue looks → was ≡ HasChunksAfterData → ⊥) → was ≡ HasChunksAfterData → ⊥
+not_followed true right followed was is alone here = alone refl here
+not_followed false true followed was is alone here = let e = sym is ∙ here in cc
+not_followed false false followed was is alone here = let e = sym is ∙ here in cc
+
 -- samples that are stored are read first once a file is repaired
 pub keeps_stored : (looks : Bool) (old new : MediumState) (found : Repair) (s : WavSpecEx)
     (len start : ℕ) (list : List (List ℕ)) → Repairs looks old found new
-    → (found.was ≡ HasChunksAfterData → ⊥) → Head old.contents s len start → IsSoundSpec s
-    → AllByRecursion (λ c. length c ≡ s.bytes_per_sample) list
+    → (IsTrue looks → found.was ≡ HasChunksAfterData → ⊥) → Head old.contents s len start
+    → IsSoundSpec s → AllByRecursion (λ c. length c ≡ s.bytes_per_sample) list
     → IsStored start (concat list) 0 (length (concat list)) old.contents → IsNoPad s len list
     → (found.spec_ex ≡ s) × ReadsFrames found start list new.contents
 keeps_stored looks old new found s len start list r alone head sound wide stored no_pad =
@@ -203,7 +211,8 @@ keeps_stored looks old new found s len start list r alone head sound wide stored
     let bytes = concat list in (
       agree.0,
       subst (λ h. ReadsFrames found h list new.contents) agree.2
-          (reads_frames looks old new found r alone list (subst IsSoundSpec (sym agree.0) sound)
+          (reads_frames looks old new found r
+          (not_followed looks _ _ found.was r.is.was alone) list (subst IsSoundSpec (sym agree.0) sound)
           (subst (λ (x : WavSpecEx). AreWide x.bytes_per_sample list) (sym agree.0) wide)
           (subst (λ h. IsStored h bytes 0 (length bytes) old.contents) (sym agree.2) stored)
           (subst (λ (x : WavSpecEx × ℕ). IsNoPad x.0 x.1 list)

@@ -1,5 +1,5 @@
 // What holds of every repair.
-ghost use Rattle.std.specs.Prelude.{◌≡◌, ℕ, Bool, List, None, length};
+ghost use Rattle.std.specs.Prelude.{◌≡◌, ℕ, Bool, IsTrue, List, None, length};
 ghost use Rattle.std.specs.List.{concat, AllByRecursion};
 ghost use Rattle.hound_medium.specs.State.{MediumState};
 ghost use Rattle.hound_reader.specs.Chunks.{Head};
@@ -23,7 +23,7 @@ ghost use Rattle.hound_repair.specs.declared.sizes.RepairState.TheVariants.{HasC
 pub fn a_repair_keeps_stored_samples()
     ensures read { (looks : Bool) (old new : MediumState) (found : Repair) (s : WavSpecEx)
         (len start : ℕ) (list : List (List ℕ)) → Repairs looks old found new
-        → (found.was ≡ HasChunksAfterData → ⊥) → Head old.contents s len start → IsSoundSpec s
+        → (IsTrue looks → found.was ≡ HasChunksAfterData → ⊥) → Head old.contents s len start → IsSoundSpec s
         → AllByRecursion (λ c. length c ≡ s.bytes_per_sample) list
         → IsStored start (concat list) 0 (length (concat list)) old.contents → IsNoPad s len list →
         (found.spec_ex ≡ s) × ReadsFrames found start list new.contents }

@@ -1,7 +1,8 @@
 // Losses of power over a medium in memory. A machine that loses power is a medium whose calls all
 // fail from then on; of what was written since the last flush any sector may be saved or lost.
 use crate::helpers::integers;
-use hound::{Begin, End, Journal, Step, WavReader, run_durable_session};
+use hound::{Begin, End, Journal, Step, Tape, WavReader, run_durable_session};
+use hound_callers::repair_recording;
 use std::alloc::Global;
 use std::test::Fail;
 
@@ -97,6 +98,27 @@ fn has_the_first(contents: &[u8], accepted: u32, published: u32) -> bool {
     found == length && published <= found && found <= accepted
 }
 
+// Whether a reader finds the published samples first, once the contents are repaired.
+fn has_published_once_repaired(contents: Vec<u8>, published: u32) -> bool {
+    let Ok((tape, _)) = repair_recording::<Journal, _>(Tape::new(contents), &STEPS) else {
+        return false;
+    };
+    let bytes = tape.into_bytes();
+    let Ok(reader) = WavReader::new(bytes.as_slice()) else {
+        return false;
+    };
+    let mut found = 0u32;
+    for sample in reader.into_samples::<i32>() {
+        match sample {
+            Ok(sample) if i64::from(sample) == i64::from(found) + 1 => {
+                found = found.wrapping_add(1);
+            }
+            _ => break,
+        }
+    }
+    published <= found
+}
+
 #[test]
 fn a_loss_of_power_loses_no_published_sample(rt: HostRuntime) -> Result<(), Fail> {
     let alloc = rt.alloc();
@@ -126,7 +148,8 @@ fn a_loss_of_power_loses_no_published_sample(rt: HostRuntime) -> Result<(), Fail
         for _ in 0..50 {
             let contents = mixture(alloc, &states, &mut seed)?;
             losses = losses.wrapping_add(1);
-            if !has_the_first(&contents, accepted, published) {
+            let is_right = has_the_first(&contents, accepted, published);
+            if !is_right || !has_published_once_repaired(contents, published) {
                 wrong = wrong.wrapping_add(1);
             }
         }
