@@ -1,7 +1,8 @@
 // Files that were cut off, repaired in memory.
 use hound_medium::{Journal, Tape};
 use hound_repair::{
-    Repair, RepairState, a_repair_keeps_stored_samples, find_damage, repair, repair_to_end,
+    Repair, RepairState, a_repair_keeps_stored_samples, a_second_repair_writes_nothing,
+    find_damage, repair, repair_to_end,
 };
 use std::alloc::Global;
 use std::test::Fail;
@@ -109,5 +110,6 @@ fn a_repair_that_fails_is_repaired_again(rt: HostRuntime) -> Result<(), Fail> {
     }
     assert_eq!(rt; failed > 100, true);
     a_repair_keeps_stored_samples();
+    a_second_repair_writes_nothing();
     Ok(())
 }

@@ -75,7 +75,7 @@ frames_kept f len n q some few no_pad = by (n == len + 1) (len % 2 == 1) (len % 
     ]
 
 -- where no chunks follow the data, what is reported is what is held
-held_frames : (was : RepairState) (s : WavSpecEx) (len n : ℕ) → (was ≡ HasChunksAfterData → ⊥)
+pub held_frames : (was : RepairState) (s : WavSpecEx) (len n : ℕ) → (was ≡ HasChunksAfterData → ⊥)
     → frames_found was s len n ≡ frames_held s len n
 held_frames Whole s len n alone = refl
 held_frames CutOff s len n alone = refl
@@ -192,7 +192,7 @@ module _ (looks : Bool) (old new : MediumState) (found : Repair)
       }
 
 -- chunks that aren't looked for aren't found
-not_followed : (looks right followed : Bool) (was : RepairState)
+pub not_followed : (looks right followed : Bool) (was : RepairState)
     → was ≡ state_of right (looks && followed)
     → (IsTrue looks → was ≡ HasChunksAfterData → ⊥) → was ≡ HasChunksAfterData → ⊥
 not_followed true right followed was is alone here = alone refl here

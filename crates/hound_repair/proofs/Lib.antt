@@ -6,3 +6,4 @@ pub mod Mending
 pub mod RightSizes
 pub mod Joining
 pub mod Keeping
+pub mod Again

@@ -1,5 +1,5 @@
 // What holds of every repair.
-ghost use Rattle.std.specs.Prelude.{◌≡◌, ℕ, Bool, IsTrue, List, None, length};
+ghost use Rattle.std.specs.Prelude.{◌≡◌, ◌≤◌, ℕ, Bool, IsTrue, List, None, length};
 ghost use Rattle.std.specs.List.{concat, AllByRecursion};
 ghost use Rattle.hound_medium.specs.State.{MediumState};
 ghost use Rattle.hound_reader.specs.Chunks.{Head};
@@ -7,11 +7,11 @@ ghost use Rattle.hound_reader.specs.Fmt.{IsSoundSpec};
 ghost use Rattle.hound_spec.specs.declared.error.Error.{Error};
 ghost use Rattle.hound_spec.specs.declared.spec.WavSpecEx.{WavSpecEx};
 ghost use Rattle.hound_writer.specs.Answers.{IsIoError};
-ghost use Rattle.hound_repair.specs.Held.{held};
+ghost use Rattle.hound_repair.specs.Held.{frame_length, held};
 ghost use Rattle.hound_writer.specs.Storing.{IsStored};
 ghost use Rattle.hound_repair.specs.Repairing.{IsNoPad, IsNotRepaired, ReadsFrames, Repairs, repair_fault};
 ghost use Rattle.hound_repair.specs.declared.sizes.Repair.{Repair};
-ghost use Rattle.hound_repair.specs.declared.sizes.RepairState.TheVariants.{HasChunksAfterData};
+ghost use Rattle.hound_repair.specs.declared.sizes.RepairState.TheVariants.{HasChunksAfterData, Whole};
 
 /// A repair loses no sample that is stored: samples whose containers are stored from the data on are
 /// read first, as many as whole frames have, with the spec of the head, whatever the sizes said.
@@ -31,4 +31,16 @@ pub fn a_repair_keeps_stored_samples()
         (len start : ℕ) → Head old.contents s len start
         → repair_fault s len start (held start old.contents) ≡ None
         → IsNotRepaired looks old new e → IsIoError e }
+{}
+
+/// A second repair of a file finds it whole, with the same frames, and writes nothing.
+///
+/// It holds of contents as the first repair left them, unless that found chunks after the data.
+pub fn a_second_repair_writes_nothing()
+    ensures { (looks again : Bool) (old mid next new : MediumState) (found other : Repair)
+        → Repairs looks old found mid → (IsTrue looks → found.was ≡ HasChunksAfterData → ⊥)
+        → 1 ≤ frame_length found.spec_ex → next.contents ≡ mid.contents
+        → Repairs again next other new →
+        (other.was ≡ Whole) × (other.spec_ex ≡ found.spec_ex) × (other.frames ≡ found.frames)
+        × (new.contents ≡ next.contents) }
 {}

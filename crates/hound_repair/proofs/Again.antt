@@ -1,0 +1,265 @@
+-- A file that was repaired is whole.
+use Rattle.std.proofs.Common.{◌≡◌, ◌⊎◌, ℕ, zero, suc, ◌+◌, ◌-◌, ◌*◌, ◌/◌, ◌%◌, ◌<◌, ◌≤◌, Bool, true, false, IsTrue, cond, ◌&&◌, List, [], ◌∷◌, ◌++◌, length, drop, inl, inr, refl, sym, ap, ◌∙◌, subst, arith, eqb-true, eq-eqb, length-append, length-drop}
+use Rattle.std.specs.Prelude.{◌==◌, replicate}
+use Rattle.std.proofs.lemmas.Bool.{eqb-false, false≢true}
+use Rattle.std.proofs.lemmas.List.{length-replicate}
+use Rattle.std.proofs.lemmas.Nat.{div-add-mod', div-mul-add, mod-mul-add, mod_below}
+use Rattle.hound_spec.specs.declared.spec.WavSpecEx.{WavSpecEx}
+use Rattle.hound_spec.specs.Header.{riff_size}
+use Rattle.hound_medium.specs.State.{MediumState}
+use Rattle.hound_reader.specs.Chunks.{Head}
+use Rattle.hound_reader.proofs.Unique.{heads_agree}
+use Rattle.hound_writer.proofs.Heads.{head_behind, head_field, head_inside}
+use Rattle.hound_writer.specs.Sizes.{field, with_sizes}
+use Rattle.hound_repair.specs.Following.{is_followed}
+use Rattle.hound_repair.specs.Held.{are_right, data_held, ends_with_pad, frame_length, frames_held, held, mended, missing_pad, right_length}
+use Rattle.hound_repair.specs.Repairing.{HasRightSizes, LeavesFor, Repairs, UnlessFollowed, found_length, frames_found, state_of}
+use Rattle.hound_repair.specs.declared.sizes.Repair.{Repair}
+use Rattle.hound_repair.specs.declared.sizes.RepairState.{RepairState}
+use Rattle.hound_repair.specs.declared.sizes.RepairState.TheVariants.{Whole, CutOff, HasChunksAfterData}
+use Rattle.hound_repair.proofs.Keeping.{held_frames, not_followed}
+use Rattle.hound_repair.proofs.RightSizes.{same_sizes}
+
+-- the bytes held are all data, or all but the last, which is the pad byte
+held_cases : (f len n : ℕ)
+    → (data_held f len n ≡ n)
+    ⊎ ((data_held f len n ≡ len) × (n ≡ len + 1) × (len % 2 ≡ 1) × (len % f ≡ 0))
+unfolding data_held ends_with_pad
+held_cases f len n = by (n == len + 1) (len % 2 == 1) (len % f == 0) refl refl refl
+  where
+    by : (a b c : Bool) → (n == len + 1) ≡ a → (len % 2 == 1) ≡ b → (len % f == 0) ≡ c
+        → (cond (a && (b && c)) len n ≡ n)
+        ⊎ ((cond (a && (b && c)) len n ≡ len) × (n ≡ len + 1) × (len % 2 ≡ 1) × (len % f ≡ 0))
+    by false b c ea eb ec = inl refl
+    by true false c ea eb ec = inl refl
+    by true true false ea eb ec = inl refl
+    by true true true ea eb ec =
+        inr (refl, eqb-true n (len + 1) ea, eqb-true (len % 2) 1 eb, eqb-true (len % f) 0 ec)
+
+held_pad : (f len : ℕ) → len % 2 ≡ 1 → len % f ≡ 0 → data_held f len (len + 1) ≡ len
+unfolding data_held ends_with_pad
+held_pad f len odd whole = λ i.
+    cond (eq-eqb (len + 1) (len + 1) refl i && (eq-eqb (len % 2) 1 odd i && eq-eqb (len % f) 0 whole i)) len (len + 1)
+
+-- how many bytes are added
+pad_cases : (len n : ℕ)
+    → ((n ≡ len) × (length (missing_pad len n) ≡ len % 2))
+    ⊎ ((n ≡ len → ⊥) × (length (missing_pad len n) ≡ 0))
+pad_cases len n = by (n == len) refl
+  where
+    by : (b : Bool) → (n == len) ≡ b
+        → ((n ≡ len) × (length (cond b (replicate {A = ℕ} (len % 2) 0) []) ≡ len % 2))
+        ⊎ ((n ≡ len → ⊥) × (length (cond b (replicate {A = ℕ} (len % 2) 0) []) ≡ 0))
+    by true is = inl (eqb-true n len is, length-replicate (len % 2) 0)
+    by false is = inr (eqb-false n len is, refl)
+
+ne_zero : (k : ℕ) → (k ≡ 0 → ⊥) → 1 ≤ k
+ne_zero zero not = absurd (not refl)
+ne_zero (suc k) not = omega arith
+
+cases_even : (l : ℕ) → (l % 2 ≡ 0) ⊎ (l % 2 ≡ 1)
+cases_even l = by (l % 2 == 0) refl
+  where
+    by : (b : Bool) → (l % 2 == 0) ≡ b → (l % 2 ≡ 0) ⊎ (l % 2 ≡ 1)
+    by true is = inl (eqb-true (l % 2) 0 is)
+    by false is =
+        inr (omega (arith, mod_below l 2 (omega arith), ne_zero (l % 2) (eqb-false (l % 2) 0 is)))
+
+-- of mended contents the same frames are held
+frames_again : (f len n : ℕ) → 1 ≤ f
+    → data_held f (data_held f len n / f * f)
+    (n + length (missing_pad (data_held f len n / f * f) n)) / f
+    ≡ data_held f len n / f
+frames_again f len n some = go (data_held f len n / f) refl (held_cases f len n)
+  where
+    back : (q : ℕ) → q * f / f ≡ q
+    back q = ap (λ k. k / f) (let e : q * f ≡ q * f + 0 = omega arith in e) ∙ div-mul-add q f 0 some
+
+    whole : (q : ℕ) → q * f % f ≡ 0
+    whole q = ap (λ k. k % f) (let e : q * f ≡ q * f + 0 = omega arith in e) ∙ mod-mul-add q f 0 some
+
+    go : (q : ℕ) → data_held f len n / f ≡ q
+        → (data_held f len n ≡ n)
+        ⊎ ((data_held f len n ≡ len) × (n ≡ len + 1) × (len % 2 ≡ 1) × (len % f ≡ 0))
+        → data_held f (q * f) (n + length (missing_pad (q * f) n)) / f ≡ q
+    go q is first =
+        let l = q * f in
+        let m = n + length (missing_pad l n) in
+        elim (held_cases f l m) [
+          | inr (held_is, one, odd, frames) ↦ ap (λ k. k / f) held_is ∙ back q
+          | inl all ↦
+              let padded : m ≡ l + 1 → l % 2 ≡ 1 → ⊥ =
+              λ is odd. omega (arith, all, ap (data_held f l) is, held_pad f l odd (whole q), is) in
+              let same : n ≡ m → n / f ≡ q → data_held f l m / f ≡ q =
+              λ e d. ap (λ k. k / f) (all ∙ sym e) ∙ d in
+              elim first [
+                | inl one ↦ elim (pad_cases l n) [
+                  | inr (not, none) ↦
+                      same (omega (arith, none)) (ap (λ k. k / f) (sym one) ∙ is)
+                  | inl (is_l, pad) ↦ elim (cases_even l) [
+                    | inl even ↦
+                        same (omega (arith, pad, even)) (ap (λ k. k / f) (sym one) ∙ is)
+                    | inr odd ↦ absurd (padded (omega (arith, pad, odd, is_l)) odd)
+                  ]
+                ]
+                | inr (one, more, odd, frames) ↦
+                    let l_is : l ≡ len =
+                    omega (
+                      arith,
+                      ap (λ k. k * f) (sym is ∙ ap (λ k. k / f) one),
+                      div-add-mod' len f,
+                      frames,
+                    ) in
+                    let odd_l : l % 2 ≡ 1 = ap (λ k. k % 2) l_is ∙ odd in
+                    elim (pad_cases l n) [
+                      | inl (is_l, pad) ↦ absurd (omega (arith, is_l, l_is, more))
+                      | inr (not, none) ↦
+                          absurd (padded (omega (arith, none, more, l_is)) odd_l)
+                    ]
+              ]
+        ]
+
+-- the sizes that were put are right
+right_again : (s : WavSpecEx) (start len riff n frames : ℕ)
+    → len ≡ frames * frame_length s → riff ≡ riff_size start len → frames_held s len n ≡ frames
+    → are_right s start len riff n ≡ true
+right_again s start len riff n frames len_is riff_is held_is =
+    let right : right_length s len n ≡ len =
+    ap (λ k. k * frame_length s) held_is ∙ sym len_is in
+    λ i. eq-eqb riff (riff_size start (right_length s len n)) (riff_is ∙ ap (riff_size start) (sym right)) i
+    && eq-eqb len (right_length s len n) (sym right) i
+
+-- how many bytes are held then
+held_again : (was : RepairState) (found : Repair) (start : ℕ) (old new : MediumState)
+    → (was ≡ HasChunksAfterData → ⊥) → LeavesFor was found start old new → 20 ≤ start
+    → start ≤ length old.contents
+    → ((was ≡ Whole) × (held start new.contents ≡ held start old.contents))
+    ⊎ ((was ≡ CutOff) × (held start new.contents
+    ≡ held start old.contents + length (missing_pad (found_length found) (held start old.contents))))
+held_again Whole found start old new alone leaves behind inside =
+    inl (refl, ap (held start) leaves.stays.contents)
+held_again HasChunksAfterData found start old new alone leaves behind inside = absurd (alone refl)
+held_again CutOff found start old new alone leaves behind inside =
+    let n = found_length found in
+    let c = old.contents in
+    let sizes = with_sizes (start - 4) (riff_size start n) n c in
+    let pad = missing_pad n (held start c) in
+    let same = same_sizes (start - 4) (riff_size start n) n c (omega (arith, behind)) (omega (arith, behind, inside)) in
+    inr (
+      refl,
+      omega (
+        arith,
+        ap (held start) leaves.0,
+        length-drop start (sizes ++ pad),
+        length-append sizes pad,
+        same.long,
+        length-drop start c,
+        inside,
+      ),
+    )
+
+-- what the sizes of a file that isn't followed by chunks are
+sizes_of : (was : RepairState) (found : Repair) (start : ℕ) (contents : List ℕ)
+    → (was ≡ HasChunksAfterData → ⊥) → UnlessFollowed was (HasRightSizes found start contents)
+    → HasRightSizes found start contents
+sizes_of Whole found start contents alone right = right
+sizes_of CutOff found start contents alone right = right
+sizes_of HasChunksAfterData found start contents alone right = absurd (alone refl)
+
+-- a file that was found whole has the sizes of the frames that it holds
+whole_again : (s : WavSpecEx) (start len riff n : ℕ) (followed : Bool)
+    → Whole ≡ state_of (are_right s start len riff n) followed → len ≡ right_length s len n
+whole_again s start len riff n followed is =
+    eqb-true len (right_length s len n)
+    (second (riff == riff_size start (right_length s len n)) (len == right_length s len n)
+    (by (are_right s start len riff n) followed is))
+  where
+    by : (b x : Bool) → Whole ≡ state_of b x → b ≡ true
+    by true x e = refl
+    by false true e = let h : ⊥ = cc in absurd h
+    by false false e = let h : ⊥ = cc in absurd h
+
+    second : (a b : Bool) → (a && b) ≡ true → b ≡ true
+    second true b e = e
+    second false b e = absurd (false≢true e)
+
+module _ (looks again : Bool) (old mid next new : MediumState) (found other : Repair)
+    (first : Repairs looks old found mid)
+    (alone : IsTrue looks → found.was ≡ HasChunksAfterData → ⊥)
+    (same : next.contents ≡ mid.contents) (second : Repairs again next other new)
+    (sound : 1 ≤ frame_length found.spec_ex) where
+  abbrev s : WavSpecEx
+  s = found.spec_ex
+
+  abbrev start : ℕ
+  start = first.start
+
+  abbrev n : ℕ
+  n = held start old.contents
+
+  apart : found.was ≡ HasChunksAfterData → ⊥
+  apart = not_followed looks _ _ found.was first.is.was alone
+
+  right : HasRightSizes found start mid.contents
+  right = sizes_of found.was found start mid.contents apart first.sizes
+
+  length_is : right.readable.len ≡ found_length found
+  length_is =
+      sym (head_field mid.contents s right.readable.len start right.readable.head)
+      ∙ right.length_says
+
+  frames_are : found.frames ≡ frames_held s first.len n
+  frames_are = first.is.frames ∙ held_frames found.was s first.len n apart
+
+  -- the same frames are held
+  frames_same : frames_held s (found_length found) (held start mid.contents) ≡ found.frames
+  frames_same =
+      let f = frame_length s in
+      let length_of : found_length found ≡ data_held f first.len n / f * f =
+      ap (λ k. k * f) frames_are in
+      elim (held_again found.was found start old mid apart first.leaves
+      (head_behind old.contents s first.len start first.is.head)
+      (head_inside old.contents s first.len start first.is.head)) [
+        | inr (cut, more) ↦
+            ap (λ (x : ℕ × ℕ). data_held f x.0 x.1 / f)
+            (λ i. (length_of i, (more ∙ ap (λ k. n + length (missing_pad k n)) length_of) i))
+            ∙ frames_again f first.len n sound ∙ sym frames_are
+        | inl (whole, stays) ↦
+            let was_right : first.len ≡ right_length s first.len n =
+            whole_again s start first.len (field 4 old.contents) n _ (sym whole ∙ first.is.was) in
+            ap (λ (x : ℕ × ℕ). data_held f x.0 x.1 / f)
+            (λ i. ((length_of ∙ sym was_right) i, stays i)) ∙ sym frames_are
+      ]
+
+  pub whole_then : (other.was ≡ Whole) × (other.spec_ex ≡ s) × (other.frames ≡ found.frames)
+      × (new.contents ≡ next.contents)
+  whole_then =
+      let agree =
+      heads_agree next.contents other.spec_ex s second.len right.readable.len second.start start
+      second.is.head
+      (subst (λ c. Head c s right.readable.len start) (sym same) right.readable.head) in
+      let len : second.len ≡ found_length found = agree.1 ∙ length_is in
+      let is_right : are_right other.spec_ex second.start second.len (field 4 next.contents)
+      (held second.start next.contents) ≡ true =
+      (λ i. are_right (agree.0 i) (agree.2 i) (len i) (field 4 (same i)) (held (agree.2 i) (same i)))
+      ∙ right_again s start (found_length found) (field 4 mid.contents) (held start mid.contents)
+      found.frames refl right.riff_says frames_same in
+      let was : other.was ≡ Whole =
+      second.is.was ∙ ap (λ b. state_of b (again && is_followed second.len (drop second.start next.contents))) is_right in (
+        was,
+        agree.0,
+        second.is.frames
+            ∙ (λ i. frames_found (was i) (agree.0 i) (len i) (held (agree.2 i) (same i)))
+            ∙ frames_same,
+        (subst (λ w. LeavesFor w other second.start next new) was second.leaves).stays.contents,
+      )
+
+-- a second repair finds the same frames, and writes nothing
+pub second_repair : (looks again : Bool) (old mid next new : MediumState) (found other : Repair)
+    → Repairs looks old found mid → (IsTrue looks → found.was ≡ HasChunksAfterData → ⊥)
+    → 1 ≤ frame_length found.spec_ex → next.contents ≡ mid.contents
+    → Repairs again next other new
+    → (other.was ≡ Whole) × (other.spec_ex ≡ found.spec_ex) × (other.frames ≡ found.frames)
+    × (new.contents ≡ next.contents)
+second_repair looks again old mid next new found other first alone sound same second =
+    whole_then looks again old mid next new found other first alone same second sound
