@@ -5,5 +5,6 @@ pub mod Measuring
 pub mod Mending
 pub mod RightSizes
 pub mod Joining
+pub mod Halves
 pub mod Keeping
 pub mod Again

@@ -5,7 +5,7 @@ use borrow.Rule.Slice.PartMut.{put_mid, post_of}
 use lib.Seq.{take-add, take-append-le}
 use Rattle.std.proofs.lemmas.List.{drop-drop}
 
--- a front of a buffer, and what was put behind it
+-- a front of a buffer, and what was written after it
 put_behind : (at k n : ℕ) (buf given : List ℕ) → at ≤ length buf → n ≤ length given
     → take (at + n) (put_mid at k buf given) ≡ take at buf ++ take n given
 put_behind at k n buf given within fits =

@@ -77,7 +77,7 @@ pub written : (s : WavSpecEx) (len start n : ℕ)
 unfolding repair_fault
 written s len start n pair = rw pair
 
--- one that isn't is refused
+-- one that isn't has its error
 pub not_written : (s : WavSpecEx) (len start n : ℕ)
     → is_pair s.spec.sample_format s.spec.bits_per_sample s.bytes_per_sample ≡ false
     → repair_fault s len start n ≡ Some (by_bytes Unsupported)

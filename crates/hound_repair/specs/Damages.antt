@@ -4,7 +4,7 @@ use Rattle.hound_number.specs.Number.{mix}
 use Rattle.hound_spec.specs.declared.error.Error.{Error}
 use Rattle.hound_spec.specs.FmtChunk.{greatest_u32}
 use Rattle.hound_spec.specs.Header.{riff_size}
-use Rattle.hound_medium.specs.Bytes.{placed, overlay}
+use Rattle.hound_medium.specs.Bytes.{moment, placed, overlay}
 use Rattle.hound_medium.specs.State.{MediumState, faults_after, one_more}
 use Rattle.hound_reader.specs.declared.chunks.FileHead.{FileHead}
 use Rattle.hound_reader.specs.Chunks.{Head, IsDataPlace}
@@ -20,7 +20,7 @@ use Rattle.hound_repair.specs.declared.sizes.Repair.{Repair}
 use Rattle.hound_repair.specs.declared.sizes.RepairState.{RepairState}
 use Rattle.hound_repair.specs.declared.sizes.RepairState.TheVariants.{HasChunksAfterData}
 
--- whatever a medium tells: the head is this one, and what the sizes are made of is small
+-- over every medium: the head is this one, and what the sizes are made of is small
 pub record IsSoundDamage (head : FileHead) (d : Damage) : Type 0 where
   pub head_is : d.head ≡ head
   pub spec : IsSoundSpec head.spec_ex
@@ -87,7 +87,7 @@ repair_of d = record {
   was = d.was;
 }
 
--- A pad byte was put at the end, or a fault came before it or after it.
+-- A pad byte was written at the end, or a fault came before it or after it.
 pub record PutsPad {T E : Type 0} (keeps : Bool) (end : ℕ) (result : Result T E)
     (old new : MediumState) : Type 0 where
   pub count : ℕ
@@ -99,12 +99,12 @@ pub record PutsPad {T E : Type 0} (keeps : Bool) (end : ℕ) (result : Result T 
   pub flushed : OnOk result (new.flushed ≡ length new.past)
   pub faults : new.faults ≡ faults_after result old.faults
 
--- nothing was put and no call failed: at most the place has changed
+-- nothing was written and no call failed: at most the place has changed
 pub record IsSame (old new : MediumState) : Type 0 where
   pub puts : PutsNothing old new
   pub faults : new.faults ≡ old.faults
 
--- the contents while the sizes and the pad byte are put
+-- the contents while the sizes and the pad byte are written
 pub record HalfPut (p riff data_length : ℕ) (old new : List ℕ) : Type 0 where
   pub sizes : List ℕ
   pub k : ℕ
@@ -126,3 +126,9 @@ pub record PutsSizes {T E : Type 0} (d : Damage) (result : Result T E) (old new 
       new.contents
   pub flushed : OnOk result (new.flushed ≡ length new.past)
   pub faults : new.faults ≡ faults_after result old.faults
+
+-- in each intermediate state the sizes and the pad byte are half written
+abbrev pub HalfPutAtEach : ℕ → ℕ → ℕ → MediumState → MediumState → Type 0
+HalfPutAtEach p riff data_length old new =
+    (k : ℕ) → length old.past ≤ k → k ≤ length new.past →
+    HalfPut p riff data_length old.contents (moment new.start new.past k)

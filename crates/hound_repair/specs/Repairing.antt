@@ -6,6 +6,7 @@ use Rattle.hound_spec.specs.FmtChunk.{greatest_u32}
 use Rattle.hound_spec.specs.Header.{riff_size}
 use Rattle.hound_spec.specs.Writable.{is_pair}
 use Rattle.hound_number.specs.Number.{mix}
+use Rattle.hound_medium.specs.Bytes.{moment}
 use Rattle.hound_medium.specs.State.{MediumState, faults_after, one_more}
 use Rattle.hound_sample.specs.Container.{containers}
 use Rattle.hound_reader.specs.declared.cause.Cause.{Cause}
@@ -71,12 +72,12 @@ pub record IsFoundAt (looks : Bool) (contents : List ℕ) (found : Repair) (len 
     pub left_over : found.left_over
         ≡ torn_found found.was found.spec_ex len (held start contents)
 
--- something looked at a medium: nothing was put, and a call that failed counts one fault
+-- something looked at a medium: nothing was written, and a call that failed counts one fault
 pub record Looks {T E : Type 0} (result : Result T E) (old new : MediumState) : Type 0 where
   pub puts : PutsNothing old new
   pub faults : new.faults ≡ faults_after result old.faults
 
--- a file that is looked at: what is found, and nothing is put
+-- a file that is looked at: what is found, and nothing is written
 pub record Finds (looks : Bool) (old : MediumState) (found : Repair) (new : MediumState) : Type 0
   where
     pub len : ℕ
@@ -143,13 +144,22 @@ pub record HalfMended (start data_length : ℕ) (old new : List ℕ) : Type 0 wh
   pub is : new ≡ sizes ++ pad
   pub last : 1 ≤ length pad → sizes ≡ with_sizes (start - 4) (riff_size start data_length) data_length old
 
+-- In each intermediate state of a repair nothing was written, or the file is half mended, for the
+-- frames that were found in it.
+abbrev pub MendsAtEach : Bool → MediumState → MediumState → Type 0
+MendsAtEach looks old new =
+    (new.past ≡ old.past)
+    ⊎ ((found : Repair) × (len : ℕ) × (start : ℕ) × IsFoundAt looks old.contents found len start
+    × ((k : ℕ) → length old.past ≤ k → k ≤ length new.past →
+    HalfMended start (found_length found) old.contents (moment new.start new.past k)))
+
 -- what is left where the medium failed: all, or a file that is half mended
 abbrev pub LeavesHalf : Bool → MediumState → MediumState → Type 0
 LeavesHalf looks old new = PutsNothing old new
     ⊎ ((found : Repair) × (len : ℕ) × (start : ℕ) × IsFoundAt looks old.contents found len start
     × HalfMended start (found_length found) old.contents new.contents)
 
--- A file that isn't repaired, for a fault that its bytes have, and then nothing was put; or since
+-- A file that isn't repaired, for a fault that its bytes have, and then nothing was written; or since
 -- the medium failed.
 pub record IsNotRepaired (looks : Bool) (old new : MediumState) (e : Error) : Type 0 where
   pub why : ((fault : AppendFault) × IsRepairFault old.contents fault × NamesFault e fault

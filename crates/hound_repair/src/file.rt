@@ -79,7 +79,7 @@ fn buffered(alloc: Global, file: fs::File) -> Result<BufReader<fs::File>> {
     }
 }
 
-/// Repairs a file on disk as [`repair`] does, and waits for the disk where it wrote.
+/// Repairs a file on disk as [`repair`] does, and syncs it where it wrote.
 ///
 /// `rt` is what `main` and each test are given, `alloc` is `rt.alloc()`. The errors, in their order:
 /// `IoError` if the file can't be opened for reading and writing or has no place, as a pipe;

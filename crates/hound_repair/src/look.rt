@@ -282,7 +282,7 @@ impl Damage {
     }
 }
 
-/// Looks at a file in a medium that stands at its beginning, writes nothing, and reports what
+/// Looks at a file in a medium that is at its beginning, writes nothing, and reports what
 /// [`repair`](crate::repair) would find: the frames that the file holds, and how it was found.
 ///
 /// The errors, in their order: those of a reader's walk to the data, by the bytes; `Unsupported`,

@@ -1,10 +1,10 @@
 // The right sizes, put into a file.
-ghost use Rattle.std.specs.Prelude.{◌≡◌, ◌+◌, ◌≤◌, true, false, Bool, IfOk, MatchResult, length};
+ghost use Rattle.std.specs.Prelude.{◌≡◌, ◌+◌, ◌-◌, ◌≤◌, true, false, Bool, IfOk, MatchResult, length};
 ghost use Rattle.hound_reader.specs.Fmt.{IsSoundSpec};
 ghost use Rattle.hound_repair.specs.declared.sizes.RepairState.{RepairState};
-ghost use Rattle.hound_medium.specs.State.{WhereTells};
-ghost use Rattle.hound_repair.specs.Damages.{IsDamage, IsSoundDamage, PutsPad, PutsSizes};
-ghost use Rattle.hound_repair.specs.Repairing.{IsNotRepaired, Repairs};
+ghost use Rattle.hound_medium.specs.State.{WhereKeeps, WhereTells};
+ghost use Rattle.hound_repair.specs.Damages.{HalfPutAtEach, IsDamage, IsSoundDamage, PutsPad, PutsSizes};
+ghost use Rattle.hound_repair.specs.Repairing.{IsNotRepaired, MendsAtEach, Repairs};
 
 use crate::look::{Damage, look};
 use crate::sizes::{Repair, RepairState};
@@ -28,7 +28,9 @@ fn put_sizes<M: Medium>(medium: &mut M, damage: Damage) -> io::Result<()>
     requires sound { IsSoundDamage damage.head damage }
     requires ends { WhereTells M.tells
         (damage.head.data_start + damage.held ≡ length (M.state medium.old).contents) }
-    ensures { WhereTells M.tells (PutsSizes damage result (M.state medium.old) (M.state medium.new)) }
+    ensures sizes { WhereTells M.tells (PutsSizes damage result (M.state medium.old) (M.state medium.new)) }
+    ensures moments { WhereKeeps M.tells M.keeps (HalfPutAtEach (damage.head.data_start - 4)
+        damage.sizes.riff_size damage.sizes.data_length (M.state medium.old) (M.state medium.new)) }
 {
     let start = damage.head.data_start;
     let length = damage.sizes.data_length;
@@ -49,6 +51,10 @@ fn mend_cut<M: Medium>(medium: M, damage: Damage) -> result::Result<(M, Repair),
         MatchResult result
         (λ done. Repairs looks (M.state medium) done.1 (M.state done.0))
         (λ refused. IsNotRepaired looks (M.state medium) (M.state refused.0) refused.1)) }
+    ensures moments { WhereKeeps M.tells M.keeps ((looks : Bool)
+        → IsDamage looks (M.state medium).contents damage → MatchResult result
+        (λ done. MendsAtEach looks (M.state medium) (M.state done.0))
+        (λ refused. MendsAtEach looks (M.state medium) (M.state refused.0))) }
 {
     let mut medium = medium;
     match put_sizes(&mut medium, damage) {
@@ -66,6 +72,10 @@ fn mend<M: Medium>(medium: M, damage: Damage) -> result::Result<(M, Repair), (M,
         MatchResult result
         (λ done. Repairs looks (M.state medium) done.1 (M.state done.0))
         (λ refused. IsNotRepaired looks (M.state medium) (M.state refused.0) refused.1)) }
+    ensures moments { WhereKeeps M.tells M.keeps ((looks : Bool)
+        → IsDamage looks (M.state medium).contents damage → MatchResult result
+        (λ done. MendsAtEach looks (M.state medium) (M.state done.0))
+        (λ refused. MendsAtEach looks (M.state medium) (M.state refused.0))) }
 {
     match damage.was {
         RepairState::CutOff => mend_cut(medium, damage),
@@ -84,6 +94,9 @@ fn repair_with<M: Source + Medium>(
     ensures repaired { WhereTells M.tells (MatchResult result
         (λ done. Repairs looks (M.state medium) done.1 (M.state done.0))
         (λ refused. IsNotRepaired looks (M.state medium) (M.state refused.0) refused.1)) }
+    ensures moments { WhereKeeps M.tells M.keeps (MatchResult result
+        (λ done. MendsAtEach looks (M.state medium) (M.state done.0))
+        (λ refused. MendsAtEach looks (M.state medium) (M.state refused.0))) }
 {
     let (medium, damage) = look(medium, looks);
     match damage {
@@ -92,13 +105,13 @@ fn repair_with<M: Source + Medium>(
     }
 }
 
-/// Repairs a file in a medium that stands at its beginning, whose recording was cut off: every whole
+/// Repairs a file in a medium that is at its beginning, whose recording was cut off: every whole
 /// frame that it holds is read again.
 ///
 /// Where both sizes are right, nothing is written. Where the data length is followed by chunks with
 /// printable tags, to the end of the file, it wasn't cut off: that is reported, and nothing is
 /// written ([`repair_to_end`] repairs it all the same). Else the two sizes become those of the whole
-/// frames from the data on, the RIFF size first, and the medium is flushed. A pad byte is put where
+/// frames from the data on, the RIFF size first, and the medium is flushed. A pad byte is written where
 /// data of an odd length end with the file, and the medium is flushed again. No other byte changes.
 ///
 /// The errors, in their order: those of a reader's walk to the data, by the bytes; `Unsupported`,
@@ -111,6 +124,9 @@ pub fn repair<M: Source + Medium>(medium: M) -> result::Result<(M, Repair), (M, 
     ensures repaired { WhereTells M.tells (MatchResult result
         (λ done. Repairs true (M.state medium) done.1 (M.state done.0))
         (λ refused. IsNotRepaired true (M.state medium) (M.state refused.0) refused.1)) }
+    ensures moments { WhereKeeps M.tells M.keeps (MatchResult result
+        (λ done. MendsAtEach true (M.state medium) (M.state done.0))
+        (λ refused. MendsAtEach true (M.state medium) (M.state refused.0))) }
 {
     repair_with(medium, true)
 }
@@ -123,6 +139,9 @@ pub fn repair_to_end<M: Source + Medium>(medium: M) -> result::Result<(M, Repair
     ensures repaired { WhereTells M.tells (MatchResult result
         (λ done. Repairs false (M.state medium) done.1 (M.state done.0))
         (λ refused. IsNotRepaired false (M.state medium) (M.state refused.0) refused.1)) }
+    ensures moments { WhereKeeps M.tells M.keeps (MatchResult result
+        (λ done. MendsAtEach false (M.state medium) (M.state done.0))
+        (λ refused. MendsAtEach false (M.state medium) (M.state refused.0))) }
 {
     repair_with(medium, false)
 }

@@ -51,7 +51,7 @@ pub(crate) struct Sizes {
     pub(crate) left_over: u32,
 }
 
-// How many of the bytes held are data: all, but for a pad byte that the data length tells of.
+// How many of the bytes held are data: all, except a pad byte that the data length shows.
 #[tactic(auto, unfolding(crate::specs::Held::data_held, crate::specs::Held::ends_with_pad))]
 fn data_held(frame: u64, length: u64, held: u64) -> u64
     requires some { 0 < frame }

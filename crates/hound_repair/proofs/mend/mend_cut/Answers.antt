@@ -1,5 +1,6 @@
 use Rattle.std.proofs.Common.{inr, subst, sym}
 use Rattle.hound_repair.specs.Repairing.{Repairs}
+use Rattle.hound_repair.proofs.Halves.{mends_at_each}
 use Rattle.hound_repair.proofs.Mending.{found_of, half_is, repairs_cut}
 use Rattle.hound_repair.proofs.mend.mend_cut.Goals as goal
 
@@ -9,11 +10,11 @@ returns-in-Ok-clause-repaired g c told looks at =
     let new = g.M.Placed.state c.put_sizes.new.medium in
     subst (λ r. Repairs looks old r new) (sym c.repair.ensures)
     (repairs_cut looks old c.args.damage at c.requires.sound.spec new _ c.requires.cut
-    (c.in-Ok.ensures told))
+    (c.in-Ok.ensures.sizes told))
 
 pub returns-in-Err-clause-repaired : goal.returns-in-Err-clause-repaired
 returns-in-Err-clause-repaired g c told looks at =
-    let puts = c.in-Err.ensures told in
+    let puts = c.in-Err.ensures.sizes told in
     record {
       why = inr (
         tt,
@@ -27,3 +28,13 @@ returns-in-Err-clause-repaired g c told looks at =
         puts.faults,
       );
     }
+
+pub returns-in-Ok-clause-moments : goal.returns-in-Ok-clause-moments
+returns-in-Ok-clause-moments g c told kept looks at =
+    mends_at_each looks c.args.damage (g.M.Placed.state c.args.medium)
+    (g.M.Placed.state c.put_sizes.new.medium) at c.requires.cut (c.in-Ok.ensures.moments told kept)
+
+pub returns-in-Err-clause-moments : goal.returns-in-Err-clause-moments
+returns-in-Err-clause-moments g c told kept looks at =
+    mends_at_each looks c.args.damage (g.M.Placed.state c.args.medium)
+    (g.M.Placed.state c.put_sizes.new.medium) at c.requires.cut (c.in-Err.ensures.moments told kept)
