@@ -3,8 +3,7 @@
 //
 // A `flush` follows the header, and each COUNT samples. If the program is killed after the first
 // one, the file can be read, and has all samples that an Ok `flush` has published; with `durable`
-// also if the power goes. If it was killed while it wrote the sizes, or samples follow those that
-// they count, `mend FILE --yes` gives back every whole frame.
+// also if the power goes. How such a file is mended is said at the end.
 ghost use Rattle.std.specs.Prelude.{◌<◌};
 
 use crate::failure::Failure;
@@ -63,3 +62,6 @@ fn record_into<W: Medium, I: io::Read>(
     writer.finalize()?;
     Ok(())
 }
+
+// If the recorder was killed while it wrote the sizes, they may be torn, and samples may follow those
+// that they count: `mend FILE --yes` gives back every whole frame that the file holds.

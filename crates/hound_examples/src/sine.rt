@@ -1,7 +1,8 @@
 // A second of a sine of 440 Hz, in sixteen bits: `sine FILE`.
 //
 // The shortest writer there is: `create`, a `write_sample` for each sample, and `finalize`, whose
-// Ok says that the file is whole. The sine is the C library's, as in Rust: over one C library the
+// Ok says that the file is whole. Calls that open a file take `rt`, the runtime that `main` gets;
+// those that take memory take its allocator, `rt.alloc()`; a name of a file is a `Path`. The sine is the C library's, as in Rust: over one C library the
 // file is the same, byte for byte, whatever compiled the program, and over another a few samples
 // may differ by one.
 use hound::{SampleFormat, WavSpec, WavWriter};
