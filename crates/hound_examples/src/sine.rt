@@ -2,9 +2,10 @@
 //
 // The shortest writer there is: `create`, a `write_sample` for each sample, and `finalize`, whose
 // Ok says that the file is whole. Calls that open a file take `rt`, the runtime that `main` gets;
-// those that take memory take its allocator, `rt.alloc()`; a name of a file is a `Path`. The sine is the C library's, as in Rust: over one C library the
-// file is the same, byte for byte, whatever compiled the program, and over another a few samples
-// may differ by one.
+// those that take memory take its allocator, `rt.alloc()`; a name of a file is a `Path`.
+//
+// The sine is the C library's, as in Rust: over one C library the file is the same, byte for byte,
+// whatever compiled the program, and over another a few samples may differ by one.
 use hound::{SampleFormat, WavSpec, WavWriter};
 use std::f32::consts::PI;
 use std::num::saturating_f32_to_i16;
