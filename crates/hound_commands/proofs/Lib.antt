@@ -1,2 +1,4 @@
+pub mod Outputs
 pub mod PackAnswers
 pub mod ShowAnswers
+pub mod ShownAgain

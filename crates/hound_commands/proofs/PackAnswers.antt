@@ -36,7 +36,7 @@ have-append s (x ∷ xs) ys (c ∷ cs) ds (here, front) back =
     (here, have-append s xs ys cs ds front back)
 
 -- they take as many bytes as the width says, each
-have-bytes : (s : WavSpecEx) (xs : List ℤ) (cs : List (List ℕ)) → HaveContainers s xs cs
+pub have-bytes : (s : WavSpecEx) (xs : List ℤ) (cs : List (List ℕ)) → HaveContainers s xs cs
     → length (concat cs) ≡ length cs * s.bytes_per_sample
 have-bytes s [] [] have = omega arith
 have-bytes s [] (c ∷ cs) have = absurd have

@@ -1,43 +1,27 @@
 -- What the lines of samples are, one sample after the other.
-use Rattle.std.proofs.Common.{◌≡◌, ℕ, zero, suc, ◌+◌, ◌*◌, List, [], ◌++◌, length, take, drop, Option, Some, None, Result, Ok, refl, sym, ◌∙◌, ap, subst, append_assoc, append-nil, length-drop, drop-drop, arith}
-use Rattle.std.specs.Io.KnownBytes.{Appends, Keeps, append_known}
+use Rattle.std.proofs.Common.{◌≡◌, ℕ, zero, suc, ◌+◌, ◌*◌, ◌<◌, ◌≤◌, List, [], ◌++◌, length, take, drop, Option, Some, None, Result, Ok, Err, IfErr, IfSome, IsErrAnd, OnOk, inl, inr, refl, sym, ◌∙◌, ap, subst, append_assoc, append-nil, length-drop, drop-drop, arith}
+use Rattle.std.specs.Io.KnownBytes.{Appends, Keeps}
 use Rattle.hound.specs.Input.{Known}
-use Rattle.hound.specs.Meaning.{ReadRefusal, float_refusal, int_meaning, int_refusal, pattern}
+use Rattle.hound.specs.Meaning.{ReadRefusal, other_format, wider, other_pair, float_refusal, int_meaning, int_refusal, pattern}
 use Rattle.hound.specs.Reader.{meaning_at, refusal_at}
-use Rattle.hound.specs.Reads.{Reads}
-use Rattle.hound.specs.Chunks.{Readable}
+use Rattle.hound.specs.Reads.{Reads, error_of_read}
+use Rattle.hound.specs.Refusals.{IsRefusal}
+use Rattle.hound.specs.Chunks.{Readable, Unreadable}
+use Rattle.hound.specs.Cause.TheVariants as causes
+use Rattle.hound.specs.Writing.{Writes}
 use Rattle.hound.specs.declared.Error.{Error}
+use Rattle.hound.specs.declared.Error.TheVariants as errors
 use Rattle.hound.specs.declared.SampleFormat.{SampleFormat}
 use Rattle.hound.specs.declared.SampleFormat.TheVariants.{Float, Int}
-use Rattle.hound_text.specs.Writing.{integer_line, pattern_line}
 use Rattle.hound.specs.declared.WavSpec.{WavSpec}
 use Rattle.hound.specs.declared.WavSpecEx.{WavSpecEx}
-use Rattle.hound_commands.specs.Showing.{AreShowable, Shows, ShowsSamples, spec_line, line_for, refusal_for, sample_line, sample_lines, show_refusal}
-
--- texts appended one after the other
-pub appends-then : (old mid new : Option (List ℕ)) (first rest : List ℕ) → Appends old mid first
-    → Appends mid new rest → Appends old new (first ++ rest)
-appends-then None mid new first rest front back = tt
-appends-then (Some xs) None new first rest front back = absurd front
-appends-then (Some xs) (Some ys) None first rest front back = absurd back
-appends-then (Some xs) (Some ys) (Some zs) first rest front back =
-    back ∙ ap (λ l. l ++ rest) front ∙ append_assoc xs first rest
-
-pub appends-none : (old : Option (List ℕ)) → Appends old old []
-appends-none None = tt
-appends-none (Some xs) = sym (append-nil xs)
-
-pub appends-kept : (old mid new : Option (List ℕ)) (text : List ℕ) → Appends old mid text
-    → Keeps mid new → Appends old new text
-appends-kept None mid new text front keeps = tt
-appends-kept (Some xs) None new text front keeps = absurd front
-appends-kept (Some xs) (Some ys) None text front keeps = absurd keeps
-appends-kept (Some xs) (Some ys) (Some zs) text front keeps = keeps ∙ front
-
-pub buffered : (known : Option (List ℕ)) (lines more : List ℕ)
-    → Appends (append_known known lines) (append_known known (lines ++ more)) more
-buffered None lines more = tt
-buffered (Some xs) lines more = sym (append_assoc xs lines more)
+use Rattle.hound_text.specs.Writing.{integer_line, pattern_line}
+use Rattle.hound_commands.proofs.Outputs.{appends-kept, appends-none, beginning-then, gets-more, gets-none, gets-stopped, gets-then, gets-written, whole-beginning, written-part}
+use Rattle.hound_commands.specs.Failing.{failure_of}
+use Rattle.hound_commands.specs.Output.{GetsBeginning, GetsBuffered, IsBeginning}
+use Rattle.hound_commands.specs.Showing.{AreShowable, IsHeadFailure, IsShownPart, RefusesSamples, Shows, ShowsSamples, ShowsUntil, StopsAt, StopsSamples, spec_line, line_for, refusal_for, sample_line, sample_lines, show_refusal}
+use Rattle.hound_commands.specs.declared.failure.Failure.{Failure}
+use Rattle.hound_commands.specs.declared.failure.Failure.TheVariants.{BadNumber, InputOrOutput, Refused}
 
 -- one sample more
 lines-more : (s : WavSpecEx) (k : ℕ) (xs : List ℕ) → sample_lines s (suc k) xs
@@ -56,28 +40,31 @@ lines-more s (suc k) xs =
     ∙ sym (append_assoc first (sample_lines s k (drop w xs)) _)
 
 -- So many samples of what was left are shown, and the others are left.
-abbrev pub Shown : WavSpecEx → ℕ → Option (List ℕ) → Option (List ℕ) → Option (List ℕ) → Option (List ℕ) → Type 0
-Shown s k left now old new = Known left now (λ xs ys. (ys ≡ drop (k * s.bytes_per_sample) xs)
-    × AreShowable s k xs × Appends old new (sample_lines s k xs))
+abbrev pub Shown : WavSpecEx → ℕ → Option (List ℕ) → Option (List ℕ) → Option (List ℕ) → Option (List ℕ) → List ℕ → List ℕ → Type 0
+Shown s k left now old new first lines = Known left now (λ xs ys. (ys ≡ drop (k * s.bytes_per_sample) xs)
+    × AreShowable s k xs × GetsBuffered old new lines (first ++ sample_lines s k xs))
 
-pub none_shown : (s : WavSpecEx) (left old : Option (List ℕ)) → Shown s 0 left left old old
-none_shown s None old = tt
-none_shown s (Some xs) old =
+none_showable : (s : WavSpecEx) (xs : List ℕ) → AreShowable s 0 xs
+none_showable s xs = record { there = omega arith; shown = λ some. absurd (omega arith) }
+
+pub none_shown : (s : WavSpecEx) (left old : Option (List ℕ)) (first : List ℕ) → Shown s 0 left left old old first first
+none_shown s None old first = tt
+none_shown s (Some xs) old first =
     let none : 0 ≡ 0 * s.bytes_per_sample = omega arith in
-    (ap (λ n. drop n xs) none, record { there = omega arith; shown = λ some. absurd (omega arith) }, appends-none old)
+    (ap (λ n. drop n xs) none, none_showable s xs, subst (GetsBuffered old old first) (sym (append-nil first)) (gets-none old first))
 
 one_shown : {A : Type 0} (s : WavSpecEx) (k : ℕ) (refusal : Option ReadRefusal)
     (meaning : List ℕ → A) (line : A → List ℕ) (value : A)
-    (left now next old new newer : Option (List ℕ)) → refusal ≡ show_refusal s
-    → ((c : List ℕ) → line (meaning c) ≡ sample_line s c) → Shown s k left now old new
-    → Reads refusal meaning s.bytes_per_sample now next (Ok value) → Appends new newer (line value)
-    → Shown s (k + 1) left next old newer
-one_shown s k (Some refusal) meaning line value left now next old new newer same lines so_far read more =
+    (left now next old new newer : Option (List ℕ)) (first lines room : List ℕ) → refusal ≡ show_refusal s
+    → ((c : List ℕ) → line (meaning c) ≡ sample_line s c) → Shown s k left now old new first lines
+    → Reads refusal meaning s.bytes_per_sample now next (Ok value) → GetsBuffered new newer room lines
+    → Shown s (k + 1) left next old newer first (room ++ line value)
+one_shown s k (Some refusal) meaning line value left now next old new newer first lines room same as_line so_far read moved =
     let h = read.0 in absurd (cc h)
-one_shown s k None meaning line value None now next old new newer same lines so_far read more = tt
-one_shown s k None meaning line value (Some xs) None next old new newer same lines so_far read more = absurd so_far
-one_shown s k None meaning line value (Some xs) (Some ys) None old new newer same lines so_far read more = absurd read
-one_shown s k None meaning line value (Some xs) (Some ys) (Some zs) old new newer same lines (left_is, showable, text) (whole, is, rest) more =
+one_shown s k None meaning line value None now next old new newer first lines room same as_line so_far read moved = tt
+one_shown s k None meaning line value (Some xs) None next old new newer first lines room same as_line so_far read moved = absurd so_far
+one_shown s k None meaning line value (Some xs) (Some ys) None old new newer first lines room same as_line so_far read moved = absurd read
+one_shown s k None meaning line value (Some xs) (Some ys) (Some zs) old new newer first lines room same as_line (left_is, showable, text) (whole, is, rest) moved =
     let w = s.bytes_per_sample in
     let there = showable.there in
     let size : length ys ≡ length (drop (k * w) xs) = ap length left_is in
@@ -86,45 +73,100 @@ one_shown s k None meaning line value (Some xs) (Some ys) (Some zs) old new newe
     let next_count : suc k ≡ k + 1 = omega arith in (
       rest ∙ ap (drop w) left_is ∙ drop-drop w (k * w) xs ∙ ap (λ n. drop n xs) on,
       record { there = omega (arith, there, size, sized, whole, on); shown = λ some. sym same },
-      subst (Appends old newer)
-          (ap (λ l. sample_lines s k xs ++ l) (ap line is ∙ lines (take w ys) ∙ ap (λ b. sample_line s (take w b)) left_is)
-          ∙ (sym (lines-more s k xs) ∙ ap (λ n. sample_lines s n xs) next_count))
-          (appends-then old new newer (sample_lines s k xs) (line value) text more),
+      subst (GetsBuffered old newer (room ++ line value))
+          (append_assoc first (sample_lines s k xs) (line value)
+          ∙ ap (λ l. first ++ (sample_lines s k xs ++ l)) (ap line is ∙ as_line (take w ys) ∙ ap (λ b. sample_line s (take w b)) left_is)
+          ∙ ap (λ l. first ++ l) (sym (lines-more s k xs) ∙ ap (λ n. sample_lines s n xs) next_count))
+          (gets-more old newer (first ++ sample_lines s k xs) room (line value)
+          (gets-then old new newer (first ++ sample_lines s k xs) lines room text moved)),
     )
 
 -- all of them
-pub all_shown : (s : WavSpecEx) (k count : ℕ) (left now old new : Option (List ℕ)) → k ≡ count
-    → Shown s k left now old new → ShowsSamples s count left old new
-all_shown s k count None now old new all shown = tt
-all_shown s k count (Some xs) None old new all shown = absurd shown
-all_shown s k count (Some xs) (Some ys) old new all (left_is, showable, text) =
-    subst (λ n. AreShowable s n xs × Appends old new (sample_lines s n xs)) all (showable, text)
+pub all_shown : (s : WavSpecEx) (k count : ℕ) (left now old new : Option (List ℕ)) (first lines : List ℕ) → k ≡ count
+    → Shown s k left now old new first lines → ShowsSamples s count left old new first lines
+all_shown s k count None now old new first lines all shown = tt
+all_shown s k count (Some xs) None old new first lines all shown = absurd shown
+all_shown s k count (Some xs) (Some ys) old new first lines all (left_is, showable, text) =
+    subst (λ n. AreShowable s n xs × GetsBuffered old new lines (first ++ sample_lines s n xs)) all (showable, text)
 
 -- a sample of a type that shows the files of this spec
 pub sample_shown : {A : Type 0} (refusal : SampleFormat → ℕ → ℕ → Option ReadRefusal)
     (meaning : SampleFormat → ℕ → ℕ → List ℕ → A) (line : A → List ℕ) (s t : WavSpecEx) (k : ℕ)
-    (value : A) (answer : Result A Error) (left now next old new known : Option (List ℕ)) (lines more : List ℕ)
+    (value : A) (answer : Result A Error) (left now next old new newer : Option (List ℕ)) (first lines room more : List ℕ)
     → answer ≡ Ok value
     → refusal_at refusal s ≡ show_refusal s
     → ((c : List ℕ) → line (meaning_at meaning s c) ≡ sample_line s c)
-    → t ≡ s → Shown s k left now old new
+    → t ≡ s → Shown s k left now old new first lines
     → Reads (refusal_at refusal t) (meaning_at meaning t) t.bytes_per_sample now next answer
-    → Keeps new (append_known known lines) → more ≡ lines ++ line value
-    → Shown s (k + 1) left next old (append_known known more)
-sample_shown refusal meaning line s t k value answer left now next old new known lines more told same as_line is so_far read keeps pushed =
-    one_shown s k (refusal_at refusal s) (meaning_at meaning s) line value left now next old
-    (append_known known lines) (append_known known more) same as_line
-    (kept left now so_far)
+    → GetsBuffered new newer room lines → more ≡ room ++ line value
+    → Shown s (k + 1) left next old newer first more
+sample_shown refusal meaning line s t k value answer left now next old new newer first lines room more told same as_line is so_far read moved pushed =
+    subst (Shown s (k + 1) left next old newer first) (sym pushed)
+    (one_shown s k (refusal_at refusal s) (meaning_at meaning s) line value left now next old new newer
+    first lines room same as_line so_far
     (subst (λ r. Reads (refusal_at refusal s) (meaning_at meaning s) s.bytes_per_sample now next r) told
     (subst (λ u. Reads (refusal_at refusal u) (meaning_at meaning u) u.bytes_per_sample now next answer) is read))
-    (subst (λ l. Appends (append_known known lines) (append_known known l) (line value)) (sym pushed)
-    (buffered known lines (line value)))
+    moved)
+
+-- ---- where the samples are not all shown
+
+-- there was no room for a line, and the lines could not be written
+pub room_stops : (s : WavSpecEx) (k count : ℕ) (left now old new newer : Option (List ℕ)) (first lines room : List ℕ)
+    → k ≤ count → Shown s k left now old new first lines → GetsBeginning new newer lines → room ≡ []
+    → StopsSamples s count InputOrOutput left old newer first room
+room_stops s k count None now old new newer first lines room within shown stopped emptied = tt
+room_stops s k count (Some xs) None old new newer first lines room within shown stopped emptied = absurd shown
+room_stops s k count (Some xs) (Some ys) old new newer first lines room within (left_is, showable, text) stopped emptied =
+    let (part, beginning, all) = gets-stopped old new newer (first ++ sample_lines s k xs) lines text stopped in (
+      part,
+      (k, within, showable, beginning),
+      (part, sym (append-nil part) ∙ ap (λ l. part ++ l) (sym emptied), all),
+    )
+
+-- a read that failed: a fault, or a spec whose samples are not shown
+read_stops : {A : Type 0} (s : WavSpecEx) (k count : ℕ) (refusal : Option ReadRefusal) (meaning : List ℕ → A)
+    (error : Error) (left now next old new : Option (List ℕ)) (first lines : List ℕ) → k < count
+    → refusal ≡ show_refusal s → Shown s k left now old new first lines
+    → Reads refusal meaning s.bytes_per_sample now next (Err error)
+    → StopsSamples s count (failure_of error) left old new first lines
+read_stops s k count refusal meaning error None now next old new first lines within same shown read = tt
+read_stops s k count refusal meaning error (Some xs) None next old new first lines within same shown read = absurd shown
+read_stops s (suc k) count (Some refusal) meaning error (Some xs) (Some ys) next old new first lines within same (left_is, showable, text) read =
+    let none = showable.shown (omega arith) in absurd (cc (same, none))
+read_stops {A} s zero count (Some refusal) meaning error (Some xs) (Some ys) next old new first lines within same (left_is, showable, text) read =
+    let is : error ≡ error_of_read refusal = let h = read.0 in cc h in
+    subst (λ e. (text : List ℕ) × StopsAt s count (failure_of e) xs first text × GetsBuffered old new lines text) (sym is)
+    (first, of refusal (sym same), subst (GetsBuffered old new lines) (append-nil first) text)
   where
-    kept : (left now : Option (List ℕ)) → Shown s k left now old new → Shown s k left now old (append_known known lines)
-    kept None now so_far = tt
-    kept (Some xs) None so_far = absurd so_far
-    kept (Some xs) (Some ys) (left_is, showable, text) =
-        (left_is, showable, appends-kept old new (append_known known lines) (sample_lines s k xs) text keeps)
+    of : (r : ReadRefusal) → show_refusal s ≡ Some r → StopsAt s count (failure_of (error_of_read r)) xs first first
+    of other_format shows = (within, (other_format, shows, refl), refl)
+    of wider shows = (within, (wider, shows, refl), refl)
+    of other_pair shows = (within, (other_pair, shows, refl), refl)
+read_stops s k count None meaning (errors.IoError e) (Some xs) (Some ys) next old new first lines within same (left_is, showable, text) read = (
+  first ++ sample_lines s k xs,
+  (k, omega arith, showable, whole-beginning (first ++ sample_lines s k xs)),
+  text,
+)
+read_stops s k count None meaning (errors.FormatError e) (Some xs) (Some ys) next old new first lines within same shown read = absurd read
+read_stops s k count None meaning errors.TooWide (Some xs) (Some ys) next old new first lines within same shown read = absurd read
+read_stops s k count None meaning errors.UnfinishedSample (Some xs) (Some ys) next old new first lines within same shown read = absurd read
+read_stops s k count None meaning errors.Unsupported (Some xs) (Some ys) next old new first lines within same shown read = absurd read
+read_stops s k count None meaning errors.InvalidSampleFormat (Some xs) (Some ys) next old new first lines within same shown read = absurd read
+read_stops s k count None meaning errors.TooLong (Some xs) (Some ys) next old new first lines within same shown read = absurd read
+read_stops s k count None meaning errors.OutOfMemory (Some xs) (Some ys) next old new first lines within same shown read = absurd read
+
+pub sample_stops : {A : Type 0} (refusal : SampleFormat → ℕ → ℕ → Option ReadRefusal)
+    (meaning : SampleFormat → ℕ → ℕ → List ℕ → A) (s t : WavSpecEx) (k count : ℕ)
+    (error : Error) (answer : Result A Error) (left now next old new : Option (List ℕ)) (first lines : List ℕ)
+    → answer ≡ Err error → k < count → refusal_at refusal s ≡ show_refusal s
+    → t ≡ s → Shown s k left now old new first lines
+    → Reads (refusal_at refusal t) (meaning_at meaning t) t.bytes_per_sample now next answer
+    → StopsSamples s count (failure_of error) left old new first lines
+sample_stops refusal meaning s t k count error answer left now next old new first lines told within same is so_far read =
+    read_stops s k count (refusal_at refusal s) (meaning_at meaning s) error left now next old new
+    first lines within same so_far
+    (subst (λ r. Reads (refusal_at refusal s) (meaning_at meaning s) s.bytes_per_sample now next r) told
+    (subst (λ u. Reads (refusal_at refusal u) (meaning_at meaning u) u.bytes_per_sample now next answer) is read))
 
 -- files of integers are shown as `i32`
 pub integers_refusal : (s : WavSpecEx) → s.spec.sample_format ≡ Int → refusal_at (int_refusal 4) s ≡ show_refusal s
@@ -162,33 +204,174 @@ patterns_line s floats c = go s.spec.sample_format floats
     go Float is = refl
     go Int is = cc
 
--- the lines that were written, and then the buffered ones
-written_out : (out1 out2 out3 : Option (List ℕ)) (lines text : List ℕ)
-    → Appends (append_known out1 []) (append_known out2 lines) text → Appends out2 out3 lines
-    → Appends out1 out3 text
-written_out None out2 out3 lines text front back = tt
-written_out (Some xs) None out3 lines text front back = absurd front
-written_out (Some xs) (Some ys) None lines text front back = absurd back
-written_out (Some xs) (Some ys) (Some zs) lines text front back =
-    back ∙ front ∙ ap (λ l. l ++ text) (append-nil xs)
+-- ---- a file
 
--- the line of the spec, and then those of the samples
+-- nothing is written yet where the head is refused
+pub head_stops : (input out : Option (List ℕ)) (error : Error) → IfSome input (λ xs. IsRefusal error (Unreadable xs))
+    → ShowsUntil input (failure_of error) out out
+head_stops None out error refused = tt
+head_stops (Some xs) out (errors.IoError e) refused = ([], inl (tt, refl), appends-none out)
+head_stops (Some xs) out (errors.FormatError e) (reason, unreadable, words) =
+    ([], inl ((causes.Format reason, unreadable, (reason, refl, words)), refl), appends-none out)
+head_stops (Some xs) out errors.Unsupported refused = ([], inl ((causes.Unsupported, refused, refl), refl), appends-none out)
+head_stops (Some xs) out errors.TooWide refused = absurd refused
+head_stops (Some xs) out errors.UnfinishedSample refused = absurd refused
+head_stops (Some xs) out errors.InvalidSampleFormat refused = absurd refused
+head_stops (Some xs) out errors.TooLong refused = absurd refused
+head_stops (Some xs) out errors.OutOfMemory refused = absurd refused
+
+-- nor at a fault before the samples
+pub fault_stops : (input out : Option (List ℕ)) → ShowsUntil input InputOrOutput out out
+fault_stops None out = tt
+fault_stops (Some xs) out = ([], inl (tt, refl), appends-none out)
+
+-- the head of a readable file was taken, and the samples are left
+abbrev Opened : Option (List ℕ) → Option (List ℕ) → WavSpecEx → ℕ → Type 0
+Opened input left s n = Known input left (λ xs ys. (h : ℕ) × Readable xs s n h × (ys ≡ drop h xs))
+
+-- all samples are shown, and the buffer was written
 pub file_shown : (input left : Option (List ℕ)) (s : WavSpecEx) (n : ℕ) (spec : WavSpec)
-    (samples : ℕ) (out0 out1 out2 out3 : Option (List ℕ)) (first last : List ℕ)
-    → spec ≡ s.spec → samples ≡ n
-    → Known input left (λ xs ys. (h : ℕ) × Readable xs s n h × (ys ≡ drop h xs))
-    → Appends out0 out1 (spec_line spec samples) → first ≡ []
-    → ShowsSamples s n left (append_known out1 first) (append_known out2 last)
-    → Appends out2 out3 last → Shows input out0 out3
-file_shown None left s n spec samples out0 out1 out2 out3 first last spec_is samples_is found head none shown written = tt
-file_shown (Some xs) None s n spec samples out0 out1 out2 out3 first last spec_is samples_is found head none shown written = absurd found
-file_shown (Some xs) (Some ys) s n spec samples out0 out1 out2 out3 first last spec_is samples_is (h, readable, left_is) head none shown written =
-    let (showable, text) = subst (λ b. AreShowable s n b × Appends (append_known out1 first) (append_known out2 last) (sample_lines s n b)) left_is shown in
-    let front = subst (λ n. Appends out0 out1 (spec_line s.spec n)) samples_is
-    (subst (λ p. Appends out0 out1 (spec_line p samples)) spec_is head) in
-    let back = written_out out1 out2 out3 last (sample_lines s n (drop h xs))
-    (subst (λ l. Appends (append_known out1 l) (append_known out2 last) (sample_lines s n (drop h xs))) none text) written in (
-      spec_line s.spec n ++ sample_lines s n (drop h xs),
-      record { s = s; samples = n; start = h; readable = readable; showable = showable; text_is = refl },
-      appends-then out0 out1 out3 (spec_line s.spec n) (sample_lines s n (drop h xs)) front back,
+    (samples : ℕ) (out0 out1 out2 : Option (List ℕ)) (head first last : List ℕ)
+    → spec ≡ s.spec → samples ≡ n → Opened input left s n → head ≡ [] → first ≡ head ++ spec_line spec samples
+    → ShowsSamples s n left out0 out1 first last → Appends out1 out2 last → Shows input out0 out2
+file_shown None left s n spec samples out0 out1 out2 head first last spec_is samples_is found none line shown written = tt
+file_shown (Some xs) None s n spec samples out0 out1 out2 head first last spec_is samples_is found none line shown written = absurd found
+file_shown (Some xs) (Some ys) s n spec samples out0 out1 out2 head first last spec_is samples_is (h, readable, left_is) none line shown written =
+    let first_is : first ≡ spec_line s.spec n = line ∙ ap (λ l. l ++ spec_line spec samples) none ∙ ap (spec_line spec) samples_is ∙ ap (λ p. spec_line p n) spec_is in
+    let (showable, text) = subst (λ b. AreShowable s n b × GetsBuffered out0 out1 last (first ++ sample_lines s n b)) left_is shown in (
+      first ++ sample_lines s n (drop h xs),
+      record { s = s; samples = n; start = h; readable = readable; showable = showable; text_is = ap (λ l. l ++ sample_lines s n (drop h xs)) first_is },
+      gets-written out0 out1 out2 (first ++ sample_lines s n (drop h xs)) last text written,
     )
+
+-- the samples are not all shown, and the buffer was written
+pub file_stops : (input left : Option (List ℕ)) (s : WavSpecEx) (n : ℕ) (failure : Failure) (spec : WavSpec)
+    (samples : ℕ) (out0 out1 out2 : Option (List ℕ)) (head first last : List ℕ)
+    → spec ≡ s.spec → samples ≡ n → Opened input left s n → head ≡ [] → first ≡ head ++ spec_line spec samples
+    → StopsSamples s n failure left out0 out1 first last → Appends out1 out2 last → ShowsUntil input failure out0 out2
+file_stops None left s n failure spec samples out0 out1 out2 head first last spec_is samples_is found none line stops written = tt
+file_stops (Some xs) None s n failure spec samples out0 out1 out2 head first last spec_is samples_is found none line stops written = absurd found
+file_stops (Some xs) (Some ys) s n failure spec samples out0 out1 out2 head first last spec_is samples_is (h, readable, left_is) none line (text, stops, gets) written =
+    let first_is : first ≡ spec_line s.spec n = line ∙ ap (λ l. l ++ spec_line spec samples) none ∙ ap (spec_line spec) samples_is ∙ ap (λ p. spec_line p n) spec_is in (
+      text,
+      inr (record {
+        s = s;
+        samples = n;
+        start = h;
+        readable = readable;
+        stops = subst (λ b. StopsAt s n failure b (spec_line s.spec n) text) left_is (subst (λ l. StopsAt s n failure ys l text) first_is stops);
+      }),
+      gets-written out0 out1 out2 text last gets written,
+    )
+
+-- the buffer could not be written
+part_stops : (s : WavSpecEx) (n : ℕ) (left out0 out1 out2 : Option (List ℕ)) (first last : List ℕ)
+    → ShowsSamples s n left out0 out1 first last → GetsBeginning out1 out2 last
+    → StopsSamples s n InputOrOutput left out0 out2 first []
+part_stops s n None out0 out1 out2 first last shown part = tt
+part_stops s n (Some ys) out0 out1 out2 first last (showable, text) part =
+    let (written, beginning, all) = gets-stopped out0 out1 out2 (first ++ sample_lines s n ys) last text part in (
+      written,
+      (n, omega arith, showable, beginning),
+      (written, sym (append-nil written), all),
+    )
+
+part_stops_again : (s : WavSpecEx) (n : ℕ) (failure : Failure) (left out0 out1 out2 : Option (List ℕ)) (first last : List ℕ)
+    → StopsSamples s n failure left out0 out1 first last → GetsBeginning out1 out2 last
+    → StopsSamples s n InputOrOutput left out0 out2 first []
+part_stops_again s n failure None out0 out1 out2 first last stops part = tt
+part_stops_again s n BadNumber (Some ys) out0 out1 out2 first last (text, stops, gets) part = absurd stops
+part_stops_again s n InputOrOutput (Some ys) out0 out1 out2 first last (text, (k, within, showable, front), gets) part =
+    let (written, beginning, all) = gets-stopped out0 out1 out2 text last gets part in (
+      written,
+      (k, within, showable, beginning-then written text (first ++ sample_lines s k ys) beginning front),
+      (written, sym (append-nil written), all),
+    )
+part_stops_again s n (Refused e) (Some ys) out0 out1 out2 first last (text, (some, refused, text_is), gets) part =
+    let (written, beginning, all) = gets-stopped out0 out1 out2 text last gets part in (
+      written,
+      (0, omega arith, none_showable s ys, subst (IsBeginning written) (text_is ∙ sym (append-nil first)) beginning),
+      (written, sym (append-nil written), all),
+    )
+
+-- the buffer could not be written, whatever the samples left
+pub lines_stop : (input left : Option (List ℕ)) (s : WavSpecEx) (n : ℕ) (result : Result (Unit {0}) Failure) (spec : WavSpec)
+    (samples : ℕ) (out0 out1 out2 : Option (List ℕ)) (head first last : List ℕ)
+    → spec ≡ s.spec → samples ≡ n → Opened input left s n → head ≡ [] → first ≡ head ++ spec_line spec samples
+    → OnOk result (ShowsSamples s n left out0 out1 first last)
+    → IfErr result (λ failure. StopsSamples s n failure left out0 out1 first last)
+    → GetsBeginning out1 out2 last → ShowsUntil input InputOrOutput out0 out2
+lines_stop input left s n (Ok x) spec samples out0 out1 out2 head first last spec_is samples_is found none line shown stops part =
+    file_stops input left s n InputOrOutput spec samples out0 out2 out2 head first [] spec_is samples_is found none line
+    (part_stops s n left out0 out1 out2 first last shown part) (appends-none out2)
+lines_stop input left s n (Err failure) spec samples out0 out1 out2 head first last spec_is samples_is found none line shown stops part =
+    file_stops input left s n InputOrOutput spec samples out0 out2 out2 head first [] spec_is samples_is found none line
+    (part_stops_again s n failure left out0 out1 out2 first last stops part) (appends-none out2)
+
+-- what was returned of the samples is returned of the file
+pub lines_shown : (input left : Option (List ℕ)) (s : WavSpecEx) (n : ℕ) (result : Result (Unit {0}) Failure) (spec : WavSpec)
+    (samples : ℕ) (out0 out1 out2 : Option (List ℕ)) (head first last : List ℕ)
+    → spec ≡ s.spec → samples ≡ n → Opened input left s n → head ≡ [] → first ≡ head ++ spec_line spec samples
+    → OnOk result (ShowsSamples s n left out0 out1 first last)
+    → Appends out1 out2 last → OnOk result (Shows input out0 out2)
+lines_shown input left s n (Ok x) spec samples out0 out1 out2 head first last spec_is samples_is found none line shown written =
+    file_shown input left s n spec samples out0 out1 out2 head first last spec_is samples_is found none line shown written
+lines_shown input left s n (Err failure) spec samples out0 out1 out2 head first last spec_is samples_is found none line shown written = tt
+
+pub lines_until : (input left : Option (List ℕ)) (s : WavSpecEx) (n : ℕ) (result : Result (Unit {0}) Failure) (spec : WavSpec)
+    (samples : ℕ) (out0 out1 out2 : Option (List ℕ)) (head first last : List ℕ)
+    → spec ≡ s.spec → samples ≡ n → Opened input left s n → head ≡ [] → first ≡ head ++ spec_line spec samples
+    → IfErr result (λ failure. StopsSamples s n failure left out0 out1 first last)
+    → Appends out1 out2 last → IfErr result (λ failure. ShowsUntil input failure out0 out2)
+lines_until input left s n (Ok x) spec samples out0 out1 out2 head first last spec_is samples_is found none line stops written = tt
+lines_until input left s n (Err failure) spec samples out0 out1 out2 head first last spec_is samples_is found none line stops written =
+    file_stops input left s n failure spec samples out0 out1 out2 head first last spec_is samples_is found none line stops written
+
+-- ---- a fault that is reported for what was returned
+
+whole_stops : (s : WavSpecEx) (n : ℕ) (bytes first text : List ℕ) → AreShowable s n bytes
+    → text ≡ first ++ sample_lines s n bytes → StopsAt s n InputOrOutput bytes first text
+whole_stops s n bytes first text showable text_is =
+    (n, omega arith, showable, subst (IsBeginning text) text_is (whole-beginning text))
+
+faulted : (s : WavSpecEx) (n : ℕ) (failure : Failure) (bytes first text : List ℕ)
+    → StopsAt s n failure bytes first text → StopsAt s n InputOrOutput bytes first text
+faulted s n BadNumber bytes first text stops = absurd stops
+faulted s n InputOrOutput bytes first text stops = stops
+faulted s n (Refused e) bytes first text (some, refused, text_is) =
+    (0, omega arith, none_showable s bytes, subst (IsBeginning text) (text_is ∙ sym (append-nil first)) (whole-beginning text))
+
+pub fault_reported : (input out0 out1 out2 : Option (List ℕ)) (result : Result (Unit {0}) Failure)
+    → OnOk result (Shows input out0 out1) → IfErr result (λ failure. ShowsUntil input failure out0 out1)
+    → Keeps out1 out2 → ShowsUntil input InputOrOutput out0 out2
+fault_reported None out0 out1 out2 result shown until keeps = tt
+fault_reported (Some bytes) out0 out1 out2 (Ok x) (text, shown, got) until keeps = (
+  text,
+  inr (record {
+    s = shown.s;
+    samples = shown.samples;
+    start = shown.start;
+    readable = shown.readable;
+    stops = whole_stops shown.s shown.samples (drop shown.start bytes) (spec_line shown.s.spec shown.samples) text shown.showable shown.text_is;
+  }),
+  appends-kept out0 out1 out2 text got keeps,
+)
+fault_reported (Some bytes) out0 out1 out2 (Err failure) shown (text, inl (cause, none), got) keeps =
+    (text, inl (tt, none), appends-kept out0 out1 out2 text got keeps)
+fault_reported (Some bytes) out0 out1 out2 (Err failure) shown (text, inr part, got) keeps = (
+  text,
+  inr (record {
+    s = part.s;
+    samples = part.samples;
+    start = part.start;
+    readable = part.readable;
+    stops = faulted part.s part.samples failure (drop part.start bytes) (spec_line part.s.spec part.samples) text part.stops;
+  }),
+  appends-kept out0 out1 out2 text got keeps,
+)
+
+-- the failure that `?` returns
+pub err_is : {T : Type 0} (Q : Failure → Type 0) (result : Result T Failure) (failure : Failure)
+    → IsErrAnd result (λ e. e ≡ failure) → Q failure → IfErr result Q
+err_is Q (Ok x) failure is holds = absurd is
+err_is Q (Err e) failure is holds = subst Q (sym is) holds

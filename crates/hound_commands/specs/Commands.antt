@@ -8,6 +8,7 @@ use Rattle.std.specs.Io.KnownBytes.{Appends}
 use Rattle.hound.specs.declared.WavSpecEx.{WavSpecEx}
 use Rattle.hound.specs.declared.Error.TheVariants.{OutOfMemory}
 use Rattle.hound_text.specs.Text.{SaysNoNumbers, SaysNumbers}
+use Rattle.hound_commands.specs.Output.{GetsBeginning}
 use Rattle.hound_commands.specs.Packing.{IsPacked, IsPackFailure}
 use Rattle.hound_commands.specs.declared.failure.Failure.{Failure}
 use Rattle.hound_commands.specs.declared.failure.Failure.TheVariants.{BadNumber, InputOrOutput, Refused}
@@ -28,6 +29,15 @@ IsNotPacked s input BadNumber = IfSome input SaysNoNumbers
 IsNotPacked s input InputOrOutput = ⊤
 IsNotPacked s input (Refused e) =
     (e ≡ OutOfMemory) ⊎ ((numbers : List ℤ) × AreNumbersOf input numbers × IsPackFailure s numbers (Refused e))
+
+module _ {O : Type 0} where
+  -- what `pack` leaves at a failure: the output as it was, and the cause; or, at a fault while the
+  -- file is written, a beginning of the file
+  abbrev pub PacksUntil : (O → Option (List ℕ)) → WavSpecEx → Option (List ℕ) → Failure → O → O → Type 0
+  PacksUntil contents s input InputOrOutput old new = (new ≡ old)
+      ⊎ ((numbers : List ℤ) × (file : List ℕ) × AreNumbersOf input numbers × IsPacked s numbers file
+      × GetsBeginning (contents old) (contents new) file)
+  PacksUntil contents s input failure old new = IsNotPacked s input failure × (new ≡ old)
 
 -- These words are digits alone, within range, and say this spec.
 pub record SaySpec (channels rate bits : List ℕ) (spec : WavSpec) : Type 0 where

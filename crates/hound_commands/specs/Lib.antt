@@ -1,5 +1,6 @@
 pub mod Commands
 pub mod Failing
+pub mod Output
 pub mod Packing
 pub mod Session
 pub mod Showing

@@ -1,14 +1,21 @@
 -- What `show` writes of a file: the line of its spec, and then a line for each sample.
-use Rattle.std.specs.Prelude.{◌≡◌, ℕ, ◌*◌, ◌<◌, ◌≤◌, IfSome, List, [], ◌∷◌, ◌++◌, codes, decimal, drop, length, Option, None}
+use Rattle.std.specs.Prelude.{◌≡◌, ℕ, ◌*◌, ◌<◌, ◌≤◌, ◌⊎◌, ⊤, IfSome, List, [], ◌∷◌, ◌++◌, codes, decimal, drop, length, Option, None, Some}
 use Rattle.std.specs.Io.KnownBytes.{Appends}
 use Rattle.std.specs.List.{flat_map}
-use Rattle.hound.specs.Chunks.{Readable}
+use Rattle.hound.specs.Cause.{Cause}
+use Rattle.hound.specs.Chunks.{Readable, Unreadable}
 use Rattle.hound.specs.Container.{containers}
 use Rattle.hound.specs.Meaning.{ReadRefusal, float_refusal, int_meaning, int_refusal, pattern}
+use Rattle.hound.specs.Reads.{error_of_read}
+use Rattle.hound.specs.Refusals.{Names}
+use Rattle.hound.specs.declared.Error.{Error}
 use Rattle.hound.specs.declared.SampleFormat.{SampleFormat}
 use Rattle.hound.specs.declared.SampleFormat.TheVariants.{Float, Int}
 use Rattle.hound.specs.declared.WavSpec.{WavSpec}
 use Rattle.hound.specs.declared.WavSpecEx.{WavSpecEx}
+use Rattle.hound_commands.specs.Output.{GetsBuffered, IsBeginning}
+use Rattle.hound_commands.specs.declared.failure.Failure.{Failure}
+use Rattle.hound_commands.specs.declared.failure.Failure.TheVariants.{BadNumber, InputOrOutput, Refused}
 use Rattle.hound_text.specs.Writing.{integer_line, pattern_line}
 
 -- the word of a format
@@ -51,10 +58,31 @@ pub record AreShowable (s : WavSpecEx) (count : ℕ) (bytes : List ℕ) : Type 0
   pub there : count * s.bytes_per_sample ≤ length bytes
   pub shown : 0 < count → show_refusal s ≡ None
 
--- the output got the lines of so many samples of the data that are left
-abbrev pub ShowsSamples : WavSpecEx → ℕ → Option (List ℕ) → Option (List ℕ) → Option (List ℕ) → Type 0
-ShowsSamples s count left old new =
-    IfSome left (λ bytes. AreShowable s count bytes × Appends old new (sample_lines s count bytes))
+-- the output and the buffer, which held `first`, got the lines of so many samples of what is left
+abbrev pub ShowsSamples : WavSpecEx → ℕ → Option (List ℕ) → Option (List ℕ) → Option (List ℕ)
+    → List ℕ → List ℕ → Type 0
+ShowsSamples s count left old new first buffered = IfSome left (λ bytes. AreShowable s count bytes
+    × GetsBuffered old new buffered (first ++ sample_lines s count bytes))
+
+-- no sample of the spec is shown, and this is the error for it
+abbrev pub RefusesSamples : WavSpecEx → Error → Type 0
+RefusesSamples s e =
+    (refusal : ReadRefusal) × (show_refusal s ≡ Some refusal) × (e ≡ error_of_read refusal)
+
+-- What is written where the samples are not all shown, after the text `first`: with a fault, a
+-- beginning of the lines of samples that are there; with a refusal, no line of a sample.
+abbrev pub StopsAt : WavSpecEx → ℕ → Failure → List ℕ → List ℕ → List ℕ → Type 0
+StopsAt s count BadNumber bytes first text = ⊥
+StopsAt s count InputOrOutput bytes first text = (shown : ℕ) × (shown ≤ count)
+    × AreShowable s shown bytes × IsBeginning text (first ++ sample_lines s shown bytes)
+StopsAt s count (Refused e) bytes first text =
+    (0 < count) × RefusesSamples s e × (text ≡ first)
+
+-- the same of the output and the buffer, which held `first`
+abbrev pub StopsSamples : WavSpecEx → ℕ → Failure → Option (List ℕ) → Option (List ℕ)
+    → Option (List ℕ) → List ℕ → List ℕ → Type 0
+StopsSamples s count failure left old new first buffered = IfSome left (λ bytes. (text : List ℕ)
+    × StopsAt s count failure bytes first text × GetsBuffered old new buffered text)
 
 -- The bytes are a file that is shown whole, and this is the text.
 pub record IsShown (bytes text : List ℕ) : Type 0 where
@@ -68,3 +96,23 @@ pub record IsShown (bytes text : List ℕ) : Type 0 where
 -- the output got the lines of the file that the input's bytes are, all of them, and no other byte
 abbrev pub Shows : Option (List ℕ) → Option (List ℕ) → Option (List ℕ) → Type 0
 Shows input old new = IfSome input (λ bytes. (text : List ℕ) × IsShown bytes text × Appends old new text)
+
+-- why nothing is shown: the head of the file is refused, or there was a fault
+abbrev pub IsHeadFailure : List ℕ → Failure → Type 0
+IsHeadFailure bytes BadNumber = ⊥
+IsHeadFailure bytes InputOrOutput = ⊤
+IsHeadFailure bytes (Refused e) = (cause : Cause) × Unreadable bytes cause × Names e cause
+
+-- The bytes are a file that is not shown to its end, and this is the text until then.
+pub record IsShownPart (bytes : List ℕ) (failure : Failure) (text : List ℕ) : Type 0 where
+  pub s : WavSpecEx
+  pub samples : ℕ
+  pub start : ℕ
+  pub readable : Readable bytes s samples start
+  pub stops : StopsAt s samples failure (drop start bytes) (spec_line s.spec samples) text
+
+-- at a failure the output got nothing, or a part of the lines of the file that the input's bytes are
+abbrev pub ShowsUntil : Option (List ℕ) → Failure → Option (List ℕ) → Option (List ℕ) → Type 0
+ShowsUntil input failure old new = IfSome input (λ bytes. (text : List ℕ)
+    × ((IsHeadFailure bytes failure × (text ≡ [])) ⊎ IsShownPart bytes failure text)
+    × Appends old new text)

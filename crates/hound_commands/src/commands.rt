@@ -1,16 +1,17 @@
 // What the program does, over any reader and writers.
-ghost use Rattle.std.specs.Prelude.{◌≡◌, ◌≤◌, ◌↔◌, ◌⊎◌, IfErr, IfSome, IsNone, MatchResult, OnOk, length};
+ghost use Rattle.std.specs.Prelude.{◌≡◌, ◌≤◌, ◌↔◌, ◌⊎◌, IfErr, IfSome, IsNone, MatchResult, OnOk};
 ghost use Rattle.hound.specs.Writable.{with_default_width};
 ghost use Rattle.hound.specs.declared.SampleFormat.TheVariants.{Int};
 ghost use Rattle.hound.specs.declared.WavSpec.{WavSpec};
-ghost use Rattle.hound_commands.specs.Commands.{IsCommand, IsNotPacked, IsPackCommand, IsShowCommand, Packs, SaySpec};
-ghost use Rattle.hound_commands.specs.Showing.{Shows};
-ghost use Rattle.hound_commands.specs.declared.failure.Failure.TheVariants.{InputOrOutput};
+ghost use Rattle.hound_commands.specs.Commands.{IsCommand, IsPackCommand, IsShowCommand, Packs, PacksUntil, SaySpec};
+ghost use Rattle.hound_commands.specs.Showing.{Shows, ShowsUntil};
+ghost use Rattle.hound_commands.specs.declared.failure.Failure.{Failure};
 
 use crate::failure::Failure;
 use crate::packing::file_of;
 use crate::showing::show;
 use hound::{SampleFormat, Tape, WavSpec, WavWriter};
+use hound_number::write_bytes;
 use hound_text::{digits, read_numbers};
 use std::alloc::Global;
 use std::fmt::Display;
@@ -47,6 +48,11 @@ pub fn run<R: io::Read, O: io::Write, E: io::Write>(
         (O.contents output.new)) }
     ensures shown { result ≡ 0 → IsShowCommand words.now → Shows (R.remaining input.old)
         (O.contents output.old) (O.contents output.new) }
+    ensures failed { result ≡ 1 → (failure : Failure) × ((IsShowCommand words.now
+        × ShowsUntil (R.remaining input.old) failure (O.contents output.old)
+        (O.contents output.new)) ⊎ ((spec : WavSpec) × IsPackCommand words.now spec
+        × PacksUntil O.contents (with_default_width spec) (R.remaining input.old) failure
+        output.old output.new)) }
     ensures kept { result ≡ 2 → output.new ≡ output.old }
 {
     let result = match words {
@@ -130,14 +136,12 @@ fn pack<R: io::Read, O: io::Write>(
     requires integers { spec.sample_format ≡ Int }
     ensures packed { OnOk result (Packs (with_default_width spec) (R.remaining input.old)
         (O.contents output.old) (O.contents output.new)) }
-    ensures refused { IfErr result (IsNotPacked (with_default_width spec)
-        (R.remaining input.old)) }
-    ensures kept { IfErr result (λ failure. (failure ≡ InputOrOutput → ⊥) →
-        output.new ≡ output.old) }
+    ensures until { IfErr result (λ failure. PacksUntil O.contents (with_default_width spec)
+        (R.remaining input.old) failure output.old output.new) }
 {
     let numbers = read_numbers(alloc, input)?;
     let file = file_of(alloc, spec, numbers)?;
-    output.write_all(Tape::bytes(&file))?;
+    write_bytes(output, Tape::bytes(&file))?;
     output.flush()?;
     Ok(())
 }

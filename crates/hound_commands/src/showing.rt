@@ -1,18 +1,21 @@
 // A file to lines.
-ghost use Rattle.std.specs.Prelude.{◌≡◌, ◌+◌, ◌≤◌, OnOk, length};
-ghost use Rattle.std.specs.Io.KnownBytes.{Appends, Keeps, append_known};
+ghost use Rattle.std.specs.Prelude.{◌≡◌, ◌+◌, ◌≤◌, ◌++◌, [], IfErr, OnErr, OnOk, length};
 ghost use Rattle.hound.specs.declared.SampleFormat.TheVariants.{Float, Int};
-ghost use Rattle.hound_commands.specs.Showing.{Shows, ShowsSamples, spec_line};
+ghost use Rattle.hound_commands.specs.Output.{GetsBeginning, GetsBuffered};
+ghost use Rattle.hound_commands.specs.Showing.{Shows, ShowsSamples, ShowsUntil, StopsSamples, spec_line};
 
 use crate::failure::Failure;
 use hound::{FloatBits, SampleFormat, WavReader, WavSpec};
 use hound_text::{Ahead, Lines};
 use std::io;
+use std::io::Write;
 
 /// Writes the lines of a file, as far as it can be read.
 pub fn show<R: io::Read, O: io::Write>(input: &mut R, output: &mut O) -> Result<(), Failure>
     ensures shown { OnOk result (Shows (R.remaining input.old) (O.contents output.old)
         (O.contents output.new)) }
+    ensures until { IfErr result (λ failure. ShowsUntil (R.remaining input.old) failure
+        (O.contents output.old) (O.contents output.new)) }
 {
     let mut ahead = Ahead::new(input);
     let result = show_lines(&mut ahead, output);
@@ -29,20 +32,37 @@ pub fn show<R: io::Read, O: io::Write>(input: &mut R, output: &mut O) -> Result<
 fn show_lines<R: io::Read, O: io::Write>(input: &mut R, output: &mut O) -> Result<(), Failure>
     ensures shown { OnOk result (Shows (R.remaining input.old) (O.contents output.old)
         (O.contents output.new)) }
+    ensures until { IfErr result (λ failure. ShowsUntil (R.remaining input.old) failure
+        (O.contents output.old) (O.contents output.new)) }
 {
     let mut reader = WavReader::new(input)?;
-    show_spec(reader.spec(), reader.len(), output)?;
     let mut lines = Lines::new();
+    push_spec(&mut lines, reader.spec(), reader.len())?;
     let result = show_samples(&mut reader, &mut lines, output);
 
-    // Those before a fault are shown.
-    let written = lines.write_to(output);
-    result?;
-    written?;
-    Ok(())
+    // Those before a failure are shown.
+    lines.write_to(output)?;
+    result
 }
 
-// The lines of the samples of a file: some went to the output, and the last ones are buffered.
+// The line of a spec.
+fn push_spec(lines: &mut Lines, spec: WavSpec, samples: u32) -> io::Result<()>
+    ensures { OnOk result (lines.new ≡ lines.old ++ spec_line spec samples) }
+{
+    let channels = spec.channels;
+    let rate = spec.sample_rate;
+    let bits = spec.bits_per_sample;
+    let format = match spec.sample_format {
+        SampleFormat::Float => "float",
+        SampleFormat::Int => "int",
+    };
+    writeln!(
+        lines,
+        "channels {channels} rate {rate} bits {bits} format {format} samples {samples}"
+    )
+}
+
+// The lines of the samples of a file: some go to the output, and the last ones are buffered.
 fn show_samples<R: io::Read, O: io::Write>(
     reader: &mut WavReader<&mut R>,
     lines: &mut Lines,
@@ -50,8 +70,11 @@ fn show_samples<R: io::Read, O: io::Write>(
 ) -> Result<(), Failure>
     requires fresh { reader.old.samples_read ≡ 0 }
     ensures shown { OnOk result (ShowsSamples reader.old.spec_ex reader.old.num_samples
-        (R.remaining reader.old.reader.now) (append_known (O.contents output.old) lines.old)
-        (append_known (O.contents output.new) lines.new)) }
+        (R.remaining reader.old.reader.now) (O.contents output.old) (O.contents output.new)
+        lines.old lines.new) }
+    ensures until { IfErr result (λ failure. StopsSamples reader.old.spec_ex
+        reader.old.num_samples failure (R.remaining reader.old.reader.now)
+        (O.contents output.old) (O.contents output.new) lines.old lines.new) }
 {
     match reader.spec().sample_format {
         SampleFormat::Int => show_integers(reader, lines, output),
@@ -67,8 +90,11 @@ fn show_integers<R: io::Read, O: io::Write>(
     requires integers { reader.old.spec_ex.spec.sample_format ≡ Int }
     requires fresh { reader.old.samples_read ≡ 0 }
     ensures shown { OnOk result (ShowsSamples reader.old.spec_ex reader.old.num_samples
-        (R.remaining reader.old.reader.now) (append_known (O.contents output.old) lines.old)
-        (append_known (O.contents output.new) lines.new)) }
+        (R.remaining reader.old.reader.now) (O.contents output.old) (O.contents output.new)
+        lines.old lines.new) }
+    ensures until { IfErr result (λ failure. StopsSamples reader.old.spec_ex
+        reader.old.num_samples failure (R.remaining reader.old.reader.now)
+        (O.contents output.old) (O.contents output.new) lines.old lines.new) }
 {
     // A `for` over the samples keeps a copy more of each, which has a hundred bytes.
     let count = reader.len();
@@ -94,8 +120,11 @@ fn show_patterns<R: io::Read, O: io::Write>(
     requires floats { reader.old.spec_ex.spec.sample_format ≡ Float }
     requires fresh { reader.old.samples_read ≡ 0 }
     ensures shown { OnOk result (ShowsSamples reader.old.spec_ex reader.old.num_samples
-        (R.remaining reader.old.reader.now) (append_known (O.contents output.old) lines.old)
-        (append_known (O.contents output.new) lines.new)) }
+        (R.remaining reader.old.reader.now) (O.contents output.old) (O.contents output.new)
+        lines.old lines.new) }
+    ensures until { IfErr result (λ failure. StopsSamples reader.old.spec_ex
+        reader.old.num_samples failure (R.remaining reader.old.reader.now)
+        (O.contents output.old) (O.contents output.new) lines.old lines.new) }
 {
     let count = reader.len();
     let mut samples = reader.samples::<FloatBits>();
@@ -116,28 +145,14 @@ fn show_patterns<R: io::Read, O: io::Write>(
 #[inline(always)]
 fn make_room<O: io::Write>(lines: &mut Lines, output: &mut O) -> io::Result<()>
     ensures room { OnOk result (length lines.new + 24 ≤ 16384) }
-    ensures same { OnOk result (Keeps (append_known (O.contents output.old) lines.old)
-        (append_known (O.contents output.new) lines.new)) }
+    ensures moved { OnOk result (GetsBuffered (O.contents output.old) (O.contents output.new)
+        lines.new lines.old) }
+    ensures stopped { OnErr result (GetsBeginning (O.contents output.old) (O.contents output.new)
+        lines.old) }
+    ensures emptied { OnErr result (lines.new ≡ []) }
 {
     if lines.has_room() {
         return Ok(());
     }
     lines.write_to(output)
-}
-
-fn show_spec<O: io::Write>(spec: WavSpec, samples: u32, output: &mut O) -> io::Result<()>
-    ensures { OnOk result (Appends (O.contents output.old) (O.contents output.new)
-        (spec_line spec samples)) }
-{
-    let channels = spec.channels;
-    let rate = spec.sample_rate;
-    let bits = spec.bits_per_sample;
-    let format = match spec.sample_format {
-        SampleFormat::Float => "float",
-        SampleFormat::Int => "int",
-    };
-    writeln!(
-        output,
-        "channels {channels} rate {rate} bits {bits} format {format} samples {samples}"
-    )
 }

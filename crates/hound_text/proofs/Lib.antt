@@ -7,4 +7,5 @@ pub mod Growing
 pub mod Lanes
 pub mod Leading
 pub mod Placing
+pub mod Rereading
 pub mod Saying

@@ -4,9 +4,11 @@
 
 mod ahead;
 mod eight;
+mod laws;
 mod lines;
 mod numbers;
 
 pub use ahead::Ahead;
+pub use laws::lines_say_their_numbers;
 pub use lines::Lines;
 pub use numbers::{Refusal, digits, read_numbers};

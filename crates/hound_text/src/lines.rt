@@ -1,11 +1,12 @@
 // Lines of numbers, buffered for the output.
-ghost use Rattle.std.specs.Prelude.{◌≡◌, ◌+◌, ◌≤◌, ℕ, IsTrue, List, [], ◌++◌, decimal, drop, length, take, OnOk};
+ghost use Rattle.std.specs.Prelude.{◌≡◌, ◌+◌, ◌≤◌, ℕ, IsTrue, List, [], ◌++◌, decimal, drop, length, take};
 ghost use Rattle.std.specs.Int.Digits.{AllBelowBase};
 ghost use Rattle.std.specs.Simd.Lanes.{number_l};
 ghost use Rattle.hound_text.specs.Writing.{integer_line, pattern_line};
-ghost use Rattle.std.specs.Io.KnownBytes.{Appends};
+ghost use Rattle.hound_number.specs.Writing.{Writes};
 
 use crate::eight::{decimal_text, hexadecimal_text};
+use hound_number::write_bytes;
 use std::io;
 use std::marker::Model;
 
@@ -72,14 +73,41 @@ impl Lines {
         self.length = end + 1;
     }
 
-    /// Writes the lines. There are none after it, whatever it returns.
+    /// Writes the lines, in order. There are none after it, whatever it returns; at an `Err` a
+    /// shorter beginning of them is written. `Interrupted` is an error like any other.
     pub fn write_to<O: io::Write>(&mut self, output: &mut O) -> io::Result<()>
         ensures emptied { self.new ≡ [] }
-        ensures written { OnOk result (Appends (O.contents output.old) (O.contents output.new) self.old) }
+        ensures written { Writes self.old result (O.contents output.old) (O.contents output.new) }
     {
         let length = self.length;
         self.length = 0;
-        output.write_all(&self.bytes[..length])
+        write_bytes(output, &self.bytes[..length])
+    }
+}
+
+/// Appends text, as far as there is room.
+impl io::Write for Lines {
+    ghost use Rattle.std.specs.Prelude.{Some};
+    ghost use Rattle.std.specs.Io.KnownBytes.{Keeps, WriteAppends};
+    ghost use Rattle.std.specs.Io.{WritesAtMost};
+
+    ghost contents = { λ lines. Some lines };
+
+    fn write(&mut self, buf: &[u8]) -> io::Result<usize>
+        ensures bound { WritesAtMost result buf.now }
+        ensures bytes { WriteAppends (Some self.old) (Some self.new) result buf.now }
+    {
+        let start = self.length;
+        let count = buf.len().min(16384 - start);
+        self.bytes[start..start + count].copy_from_slice(&buf[..count]);
+        self.length = start + count;
+        Ok(count)
+    }
+
+    fn flush(&mut self) -> io::Result<()>
+        ensures bytes { Keeps (Some self.old) (Some self.new) }
+    {
+        Ok(())
     }
 }
 

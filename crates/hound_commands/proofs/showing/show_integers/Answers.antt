@@ -1,8 +1,10 @@
-use Rattle.std.proofs.Common.{◌≡◌, ◌+◌, ◌++◌, ◌∙◌, ap, w32, to_z, of_z, rules}
+use Rattle.std.proofs.Common.{◌≡◌, ◌+◌, ◌<◌, ◌++◌, ◌∙◌, ap, subst, sym, w32, to_z, of_z, rules, arith}
 use Rattle.std.proofs.Math.Facts.{to_z-of_z}
 use Rattle.hound.specs.Meaning.{int_meaning, int_refusal}
 use Rattle.hound_text.specs.Writing.{integer_line}
-use Rattle.hound_commands.proofs.ShowAnswers.{integers_line, integers_refusal, sample_shown}
+use Rattle.hound_commands.proofs.ShowAnswers.{integers_line, integers_refusal, err_is, room_stops, sample_shown, sample_stops}
+use Rattle.hound_commands.specs.Showing.{StopsSamples}
+use Rattle.hound_commands.specs.declared.failure.Failure.TheVariants.{InputOrOutput}
 use Rattle.hound_commands.proofs.showing.show_integers.Goals as goal
 
 pub loop-preserved : goal.loop-preserved
@@ -18,8 +20,34 @@ loop-preserved g c =
       count = loop.count;
       read = item.counted ∙ ap (λ n. n + 1) loop.read;
       shown = sample_shown (int_refusal 4) (λ format. int_meaning) integer_line s _ c.loop.counter
-          _ _ _ _ _ _ _ _ _ _ c.in-Some-Ok.field-0-is (integers_refusal s c.requires.integers)
+          _ _ _ _ _ _ _ _ _ _ _ _ c.in-Some-Ok.field-0-is (integers_refusal s c.requires.integers)
           (integers_line s c.requires.integers) loop.spec_ex loop.shown item.read
-          c.in_ok-make_room-in-Some-Ok.ensures.same
+          c.in_ok-make_room-in-Some-Ok.ensures.moved
           (c.push_integer.ensures ∙ ap (λ v. c.make_room.new.lines ++ integer_line v) back);
     }
+
+pub returns-in_err-make_room-in-Some-Ok-clause-until :
+    goal.returns-in_err-make_room-in-Some-Ok-clause-until
+returns-in_err-make_room-in-Some-Ok-clause-until g c =
+    let item = c.in-Some-Ok.ensures.steps.1 in
+    let loop = c.loop.invariant in
+    let room = c.in_err-make_room-in-Some-Ok.ensures in
+    let within : c.loop.counter < c.args.reader.now.num_samples =
+        omega (arith, item.inside, loop.read, loop.num_samples) in
+    err_is _ c.from_residual.result InputOrOutput c.from_residual.ensures.1
+    (room_stops c.args.reader.now.spec_ex c.loop.counter c.args.reader.now.num_samples
+    _ _ _ _ _ _ _ _ (omega (arith, within)) loop.shown room.stopped room.emptied)
+
+pub returns-in-Some-Err-clause-until : goal.returns-in-Some-Err-clause-until
+returns-in-Some-Err-clause-until g c =
+    let item = c.in-Some-Err.ensures.steps.1 in
+    let loop = c.loop.invariant in
+    let s = c.args.reader.now.spec_ex in
+    let within : c.loop.counter < c.args.reader.now.num_samples =
+        omega (arith, item.inside, loop.read, loop.num_samples) in
+    subst (λ f. StopsSamples s c.args.reader.now.num_samples f
+    (g.R.Read.remaining c.args.reader.now.reader.now) (g.O.Write.contents c.args.output.now)
+    (g.O.Write.contents c.loop.output) c.args.lines.now c.loop.lines) (sym c.from.ensures)
+    (sample_stops (int_refusal 4) (λ format. int_meaning) s _ c.loop.counter c.args.reader.now.num_samples
+    _ _ _ _ _ _ _ _ _ c.in-Some-Err.field-0-is within (integers_refusal s c.requires.integers)
+    loop.spec_ex loop.shown item.read)

@@ -1,10 +1,36 @@
-use Rattle.hound_commands.proofs.ShowAnswers.{file_shown}
+use Rattle.hound_commands.proofs.Outputs.{part-written}
+use Rattle.hound_commands.proofs.ShowAnswers.{err_is, head_stops, lines_shown, lines_stop, lines_until}
+use Rattle.hound_commands.specs.Failing.{failure_of}
+use Rattle.hound_commands.specs.declared.failure.Failure.TheVariants.{InputOrOutput}
 use Rattle.hound_commands.proofs.showing.show_lines.Goals as goal
 
-pub returns : goal.returns
-returns g c = record {
-  shown = file_shown (g.R.Read.remaining c.args.input.now) _ c.in_ok-reader.reader.spec_ex
-      c.in_ok-reader.reader.num_samples c.spec.result c.len.result _ _ _ _ _ _ c.spec.ensures
-      c.len.ensures c.in_ok-reader.ensures.found c.in_ok-show_spec.ensures c.new-lines.ensures
-      c.in_ok-result.ensures.shown c.in_ok-written.ensures.written;
-}
+pub returns-in_err-reader-clause-until : goal.returns-in_err-reader-clause-until
+returns-in_err-reader-clause-until g c =
+    err_is _ c.from_residual.result (failure_of c.in_err-reader.field-0.0) c.from_residual.ensures.1
+    (head_stops _ _ c.in_err-reader.field-0.0 c.in_err-reader.ensures.refused)
+
+pub returns-in_err-write_to-clause-until : goal.returns-in_err-write_to-clause-until
+returns-in_err-write_to-clause-until g c =
+    let reader = c.in_ok-reader.reader in
+    err_is _ c.from_residual-in_err-write_to.result InputOrOutput c.from_residual-in_err-write_to.ensures.1
+    (lines_stop (g.R.Read.remaining c.args.input.now) _ reader.spec_ex reader.num_samples
+    c.show_samples-result.result c.spec.result c.len.result _ _ _ _ _ _ c.spec.ensures c.len.ensures
+    c.in_ok-reader.ensures.found c.new-lines.ensures c.in_ok-push_spec.ensures
+    c.show_samples-result.ensures.shown c.show_samples-result.ensures.until
+    (part-written _ _ _ c.in_err-write_to.ensures.written))
+
+pub returns-clause-shown : goal.returns-clause-shown
+returns-clause-shown g c =
+    let reader = c.in_ok-reader.reader in
+    lines_shown (g.R.Read.remaining c.args.input.now) _ reader.spec_ex reader.num_samples
+    c.show_samples-result.result c.spec.result c.len.result _ _ _ _ _ _ c.spec.ensures c.len.ensures
+    c.in_ok-reader.ensures.found c.new-lines.ensures c.in_ok-push_spec.ensures
+    c.show_samples-result.ensures.shown c.in_ok-write_to.ensures.written
+
+pub returns-clause-until : goal.returns-clause-until
+returns-clause-until g c =
+    let reader = c.in_ok-reader.reader in
+    lines_until (g.R.Read.remaining c.args.input.now) _ reader.spec_ex reader.num_samples
+    c.show_samples-result.result c.spec.result c.len.result _ _ _ _ _ _ c.spec.ensures c.len.ensures
+    c.in_ok-reader.ensures.found c.new-lines.ensures c.in_ok-push_spec.ensures
+    c.show_samples-result.ensures.until c.in_ok-write_to.ensures.written

@@ -1,5 +1,4 @@
 use Rattle.std.proofs.Common.{◌≡◌}
-use Rattle.std.specs.Io.KnownBytes.{append_known}
 use Rattle.hound.specs.Samples.{lent_reader}
 use Rattle.hound_commands.proofs.ShowAnswers.{Shown}
 use Rattle.hound_commands.proofs.showing.show_patterns.Given as goal
@@ -12,6 +11,5 @@ invariant-loop g l = record {
   read : (lent_reader l.samples).samples_read ≡ l.counter;
   shown : Shown l.fn.reader.spec_ex l.counter (g.R.Read.remaining l.fn.reader.reader.now)
       (g.R.Read.remaining (lent_reader l.samples).reader.now)
-      (append_known (g.O.Write.contents l.fn.output) l.fn.lines)
-      (append_known (g.O.Write.contents l.output) l.lines);
+      (g.O.Write.contents l.fn.output) (g.O.Write.contents l.output) l.fn.lines l.lines;
 }

@@ -1,0 +1,78 @@
+-- What an output got, one write after the other.
+use Rattle.std.proofs.Common.{◌≡◌, ℕ, ◌<◌, List, [], ◌++◌, length, take, drop, Option, Some, None, Result, Ok, Err, OnErr, refl, sym, ◌∙◌, ap, subst, append_assoc, append-nil, take-append-drop}
+use Rattle.std.specs.Io.KnownBytes.{Appends, Keeps}
+use Rattle.hound.specs.Writing.{Writes}
+use Rattle.hound_commands.specs.Output.{GetsBeginning, GetsBuffered, IsBeginning}
+
+-- texts appended one after the other
+pub appends-then : (old mid new : Option (List ℕ)) (first rest : List ℕ) → Appends old mid first
+    → Appends mid new rest → Appends old new (first ++ rest)
+appends-then None mid new first rest front back = tt
+appends-then (Some xs) None new first rest front back = absurd front
+appends-then (Some xs) (Some ys) None first rest front back = absurd back
+appends-then (Some xs) (Some ys) (Some zs) first rest front back =
+    back ∙ ap (λ l. l ++ rest) front ∙ append_assoc xs first rest
+
+pub appends-none : (old : Option (List ℕ)) → Appends old old []
+appends-none None = tt
+appends-none (Some xs) = sym (append-nil xs)
+
+pub appends-kept : (old mid new : Option (List ℕ)) (text : List ℕ) → Appends old mid text
+    → Keeps mid new → Appends old new text
+appends-kept None mid new text front keeps = tt
+appends-kept (Some xs) None new text front keeps = absurd front
+appends-kept (Some xs) (Some ys) None text front keeps = absurd keeps
+appends-kept (Some xs) (Some ys) (Some zs) text front keeps = keeps ∙ front
+
+-- ---- the output and its buffer
+
+pub gets-none : (old : Option (List ℕ)) (buffered : List ℕ) → GetsBuffered old old buffered buffered
+gets-none old buffered = ([], refl, appends-none old)
+
+pub gets-then : (old mid new : Option (List ℕ)) (text buffered later : List ℕ)
+    → GetsBuffered old mid buffered text → GetsBuffered mid new later buffered
+    → GetsBuffered old new later text
+gets-then old mid new text buffered later (first, text_is, front) (rest, buffered_is, back) = (
+  first ++ rest,
+  text_is ∙ ap (λ l. first ++ l) buffered_is ∙ sym (append_assoc first rest later),
+  appends-then old mid new first rest front back,
+)
+
+pub gets-more : (old new : Option (List ℕ)) (text buffered more : List ℕ)
+    → GetsBuffered old new buffered text → GetsBuffered old new (buffered ++ more) (text ++ more)
+gets-more old new text buffered more (written, text_is, all) =
+    (written, ap (λ l. l ++ more) text_is ∙ append_assoc written buffered more, all)
+
+-- the buffer was written
+pub gets-written : (old mid new : Option (List ℕ)) (text buffered : List ℕ)
+    → GetsBuffered old mid buffered text → Appends mid new buffered → Appends old new text
+gets-written old mid new text buffered (first, text_is, front) back =
+    subst (Appends old new) (sym text_is) (appends-then old mid new first buffered front back)
+
+-- a beginning of the buffer was written
+pub gets-stopped : (old mid new : Option (List ℕ)) (text buffered : List ℕ)
+    → GetsBuffered old mid buffered text → GetsBeginning mid new buffered → GetsBeginning old new text
+gets-stopped old mid new text buffered (first, text_is, front) (part, (rest, part_is), back) = (
+  first ++ part,
+  (rest, text_is ∙ ap (λ l. first ++ l) part_is ∙ sym (append_assoc first part rest)),
+  appends-then old mid new first part front back,
+)
+
+-- ---- beginnings
+
+pub whole-beginning : (text : List ℕ) → IsBeginning text text
+whole-beginning text = ([], sym (append-nil text))
+
+pub beginning-then : (part mid text : List ℕ) → IsBeginning part mid → IsBeginning mid text → IsBeginning part text
+beginning-then part mid text (rest, mid_is) (more, text_is) =
+    (rest ++ more, text_is ∙ ap (λ l. l ++ more) mid_is ∙ append_assoc part rest more)
+
+-- what a write that failed leaves
+pub part-written : (text : List ℕ) (old new : Option (List ℕ))
+    → (n : ℕ) × (n < length text) × Appends old new (take n text) → GetsBeginning old new text
+part-written text old new (n, short, all) = (take n text, (drop n text, sym (take-append-drop n text)), all)
+
+pub written-part : {T E : Type 0} (text : List ℕ) (result : Result T E) (old new : Option (List ℕ))
+    → Writes text result old new → OnErr result (GetsBeginning old new text)
+written-part text (Ok x) old new writes = tt
+written-part text (Err e) old new writes = part-written text old new writes

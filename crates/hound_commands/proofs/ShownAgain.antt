@@ -1,0 +1,194 @@
+-- What `show` writes of a file that `pack` made is packed again, and text is packed as one file.
+use Rattle.std.specs.Prelude.{FitsSigned}
+use Rattle.std.proofs.Common.{◌≡◌, ℕ, ℤ, ◌+◌, ◌*◌, ◌%◌, ◌≤◌, ◌⊎◌, inl, inr, List, [], ◌∷◌, ◌++◌, length, drop, Result, Ok, Err, Some, refl, sym, ◌∙◌, ap, subst, append_assoc, length-append, arith}
+use Rattle.std.proofs.lemmas.List.Folds.{concat-append}
+use Rattle.std.specs.Int.{w32}
+use Rattle.std.specs.List.{AllByRecursion, concat, flat_map}
+use Rattle.hound.specs.Answer.{HasOneFileAnswer, readable}
+use Rattle.hound.specs.Chunks.{Readable}
+use Rattle.hound.specs.Container.{containers, int_container, too_wide}
+use Rattle.hound.specs.ContainerLaws.{int_container-in_width}
+use Rattle.hound.specs.Containers.{AreContainers}
+use Rattle.hound.specs.FmtChunk.{greatest_u32}
+use Rattle.hound.specs.Header.{canonical, data_start, riff_size}
+use Rattle.hound.specs.Meaning.{int_meaning}
+use Rattle.hound.specs.Writable.{IsWritable, with_default_width}
+use Rattle.hound.specs.declared.Error.{Error}
+use Rattle.hound.specs.declared.Error.TheVariants as errors
+use Rattle.hound.specs.declared.SampleFormat.TheVariants.{Int}
+use Rattle.hound.specs.declared.WavSpec.{WavSpec}
+use Rattle.hound.specs.declared.WavSpecEx.{WavSpecEx}
+use Rattle.hound_text.specs.Text.{SayNumbers, SaysNumber, SaysNumbers, words}
+use Rattle.hound_text.specs.Writing.{integer_line}
+use Rattle.hound_commands.proofs.PackAnswers.{have-bytes}
+use Rattle.hound_commands.proofs.ShowAnswers.{integers_line}
+use Rattle.hound_commands.specs.Commands.{IsNotPacked, Packs}
+use Rattle.hound_commands.specs.Packing.{HasRoom, HaveContainers, IsPackError, IsPackFailure, IsPacked, container_of}
+use Rattle.hound_commands.specs.Showing.{IsShown, Shows, sample_line, sample_lines, spec_line}
+use Rattle.hound_commands.specs.declared.failure.Failure.{Failure}
+use Rattle.hound_commands.specs.declared.failure.Failure.TheVariants.{BadNumber, InputOrOutput, Refused}
+
+-- ---- one list of numbers, and one list of containers
+
+say_one : (parts : List (List ℕ)) (ns ms : List ℤ) → SayNumbers parts ns → SayNumbers parts ms → ns ≡ ms
+say_one [] [] [] here there = refl
+say_one [] (n ∷ ns) ms here there = absurd here
+say_one [] [] (m ∷ ms) here there = absurd there
+say_one (part ∷ parts) [] ms here there = absurd here
+say_one (part ∷ parts) (n ∷ ns) [] here there = absurd there
+say_one (part ∷ parts) (n ∷ ns) (m ∷ ms) here there =
+    ap (λ x. x ∷ ns) (here.0.value ∙ sym there.0.value) ∙ ap (λ l. m ∷ l) (say_one parts ns ms here.1 there.1)
+
+say_within : (parts : List (List ℕ)) (ns : List ℤ) → SayNumbers parts ns → AllByRecursion (FitsSigned w32) ns
+say_within [] [] says = tt
+say_within [] (n ∷ ns) says = absurd says
+say_within (part ∷ parts) [] says = absurd says
+say_within (part ∷ parts) (n ∷ ns) says = (says.0.within, say_within parts ns says.1)
+
+have_one : (s : WavSpecEx) (ns : List ℤ) (cs ds : List (List ℕ)) → HaveContainers s ns cs → HaveContainers s ns ds → cs ≡ ds
+have_one s [] [] [] here there = refl
+have_one s [] (c ∷ cs) ds here there = absurd here
+have_one s [] [] (d ∷ ds) here there = absurd there
+have_one s (n ∷ ns) [] ds here there = absurd here
+have_one s (n ∷ ns) (c ∷ cs) [] here there = absurd there
+have_one s (n ∷ ns) (c ∷ cs) (d ∷ ds) (is, here) (other, there) =
+    let same : c ≡ d = cc in
+    ap (λ x. x ∷ cs) same ∙ ap (λ l. d ∷ l) (have_one s ns cs ds here there)
+
+-- the containers of the first numbers, and of the others
+have_split : (s : WavSpecEx) (ns ms : List ℤ) (cs : List (List ℕ)) → HaveContainers s (ns ++ ms) cs
+    → (front : List (List ℕ)) × (back : List (List ℕ)) × (cs ≡ front ++ back) × HaveContainers s ns front × HaveContainers s ms back
+have_split s [] ms cs have = ([], cs, refl, tt, have)
+have_split s (n ∷ ns) ms [] have = absurd have
+have_split s (n ∷ ns) ms (c ∷ cs) (is, have) =
+    let (front, back, cs_are, here, there) = have_split s ns ms cs have in
+    (c ∷ front, back, ap (λ l. c ∷ l) cs_are, (is, here), there)
+
+each_width : (s : WavSpecEx) (ns : List ℤ) (cs : List (List ℕ)) → HaveContainers s ns cs
+    → AllByRecursion (λ c. length c ≡ s.bytes_per_sample) cs
+each_width s [] [] have = tt
+each_width s [] (c ∷ cs) have = absurd have
+each_width s (n ∷ ns) [] have = absurd have
+each_width s (n ∷ ns) (c ∷ cs) (is, have) = ((int_container-in_width n _ _ c is).0, each_width s ns cs have)
+
+have_length : (s : WavSpecEx) (ns : List ℤ) (cs : List (List ℕ)) → HaveContainers s ns cs → length ns ≡ length cs
+have_length s [] [] have = refl
+have_length s [] (c ∷ cs) have = absurd have
+have_length s (n ∷ ns) [] have = absurd have
+have_length s (n ∷ ns) (c ∷ cs) (is, have) = let more = have_length s ns cs have in omega (arith, more)
+
+-- ---- the lines of a packed file
+
+-- each integer is read back from its container
+abbrev ComeBack : Type 0
+ComeBack = (v : ℤ) (bits width : ℕ) (c : List ℕ) → int_container v bits width ≡ Ok c → int_meaning width bits c ≡ v
+
+same_lines : (s : WavSpecEx) (ns : List ℤ) (cs : List (List ℕ)) → s.spec.sample_format ≡ Int → ComeBack
+    → HaveContainers s ns cs → flat_map (sample_line s) cs ≡ flat_map integer_line ns
+same_lines s [] [] integers back have = refl
+same_lines s [] (c ∷ cs) integers back have = absurd have
+same_lines s (n ∷ ns) [] integers back have = absurd have
+same_lines s (n ∷ ns) (c ∷ cs) integers back (is, have) =
+    ap (λ l. l ++ flat_map (sample_line s) cs) (sym (integers_line s integers c) ∙ ap integer_line (back n _ _ c is))
+    ∙ ap (λ l. integer_line n ++ l) (same_lines s ns cs integers back have)
+
+are_containers : (s : WavSpecEx) (ns : List ℤ) (file : List ℕ) → (packed : IsPacked s ns file) → AreContainers s packed.containers
+are_containers s ns file packed =
+    let bytes = have-bytes s ns packed.containers packed.have in
+    let room : riff_size (data_start s) (length (concat packed.containers)) ≤ greatest_u32 = packed.room in
+    record {
+      each = each_width s ns packed.containers packed.have;
+      frames = packed.frames;
+      fits = omega (arith, bytes, room);
+    }
+
+-- The samples of bytes begin at one place, so their lines are these.
+lines_of : (bytes text : List ℕ) (s : WavSpecEx) (list : List (List ℕ)) (start : ℕ) → HasOneFileAnswer bytes
+    → Readable bytes s (length list) start
+    → containers s.bytes_per_sample (length list) (drop start bytes) ≡ list
+    → IsShown bytes text → text ≡ spec_line s.spec (length list) ++ flat_map (sample_line s) list
+lines_of bytes text s list start (a, _, one) read same shown =
+    let here = one (readable shown.s shown.samples shown.start) shown.readable in
+    let there = one (readable s (length list) start) read in
+    let spec : shown.s ≡ s = cc in
+    let samples : shown.samples ≡ length list = cc in
+    let place : shown.start ≡ start = cc in
+    shown.text_is
+    ∙ ap (λ x. spec_line x.spec shown.samples ++ sample_lines x shown.samples (drop shown.start bytes)) spec
+    ∙ ap (λ n. spec_line s.spec n ++ sample_lines s n (drop shown.start bytes)) samples
+    ∙ ap (λ n. spec_line s.spec (length list) ++ sample_lines s (length list) (drop n bytes)) place
+    ∙ ap (λ l. spec_line s.spec (length list) ++ flat_map (sample_line s) l) same
+
+pub shown_again : (spec : WavSpec) (input file text : List ℕ)
+    → ((s : WavSpecEx) (list : List (List ℕ)) → IsWritable s → AreContainers s list
+    → Readable (canonical s list) s (length list) (data_start s)
+    × (containers s.bytes_per_sample (length list) (drop (data_start s) (canonical s list)) ≡ list))
+    → ((bytes : List ℕ) → HasOneFileAnswer bytes) → ComeBack
+    → ((ns : List ℤ) → AllByRecursion (FitsSigned w32) ns → SaysNumbers (flat_map integer_line ns) ns)
+    → spec.sample_format ≡ Int
+    → Packs (with_default_width spec) (Some input) (Some []) (Some file) → Shows (Some file) (Some []) (Some text)
+    → (count : ℕ) × (lines : List ℕ) × (text ≡ spec_line spec count ++ lines)
+    × Packs (with_default_width spec) (Some lines) (Some []) (Some file)
+shown_again spec input file text written one back say integers (ns, packed_file, says, packed, got) (shown_text, shown, wrote) =
+    let s = with_default_width spec in
+    let cs = packed.containers in
+    let (read, same) = written s cs packed.writable (are_containers s ns packed_file packed) in
+    let file_is : file ≡ canonical s cs = got ∙ packed.file_is in
+    let found = lines_of (canonical s cs) shown_text s cs (data_start s) (one (canonical s cs)) read same
+    (subst (λ f. IsShown f shown_text) file_is shown) in (
+      length cs,
+      flat_map integer_line ns,
+      wrote ∙ found ∙ ap (λ l. spec_line spec (length cs) ++ l) (same_lines s ns cs integers back packed.have),
+      (ns, packed_file, say ns (say_within (words input) ns says), packed, got),
+    )
+
+-- ---- one answer for each text
+
+pub packed_once : (s : WavSpecEx) (text first second : List ℕ) → Packs s (Some text) (Some []) (Some first)
+    → Packs s (Some text) (Some []) (Some second) → first ≡ second
+packed_once s text first second (ns, file, says, packed, got) (ms, other, too, again, gets) =
+    let numbers : ns ≡ ms = say_one (words text) ns ms says too in
+    let same = have_one s ms packed.containers again.containers
+    (subst (λ l. HaveContainers s l packed.containers) numbers packed.have) again.have in
+    got ∙ packed.file_is ∙ ap (canonical s) same ∙ sym again.file_is ∙ sym gets
+
+-- an error that needs no cause of the text: a fault, or too little memory
+abbrev pub IsFaultOrMemory : Failure → Type 0
+IsFaultOrMemory failure = (failure ≡ InputOrOutput) ⊎ (failure ≡ Refused errors.OutOfMemory)
+
+not_refused : (s : WavSpecEx) (ns : List ℤ) (file : List ℕ) (e : Error) → IsPacked s ns file
+    → IsPackFailure s ns (Refused e) → e ≡ errors.OutOfMemory
+not_refused s ns file errors.OutOfMemory packed refused = refl
+not_refused s ns file errors.Unsupported packed refused = absurd (refused packed.writable)
+not_refused s ns file errors.TooWide packed (writable, refused) =
+    let whole = subst (λ l. HaveContainers s l packed.containers) refused.whole packed.have in
+    let (front, back, cs_are, here, there) = have_split s refused.before (refused.number ∷ refused.after) packed.containers whole in
+    absurd (wide back there)
+  where
+    wide : (back : List (List ℕ)) → HaveContainers s (refused.number ∷ refused.after) back → ⊥
+    wide [] have = have
+    wide (c ∷ cs) (is, have) = let h = refused.wide in cc
+not_refused s ns file errors.TooLong packed (writable, refused) =
+    let whole = subst (λ l. HaveContainers s l packed.containers) refused.whole packed.have in
+    let (front, back, cs_are, here, there) = have_split s refused.before refused.after packed.containers whole in
+    let same = have_one s refused.before front refused.containers here refused.have in
+    let joined : length (concat packed.containers) ≡ length (concat front) + length (concat back) =
+        ap (λ l. length (concat l)) cs_are ∙ ap length (concat-append front back) ∙ length-append (concat front) (concat back) in
+    let room : riff_size (data_start s) (length (concat packed.containers)) ≤ greatest_u32 = packed.room in
+    let fits : riff_size (data_start s) (length (concat front)) ≤ greatest_u32 = omega (arith, joined, room) in
+    absurd (refused.no_room (subst (HasRoom s) same fits))
+not_refused s ns file errors.UnfinishedSample packed (writable, refused) =
+    let same = have_one s ns packed.containers refused.containers packed.have refused.have in
+    absurd (refused.frames (subst (λ l. length l % s.spec.channels ≡ 0) same packed.frames))
+not_refused s ns file (errors.IoError e) packed refused = absurd refused.1
+not_refused s ns file (errors.FormatError e) packed refused = absurd refused.1
+not_refused s ns file errors.InvalidSampleFormat packed refused = absurd refused.1
+
+pub packed_is_not_refused : (s : WavSpecEx) (text file : List ℕ) (failure : Failure)
+    → Packs s (Some text) (Some []) (Some file) → IsNotPacked s (Some text) failure → IsFaultOrMemory failure
+packed_is_not_refused s text file BadNumber (ns, made, says, packed, got) refused = absurd (refused ns says)
+packed_is_not_refused s text file InputOrOutput packs refused = inl refl
+packed_is_not_refused s text file (Refused e) (ns, made, says, packed, got) (inl memory) = inr (ap (λ x. Refused x) memory)
+packed_is_not_refused s text file (Refused e) (ns, made, says, packed, got) (inr (ms, too, refused)) =
+    let numbers : ms ≡ ns = say_one (words text) ms ns too says in
+    inr (ap (λ x. Refused x) (not_refused s ns made e packed (subst (λ l. IsPackFailure s l (Refused e)) numbers refused)))
