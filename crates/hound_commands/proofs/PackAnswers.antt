@@ -226,7 +226,7 @@ no_room s writable done list before here after cs have big = (
   },
 )
 
--- integers of a spec that can be written aren't refused as of other bits and bytes
+-- integers of a spec that can be written are of bits and bytes that have containers
 never_unsupported : (v : ℤ) (bits width : ℕ) → IsPair Int bits width
     → int_container v bits width ≡ Err unsupported → ⊥
 unfolding int_container

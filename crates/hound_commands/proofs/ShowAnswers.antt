@@ -8,7 +8,6 @@ use Rattle.hound.specs.Reads.{Reads, error_of_read}
 use Rattle.hound.specs.Refusals.{IsRefusal}
 use Rattle.hound.specs.Chunks.{Readable, Unreadable}
 use Rattle.hound.specs.Cause.TheVariants as causes
-use Rattle.hound.specs.Writing.{Writes}
 use Rattle.hound.specs.declared.Error.{Error}
 use Rattle.hound.specs.declared.Error.TheVariants as errors
 use Rattle.hound.specs.declared.SampleFormat.{SampleFormat}
@@ -16,10 +15,10 @@ use Rattle.hound.specs.declared.SampleFormat.TheVariants.{Float, Int}
 use Rattle.hound.specs.declared.WavSpec.{WavSpec}
 use Rattle.hound.specs.declared.WavSpecEx.{WavSpecEx}
 use Rattle.hound_text.specs.Writing.{integer_line, pattern_line}
-use Rattle.hound_commands.proofs.Outputs.{appends-kept, appends-none, beginning-then, gets-more, gets-none, gets-stopped, gets-then, gets-written, whole-beginning, written-part}
+use Rattle.hound_commands.proofs.Outputs.{appends-kept, appends-none, beginning-then, gets-more, gets-none, gets-stopped, gets-then, gets-written, whole-beginning}
 use Rattle.hound_commands.specs.Failing.{failure_of}
 use Rattle.hound_commands.specs.Output.{GetsBeginning, GetsBuffered, IsBeginning}
-use Rattle.hound_commands.specs.Showing.{AreShowable, IsHeadFailure, IsShownPart, RefusesSamples, Shows, ShowsSamples, ShowsUntil, StopsAt, StopsSamples, spec_line, line_for, refusal_for, sample_line, sample_lines, show_refusal}
+use Rattle.hound_commands.specs.Showing.{AreShowable, Shows, ShowsSamples, ShowsUntil, StopsAt, StopsSamples, spec_line, line_for, refusal_for, sample_line, sample_lines, show_refusal}
 use Rattle.hound_commands.specs.declared.failure.Failure.{Failure}
 use Rattle.hound_commands.specs.declared.failure.Failure.TheVariants.{BadNumber, InputOrOutput, Refused}
 
@@ -206,7 +205,7 @@ patterns_line s floats c = go s.spec.sample_format floats
 
 -- ---- a file
 
--- nothing is written yet where the head is refused
+-- nothing is written yet where the head is rejected
 pub head_stops : (input out : Option (List ℕ)) (error : Error) → IfSome input (λ xs. IsRefusal error (Unreadable xs))
     → ShowsUntil input (failure_of error) out out
 head_stops None out error refused = tt

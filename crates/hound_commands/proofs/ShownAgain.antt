@@ -1,12 +1,12 @@
 -- What `show` writes of a file that `pack` made is packed again, and text is packed as one file.
 use Rattle.std.specs.Prelude.{FitsSigned}
-use Rattle.std.proofs.Common.{◌≡◌, ℕ, ℤ, ◌+◌, ◌*◌, ◌%◌, ◌≤◌, ◌⊎◌, inl, inr, List, [], ◌∷◌, ◌++◌, length, drop, Result, Ok, Err, Some, refl, sym, ◌∙◌, ap, subst, append_assoc, length-append, arith}
+use Rattle.std.proofs.Common.{◌≡◌, ℕ, ℤ, ◌+◌, ◌%◌, ◌≤◌, ◌⊎◌, inl, inr, List, [], ◌∷◌, ◌++◌, length, drop, Ok, Some, refl, sym, ◌∙◌, ap, subst, length-append, arith}
 use Rattle.std.proofs.lemmas.List.Folds.{concat-append}
 use Rattle.std.specs.Int.{w32}
 use Rattle.std.specs.List.{AllByRecursion, concat, flat_map}
 use Rattle.hound.specs.Answer.{HasOneFileAnswer, readable}
 use Rattle.hound.specs.Chunks.{Readable}
-use Rattle.hound.specs.Container.{containers, int_container, too_wide}
+use Rattle.hound.specs.Container.{containers, int_container}
 use Rattle.hound.specs.ContainerLaws.{int_container-in_width}
 use Rattle.hound.specs.Containers.{AreContainers}
 use Rattle.hound.specs.FmtChunk.{greatest_u32}
@@ -18,12 +18,12 @@ use Rattle.hound.specs.declared.Error.TheVariants as errors
 use Rattle.hound.specs.declared.SampleFormat.TheVariants.{Int}
 use Rattle.hound.specs.declared.WavSpec.{WavSpec}
 use Rattle.hound.specs.declared.WavSpecEx.{WavSpecEx}
-use Rattle.hound_text.specs.Text.{SayNumbers, SaysNumber, SaysNumbers, words}
+use Rattle.hound_text.specs.Text.{SayNumbers, SaysNumbers, words}
 use Rattle.hound_text.specs.Writing.{integer_line}
 use Rattle.hound_commands.proofs.PackAnswers.{have-bytes}
 use Rattle.hound_commands.proofs.ShowAnswers.{integers_line}
 use Rattle.hound_commands.specs.Commands.{IsNotPacked, Packs}
-use Rattle.hound_commands.specs.Packing.{HasRoom, HaveContainers, IsPackError, IsPackFailure, IsPacked, container_of}
+use Rattle.hound_commands.specs.Packing.{HasRoom, HaveContainers, IsPackFailure, IsPacked}
 use Rattle.hound_commands.specs.Showing.{IsShown, Shows, sample_line, sample_lines, spec_line}
 use Rattle.hound_commands.specs.declared.failure.Failure.{Failure}
 use Rattle.hound_commands.specs.declared.failure.Failure.TheVariants.{BadNumber, InputOrOutput, Refused}
@@ -173,7 +173,7 @@ not_refused s ns file errors.TooLong packed (writable, refused) =
     let (front, back, cs_are, here, there) = have_split s refused.before refused.after packed.containers whole in
     let same = have_one s refused.before front refused.containers here refused.have in
     let joined : length (concat packed.containers) ≡ length (concat front) + length (concat back) =
-        ap (λ l. length (concat l)) cs_are ∙ ap length (concat-append front back) ∙ length-append (concat front) (concat back) in
+    ap (λ l. length (concat l)) cs_are ∙ ap length (concat-append front back) ∙ length-append (concat front) (concat back) in
     let room : riff_size (data_start s) (length (concat packed.containers)) ≤ greatest_u32 = packed.room in
     let fits : riff_size (data_start s) (length (concat front)) ≤ greatest_u32 = omega (arith, joined, room) in
     absurd (refused.no_room (subst (HasRoom s) same fits))

@@ -36,7 +36,8 @@ pub record IsPacked (s : WavSpecEx) (numbers : List ℤ) (file : List ℕ) : Typ
   pub frames : length containers % s.spec.channels ≡ 0
   pub file_is : file ≡ canonical s containers
 
--- The first number that is refused is too wide: those before it have containers, with room for all.
+-- The first number that can't be packed is too wide: those before it have containers, with room for
+-- all.
 pub record IsTooWide (s : WavSpecEx) (numbers : List ℤ) : Type 0 where
   pub before : List ℤ
   pub number : ℤ
@@ -47,7 +48,7 @@ pub record IsTooWide (s : WavSpecEx) (numbers : List ℤ) : Type 0 where
   pub room : HasRoom s containers
   pub wide : container_of s number ≡ Err too_wide
 
--- The first number that is refused has no room: all numbers up to it have containers.
+-- The first number that can't be packed has no room: all numbers up to it have containers.
 pub record IsTooLong (s : WavSpecEx) (numbers : List ℤ) : Type 0 where
   pub before : List ℤ
   pub after : List ℤ

@@ -1,4 +1,4 @@
--- The session that writes numbers, and what it answers.
+-- The session that writes numbers, and what it returns.
 use Rattle.std.specs.Prelude.{ℤ, ⊤, IsTrue, List, [], ◌∷◌, Err}
 use Rattle.std.specs.List.{AllByRecursion, flat_map}
 use Rattle.hound.specs.Container.{fits}

@@ -69,8 +69,8 @@ abbrev pub RefusesSamples : WavSpecEx → Error → Type 0
 RefusesSamples s e =
     (refusal : ReadRefusal) × (show_refusal s ≡ Some refusal) × (e ≡ error_of_read refusal)
 
--- What is written where the samples are not all shown, after the text `first`: with a fault, a
--- beginning of the lines of samples that are there; with a refusal, no line of a sample.
+-- What is written where the samples are not all shown, after the text `first`: at a fault, a
+-- beginning of the lines of samples that are there; at any other error, no line of a sample.
 abbrev pub StopsAt : WavSpecEx → ℕ → Failure → List ℕ → List ℕ → List ℕ → Type 0
 StopsAt s count BadNumber bytes first text = ⊥
 StopsAt s count InputOrOutput bytes first text = (shown : ℕ) × (shown ≤ count)
@@ -97,7 +97,7 @@ pub record IsShown (bytes text : List ℕ) : Type 0 where
 abbrev pub Shows : Option (List ℕ) → Option (List ℕ) → Option (List ℕ) → Type 0
 Shows input old new = IfSome input (λ bytes. (text : List ℕ) × IsShown bytes text × Appends old new text)
 
--- why nothing is shown: the head of the file is refused, or there was a fault
+-- why nothing is shown: the head of the file is rejected, or there was a fault
 abbrev pub IsHeadFailure : List ℕ → Failure → Type 0
 IsHeadFailure bytes BadNumber = ⊥
 IsHeadFailure bytes InputOrOutput = ⊤

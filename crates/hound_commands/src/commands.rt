@@ -25,7 +25,7 @@ const LINE_LENGTH: usize = 256;
 
 const USAGE: &str = "usage: hound_tool pack CHANNELS RATE BITS | show | append FILE";
 
-/// Carries out the words, and answers the status: 0 for success, 1 where it failed, 2 for words
+/// Carries out the words, and returns the status: 0 for success, 1 where it failed, 2 for words
 /// that it doesn't know.
 ///
 /// `pack CHANNELS RATE BITS` reads numbers from the input and writes a WAV file of them to the
@@ -66,11 +66,11 @@ pub fn run<R: io::Read, O: io::Write, E: io::Write>(
     status_of(result, errors)
 }
 
-/// Carries out `append FILE`, and answers the status: 0 for success, 1 where it failed.
+/// Carries out `append FILE`, and returns the status: 0 for success, 1 where it failed.
 ///
 /// Reads numbers from the input, all of them before the file is opened, and appends them as
-/// samples to a WAV file that is there. The first that is refused ends it: those before it are
-/// kept. A failure has one line on `errors`; a fault while that is written isn't reported.
+/// samples to a WAV file that is there. The first that can't be written ends it: those before it
+/// are kept. A failure has one line on `errors`; a fault while that is written isn't reported.
 pub fn run_append<R: io::Read, E: io::Write>(
     rt: &impl Files<File = fs::File>,
     alloc: Global,
@@ -97,7 +97,7 @@ fn status_of<E: io::Write>(outcome: Result<(), Failure>, errors: &mut E) -> u8
     }
 }
 
-// A line on `errors`, which goes out in one write, so that those of two runs at a time don't mix.
+// Writes a line to `errors`, in one write, so that those of two runs at a time don't mix.
 fn tell<T: Display, E: io::Write>(text: &T, errors: &mut E) {
     let mut line = io::Cursor::new([0; LINE_LENGTH]);
     let _ = writeln!(line, "{text}");
@@ -126,7 +126,7 @@ fn spec_of(channels: &str, rate: &str, bits: &str) -> Option<WavSpec>
     })
 }
 
-// The file of the numbers that are read goes to the output.
+// Writes the file of the numbers that are read.
 fn pack<R: io::Read, O: io::Write>(
     alloc: Global,
     spec: WavSpec,

@@ -10,7 +10,7 @@ use std::alloc::{AllocError, AllocFailed};
 use std::io;
 use thiserror::Error as DeriveError;
 
-/// Why the program answers status 1: what its line on standard error says.
+/// Why the program ends with status 1; its line on standard error says it.
 #[derive(Debug, Drop, DeriveError)]
 pub enum Failure {
     #[error("bad number")]

@@ -15,7 +15,7 @@ use std::alloc::{AllocError, Global};
 const BATCH_LENGTH: usize = 4096;
 
 /// The whole file of these samples. Where all have sixteen bits they go in batches, which take less
-/// time and memory than a step for each; the first that is too wide is refused as such a step.
+/// time and memory than a step for each; the first that is too wide returns the error of such a step.
 pub fn file_of(alloc: Global, spec: WavSpec, numbers: Vec<i32>) -> Result<Tape, Failure>
     requires integers { spec.sample_format ≡ Int }
     ensures made { IfOk result (λ file. IsPacked (with_default_width spec) numbers.items

@@ -17,4 +17,6 @@ mod losses;
 #[cfg(test)]
 mod memory;
 #[cfg(test)]
+mod program;
+#[cfg(test)]
 mod words;

@@ -96,7 +96,7 @@ silent_where_broken (Some text) (Some us) (Some vs) p ns bytes xs ys follows rea
     unsaid text (follows ∙ (ap (λ t. before ns (numbers_from p t))
     (read ∙ (ap (λ t. t ++ vs) split ∙ append_assoc xs ys vs)) ∙ ap (before ns) (breaks (ys ++ vs))))
 
--- a text is refused for what breaks it
+-- why a text says no numbers: what breaks it
 pub refused : {T : Type 0} (result : Result T Refusal) (refusal : Refusal) (breaks : Type 0) (old : Option (List ℕ))
     → IsErrAnd result (λ e. e ≡ refusal) → IsTextRefusal refusal breaks → (breaks → IfSome old SaysNoNumbers)
     → IfErr result (λ e. IfSome old (IsRefused e))

@@ -1,4 +1,4 @@
--- Bytes that are put into a list, one after the other.
+-- Bytes stored in a list, one after the other.
 use lib.Signed.{lt_z}
 use mir.Val.{bool_byte}
 use Rattle.std.specs.Fmt.{decimal, signed_decimal}
@@ -111,7 +111,7 @@ all_drop zero xs all = all
 all_drop (suc n) [] all = tt
 all_drop (suc n) (x ∷ xs) all = all_drop n xs all.1
 
--- eight bytes of a word are put, and the last of them aren't counted
+-- eight bytes of a word are stored, and the last of them aren't counted
 pub text_put : (xs : List ℕ) (at without text : ℕ) (r : Option ℕ) (le : List ℕ) → at + 8 ≤ length xs → without ≤ 8
     → SomeIff r (8 * without < 64) (text / 2 ^ (8 * without)) → le ≡ to_le_bytes w64 (unwrap_or r 0)
     → (list : List ℕ) → length list ≡ 8 → AllBelowBase 256 list → text ≡ number_l 256 list

@@ -1,6 +1,6 @@
 -- The lines of numbers say these numbers.
 use Rattle.std.specs.Prelude.{FitsSigned}
-use Rattle.std.proofs.Common.{◌≡◌, ℕ, ℤ, zero, suc, ◌<◌, ◌≤◌, Bool, true, false, cond, ◌==◌, pos, negsuc, neg_ℤ, List, [], ◌∷◌, ◌++◌, length, drop, refl, ap, sym, ◌∙◌, subst, append_assoc, arith}
+use Rattle.std.proofs.Common.{◌≡◌, ℕ, ℤ, suc, ◌<◌, true, false, cond, ◌==◌, pos, negsuc, neg_ℤ, List, [], ◌∷◌, ◌++◌, drop, refl, ap, sym, ◌∙◌, subst, append_assoc, arith}
 use Rattle.std.proofs.lemmas.Bool.Decides.{nat_tests}
 use Rattle.std.proofs.lemmas.Fmt.{decimal_is_IsNumeral}
 use Rattle.std.proofs.lemmas.List.Splits.{slice_split-cons_no}
@@ -10,7 +10,7 @@ use Rattle.std.specs.Fmt.{decimal, signed_decimal}
 use Rattle.std.specs.Int.{w32}
 use Rattle.std.specs.List.{AllByRecursion, filter, flat_map, onto_first, slice_split}
 use Rattle.std.specs.Str.Parse.{AllDigits, IsNumeral, digits_value, starts_with_minus}
-use Rattle.hound_text.specs.Text.{SayNumbers, SaysNumber, SaysNumbers, is_filled, is_separator, signed_value, without_minus, words}
+use Rattle.hound_text.specs.Text.{SayNumbers, SaysNumber, SaysNumbers, is_filled, is_separator, signed_value, without_minus}
 use Rattle.hound_text.specs.Writing.{integer_line}
 
 -- a digit is no separator and no minus
@@ -39,8 +39,8 @@ numeral_says ds n numeral value within =
     let no_minus = numeral_no_minus ds numeral in
     let same : without_minus ds ≡ ds = ap (λ t. cond t (drop 1 ds) ds) no_minus in
     let says : signed_value (starts_with_minus ds) (digits_value 10 (without_minus ds)) ≡ pos n =
-        ap (λ t. signed_value t (digits_value 10 (without_minus ds))) no_minus
-        ∙ ap (λ w. pos (digits_value 10 w)) same ∙ ap (λ v. pos v) value in
+    ap (λ t. signed_value t (digits_value 10 (without_minus ds))) no_minus
+    ∙ ap (λ w. pos (digits_value 10 w)) same ∙ ap (λ v. pos v) value in
     record { digits = subst (IsNumeral 10) (sym same) numeral; value = sym says; within = within }
 
 decimal_says : (number : ℤ) → FitsSigned w32 number → SaysNumber (signed_decimal number) number

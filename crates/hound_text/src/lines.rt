@@ -111,7 +111,7 @@ impl io::Write for Lines {
     }
 }
 
-// Puts the digits of a number from a place on, and gives the place after them.
+// Stores the digits of a number from a place on, and returns the place after them.
 #[inline(always)]
 fn put_magnitude(bytes: &mut [u8; 16384], at: usize, magnitude: u32) -> usize
     requires { at + 16 ≤ 16384 }
@@ -128,8 +128,8 @@ fn put_magnitude(bytes: &mut [u8; 16384], at: usize, magnitude: u32) -> usize
     put_text(bytes, middle, low, 0)
 }
 
-// Puts a text of eight bytes from a place on, but for so many at its beginning, and gives the
-// place after it.
+// Stores a text of eight bytes from a place on, without so many of its first bytes, and returns
+// the place after it.
 #[inline(always)]
 fn put_text(bytes: &mut [u8; 16384], at: usize, text: u64, without: u32) -> usize
     requires place { at + 8 ≤ 16384 }

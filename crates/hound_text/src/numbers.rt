@@ -16,11 +16,11 @@ use std::io;
 /// The bytes of input that are read at most, where numbers are read.
 const MOST_BYTES: u64 = 4_294_967_295;
 
-/// Why a text is not taken. It has one byte, where an error that holds an `io::Error` has a
-/// hundred, and it is part of the answer for each number.
+/// Why a text isn't read. It has one byte, where an error that holds an `io::Error` has a hundred,
+/// and it is part of the result for each number.
 #[derive(Clone, Copy)]
 pub enum Refusal {
-    /// A byte stands where no number can have it, or a number is beyond `i32`.
+    /// A byte that no number has at its place, or a number beyond `i32`.
     BadNumber,
 
     /// The input failed.
@@ -49,7 +49,7 @@ impl From<AllocFailed<i32>> for Refusal {
     }
 }
 
-// Where the reading of a text of numbers stands.
+// What of a word was read.
 #[derive(Clone, Copy)]
 enum Place {
     Between,
@@ -80,7 +80,7 @@ fn with_digit(magnitude: u32, digit: u8) -> Result<u32, Refusal>
     Ok(longer as u32)
 }
 
-// Whether a byte stands between numbers.
+// Whether a byte separates numbers.
 fn is_separator(byte: u8) -> bool
     ensures { result ≡ is_separator byte }
 {

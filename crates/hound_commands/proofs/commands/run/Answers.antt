@@ -39,6 +39,6 @@ returns-clause-failed g c = λ one. elim c.if-words-lt2.branch [
       let (failure, until) = failure_of_one (λ f. PacksUntil g.O.Write.contents (with_default_width w.in-Some.spec) (g.R.Read.remaining c.args.input.now) f c.args.output.now w.pack.new.output)
       c.if-words-lt2.result w.pack.result c.status_of.result w.result-is c.status_of.ensures one w.pack.ensures.until in
       let packs : IsPackCommand c.args.words.now w.in-Some.spec =
-          pack_words c.args.words.now _ w.in-Some.spec w.in-pack.len_at_least w.in-pack.len_below w.in-pack.is-pack w.in-Some.ensures.said in
+      pack_words c.args.words.now _ w.in-Some.spec w.in-pack.len_at_least w.in-pack.len_below w.in-pack.is-pack w.in-Some.ensures.said in
       (failure, inr (w.in-Some.spec, packs, subst (λ o. PacksUntil g.O.Write.contents (with_default_width w.in-Some.spec) (g.R.Read.remaining c.args.input.now) failure c.args.output.now o) (sym w.output-is) until))
 ]

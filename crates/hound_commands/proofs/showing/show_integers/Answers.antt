@@ -33,7 +33,7 @@ returns-in_err-make_room-in-Some-Ok-clause-until g c =
     let loop = c.loop.invariant in
     let room = c.in_err-make_room-in-Some-Ok.ensures in
     let within : c.loop.counter < c.args.reader.now.num_samples =
-        omega (arith, item.inside, loop.read, loop.num_samples) in
+    omega (arith, item.inside, loop.read, loop.num_samples) in
     err_is _ c.from_residual.result InputOrOutput c.from_residual.ensures.1
     (room_stops c.args.reader.now.spec_ex c.loop.counter c.args.reader.now.num_samples
     _ _ _ _ _ _ _ _ (omega (arith, within)) loop.shown room.stopped room.emptied)
@@ -44,7 +44,7 @@ returns-in-Some-Err-clause-until g c =
     let loop = c.loop.invariant in
     let s = c.args.reader.now.spec_ex in
     let within : c.loop.counter < c.args.reader.now.num_samples =
-        omega (arith, item.inside, loop.read, loop.num_samples) in
+    omega (arith, item.inside, loop.read, loop.num_samples) in
     subst (λ f. StopsSamples s c.args.reader.now.num_samples f
     (g.R.Read.remaining c.args.reader.now.reader.now) (g.O.Write.contents c.args.output.now)
     (g.O.Write.contents c.loop.output) c.args.lines.now c.loop.lines) (sym c.from.ensures)
