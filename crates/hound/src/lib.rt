@@ -86,8 +86,9 @@ pub use hound_reader::{
     read_wave_header, written_is_head, written_is_read,
 };
 pub use hound_repair::{
-    Repair, RepairState, a_repair_keeps_stored_samples, a_second_repair_writes_nothing,
-    find_damage, find_damage_in_file, repair, repair_file, repair_to_end,
+    Repair, RepairState, a_half_mended_file_is_repaired, a_repair_keeps_stored_samples,
+    a_second_repair_writes_nothing, find_damage, find_damage_in_file, repair, repair_file,
+    repair_to_end,
 };
 pub use hound_sample::{FloatBits, Sample, integers_come_back, short_integers_are_kept};
 pub use hound_spec::{

@@ -1,5 +1,5 @@
 -- A file that was repaired is whole.
-use Rattle.std.proofs.Common.{◌≡◌, ◌⊎◌, ℕ, zero, suc, ◌+◌, ◌-◌, ◌*◌, ◌/◌, ◌%◌, ◌<◌, ◌≤◌, Bool, true, false, IsTrue, cond, ◌&&◌, List, [], ◌∷◌, ◌++◌, length, drop, inl, inr, refl, sym, ap, ◌∙◌, subst, arith, eqb-true, eq-eqb, length-append, length-drop}
+use Rattle.std.proofs.Common.{◌≡◌, ◌⊎◌, ℕ, zero, suc, ◌+◌, ◌-◌, ◌*◌, ◌/◌, ◌%◌, ◌≤◌, Bool, true, false, IsTrue, cond, ◌&&◌, List, [], ◌++◌, length, drop, inl, inr, refl, sym, ap, ◌∙◌, subst, arith, eqb-true, eq-eqb, length-append, length-drop}
 use Rattle.std.specs.Prelude.{◌==◌, replicate}
 use Rattle.std.proofs.lemmas.Bool.{eqb-false, false≢true}
 use Rattle.std.proofs.lemmas.List.{length-replicate}
@@ -12,7 +12,7 @@ use Rattle.hound_reader.proofs.Unique.{heads_agree}
 use Rattle.hound_writer.proofs.Heads.{head_behind, head_field, head_inside}
 use Rattle.hound_writer.specs.Sizes.{field, with_sizes}
 use Rattle.hound_repair.specs.Following.{is_followed}
-use Rattle.hound_repair.specs.Held.{are_right, data_held, ends_with_pad, frame_length, frames_held, held, mended, missing_pad, right_length}
+use Rattle.hound_repair.specs.Held.{are_right, data_held, ends_with_pad, frame_length, frames_held, held, missing_pad, right_length}
 use Rattle.hound_repair.specs.Repairing.{HasRightSizes, LeavesFor, Repairs, UnlessFollowed, found_length, frames_found, state_of}
 use Rattle.hound_repair.specs.declared.sizes.Repair.{Repair}
 use Rattle.hound_repair.specs.declared.sizes.RepairState.{RepairState}
@@ -21,7 +21,7 @@ use Rattle.hound_repair.proofs.Keeping.{held_frames, not_followed}
 use Rattle.hound_repair.proofs.RightSizes.{same_sizes}
 
 -- the bytes held are all data, or all but the last, which is the pad byte
-held_cases : (f len n : ℕ)
+pub held_cases : (f len n : ℕ)
     → (data_held f len n ≡ n)
     ⊎ ((data_held f len n ≡ len) × (n ≡ len + 1) × (len % 2 ≡ 1) × (len % f ≡ 0))
 unfolding data_held ends_with_pad
@@ -66,7 +66,7 @@ cases_even l = by (l % 2 == 0) refl
         inr (omega (arith, mod_below l 2 (omega arith), ne_zero (l % 2) (eqb-false (l % 2) 0 is)))
 
 -- of mended contents the same frames are held
-frames_again : (f len n : ℕ) → 1 ≤ f
+pub frames_again : (f len n : ℕ) → 1 ≤ f
     → data_held f (data_held f len n / f * f)
     (n + length (missing_pad (data_held f len n / f * f) n)) / f
     ≡ data_held f len n / f

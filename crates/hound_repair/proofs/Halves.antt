@@ -1,5 +1,5 @@
 -- A file in each intermediate state of its repair.
-use Rattle.std.proofs.Common.{◌≡◌, ◌⊎◌, ℕ, ◌+◌, ◌-◌, ◌≤◌, Bool, List, [], ◌∷◌, ◌++◌, length, take, inl, inr, Result, Ok, Err, IsTrue, MatchResult, sym, ap, ◌∙◌, subst, arith, length-append, length-take, append-nil}
+use Rattle.std.proofs.Common.{◌≡◌, ℕ, ◌-◌, ◌≤◌, Bool, List, [], ◌∷◌, length, take, inl, inr, Result, Ok, Err, IsTrue, MatchResult, sym, ap, ◌∙◌, subst, arith, length-append, length-take, append-nil}
 use Rattle.std.proofs.lemmas.Bool.{cases_lt}
 use Rattle.hound_medium.specs.Bytes.{moment, overlay, placed}
 use Rattle.hound_medium.specs.State.{MediumState}
@@ -16,9 +16,9 @@ use Rattle.hound_repair.specs.declared.sizes.RepairState.TheVariants.{CutOff}
 use Rattle.hound_repair.proofs.Mending.{found_of, half_is}
 
 -- while the sizes are written
-pub sizes_at_each : {T E : Type 0} (p riff n : ℕ) (result : Result T E) (a b : MediumState)
-    → PatchesAtEach p n result a b → HalfPutAtEach p riff n a b
-sizes_at_each p riff n result a b at k from to =
+pub sizes_at_each : {T E : Type 0} (p riff n h : ℕ) (result : Result T E) (a b : MediumState)
+    → PatchesAtEach p n result a b → HalfPutAtEach p riff n h a b
+sizes_at_each p riff n h result a b at k from to =
     let one = at.span.each k from to in
     let here = moment b.start b.past k in
     record {
@@ -31,22 +31,23 @@ sizes_at_each p riff n result a b at k from to =
       one = omega arith;
       is = sym (append-nil here);
       last = λ some. absurd (omega (arith, some));
+      missing = λ some. absurd (omega (arith, some));
     }
 
 -- and the pad byte after them
-pub pad_at_each : {T E U F : Type 0} (keeps : Bool) (p riff n end : ℕ) (first : Result U F)
+pub pad_at_each : {T E U F : Type 0} (keeps : Bool) (p riff n h end : ℕ) (first : Result U F)
     (result : Result T E) (a b c : MediumState) → IsTrue keeps → PatchesAtEach p n first a b
     → PutsPad keeps end result b c → c.contents ≡ overlay c.start c.past
-    → HalfPut p riff n a.contents c.contents → HalfPutAtEach p riff n a c
-pad_at_each keeps p riff n end first result a b c kept at pads replays half k from to =
+    → HalfPut p riff n h a.contents c.contents → HalfPutAtEach p riff n h a c
+pad_at_each keeps p riff n h end first result a b c kept at pads replays half k from to =
     let added = placed end (take pads.count (0 ∷ [])) in
     let past = pads.past kept in
     elim (cases_lt (length b.past) k) [
       | inr within ↦
           let same : moment c.start c.past k ≡ moment b.start b.past k =
           (λ i. moment (pads.start i) (past i) k) ∙ moment_before b.start b.past added k within in
-          subst (HalfPut p riff n a.contents) (sym same)
-          (sizes_at_each p riff n first a b at k from within)
+          subst (HalfPut p riff n h a.contents) (sym same)
+          (sizes_at_each p riff n h first a b at k from within)
       | inl after ↦
           let last : k ≡ length c.past =
           omega (
@@ -58,14 +59,14 @@ pad_at_each keeps p riff n end first result a b c kept at pads replays half k fr
             length-placed end (take pads.count (0 ∷ [])),
             length-take {A = ℕ} pads.count (0 ∷ []),
           ) in
-          subst (HalfPut p riff n a.contents)
+          subst (HalfPut p riff n h a.contents)
           (sym (ap (moment c.start c.past) last ∙ moment_last c replays)) half
     ]
 
 -- so the file is half mended
 pub mends_at_each : (looks : Bool) (d : Damage) (a b : MediumState) → IsDamage looks a.contents d
     → d.was ≡ CutOff
-    → HalfPutAtEach (d.head.data_start - 4) d.sizes.riff_size d.sizes.data_length a b
+    → HalfPutAtEach (d.head.data_start - 4) d.sizes.riff_size d.sizes.data_length d.held a b
     → MendsAtEach looks a b
 mends_at_each looks d a b at cut half =
     inr (
@@ -73,6 +74,7 @@ mends_at_each looks d a b at cut half =
       d.head.data_length,
       d.head.data_start,
       found_of looks a.contents d at,
+      cut,
       λ k from to. half_is looks a.contents d at cut (moment b.start b.past k) (half k from to),
     )
 
@@ -83,7 +85,7 @@ each_after looks old mid new puts (inl same) = inl (same ∙ puts.stays.past)
 each_after looks old mid new puts (inr mends) =
     inr (subst (λ (x : List ℕ × List (ℕ × ℕ)).
     (found : Repair) × (len : ℕ) × (start : ℕ) × IsFoundAt looks x.0 found len start
-    × ((k : ℕ) → length x.1 ≤ k → k ≤ length new.past →
+    × (found.was ≡ CutOff) × ((k : ℕ) → length x.1 ≤ k → k ≤ length new.past →
     HalfMended start (found_length found) x.0 (moment new.start new.past k)))
     (λ i. (puts.stays.contents i, puts.stays.past i)) mends)
 

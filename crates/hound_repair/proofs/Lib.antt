@@ -3,6 +3,7 @@ pub mod Looking
 pub mod Chunking
 pub mod Measuring
 pub mod Mending
+pub mod Resuming
 pub mod RightSizes
 pub mod Joining
 pub mod Halves

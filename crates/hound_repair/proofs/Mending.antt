@@ -57,6 +57,7 @@ put_cut d fault (Err e) a b err patches = record {
     one = omega arith;
     is = sym (append-nil b.contents);
     last = λ some. absurd (omega (arith, some));
+    missing = λ some. absurd (omega (arith, some));
   };
   flushed = tt;
   faults = patches.faults;
@@ -81,6 +82,7 @@ put_sizes_only d x a b none patches = record {
     one = omega arith;
     is = sym (append-nil b.contents);
     last = λ some. absurd (omega (arith, some));
+    missing = λ some. absurd (omega (arith, some));
   };
   flushed = patches.flushed;
   faults = patches.faults;
@@ -110,11 +112,15 @@ put_both keeps d x result a b c end at missing patches pads =
         one = omega (arith, length-take {A = ℕ} pads.count (0 ∷ []));
         is = is;
         last = λ some. patches.contents;
+        missing = λ some. (λ i. take (one pads.count pads.within some i) (0 ∷ [])) ∙ sym missing;
       };
       flushed = pads.flushed;
       faults = pads.faults ∙ ap (faults_after result) patches.faults;
     }
   where
+    one : (count : ℕ) → count ≤ 1 → 1 ≤ length (take {A = ℕ} count (0 ∷ [])) → count ≡ 1
+    one count few some = omega (arith, few, some, length-take {A = ℕ} count (0 ∷ []))
+
     done : {X Y P Q : Type 0} (r : Result X Y) → OnOk r P → (P → Q) → OnOk r Q
     done (Ok x) p f = f p
     done (Err e) p f = tt
@@ -124,6 +130,7 @@ pub found_of : (looks : Bool) (contents : List ℕ) (d : Damage) → IsDamage lo
     → IsFoundAt looks contents (repair_of d) d.head.data_length d.head.data_start
 found_of looks contents d at = record {
   head = at.head;
+  small = at.small;
   check = at.check;
   was = at.was;
   frames = frames_are d.was;
@@ -154,7 +161,7 @@ module _ (looks : Bool) (contents : List ℕ) (d : Damage) (at : IsDamage looks 
   riff_is = at.riff ∙ ap (riff_size d.head.data_start) (sym at.length_is ∙ length_is)
 
   pub half_is : (new : List ℕ)
-      → HalfPut (d.head.data_start - 4) d.sizes.riff_size d.sizes.data_length contents new
+      → HalfPut (d.head.data_start - 4) d.sizes.riff_size d.sizes.data_length d.held contents new
       → HalfMended d.head.data_start (found_length (repair_of d)) contents new
   half_is new half = record {
     sizes = half.sizes;
@@ -167,6 +174,7 @@ module _ (looks : Bool) (contents : List ℕ) (d : Damage) (at : IsDamage looks 
     is = half.is;
     last = λ some. half.last some
         ∙ (λ i. with_sizes (d.head.data_start - 4) (riff_is i) (length_is i) contents);
+    missing = λ some. half.missing some ∙ (λ i. missing_pad (length_is i) (at.held_is i));
   }
 
   pub mended_is : with_sizes (d.head.data_start - 4) d.sizes.riff_size d.sizes.data_length contents
@@ -334,11 +342,12 @@ refused_after looks old mid new e puts faults refused = record {
   where
     halves : LeavesHalf looks mid new → LeavesHalf looks old new
     halves (inl nothing) = inl (puts_then old mid new puts nothing)
-    halves (inr (found, len, start, is, half)) = inr (
+    halves (inr (found, len, start, is, cut, half)) = inr (
       found,
       len,
       start,
       subst (λ l. IsFoundAt looks l found len start) puts.stays.contents is,
+      cut,
       subst (λ l. HalfMended start (found_length found) l new.contents) puts.stays.contents half,
     )
 

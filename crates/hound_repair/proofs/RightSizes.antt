@@ -26,7 +26,7 @@ same_sizes p riff n c behind inside =
     (same_transitive p c d (overlay d (placed p (bytes_of 4 n))) first second)
 
 -- bytes after the contents change no field in them
-field_before : (p : ℕ) (x pad : List ℕ) → p + 4 ≤ length x → field p (x ++ pad) ≡ field p x
+pub field_before : (p : ℕ) (x pad : List ℕ) → p + 4 ≤ length x → field p (x ++ pad) ≡ field p x
 field_before p x pad inside =
     ap (λ l. number (take 4 l)) (drop-append-le p x pad (omega (arith, inside)))
     ∙ ap number (take-append-le 4 (drop p x) pad (omega (arith, inside, length-drop p x)))

@@ -30,6 +30,7 @@ pub record IsSoundDamage (head : FileHead) (d : Damage) : Type 0 where
 -- a file as it was found: its head, what it holds, the right sizes, and how it was
 pub record IsDamage (looks : Bool) (contents : List ℕ) (d : Damage) : Type 0 where
   pub head : Head contents d.head.spec_ex d.head.data_length d.head.data_start
+  pub small : d.head.data_length ≤ greatest_u32
   pub check : repair_fault d.head.spec_ex d.head.data_length d.head.data_start
       (held d.head.data_start contents) ≡ None
   pub held_is : d.held ≡ held d.head.data_start contents
@@ -104,8 +105,8 @@ pub record IsSame (old new : MediumState) : Type 0 where
   pub puts : PutsNothing old new
   pub faults : new.faults ≡ old.faults
 
--- the contents while the sizes and the pad byte are written
-pub record HalfPut (p riff data_length : ℕ) (old new : List ℕ) : Type 0 where
+-- the contents while the sizes and the pad byte are written, where so many bytes are held
+pub record HalfPut (p riff data_length n : ℕ) (old new : List ℕ) : Type 0 where
   pub sizes : List ℕ
   pub k : ℕ
   pub within : k ≤ 4
@@ -115,6 +116,7 @@ pub record HalfPut (p riff data_length : ℕ) (old new : List ℕ) : Type 0 wher
   pub one : length pad ≤ 1
   pub is : new ≡ sizes ++ pad
   pub last : 1 ≤ length pad → sizes ≡ with_sizes p riff data_length old
+  pub missing : 1 ≤ length pad → pad ≡ missing_pad data_length n
 
 -- The sizes were put and the pad byte where it was missing, or a fault came before.
 pub record PutsSizes {T E : Type 0} (d : Damage) (result : Result T E) (old new : MediumState) :
@@ -122,13 +124,13 @@ pub record PutsSizes {T E : Type 0} (d : Damage) (result : Result T E) (old new 
   pub contents : OnOk result (new.contents
       ≡ with_sizes (d.head.data_start - 4) d.sizes.riff_size d.sizes.data_length old.contents
       ++ missing_pad d.sizes.data_length d.held)
-  pub half : HalfPut (d.head.data_start - 4) d.sizes.riff_size d.sizes.data_length old.contents
-      new.contents
+  pub half : HalfPut (d.head.data_start - 4) d.sizes.riff_size d.sizes.data_length d.held
+      old.contents new.contents
   pub flushed : OnOk result (new.flushed ≡ length new.past)
   pub faults : new.faults ≡ faults_after result old.faults
 
 -- in each intermediate state the sizes and the pad byte are half written
-abbrev pub HalfPutAtEach : ℕ → ℕ → ℕ → MediumState → MediumState → Type 0
-HalfPutAtEach p riff data_length old new =
+abbrev pub HalfPutAtEach : ℕ → ℕ → ℕ → ℕ → MediumState → MediumState → Type 0
+HalfPutAtEach p riff data_length n old new =
     (k : ℕ) → length old.past ≤ k → k ≤ length new.past →
-    HalfPut p riff data_length old.contents (moment new.start new.past k)
+    HalfPut p riff data_length n old.contents (moment new.start new.past k)

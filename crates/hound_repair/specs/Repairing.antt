@@ -16,7 +16,7 @@ use Rattle.hound_writer.specs.Answers.{IsIoError}
 use Rattle.hound_writer.specs.Appending.{AppendFault, by_bytes, too_long, NamesFault, PutsNothing}
 use Rattle.hound_writer.specs.Sizes.{SameButSizes, field, with_sizes}
 use Rattle.hound_repair.specs.Following.{is_followed}
-use Rattle.hound_repair.specs.Held.{are_right, frame_length, frames_held, held, mended, right_length, torn_bytes}
+use Rattle.hound_repair.specs.Held.{are_right, frame_length, frames_held, held, mended, missing_pad, right_length, torn_bytes}
 use Rattle.hound_repair.specs.declared.sizes.Repair.{Repair}
 use Rattle.hound_repair.specs.declared.sizes.RepairState.{RepairState}
 use Rattle.hound_repair.specs.declared.sizes.RepairState.TheVariants.{Whole, CutOff, HasChunksAfterData}
@@ -63,6 +63,7 @@ torn_found _ s len n = torn_bytes s len n
 pub record IsFoundAt (looks : Bool) (contents : List ℕ) (found : Repair) (len start : ℕ) : Type 0
   where
     pub head : Head contents found.spec_ex len start
+    pub small : len ≤ greatest_u32
     pub check : repair_fault found.spec_ex len start (held start contents) ≡ None
     pub was : found.was
         ≡ state_of (are_right found.spec_ex start len (field 4 contents) (held start contents))
@@ -131,8 +132,8 @@ pub record Repairs (looks : Bool) (old : MediumState) (found : Repair) (new : Me
     pub faults : new.faults ≡ old.faults
 
 -- The contents while a file is mended: of the data length the k low bytes are new, the RIFF size may
--- be torn, and nothing else has changed but that a pad byte may have been put at the end, once both
--- sizes were.
+-- be torn, and nothing else has changed but that a missing pad byte may have been put at the end, once
+-- both sizes were.
 pub record HalfMended (start data_length : ℕ) (old new : List ℕ) : Type 0 where
   pub sizes : List ℕ
   pub k : ℕ
@@ -143,6 +144,7 @@ pub record HalfMended (start data_length : ℕ) (old new : List ℕ) : Type 0 wh
   pub one : length pad ≤ 1
   pub is : new ≡ sizes ++ pad
   pub last : 1 ≤ length pad → sizes ≡ with_sizes (start - 4) (riff_size start data_length) data_length old
+  pub missing : 1 ≤ length pad → pad ≡ missing_pad data_length (held start old)
 
 -- In each intermediate state of a repair nothing was written, or the file is half mended, for the
 -- frames that were found in it.
@@ -150,14 +152,14 @@ abbrev pub MendsAtEach : Bool → MediumState → MediumState → Type 0
 MendsAtEach looks old new =
     (new.past ≡ old.past)
     ⊎ ((found : Repair) × (len : ℕ) × (start : ℕ) × IsFoundAt looks old.contents found len start
-    × ((k : ℕ) → length old.past ≤ k → k ≤ length new.past →
+    × (found.was ≡ CutOff) × ((k : ℕ) → length old.past ≤ k → k ≤ length new.past →
     HalfMended start (found_length found) old.contents (moment new.start new.past k)))
 
 -- what is left where the medium failed: all, or a file that is half mended
 abbrev pub LeavesHalf : Bool → MediumState → MediumState → Type 0
 LeavesHalf looks old new = PutsNothing old new
     ⊎ ((found : Repair) × (len : ℕ) × (start : ℕ) × IsFoundAt looks old.contents found len start
-    × HalfMended start (found_length found) old.contents new.contents)
+    × (found.was ≡ CutOff) × HalfMended start (found_length found) old.contents new.contents)
 
 -- A file that isn't repaired, for a fault that its bytes have, and then nothing was written; or since
 -- the medium failed.

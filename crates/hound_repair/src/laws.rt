@@ -9,7 +9,7 @@ ghost use Rattle.hound_spec.specs.declared.spec.WavSpecEx.{WavSpecEx};
 ghost use Rattle.hound_writer.specs.Answers.{IsIoError};
 ghost use Rattle.hound_repair.specs.Held.{frame_length, held};
 ghost use Rattle.hound_writer.specs.Storing.{IsStored};
-ghost use Rattle.hound_repair.specs.Repairing.{IsNoPad, IsNotRepaired, ReadsFrames, Repairs, repair_fault};
+ghost use Rattle.hound_repair.specs.Repairing.{HalfMended, IsFoundAt, IsNoPad, IsNotRepaired, ReadsFrames, Repairs, found_length, repair_fault};
 ghost use Rattle.hound_repair.specs.declared.sizes.Repair.{Repair};
 ghost use Rattle.hound_repair.specs.declared.sizes.RepairState.TheVariants.{HasChunksAfterData, Whole};
 
@@ -43,4 +43,19 @@ pub fn a_second_repair_writes_nothing()
         → Repairs again next other new →
         (other.was ≡ Whole) × (other.spec_ex ≡ found.spec_ex) × (other.frames ≡ found.frames)
         × (new.contents ≡ next.contents) }
+{}
+
+/// A repair that was cut off can be done again: a file that is half mended is repaired to the same
+/// frames, by either call.
+///
+/// So is the file in each intermediate state of a repair, by [`repair_to_end`](crate::repair_to_end).
+/// A data length that is half written may lead to bytes that look like chunks, and then
+/// [`repair`](crate::repair) reports these.
+pub fn a_half_mended_file_is_repaired()
+    ensures { (looks again : Bool) (old mid new : MediumState) (found other : Repair) (len start : ℕ)
+        → IsFoundAt looks old.contents found len start
+        → (found.was ≡ HasChunksAfterData → ⊥) → 1 ≤ frame_length found.spec_ex
+        → HalfMended start (found_length found) old.contents mid.contents
+        → Repairs again mid other new → (IsTrue again → other.was ≡ HasChunksAfterData → ⊥) →
+        (other.spec_ex ≡ found.spec_ex) × (other.frames ≡ found.frames) }
 {}

@@ -30,7 +30,8 @@ fn put_sizes<M: Medium>(medium: &mut M, damage: Damage) -> io::Result<()>
         (damage.head.data_start + damage.held ≡ length (M.state medium.old).contents) }
     ensures sizes { WhereTells M.tells (PutsSizes damage result (M.state medium.old) (M.state medium.new)) }
     ensures moments { WhereKeeps M.tells M.keeps (HalfPutAtEach (damage.head.data_start - 4)
-        damage.sizes.riff_size damage.sizes.data_length (M.state medium.old) (M.state medium.new)) }
+        damage.sizes.riff_size damage.sizes.data_length damage.held (M.state medium.old)
+        (M.state medium.new)) }
 {
     let start = damage.head.data_start;
     let length = damage.sizes.data_length;

@@ -83,6 +83,7 @@ returns-clause-measures g c told =
       then.faults ∙ first.faults,
       record {
         head = c.requires.head told;
+        small = omega (arith, small);
         check = written s head.data_length head.data_start n pair ∙ sym same ∙ c.in-Ok.ensures.check;
         held_is = all;
         riff = riff;

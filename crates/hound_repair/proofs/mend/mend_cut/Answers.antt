@@ -23,6 +23,7 @@ returns-in-Err-clause-repaired g c told looks at =
           c.args.damage.head.data_length,
           c.args.damage.head.data_start,
           found_of looks _ c.args.damage at,
+          c.requires.cut,
           half_is looks _ c.args.damage at c.requires.cut _ puts.half,
         ),
         puts.faults,

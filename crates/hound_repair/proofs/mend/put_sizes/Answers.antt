@@ -27,15 +27,15 @@ returns-clause-sizes g c told =
 
 pub returns-in_err-patch-clause-moments : goal.returns-in_err-patch-clause-moments
 returns-in_err-patch-clause-moments g c told kept =
-    sizes_at_each _ c.args.damage.sizes.riff_size _ _ _ _ (c.in_err-patch.ensures.moments told kept)
+    sizes_at_each _ c.args.damage.sizes.riff_size _ c.args.damage.held _ _ _ (c.in_err-patch.ensures.moments told kept)
 
 pub returns-then-length-eq1-clause-moments : goal.returns-then-length-eq1-clause-moments
 returns-then-length-eq1-clause-moments g c told kept =
-    pad_at_each g.M.Placed.keeps _ c.args.damage.sizes.riff_size _ _ _ _ _ _ _ kept
+    pad_at_each g.M.Placed.keeps _ c.args.damage.sizes.riff_size _ c.args.damage.held _ _ _ _ _ _ kept
     (c.in_ok-patch.ensures.moments told kept) (c.put_pad.ensures told)
     (g.met.M.Medium.replays _ told kept)
     (returns-then-length-eq1-clause-sizes g c told).half
 
 pub returns-clause-moments : goal.returns-clause-moments
 returns-clause-moments g c told kept =
-    sizes_at_each _ c.args.damage.sizes.riff_size _ _ _ _ (c.in_ok-patch.ensures.moments told kept)
+    sizes_at_each _ c.args.damage.sizes.riff_size _ c.args.damage.held _ _ _ (c.in_ok-patch.ensures.moments told kept)
