@@ -20,17 +20,11 @@ pub fn convert<O: io::Write>(
     if from == to {
         return Err(Failure::SameFile);
     }
-    let Ok(bits) = bits.parse::<u16>() else {
-        return Err(Failure::Usage);
-    };
-    let Some(new_shift) = shift_of(bits) else {
-        return Err(Failure::Usage);
-    };
+    let bits = bits.parse::<u16>().ok().ok_or(Failure::Usage)?;
+    let new_shift = shift_of(bits).ok_or(Failure::Usage)?;
     let mut reader = WavReader::open(rt, rt.alloc(), Path::new(from))?;
     let old = reader.spec();
-    let Some(old_shift) = shift_of(old.bits_per_sample) else {
-        return Err(Error::Unsupported.into());
-    };
+    let old_shift = shift_of(old.bits_per_sample).ok_or(Error::Unsupported)?;
     if old.sample_format == SampleFormat::Float {
         return Err(Error::InvalidSampleFormat.into());
     }
