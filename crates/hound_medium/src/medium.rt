@@ -1,8 +1,9 @@
-// The traits that readers and writers are generic over, and the same for a `&mut`.
+// The traits that readers and writers are generic over, the same for a `&mut`, and the loop over
+// `put`.
 ghost use Rattle.std.specs.Prelude.{◌≡◌, ◌+◌, ◌<◌, ◌≤◌, Bool, IsTrue, false, length, drop, Some, IfOk};
 ghost use Rattle.hound_number.specs.Number.{AreBytes};
 ghost use Rattle.hound_medium.specs.Bytes.{overlay};
-ghost use Rattle.hound_medium.specs.State.{MediumState, Goes, Shifts, Gets, Puts, Flushes, WhereTells, WhereKeeps};
+ghost use Rattle.hound_medium.specs.State.{MediumState, Goes, Shifts, Gets, Puts, Flushes, WhereTells, WhereKeeps, PutsAll};
 
 use std::io;
 
@@ -119,4 +120,23 @@ impl<S: Source> Source for &mut S {
     fn get(&mut self, buf: &mut [u8]) -> io::Result<usize> {
         Source::get(&mut **self, buf)
     }
+}
+
+/// Writes all of the bytes, in order, or stops at the first `put` that fails.
+///
+/// At an `Err` a beginning of the bytes may be written, and the place is after it. If there are no
+/// bytes, `put` isn't called.
+#[inline(always)]
+pub fn put_all<M: Medium>(medium: &mut M, bytes: &[u8]) -> io::Result<()>
+    ensures { WhereTells M.tells
+        (PutsAll M.keeps bytes.now result (M.state medium.old) (M.state medium.new)) }
+{
+    let mut at = 0;
+    while at < bytes.len() {
+        match medium.put(&bytes[at..]) {
+            Ok(count) => at += count,
+            Err(error) => return Err(error),
+        }
+    }
+    Ok(())
 }

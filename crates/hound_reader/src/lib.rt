@@ -6,12 +6,10 @@
 
 mod cause;
 mod chunks;
-mod counting;
 mod file;
 mod fmt;
 mod input;
 mod item;
-mod keeping;
 mod laws;
 mod reader;
 mod samples;

@@ -19,9 +19,9 @@ ghost use Rattle.hound_reader.specs.Samples.{lent_reader, lender, taken_reader};
 
 use crate::cause::{Cause, HeadError, Reason, error_of};
 use crate::chunks::{read_riff_header, read_until_data};
-use crate::counting::{read_counted, read_many_counted};
-use crate::item::{ItemError, error_of_item, taken_without};
-use crate::keeping::KeepingReader;
+use crate::item::{
+    ItemError, KeepingReader, error_of_item, read_counted, read_many_counted, taken_without,
+};
 use crate::samples::{WavIntoSamples, WavSamples};
 use hound_medium::{Placed, Source};
 use hound_number::Input;

@@ -4,7 +4,6 @@
 
 mod append;
 mod batch;
-mod batching;
 mod block;
 mod file;
 mod laws;

@@ -1,6 +1,6 @@
 use Rattle.std.proofs.Common.{ap, subst, refl, arith, ◌+◌, Some, Ok}
 use Rattle.hound_reader.specs.Reader.{ReaderState, IsNext}
-use Rattle.hound_reader.specs.declared.keeping.KeepingReader.{KeepingReader}
+use Rattle.hound_reader.specs.declared.item.KeepingReader.{KeepingReader}
 use Rattle.hound_reader.proofs.ItemLemmas.{a_sample_is_given}
 use Rattle.hound_reader.proofs.reader.WavReader.next_item.Goals as goal
 

@@ -8,7 +8,7 @@ use Rattle.hound_spec.specs.FmtChunk.{greatest_u32}
 use Rattle.std.proofs.Math.Nat.{le-mul_of_pos_right}
 use Rattle.std.proofs.lemmas.Nat.{mul-le}
 use Rattle.hound_reader.specs.Items.{GivesItems}
-use Rattle.hound_reader.specs.declared.keeping.KeepingReader.{KeepingReader}
+use Rattle.hound_reader.specs.declared.item.KeepingReader.{KeepingReader}
 use Rattle.hound_reader.proofs.BlockLemmas.{block_of_error, block_of_samples, front_filled, later, taken_few}
 use Rattle.hound_reader.proofs.reader.WavReader.read_samples.Goals as goal
 

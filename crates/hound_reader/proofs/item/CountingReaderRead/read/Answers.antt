@@ -1,6 +1,6 @@
 use Rattle.std.proofs.Common.{arith}
 use Rattle.hound_reader.proofs.CountingLemmas.{given_read}
-use Rattle.hound_reader.proofs.counting.CountingReaderRead.read.Goals as goal
+use Rattle.hound_reader.proofs.item.CountingReaderRead.read.Goals as goal
 
 pub invariant_of-self-clause-counts : goal.invariant_of-self-clause-counts
 invariant_of-self-clause-counts g c =

@@ -1,7 +1,7 @@
 use Rattle.std.proofs.Common.{arith, ◌∙◌, length-drop}
 use Rattle.std.proofs.lemmas.List.{take_rest}
 use Rattle.hound_medium.proofs.Taking.{takes_more}
-use Rattle.hound_medium.proofs.putting.put_all.Goals as goal
+use Rattle.hound_medium.proofs.medium.put_all.Goals as goal
 
 pub loop-at-preserved : goal.loop-at-preserved
 loop-at-preserved g c = record {

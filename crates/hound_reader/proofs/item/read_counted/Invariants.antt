@@ -1,4 +1,4 @@
-use Rattle.hound_reader.proofs.counting.read_counted.Given as goal
+use Rattle.hound_reader.proofs.item.read_counted.Given as goal
 
 abbrev pub ghosts-read_typed_since : goal.ghosts-read_typed_since
 ghosts-read_typed_since g a =

@@ -1,6 +1,6 @@
 use Rattle.std.proofs.Common.{length, ◌-◌, IsTrue, ◌≡◌, ◌≤◌}
 use Rattle.hound_medium.specs.State.{PutsFirst}
-use Rattle.hound_medium.proofs.putting.put_all.Given as goal
+use Rattle.hound_medium.proofs.medium.put_all.Given as goal
 
 abbrev pub invariant-loop-at : goal.invariant-loop-at
 invariant-loop-at g l = record {

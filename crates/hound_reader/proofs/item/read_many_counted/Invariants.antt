@@ -1,4 +1,4 @@
-use Rattle.hound_reader.proofs.counting.read_many_counted.Given as goal
+use Rattle.hound_reader.proofs.item.read_many_counted.Given as goal
 
 abbrev pub ghosts-read_many_typed_since : goal.ghosts-read_many_typed_since
 ghosts-read_many_typed_since g a =
