@@ -1,5 +1,5 @@
 // Lines of numbers, buffered for the output.
-ghost use Rattle.std.specs.Prelude.{◌≡◌, ◌+◌, ◌≤◌, ℕ, IsTrue, List, [], ◌++◌, decimal, drop, length, take};
+ghost use Rattle.std.specs.Prelude.{◌≡◌, ◌+◌, ◌≤◌, ◌↔◌, ℕ, IsTrue, List, [], ◌++◌, decimal, drop, length, take};
 ghost use Rattle.std.specs.Int.Digits.{AllBelowBase};
 ghost use Rattle.std.specs.Simd.Lanes.{number_l};
 ghost use Rattle.hound_text.specs.Writing.{integer_line, pattern_line};
@@ -43,7 +43,7 @@ impl Lines {
     /// Whether there is room for a line more.
     #[inline(always)]
     pub fn has_room(&self) -> bool
-        ensures { IsTrue result → length self.now + 24 ≤ 16384 }
+        ensures { IsTrue result ↔ (length self.now + 24 ≤ 16384) }
     {
         self.length <= 16384 - 24
     }
@@ -87,7 +87,7 @@ impl Lines {
 
 /// Appends text, as far as there is room.
 impl io::Write for Lines {
-    ghost use Rattle.std.specs.Prelude.{Some};
+    ghost use Rattle.std.specs.Prelude.{◌-◌, IsOk, Ok, Some, min};
     ghost use Rattle.std.specs.Io.KnownBytes.{Keeps, WriteAppends};
     ghost use Rattle.std.specs.Io.{WritesAtMost};
 
@@ -96,6 +96,7 @@ impl io::Write for Lines {
     fn write(&mut self, buf: &[u8]) -> io::Result<usize>
         ensures bound { WritesAtMost result buf.now }
         ensures bytes { WriteAppends (Some self.old) (Some self.new) result buf.now }
+        ensures count { result ≡ Ok (min (length buf.now) (16384 - length self.old)) }
     {
         let start = self.length;
         let count = buf.len().min(16384 - start);
@@ -106,6 +107,8 @@ impl io::Write for Lines {
 
     fn flush(&mut self) -> io::Result<()>
         ensures bytes { Keeps (Some self.old) (Some self.new) }
+        ensures ok { IsOk result }
+        ensures unchanged { self.new ≡ self.old }
     {
         Ok(())
     }
