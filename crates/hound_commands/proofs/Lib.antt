@@ -1,3 +1,4 @@
+pub mod Blocks
 pub mod Outputs
 pub mod PackAnswers
 pub mod ShowAnswers

@@ -76,3 +76,12 @@ pub written-part : {T E : Type 0} (text : List ℕ) (result : Result T E) (old n
     → Writes text result old new → OnErr result (GetsBeginning old new text)
 written-part text (Ok x) old new writes = tt
 written-part text (Err e) old new writes = part-written text old new writes
+
+-- a failed write of a buffer leaves a beginning of all that its text begins
+pub stopped-within : {T E : Type 0} (result : Result T E) (old mid new : Option (List ℕ)) (text buffered whole : List ℕ)
+    → GetsBuffered old mid buffered text → GetsBeginning mid new buffered → IsBeginning text whole
+    → OnErr result (GetsBeginning old new whole)
+stopped-within (Ok x) old mid new text buffered whole got stopped front = tt
+stopped-within (Err e) old mid new text buffered whole got stopped front =
+    let (part, beginning, all) = gets-stopped old mid new text buffered got stopped in
+    (part, beginning-then part text whole beginning front, all)

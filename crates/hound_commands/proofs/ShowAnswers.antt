@@ -1,9 +1,12 @@
 -- What the lines of samples are, one sample after the other.
-use Rattle.std.proofs.Common.{◌≡◌, ℕ, zero, suc, ◌+◌, ◌*◌, ◌<◌, ◌≤◌, List, [], ◌++◌, length, take, drop, Option, Some, None, Result, Ok, Err, IfErr, IfSome, IsErrAnd, OnOk, inl, inr, refl, sym, ◌∙◌, ap, subst, append_assoc, append-nil, length-drop, drop-drop, arith}
+use Rattle.std.proofs.Common.{◌≡◌, ℕ, zero, suc, ◌+◌, ◌*◌, ◌<◌, ◌≤◌, List, [], ◌∷◌, ◌++◌, length, map, take, drop, Option, Some, None, Result, Ok, Err, IfErr, IfSome, IsErrAnd, OnOk, inl, inr, refl, sym, ◌∙◌, ap, subst, append_assoc, append-nil, length-drop, drop-drop, arith}
 use Rattle.std.specs.Io.KnownBytes.{Appends, Keeps}
 use Rattle.hound.specs.Input.{Known}
 use Rattle.hound.specs.Meaning.{ReadRefusal, other_format, wider, other_pair, float_refusal, int_meaning, int_refusal, pattern}
-use Rattle.hound.specs.Reader.{meaning_at, refusal_at}
+use Rattle.hound.specs.Reader.{ReaderState, meaning_at, refusal_at}
+use Rattle.hound.specs.Items.{GivesItems}
+use Rattle.hound.specs.ManyReads.{items_of}
+use Rattle.std.specs.List.{flat_map}
 use Rattle.hound.specs.Reads.{Reads, error_of_read}
 use Rattle.hound.specs.Refusals.{IsRefusal}
 use Rattle.hound.specs.Chunks.{Readable, Unreadable}
@@ -38,32 +41,42 @@ lines-more s (suc k) xs =
     (drop-drop (k * w) w xs ∙ ap (λ n. drop n xs) on)
     ∙ sym (append_assoc first (sample_lines s k (drop w xs)) _)
 
--- So many samples of what was left are shown, and the others are left.
+-- So many samples of what was left were read, this is the text of them after `first`, and the others
+-- are left.
+abbrev pub ReadAs : WavSpecEx → ℕ → Option (List ℕ) → Option (List ℕ) → List ℕ → List ℕ → Type 0
+ReadAs s k left now first text = Known left now (λ xs ys. (ys ≡ drop (k * s.bytes_per_sample) xs)
+    × AreShowable s k xs × (text ≡ first ++ sample_lines s k xs))
+
+-- and the output and its buffer got it
 abbrev pub Shown : WavSpecEx → ℕ → Option (List ℕ) → Option (List ℕ) → Option (List ℕ) → Option (List ℕ) → List ℕ → List ℕ → Type 0
-Shown s k left now old new first lines = Known left now (λ xs ys. (ys ≡ drop (k * s.bytes_per_sample) xs)
-    × AreShowable s k xs × GetsBuffered old new lines (first ++ sample_lines s k xs))
+Shown s k left now old new first lines =
+    (text : List ℕ) × ReadAs s k left now first text × GetsBuffered old new lines text
 
 none_showable : (s : WavSpecEx) (xs : List ℕ) → AreShowable s 0 xs
 none_showable s xs = record { there = omega arith; shown = λ some. absurd (omega arith) }
 
-pub none_shown : (s : WavSpecEx) (left old : Option (List ℕ)) (first : List ℕ) → Shown s 0 left left old old first first
-none_shown s None old first = tt
-none_shown s (Some xs) old first =
+none_read : (s : WavSpecEx) (left : Option (List ℕ)) (first : List ℕ) → ReadAs s 0 left left first first
+none_read s None first = tt
+none_read s (Some xs) first =
     let none : 0 ≡ 0 * s.bytes_per_sample = omega arith in
-    (ap (λ n. drop n xs) none, none_showable s xs, subst (GetsBuffered old old first) (sym (append-nil first)) (gets-none old first))
+    (ap (λ n. drop n xs) none, none_showable s xs, sym (append-nil first))
 
-one_shown : {A : Type 0} (s : WavSpecEx) (k : ℕ) (refusal : Option ReadRefusal)
+pub none_shown : (s : WavSpecEx) (k : ℕ) (left old : Option (List ℕ)) (first : List ℕ) → k ≡ 0 → Shown s k left left old old first first
+none_shown s k left old first none =
+    subst (λ n. Shown s n left left old old first first) (sym none) (first, none_read s left first, gets-none old first)
+
+one_read : {A : Type 0} (s : WavSpecEx) (k : ℕ) (refusal : Option ReadRefusal)
     (meaning : List ℕ → A) (line : A → List ℕ) (value : A)
-    (left now next old new newer : Option (List ℕ)) (first lines room : List ℕ) → refusal ≡ show_refusal s
-    → ((c : List ℕ) → line (meaning c) ≡ sample_line s c) → Shown s k left now old new first lines
-    → Reads refusal meaning s.bytes_per_sample now next (Ok value) → GetsBuffered new newer room lines
-    → Shown s (k + 1) left next old newer first (room ++ line value)
-one_shown s k (Some refusal) meaning line value left now next old new newer first lines room same as_line so_far read moved =
+    (left now next : Option (List ℕ)) (first text : List ℕ) → refusal ≡ show_refusal s
+    → ((c : List ℕ) → line (meaning c) ≡ sample_line s c) → ReadAs s k left now first text
+    → Reads refusal meaning s.bytes_per_sample now next (Ok value)
+    → ReadAs s (k + 1) left next first (text ++ line value)
+one_read s k (Some refusal) meaning line value left now next first text same as_line so_far read =
     let h = read.0 in absurd (cc h)
-one_shown s k None meaning line value None now next old new newer first lines room same as_line so_far read moved = tt
-one_shown s k None meaning line value (Some xs) None next old new newer first lines room same as_line so_far read moved = absurd so_far
-one_shown s k None meaning line value (Some xs) (Some ys) None old new newer first lines room same as_line so_far read moved = absurd read
-one_shown s k None meaning line value (Some xs) (Some ys) (Some zs) old new newer first lines room same as_line (left_is, showable, text) (whole, is, rest) moved =
+one_read s k None meaning line value None now next first text same as_line so_far read = tt
+one_read s k None meaning line value (Some xs) None next first text same as_line so_far read = absurd so_far
+one_read s k None meaning line value (Some xs) (Some ys) None first text same as_line so_far read = absurd read
+one_read s k None meaning line value (Some xs) (Some ys) (Some zs) first text same as_line (left_is, showable, text_is) (whole, is, rest) =
     let w = s.bytes_per_sample in
     let there = showable.there in
     let size : length ys ≡ length (drop (k * w) xs) = ap length left_is in
@@ -72,100 +85,195 @@ one_shown s k None meaning line value (Some xs) (Some ys) (Some zs) old new newe
     let next_count : suc k ≡ k + 1 = omega arith in (
       rest ∙ ap (drop w) left_is ∙ drop-drop w (k * w) xs ∙ ap (λ n. drop n xs) on,
       record { there = omega (arith, there, size, sized, whole, on); shown = λ some. sym same },
-      subst (GetsBuffered old newer (room ++ line value))
-          (append_assoc first (sample_lines s k xs) (line value)
+      ap (λ l. l ++ line value) text_is
+          ∙ append_assoc first (sample_lines s k xs) (line value)
           ∙ ap (λ l. first ++ (sample_lines s k xs ++ l)) (ap line is ∙ as_line (take w ys) ∙ ap (λ b. sample_line s (take w b)) left_is)
-          ∙ ap (λ l. first ++ l) (sym (lines-more s k xs) ∙ ap (λ n. sample_lines s n xs) next_count))
-          (gets-more old newer (first ++ sample_lines s k xs) room (line value)
-          (gets-then old new newer (first ++ sample_lines s k xs) lines room text moved)),
+          ∙ ap (λ l. first ++ l) (sym (lines-more s k xs) ∙ ap (λ n. sample_lines s n xs) next_count),
     )
+
+-- what a reader over bytes is at, once so many samples were read
+record IsAt (s : WavSpecEx) (n k : ℕ) (reading : ReaderState (Option (List ℕ))) : Type 0 where
+  spec_is : reading.spec_ex ≡ s
+  samples_are : reading.num_samples ≡ n
+  read_are : reading.samples_read ≡ k
+
+-- A block: values, and then what came after them.
+module _ {A : Type 0} (refusal : SampleFormat → ℕ → ℕ → Option ReadRefusal)
+    (meaning : SampleFormat → ℕ → ℕ → List ℕ → A) (line : A → List ℕ) (s : WavSpecEx) (n : ℕ)
+    (left : Option (List ℕ)) (first : List ℕ)
+    (same : refusal_at refusal s ≡ show_refusal s)
+    (as_line : (c : List ℕ) → line (meaning_at meaning s c) ≡ sample_line s c) where
+  -- this comes after values that were read
+  abbrev After : ℕ → List ℕ → List (Result A Error) → ReaderState (Option (List ℕ)) → Type 0
+  After k text tail new = (mid : ReaderState (Option (List ℕ))) × IsAt s n k mid × (k ≤ n)
+      × ReadAs s k left mid.reader first text
+      × GivesItems (λ (bytes : Option (List ℕ)). bytes) refusal meaning tail mid new
+
+  values_read : (values : List A) (tail : List (Result A Error)) (k : ℕ) (text : List ℕ)
+      (old new : ReaderState (Option (List ℕ))) → k ≤ n → IsAt s n k old → ReadAs s k left old.reader first text
+      → GivesItems (λ (bytes : Option (List ℕ)). bytes) refusal meaning (map Ok values ++ tail) old new
+      → After (k + length values) (text ++ flat_map line values) tail new
+  values_read [] tail k text old new within at read gives =
+      let none : k ≡ k + 0 = omega arith in (
+        old,
+        subst (λ m. IsAt s n m old) none at,
+        omega (arith, within),
+        subst (λ m. ReadAs s m left old.reader first (text ++ [])) none (subst (ReadAs s k left old.reader first) (sym (append-nil text)) read),
+        gives,
+      )
+  values_read (value ∷ values) tail k text old new within at read (mid, item, gives) =
+      let more : k + 1 + length values ≡ k + suc (length values) = omega arith in
+      let here : ReadAs s (k + 1) left mid.reader first (text ++ line value) =
+      one_read s k (refusal_at refusal s) (meaning_at meaning s) line value left old.reader mid.reader
+      first text same as_line read
+      (subst (λ u. Reads (refusal_at refusal u) (meaning_at meaning u) u.bytes_per_sample old.reader mid.reader (Ok value)) at.spec_is item.read) in
+      let (last, is_at, inside, all, rest) = values_read values tail (k + 1) (text ++ line value) mid new
+      (omega (arith, item.inside, at.samples_are, at.read_are))
+      (record {
+        spec_is = item.spec_ex ∙ at.spec_is;
+        samples_are = item.num_samples ∙ at.samples_are;
+        read_are = item.counted ∙ ap (λ m. m + 1) at.read_are;
+      }) here gives in (
+        last,
+        subst (λ m. IsAt s n m last) more is_at,
+        omega (arith, inside, more),
+        subst (λ m. ReadAs s m left last.reader first (text ++ (line value ++ flat_map line values))) more
+            (subst (ReadAs s (k + 1 + length values) left last.reader first) (append_assoc text (line value) (flat_map line values)) all),
+        rest,
+      )
 
 -- all of them
 pub all_shown : (s : WavSpecEx) (k count : ℕ) (left now old new : Option (List ℕ)) (first lines : List ℕ) → k ≡ count
     → Shown s k left now old new first lines → ShowsSamples s count left old new first lines
 all_shown s k count None now old new first lines all shown = tt
-all_shown s k count (Some xs) None old new first lines all shown = absurd shown
-all_shown s k count (Some xs) (Some ys) old new first lines all (left_is, showable, text) =
-    subst (λ n. AreShowable s n xs × GetsBuffered old new lines (first ++ sample_lines s n xs)) all (showable, text)
-
--- a sample of a type that shows the files of this spec
-pub sample_shown : {A : Type 0} (refusal : SampleFormat → ℕ → ℕ → Option ReadRefusal)
-    (meaning : SampleFormat → ℕ → ℕ → List ℕ → A) (line : A → List ℕ) (s t : WavSpecEx) (k : ℕ)
-    (value : A) (answer : Result A Error) (left now next old new newer : Option (List ℕ)) (first lines room more : List ℕ)
-    → answer ≡ Ok value
-    → refusal_at refusal s ≡ show_refusal s
-    → ((c : List ℕ) → line (meaning_at meaning s c) ≡ sample_line s c)
-    → t ≡ s → Shown s k left now old new first lines
-    → Reads (refusal_at refusal t) (meaning_at meaning t) t.bytes_per_sample now next answer
-    → GetsBuffered new newer room lines → more ≡ room ++ line value
-    → Shown s (k + 1) left next old newer first more
-sample_shown refusal meaning line s t k value answer left now next old new newer first lines room more told same as_line is so_far read moved pushed =
-    subst (Shown s (k + 1) left next old newer first) (sym pushed)
-    (one_shown s k (refusal_at refusal s) (meaning_at meaning s) line value left now next old new newer
-    first lines room same as_line so_far
-    (subst (λ r. Reads (refusal_at refusal s) (meaning_at meaning s) s.bytes_per_sample now next r) told
-    (subst (λ u. Reads (refusal_at refusal u) (meaning_at meaning u) u.bytes_per_sample now next answer) is read))
-    moved)
+all_shown s k count (Some xs) None old new first lines all (text, read, got) = absurd read
+all_shown s k count (Some xs) (Some ys) old new first lines all (text, (left_is, showable, text_is), got) =
+    subst (λ n. AreShowable s n xs × GetsBuffered old new lines (first ++ sample_lines s n xs)) all
+    (showable, subst (GetsBuffered old new lines) text_is got)
 
 -- ---- where the samples are not all shown
 
--- there was no room for a line, and the lines could not be written
-pub room_stops : (s : WavSpecEx) (k count : ℕ) (left now old new newer : Option (List ℕ)) (first lines room : List ℕ)
-    → k ≤ count → Shown s k left now old new first lines → GetsBeginning new newer lines → room ≡ []
+-- the lines of samples that were read could not all be written
+pub room_stops : (s : WavSpecEx) (k count : ℕ) (left now old new newer : Option (List ℕ)) (first text lines room : List ℕ)
+    → k ≤ count → ReadAs s k left now first text → GetsBuffered old new lines text
+    → GetsBeginning new newer lines → room ≡ []
     → StopsSamples s count InputOrOutput left old newer first room
-room_stops s k count None now old new newer first lines room within shown stopped emptied = tt
-room_stops s k count (Some xs) None old new newer first lines room within shown stopped emptied = absurd shown
-room_stops s k count (Some xs) (Some ys) old new newer first lines room within (left_is, showable, text) stopped emptied =
-    let (part, beginning, all) = gets-stopped old new newer (first ++ sample_lines s k xs) lines text stopped in (
+room_stops s k count None now old new newer first text lines room within read got stopped emptied = tt
+room_stops s k count (Some xs) None old new newer first text lines room within read got stopped emptied = absurd read
+room_stops s k count (Some xs) (Some ys) old new newer first text lines room within (left_is, showable, text_is) got stopped emptied =
+    let (part, beginning, all) = gets-stopped old new newer text lines got stopped in (
       part,
-      (k, within, showable, beginning),
+      (k, within, showable, subst (IsBeginning part) text_is beginning),
       (part, sym (append-nil part) ∙ ap (λ l. part ++ l) (sym emptied), all),
     )
 
 -- a read that failed: a fault, or a spec whose samples are not shown
 read_stops : {A : Type 0} (s : WavSpecEx) (k count : ℕ) (refusal : Option ReadRefusal) (meaning : List ℕ → A)
-    (error : Error) (left now next old new : Option (List ℕ)) (first lines : List ℕ) → k < count
-    → refusal ≡ show_refusal s → Shown s k left now old new first lines
+    (error : Error) (left now next old new : Option (List ℕ)) (first text lines : List ℕ) → k < count
+    → refusal ≡ show_refusal s → ReadAs s k left now first text → GetsBuffered old new lines text
     → Reads refusal meaning s.bytes_per_sample now next (Err error)
     → StopsSamples s count (failure_of error) left old new first lines
-read_stops s k count refusal meaning error None now next old new first lines within same shown read = tt
-read_stops s k count refusal meaning error (Some xs) None next old new first lines within same shown read = absurd shown
-read_stops s (suc k) count (Some refusal) meaning error (Some xs) (Some ys) next old new first lines within same (left_is, showable, text) read =
+read_stops s k count refusal meaning error None now next old new first text lines within same shown got read = tt
+read_stops s k count refusal meaning error (Some xs) None next old new first text lines within same shown got read = absurd shown
+read_stops s (suc k) count (Some refusal) meaning error (Some xs) (Some ys) next old new first text lines within same (left_is, showable, text_is) got read =
     let none = showable.shown (omega arith) in absurd (cc (same, none))
-read_stops {A} s zero count (Some refusal) meaning error (Some xs) (Some ys) next old new first lines within same (left_is, showable, text) read =
+read_stops {A} s zero count (Some refusal) meaning error (Some xs) (Some ys) next old new first text lines within same (left_is, showable, text_is) got read =
     let is : error ≡ error_of_read refusal = let h = read.0 in cc h in
     subst (λ e. (text : List ℕ) × StopsAt s count (failure_of e) xs first text × GetsBuffered old new lines text) (sym is)
-    (first, of refusal (sym same), subst (GetsBuffered old new lines) (append-nil first) text)
+    (first, of refusal (sym same), subst (GetsBuffered old new lines) (text_is ∙ append-nil first) got)
   where
     of : (r : ReadRefusal) → show_refusal s ≡ Some r → StopsAt s count (failure_of (error_of_read r)) xs first first
     of other_format shows = (within, (other_format, shows, refl), refl)
     of wider shows = (within, (wider, shows, refl), refl)
     of other_pair shows = (within, (other_pair, shows, refl), refl)
-read_stops s k count None meaning (errors.IoError e) (Some xs) (Some ys) next old new first lines within same (left_is, showable, text) read = (
+read_stops s k count None meaning (errors.IoError e) (Some xs) (Some ys) next old new first text lines within same (left_is, showable, text_is) got read = (
   first ++ sample_lines s k xs,
   (k, omega arith, showable, whole-beginning (first ++ sample_lines s k xs)),
-  text,
+  subst (GetsBuffered old new lines) text_is got,
 )
-read_stops s k count None meaning (errors.FormatError e) (Some xs) (Some ys) next old new first lines within same shown read = absurd read
-read_stops s k count None meaning errors.TooWide (Some xs) (Some ys) next old new first lines within same shown read = absurd read
-read_stops s k count None meaning errors.UnfinishedSample (Some xs) (Some ys) next old new first lines within same shown read = absurd read
-read_stops s k count None meaning errors.Unsupported (Some xs) (Some ys) next old new first lines within same shown read = absurd read
-read_stops s k count None meaning errors.InvalidSampleFormat (Some xs) (Some ys) next old new first lines within same shown read = absurd read
-read_stops s k count None meaning errors.TooLong (Some xs) (Some ys) next old new first lines within same shown read = absurd read
-read_stops s k count None meaning errors.OutOfMemory (Some xs) (Some ys) next old new first lines within same shown read = absurd read
+read_stops s k count None meaning (errors.FormatError e) (Some xs) (Some ys) next old new first text lines within same shown got read = absurd read
+read_stops s k count None meaning errors.TooWide (Some xs) (Some ys) next old new first text lines within same shown got read = absurd read
+read_stops s k count None meaning errors.UnfinishedSample (Some xs) (Some ys) next old new first text lines within same shown got read = absurd read
+read_stops s k count None meaning errors.Unsupported (Some xs) (Some ys) next old new first text lines within same shown got read = absurd read
+read_stops s k count None meaning errors.InvalidSampleFormat (Some xs) (Some ys) next old new first text lines within same shown got read = absurd read
+read_stops s k count None meaning errors.TooLong (Some xs) (Some ys) next old new first text lines within same shown got read = absurd read
+read_stops s k count None meaning errors.OutOfMemory (Some xs) (Some ys) next old new first text lines within same shown got read = absurd read
 
-pub sample_stops : {A : Type 0} (refusal : SampleFormat → ℕ → ℕ → Option ReadRefusal)
-    (meaning : SampleFormat → ℕ → ℕ → List ℕ → A) (s t : WavSpecEx) (k count : ℕ)
-    (error : Error) (answer : Result A Error) (left now next old new : Option (List ℕ)) (first lines : List ℕ)
-    → answer ≡ Err error → k < count → refusal_at refusal s ≡ show_refusal s
-    → t ≡ s → Shown s k left now old new first lines
-    → Reads (refusal_at refusal t) (meaning_at meaning t) t.bytes_per_sample now next answer
-    → StopsSamples s count (failure_of error) left old new first lines
-sample_stops refusal meaning s t k count error answer left now next old new first lines told within same is so_far read =
-    read_stops s k count (refusal_at refusal s) (meaning_at meaning s) error left now next old new
-    first lines within same so_far
-    (subst (λ r. Reads (refusal_at refusal s) (meaning_at meaning s) s.bytes_per_sample now next r) told
-    (subst (λ u. Reads (refusal_at refusal u) (meaning_at meaning u) u.bytes_per_sample now next answer) is read))
+-- ---- a block of samples: the lines of what was read are pushed, and then comes the error
+
+module _ {A : Type 0} (refusal : SampleFormat → ℕ → ℕ → Option ReadRefusal)
+    (meaning : SampleFormat → ℕ → ℕ → List ℕ → A) (line : A → List ℕ) (s : WavSpecEx) (n k : ℕ)
+    (left out0 out1 : Option (List ℕ)) (first lines : List ℕ) (values : List A)
+    (result : Result (Unit {0}) Error) (old new : ReaderState (Option (List ℕ)))
+    (same : refusal_at refusal s ≡ show_refusal s)
+    (as_line : (c : List ℕ) → line (meaning_at meaning s c) ≡ sample_line s c)
+    (spec_is : old.spec_ex ≡ s) (samples_are : old.num_samples ≡ n) (read_are : old.samples_read ≡ k)
+    (within : k ≤ n) (shown : Shown s k left old.reader out0 out1 first lines)
+    (gives : GivesItems (λ (bytes : Option (List ℕ)). bytes) refusal meaning (items_of values result) old new) where
+  at_start : IsAt s n k old
+  at_start = record { spec_is = spec_is; samples_are = samples_are; read_are = read_are }
+
+  abbrev tail_of : Result (Unit {0}) Error → List (Result A Error)
+  tail_of (Ok x) = []
+  tail_of (Err error) = Err error ∷ []
+
+  items_are : (r : Result (Unit {0}) Error) → items_of values r ≡ map Ok values ++ tail_of r
+  items_are (Ok x) = sym (append-nil (map Ok values))
+  items_are (Err error) = refl
+
+  -- the values were read
+  after : After refusal meaning line s n left first same as_line (k + length values)
+      (shown.0 ++ flat_map line values) (tail_of result) new
+  after =
+      values_read refusal meaning line s n left first same as_line values (tail_of result) k shown.0
+      old new within at_start shown.1
+      (subst (λ items. GivesItems (λ (bytes : Option (List ℕ)). bytes) refusal meaning items old new)
+      (items_are result) gives)
+
+  -- their lines are buffered
+  buffered : GetsBuffered out0 out1 (lines ++ flat_map line values) (shown.0 ++ flat_map line values)
+  buffered = gets-more out0 out1 shown.0 lines (flat_map line values) shown.2
+
+  -- they can't all be written
+  pub block_stops : (out2 : Option (List ℕ)) (room : List ℕ)
+      → GetsBeginning out1 out2 (lines ++ flat_map line values) → room ≡ []
+      → StopsSamples s n InputOrOutput left out0 out2 first room
+  block_stops out2 room stopped emptied =
+      let (mid, at, inside, read, rest) = after in
+      room_stops s (k + length values) n left mid.reader out0 out1 out2 first
+      (shown.0 ++ flat_map line values) (lines ++ flat_map line values) room inside read buffered stopped emptied
+
+  -- they are, and then comes an error
+  pub block_fails : (out2 : Option (List ℕ)) (room : List ℕ) (error : Error) → result ≡ Err error
+      → GetsBuffered out1 out2 room (lines ++ flat_map line values)
+      → StopsSamples s n (failure_of error) left out0 out2 first room
+  block_fails out2 room error is pushed =
+      let (mid, at, inside, read, tail) = after in
+      let (last, item, rest) = subst (λ r. GivesItems (λ (bytes : Option (List ℕ)). bytes) refusal meaning (tail_of r) mid new) is tail in
+      read_stops s (k + length values) n (refusal_at refusal s) (meaning_at meaning s) error left mid.reader last.reader
+      out0 out2 first (shown.0 ++ flat_map line values) room
+      (omega (arith, item.inside, at.samples_are, at.read_are)) same read
+      (gets-then out0 out1 out2 (shown.0 ++ flat_map line values) (lines ++ flat_map line values) room buffered pushed)
+      (subst (λ u. Reads (refusal_at refusal u) (meaning_at meaning u) u.bytes_per_sample mid.reader last.reader (Err error)) at.spec_is item.read)
+
+  -- they are, and that is the block
+  pub block_shown : (x : Unit {0}) (out2 : Option (List ℕ)) (room : List ℕ) → result ≡ Ok x
+      → GetsBuffered out1 out2 room (lines ++ flat_map line values)
+      → Shown s (k + length values) left new.reader out0 out2 first room
+      × (new.spec_ex ≡ s) × (new.num_samples ≡ n) × (new.samples_read ≡ k + length values) × (k + length values ≤ n)
+  block_shown x out2 room is pushed =
+      let (mid, at, inside, read, tail) = after in
+      let ends : new ≡ mid = subst (λ r. GivesItems (λ (bytes : Option (List ℕ)). bytes) refusal meaning (tail_of r) mid new) is tail in (
+        (
+          shown.0 ++ flat_map line values,
+          subst (λ (r : ReaderState (Option (List ℕ))). ReadAs s (k + length values) left r.reader first (shown.0 ++ flat_map line values)) (sym ends) read,
+          gets-then out0 out1 out2 (shown.0 ++ flat_map line values) (lines ++ flat_map line values) room buffered pushed,
+        ),
+        ap (λ (r : ReaderState (Option (List ℕ))). r.spec_ex) ends ∙ at.spec_is,
+        ap (λ (r : ReaderState (Option (List ℕ))). r.num_samples) ends ∙ at.samples_are,
+        ap (λ (r : ReaderState (Option (List ℕ))). r.samples_read) ends ∙ at.read_are,
+        inside,
+      )
 
 -- files of integers are shown as `i32`
 pub integers_refusal : (s : WavSpecEx) → s.spec.sample_format ≡ Int → refusal_at (int_refusal 4) s ≡ show_refusal s

@@ -1,14 +1,21 @@
 // A file to lines.
-ghost use Rattle.std.specs.Prelude.{◌≡◌, ◌+◌, ◌≤◌, ◌++◌, [], IfErr, OnErr, OnOk, length};
-ghost use Rattle.hound.specs.declared.SampleFormat.TheVariants.{Float, Int};
+ghost use Rattle.std.specs.Prelude.{◌≡◌, ◌+◌, ◌<◌, ◌≤◌, ◌++◌, ℕ, [], List, IfErr, OnErr, OnOk, length, min, take};
+ghost use Rattle.std.specs.List.{flat_map};
+ghost use Rattle.hound.specs.Blocks.{GivesItemsOfBytes};
+ghost use Rattle.hound.specs.ManyReads.{items_of};
+ghost use Rattle.hound.specs.Reader.{meaning_at, refusal_at, samples_left};
 ghost use Rattle.hound_commands.specs.Output.{GetsBeginning, GetsBuffered};
-ghost use Rattle.hound_commands.specs.Showing.{Shows, ShowsSamples, ShowsUntil, StopsSamples, spec_line};
+ghost use Rattle.hound_commands.specs.Showing.{Shows, ShowsSamples, ShowsUntil, StopsSamples, sample_line, show_refusal, spec_line};
+ghost use Rattle.hound_text.specs.Writing.{integer_line, pattern_line};
 
 use crate::failure::Failure;
-use hound::{FloatBits, SampleFormat, WavReader, WavSpec};
+use hound::{FloatBits, Sample, SampleFormat, WavReader, WavSpec};
 use hound_text::{Ahead, Lines};
 use std::io;
 use std::io::Write;
+
+// How many samples are read at once.
+const BLOCK_LENGTH: usize = 1024;
 
 /// Writes the lines of a file, as far as it can be read.
 pub fn show<R: io::Read, O: io::Write>(input: &mut R, output: &mut O) -> Result<(), Failure>
@@ -62,6 +69,35 @@ fn push_spec(lines: &mut Lines, spec: WavSpec, samples: u32) -> io::Result<()>
     )
 }
 
+// A type of samples that have lines.
+trait Line: Sample + Copy {
+    // The line of a sample.
+    ghost line: { Self → List ℕ };
+
+    // Appends the line of the sample.
+    fn push_to(self, lines: &mut Lines)
+        requires { length lines.old + 24 ≤ 16384 }
+        ensures { lines.new ≡ lines.old ++ line self };
+}
+
+impl Line for i32 {
+    ghost line = { integer_line };
+
+    #[inline(always)]
+    fn push_to(self, lines: &mut Lines) {
+        lines.push_integer(self);
+    }
+}
+
+impl Line for FloatBits {
+    ghost line = { λ bits. pattern_line bits.0 };
+
+    #[inline(always)]
+    fn push_to(self, lines: &mut Lines) {
+        lines.push_pattern(self.0);
+    }
+}
+
 // The lines of the samples of a file: some go to the output, and the last ones are buffered.
 fn show_samples<R: io::Read, O: io::Write>(
     reader: &mut WavReader<&mut R>,
@@ -77,18 +113,25 @@ fn show_samples<R: io::Read, O: io::Write>(
         (O.contents output.old) (O.contents output.new) lines.old lines.new) }
 {
     match reader.spec().sample_format {
-        SampleFormat::Int => show_integers(reader, lines, output),
-        SampleFormat::Float => show_patterns(reader, lines, output),
+        SampleFormat::Int => show_blocks(reader, &mut [0i32; BLOCK_LENGTH], lines, output),
+        SampleFormat::Float => {
+            show_blocks(reader, &mut [FloatBits(0); BLOCK_LENGTH], lines, output)
+        }
     }
 }
 
-fn show_integers<R: io::Read, O: io::Write>(
+// The lines of all samples, a block at a time.
+fn show_blocks<S: Line, R: io::Read, O: io::Write>(
     reader: &mut WavReader<&mut R>,
+    block: &mut [S],
     lines: &mut Lines,
     output: &mut O,
 ) -> Result<(), Failure>
-    requires integers { reader.old.spec_ex.spec.sample_format ≡ Int }
     requires fresh { reader.old.samples_read ≡ 0 }
+    requires some { 0 < length block.old }
+    requires refusal { refusal_at S.refusal reader.old.spec_ex ≡ show_refusal reader.old.spec_ex }
+    requires line { (c : List ℕ) → S.line (meaning_at S.meaning reader.old.spec_ex c)
+        ≡ sample_line reader.old.spec_ex c }
     ensures shown { OnOk result (ShowsSamples reader.old.spec_ex reader.old.num_samples
         (R.remaining reader.old.reader.now) (O.contents output.old) (O.contents output.new)
         lines.old lines.new) }
@@ -96,47 +139,48 @@ fn show_integers<R: io::Read, O: io::Write>(
         reader.old.num_samples failure (R.remaining reader.old.reader.now)
         (O.contents output.old) (O.contents output.new) lines.old lines.new) }
 {
-    // A `for` over the samples keeps a copy more of each, which has a hundred bytes.
-    let count = reader.len();
-    let mut samples = reader.samples::<i32>();
-    for _ in 0..count {
-        match samples.next() {
-            Some(Ok(number)) => {
-                make_room(lines, output)?;
-                lines.push_integer(number);
-            }
-            Some(Err(error)) => return Err(Failure::from(error)),
-            None => break,
+    loop {
+        let (count, result) = read_block(reader, block);
+        push_lines(&block[..count], lines, output)?;
+        result?;
+        if count == 0 {
+            return Ok(());
         }
     }
-    Ok(())
 }
 
-fn show_patterns<R: io::Read, O: io::Write>(
+// Reads the next samples into the front of a block: how many, and the error after them.
+fn read_block<S: Sample, R: io::Read>(
     reader: &mut WavReader<&mut R>,
+    block: &mut [S],
+) -> (usize, hound::Result<()>)
+    ensures within { result.0 ≤ min (length block.new) (samples_left reader.old) }
+    ensures all { OnOk result.1 (result.0 ≡ min (length block.new) (samples_left reader.old)) }
+    ensures items { GivesItemsOfBytes (λ r. R.remaining r.now) S.refusal S.meaning
+        (items_of (take result.0 block.new) result.1) reader.old reader.new }
+{
+    let left = reader.samples_left();
+    match reader.read_samples(block) {
+        Ok(count) => (count, Ok(())),
+        Err(error) => ((left - reader.samples_left() - 1) as usize, Err(error)),
+    }
+}
+
+// Appends the lines of samples, and writes what there is no room for.
+fn push_lines<S: Line, O: io::Write>(
+    samples: &[S],
     lines: &mut Lines,
     output: &mut O,
-) -> Result<(), Failure>
-    requires floats { reader.old.spec_ex.spec.sample_format ≡ Float }
-    requires fresh { reader.old.samples_read ≡ 0 }
-    ensures shown { OnOk result (ShowsSamples reader.old.spec_ex reader.old.num_samples
-        (R.remaining reader.old.reader.now) (O.contents output.old) (O.contents output.new)
-        lines.old lines.new) }
-    ensures until { IfErr result (λ failure. StopsSamples reader.old.spec_ex
-        reader.old.num_samples failure (R.remaining reader.old.reader.now)
-        (O.contents output.old) (O.contents output.new) lines.old lines.new) }
+) -> io::Result<()>
+    ensures pushed { OnOk result (GetsBuffered (O.contents output.old) (O.contents output.new)
+        lines.new (lines.old ++ flat_map S.line samples.now)) }
+    ensures stopped { OnErr result (GetsBeginning (O.contents output.old) (O.contents output.new)
+        (lines.old ++ flat_map S.line samples.now)) }
+    ensures emptied { OnErr result (lines.new ≡ []) }
 {
-    let count = reader.len();
-    let mut samples = reader.samples::<FloatBits>();
-    for _ in 0..count {
-        match samples.next() {
-            Some(Ok(FloatBits(pattern))) => {
-                make_room(lines, output)?;
-                lines.push_pattern(pattern);
-            }
-            Some(Err(error)) => return Err(Failure::from(error)),
-            None => break,
-        }
+    for sample in samples {
+        make_room(lines, output)?;
+        sample.push_to(lines);
     }
     Ok(())
 }

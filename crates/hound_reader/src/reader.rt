@@ -170,11 +170,19 @@ impl<R: io::Read + Drop> WavReader<R> {
     }
 
     /// The number of samples in the file, of all channels together, whatever was read: the data
-    /// length divided by the bytes of a sample. `len` of [`WavReader::samples`] counts those left.
+    /// length divided by the bytes of a sample. [`WavReader::samples_left`] counts those left.
     pub fn len(&self) -> u32
         ensures { result ≡ self.now.num_samples }
     {
         self.num_samples
+    }
+
+    /// The number of samples that are left to be read, of all channels together; 0 past the end
+    /// (own). Each item and each sample of a block is one less, also one that is an error.
+    pub fn samples_left(&self) -> u32
+        ensures { result ≡ samples_left self.now }
+    {
+        (self.num_samples as u64).saturating_sub(self.samples_read) as u32
     }
 
     /// An iterator over the samples that are left, one item for each, the channels of a frame one
@@ -204,7 +212,7 @@ impl<R: io::Read + Drop> WavReader<R> {
     /// their containers are taken; the rest of the slice stays as it was. An `Err` is the item that
     /// the iterator would give next, and counts as one: an error of the type, which comes before
     /// any byte is taken, a fault, or an early end. The samples before it are in the slice: one
-    /// less than `len` of [`WavReader::samples`] falls by.
+    /// less than [`WavReader::samples_left`] falls by.
     pub fn read_samples<S: Sample>(&mut self, samples: &mut [S]) -> Result<usize>
         ensures { ReadsBlock R.remaining S.refusal S.meaning result samples.old samples.new
             self.old self.new }
@@ -258,13 +266,6 @@ impl<R: io::Read + Drop> WavReader<R> {
         ensures { result ≡ self.reader }
     {
         self.reader.reader
-    }
-
-    /// How many samples are left; none past the end.
-    pub(crate) fn samples_left(&self) -> u32
-        ensures { result ≡ samples_left self.now }
-    {
-        (self.num_samples as u64).saturating_sub(self.samples_read) as u32
     }
 
     /// As many items as samples are left, and no more.

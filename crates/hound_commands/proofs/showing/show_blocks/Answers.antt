@@ -1,0 +1,118 @@
+use Rattle.std.proofs.Common.{rules, ◌≡◌, ◌<◌, OnOk, length, min, take, refl, sym, subst, arith, length-take}
+use Rattle.hound.specs.Blocks.{over_bytes}
+use Rattle.hound.specs.Reader.{samples_left}
+use Rattle.hound_commands.specs.Failing.{failure_of}
+use Rattle.hound_commands.specs.declared.failure.Failure.TheVariants.{InputOrOutput}
+use Rattle.hound_commands.proofs.ShowAnswers.{all_shown, block_fails, block_shown, block_stops, err_is, Shown, none_shown}
+use Rattle.hound_commands.proofs.showing.show_blocks.Goals as goal
+
+pub loop-result-init : goal.loop-result-init
+loop-result-init g c = record {
+  block = refl;
+  spec_ex = refl;
+  num_samples = refl;
+  within = omega (arith, c.requires.fresh);
+  shown = none_shown c.args.reader.now.spec_ex _ _ _ _ c.requires.fresh;
+}
+
+pub returns-in_err-push_lines-clause-until : goal.returns-in_err-push_lines-clause-until
+returns-in_err-push_lines-clause-until g c =
+    let s = c.args.reader.now.spec_ex in
+    let n = c.args.reader.now.num_samples in
+    let loop = c.loop-result.invariant in
+    err_is _ c.from_residual.result InputOrOutput c.from_residual.ensures.1
+    (block_stops g.S.Sample.refusal g.S.Sample.meaning g.S.Line.line s n c.loop-result.reader.samples_read
+    (g.R.Read.remaining c.args.reader.now.reader.now) (g.O.Write.contents c.args.output.now)
+    (g.O.Write.contents c.loop-result.output) c.args.lines.now c.loop-result.lines
+    (take c.read_block-count.result.0 c.read_block-count.new.block) c.read_block-count.result.1
+    (over_bytes (λ r. g.R.Read.remaining r.now) c.loop-result.reader)
+    (over_bytes (λ r. g.R.Read.remaining r.now) c.read_block-count.new.reader) c.requires.refusal
+    c.requires.line loop.spec_ex loop.num_samples refl loop.within loop.shown
+    c.read_block-count.ensures.items _ _
+    c.in_err-push_lines.ensures.stopped c.in_err-push_lines.ensures.emptied)
+
+pub returns-in_err-result-clause-until : goal.returns-in_err-result-clause-until
+returns-in_err-result-clause-until g c =
+    let s = c.args.reader.now.spec_ex in
+    let n = c.args.reader.now.num_samples in
+    let loop = c.loop-result.invariant in
+    err_is _ c.from_residual-in_err-result.result (failure_of c.in_err-result.field-0.0)
+    c.from_residual-in_err-result.ensures.1
+    (block_fails g.S.Sample.refusal g.S.Sample.meaning g.S.Line.line s n c.loop-result.reader.samples_read
+    (g.R.Read.remaining c.args.reader.now.reader.now) (g.O.Write.contents c.args.output.now)
+    (g.O.Write.contents c.loop-result.output) c.args.lines.now c.loop-result.lines
+    (take c.read_block-count.result.0 c.read_block-count.new.block) c.read_block-count.result.1
+    (over_bytes (λ r. g.R.Read.remaining r.now) c.loop-result.reader)
+    (over_bytes (λ r. g.R.Read.remaining r.now) c.read_block-count.new.reader) c.requires.refusal
+    c.requires.line loop.spec_ex loop.num_samples refl loop.within loop.shown
+    c.read_block-count.ensures.items _ _
+    c.in_err-result.field-0.0 c.in_err-result.was c.in_ok-push_lines.ensures.pushed)
+
+pub returns-then-count-eq0-clause-shown : goal.returns-then-count-eq0-clause-shown
+returns-then-count-eq0-clause-shown g c =
+    let s = c.args.reader.now.spec_ex in
+    let n = c.args.reader.now.num_samples in
+    let loop = c.loop-result.invariant in
+    let block = block_shown g.S.Sample.refusal g.S.Sample.meaning g.S.Line.line s n c.loop-result.reader.samples_read
+    (g.R.Read.remaining c.args.reader.now.reader.now) (g.O.Write.contents c.args.output.now)
+    (g.O.Write.contents c.loop-result.output) c.args.lines.now c.loop-result.lines
+    (take c.read_block-count.result.0 c.read_block-count.new.block) c.read_block-count.result.1
+    (over_bytes (λ r. g.R.Read.remaining r.now) c.loop-result.reader)
+    (over_bytes (λ r. g.R.Read.remaining r.now) c.read_block-count.new.reader) c.requires.refusal
+    c.requires.line loop.spec_ex loop.num_samples refl loop.within loop.shown
+    c.read_block-count.ensures.items _ _ _
+    c.in_ok-result.was c.in_ok-push_lines.ensures.pushed in
+    let none = c.if-count-eq0.true in
+    let few = length-take c.read_block-count.result.0 c.read_block-count.new.block in
+    let count : c.read_block-count.result.0
+    ≡ min (length c.read_block-count.new.block) (samples_left c.loop-result.reader) =
+    subst (λ r. OnOk r (c.read_block-count.result.0
+    ≡ min (length c.read_block-count.new.block) (samples_left c.loop-result.reader)))
+    c.in_ok-result.was c.read_block-count.ensures.all in
+    let some : 0 < length c.read_block-count.new.block = search rules in
+    all_shown s _ n _ _ _ _ _ _
+    (omega (arith, none, count, few, some, loop.within, loop.num_samples, block.4)) block.0
+
+pub loop-result-smaller : goal.loop-result-smaller
+loop-result-smaller g c =
+    let s = c.args.reader.now.spec_ex in
+    let n = c.args.reader.now.num_samples in
+    let loop = c.loop-result.invariant in
+    let block = block_shown g.S.Sample.refusal g.S.Sample.meaning g.S.Line.line s n c.loop-result.reader.samples_read
+    (g.R.Read.remaining c.args.reader.now.reader.now) (g.O.Write.contents c.args.output.now)
+    (g.O.Write.contents c.loop-result.output) c.args.lines.now c.loop-result.lines
+    (take c.read_block-count.result.0 c.read_block-count.new.block) c.read_block-count.result.1
+    (over_bytes (λ r. g.R.Read.remaining r.now) c.loop-result.reader)
+    (over_bytes (λ r. g.R.Read.remaining r.now) c.read_block-count.new.reader) c.requires.refusal
+    c.requires.line loop.spec_ex loop.num_samples refl loop.within loop.shown
+    c.read_block-count.ensures.items _ _ _
+    c.in_ok-result.was c.in_ok-push_lines.ensures.pushed in
+    let some = c.if-count-eq0.false in
+    let few = length-take c.read_block-count.result.0 c.read_block-count.new.block in
+    let within = c.read_block-count.ensures.within in
+    omega (arith, some, few, within, loop.num_samples, block.2, block.3, block.4)
+
+pub loop-result-preserved : goal.loop-result-preserved
+loop-result-preserved g c =
+    let s = c.args.reader.now.spec_ex in
+    let n = c.args.reader.now.num_samples in
+    let loop = c.loop-result.invariant in
+    let block = block_shown g.S.Sample.refusal g.S.Sample.meaning g.S.Line.line s n c.loop-result.reader.samples_read
+    (g.R.Read.remaining c.args.reader.now.reader.now) (g.O.Write.contents c.args.output.now)
+    (g.O.Write.contents c.loop-result.output) c.args.lines.now c.loop-result.lines
+    (take c.read_block-count.result.0 c.read_block-count.new.block) c.read_block-count.result.1
+    (over_bytes (λ r. g.R.Read.remaining r.now) c.loop-result.reader)
+    (over_bytes (λ r. g.R.Read.remaining r.now) c.read_block-count.new.reader) c.requires.refusal
+    c.requires.line loop.spec_ex loop.num_samples refl loop.within loop.shown
+    c.read_block-count.ensures.items _ _ _
+    c.in_ok-result.was c.in_ok-push_lines.ensures.pushed in
+    record {
+      block = search rules;
+      spec_ex = block.1;
+      num_samples = block.2;
+      within = omega (arith, block.3, block.4);
+      shown = subst (λ k. Shown s k (g.R.Read.remaining c.args.reader.now.reader.now)
+          (g.R.Read.remaining c.read_block-count.new.reader.reader.now)
+          (g.O.Write.contents c.args.output.now) (g.O.Write.contents c.push_lines.new.output)
+          c.args.lines.now c.push_lines.new.lines) (sym block.3) block.0;
+    }
