@@ -1,9 +1,9 @@
 // What the program does, over any reader and writers.
-ghost use Rattle.std.specs.Prelude.{◌≡◌, ◌≤◌, ◌↔◌, ◌⊎◌, IfErr, IfSome, IsNone, MatchResult, OnOk};
+ghost use Rattle.std.specs.Prelude.{◌≡◌, ◌≤◌, ◌↔◌, ◌⊎◌, ℤ, List, IfErr, IfSome, IsNone, MatchResult, OnOk};
 ghost use Rattle.hound.specs.Writable.{with_default_width};
 ghost use Rattle.hound.specs.declared.SampleFormat.TheVariants.{Int};
 ghost use Rattle.hound.specs.declared.WavSpec.{WavSpec};
-ghost use Rattle.hound_commands.specs.Commands.{IsCommand, IsPackCommand, IsShowCommand, Packs, PacksUntil, SaySpec};
+ghost use Rattle.hound_commands.specs.Commands.{AreNumbersOf, IsCommand, IsPackCommand, IsShowCommand, Packs, PacksUntil, SaySpec};
 ghost use Rattle.hound_commands.specs.Showing.{Shows, ShowsUntil};
 ghost use Rattle.hound_commands.specs.declared.failure.Failure.{Failure};
 
@@ -78,7 +78,8 @@ pub fn run_append<R: io::Read, E: io::Write>(
     input: &mut R,
     errors: &mut E,
 ) -> u8
-    ensures { result ≤ 1 }
+    ensures status { result ≤ 1 }
+    ensures success { result ≡ 0 → (numbers : List ℤ) × AreNumbersOf (R.remaining input.old) numbers }
 {
     let result = append(rt, alloc, path, input);
     status_of(result, errors)
@@ -151,7 +152,9 @@ fn append<R: io::Read>(
     alloc: Global,
     path: Path<'_>,
     input: &mut R,
-) -> Result<(), Failure> {
+) -> Result<(), Failure>
+    ensures { OnOk result ((numbers : List ℤ) × AreNumbersOf (R.remaining input.old) numbers) }
+{
     let numbers = read_numbers(alloc, input)?;
     let mut writer = WavWriter::append(rt, alloc, path)?;
     for number in &numbers {
