@@ -149,64 +149,32 @@ pub(crate) fn read_16_bits<R: io::Read>(reader: &mut R) -> Result<i16>
     }
 }
 
+// The integer in the first bytes.
 #[inline(always)]
-fn read_24_bits<R: io::Read>(reader: &mut R) -> Result<i32>
-    ensures { ReadsContainer (int_meaning 3 24) 3 (R.remaining reader.old) (R.remaining reader.new)
-        result }
+fn integer_of(container: [u8; 4], bits: u16, bytes: u16) -> i32
+    requires { IsPair Int bits bytes }
+    ensures { result ≡ int_meaning bytes bits (take bytes container) }
 {
-    let mut container = [0; 3];
-    match read_into(reader, &mut container) {
-        Ok(()) => Ok(i24_from_le(container)),
-        Err(error) => Err(Error::IoError(error.into())),
+    let [low, middle, high, _] = container;
+    match bits {
+        8 => signed_from_u8(low) as i32,
+        16 => i16_from_le([low, middle]) as i32,
+        24 => i24_from_le([low, middle, high]),
+        _ => i32_from_le(container),
     }
 }
 
-// Four bytes, of which the last means nothing for 24 bits.
-#[inline(always)]
-fn read_4_bytes<R: io::Read>(reader: &mut R, bits: u16) -> Result<i32>
-    requires { IsPair Int bits 4 }
-    ensures { ReadsContainer (int_meaning 4 bits) 4 (R.remaining reader.old) (R.remaining reader.new)
-        result }
-{
-    let mut container = [0; 4];
-    match read_into(reader, &mut container) {
-        Ok(()) => Ok(integer_of(container, bits)),
-        Err(error) => Err(Error::IoError(error.into())),
-    }
-}
-
-// The integer in four bytes.
-#[inline(always)]
-fn integer_of(container: [u8; 4], bits: u16) -> i32
-    requires { IsPair Int bits 4 }
-    ensures { result ≡ int_meaning 4 bits container }
-{
-    if bits == 24 {
-        let [low, middle, high, _] = container;
-        return i24_from_le([low, middle, high]);
-    }
-    i32_from_le(container)
-}
-
-/// An integer of any pair of bits and bytes, in one read of the whole container. Each width has its
-/// own array: a copy of a length that isn't known is a call.
+/// An integer of any pair of bits and bytes, in one read of the whole container.
 #[inline(always)]
 pub(crate) fn read_integer<R: io::Read>(reader: &mut R, bits: u16, bytes: u16) -> Result<i32>
     requires { IsPair Int bits bytes }
     ensures { ReadsContainer (int_meaning bytes bits) bytes (R.remaining reader.old)
         (R.remaining reader.new) result }
 {
-    match bytes {
-        1 => match read_8_bits(reader) {
-            Ok(sample) => Ok(sample as i32),
-            Err(error) => Err(error),
-        },
-        2 => match read_16_bits(reader) {
-            Ok(sample) => Ok(sample as i32),
-            Err(error) => Err(error),
-        },
-        3 => read_24_bits(reader),
-        _ => read_4_bytes(reader, bits),
+    let mut container = [0; 4];
+    match read_into(reader, &mut container[..bytes as usize]) {
+        Ok(()) => Ok(integer_of(container, bits, bytes)),
+        Err(error) => Err(Error::IoError(error.into())),
     }
 }
 
