@@ -11,6 +11,7 @@ for crate in number spec sample medium durable reader writer repair; do
     sed -n "s/^pub mod /pub use Rattle.hound_$crate.specs./p" ../hound_$crate/specs/Lib.antt | grep -v '\.Rows$'
     case $crate in
         number) types=input.ReadError ;;
+        sample) types=item.ItemError ;;
         reader) types='cause.Reason cause.Cause cause.HeadError' ;;
         *) types= ;;
     esac

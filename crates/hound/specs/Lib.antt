@@ -13,9 +13,11 @@ pub use Rattle.hound_spec.specs.Header
 pub use Rattle.hound_sample.specs.Container
 pub use Rattle.hound_sample.specs.ContainerLaws
 pub use Rattle.hound_sample.specs.Encoding
+pub use Rattle.hound_sample.specs.ItemReads
 pub use Rattle.hound_sample.specs.ManyReads
 pub use Rattle.hound_sample.specs.Meaning
 pub use Rattle.hound_sample.specs.Reads
+pub use Rattle.hound_sample.specs.declared.item.ItemError
 pub use Rattle.hound_medium.specs.Bytes
 pub use Rattle.hound_medium.specs.Spans
 pub use Rattle.hound_medium.specs.State

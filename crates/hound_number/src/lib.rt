@@ -103,12 +103,7 @@ pub fn i24_from_le(bytes: [u8; 3]) -> i32
     ensures { result ≡ signed_number bytes }
 {
     let [low, middle, high] = bytes;
-    let number = low as u32 + middle as u32 * 0x100 + high as u32 * 0x1_0000;
-    if number < 0x80_0000 {
-        number as i32
-    } else {
-        number as i32 - 0x100_0000
-    }
+    high.cast_signed() as i32 * 0x1_0000 + (low as i32 + middle as i32 * 0x100)
 }
 
 /// The signed number in four bytes.

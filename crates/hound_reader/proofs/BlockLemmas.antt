@@ -15,11 +15,12 @@ use Rattle.hound_sample.specs.Reads.{Reads, error_of_read}
 use Rattle.hound_number.proofs.KnownSteps.{known_both}
 use Rattle.hound_reader.specs.Blocks.{GivesItemsOfBytes, over_bytes}
 use Rattle.hound_reader.specs.Counting.{HasGiven}
-use Rattle.hound_reader.specs.Item.{reason_of, error_of_item, taken_without}
+use Rattle.hound_sample.specs.ItemReads.{ReadsItem, reason_of, error_of_item}
+use Rattle.hound_reader.specs.Item.{taken_without}
 use Rattle.hound_reader.specs.Items.{GivesItems}
 use Rattle.hound_reader.specs.Reader.{ReaderState, IsNext, AreTaken, TookBytes, CountsTaken, refusal_at, meaning_at, samples_left}
-use Rattle.hound_reader.specs.declared.item.ItemError.{ItemError}
-use Rattle.hound_reader.specs.declared.item.ItemError.TheVariants.{Failed, OtherFormat, Wider, OtherPair}
+use Rattle.hound_sample.specs.declared.item.ItemError.{ItemError}
+use Rattle.hound_sample.specs.declared.item.ItemError.TheVariants.{Failed, OtherFormat, Wider, OtherPair}
 use Rattle.hound_reader.proofs.ItemLemmas.{a_container_is_taken}
 
 -- an Ok of a type that doesn't read the samples
@@ -213,6 +214,48 @@ refused_stays : {A : Type 0} (refusal : Option ReadRefusal) (meaning : List ℕ 
     → Reads refusal meaning width old new item → IsSome refusal → new ≡ old
 refused_stays None meaning width old new item read some = absurd (false≢true some)
 refused_stays (Some refusal) meaning width old new item read some = read.1
+
+-- an item without a sample is given, whichever its fault is
+pub no_sample_is_given : {R A : Type 0} (left : R → Option (List ℕ))
+    (refusal : SampleFormat → ℕ → ℕ → Option ReadRefusal) (meaning : SampleFormat → ℕ → ℕ → List ℕ → A)
+    (old new : ReaderState R) (reason : ItemError) (given : ℕ)
+    → old.samples_read < old.num_samples → old.spec_ex.bytes_per_sample < 2 ^ 64
+    → new ≡ record {
+      reader = new.reader;
+      spec_ex = old.spec_ex;
+      num_samples = old.num_samples;
+      samples_read = old.samples_read + 1;
+      bytes_read =
+          old.bytes_read + taken_without reason given old.spec_ex.bytes_per_sample;
+    }
+    → ReadsItem (refusal_at refusal old.spec_ex) (meaning_at meaning old.spec_ex)
+    old.spec_ex.bytes_per_sample (left old.reader) (left new.reader) (Err reason)
+    → (IsSome (refusal_at refusal old.spec_ex) → new.reader ≡ old.reader)
+    → HasGiven (left old.reader) given (left new.reader) → (fault : IoFault)
+    → IsNext left refusal meaning (Some (Err (error_of_item reason fault))) old new
+no_sample_is_given {A = A} left refusal meaning old new reason given inside small is read untouched has fault =
+    let width = old.spec_ex.bytes_per_sample in
+    let counted = ap (λ (r : ReaderState _). r.bytes_read) is in
+    let few : 0 * width + width < 2 ^ 64 = omega (arith, small) in
+    let all : given - 0 * width ≡ given = omega arith in
+    record {
+      inside = inside;
+      counted = ap (λ (r : ReaderState _). r.samples_read) is;
+      read = read fault;
+      untouched = untouched;
+      bytes = subst (λ n. TookBytes {A = A} width (Err (error_of_item reason fault)) old.bytes_read n)
+          (sym counted) (took_of_reason A reason fault given width old.bytes_read);
+      taken = (
+        taken_without reason given width,
+        counted,
+        subst (λ n. Known (left old.reader) (left new.reader) (AreTaken (taken_without reason n width)))
+            all (torn_takes (refusal_at refusal old.spec_ex) (meaning_at meaning old.spec_ex) width []
+            reason fault given (left old.reader) (left old.reader) (left new.reader) few has refl
+            (read fault) (λ none. none)),
+      );
+      spec_ex = ap (λ (r : ReaderState _). r.spec_ex) is;
+      num_samples = ap (λ (r : ReaderState _). r.num_samples) is;
+    }
 
 -- this many samples and bytes later
 abbrev pub later : ReaderState (Option (List ℕ)) → ℕ → ℕ → Option (List ℕ) → ReaderState (Option (List ℕ))

@@ -11,8 +11,8 @@ use Rattle.hound_spec.specs.declared.spec.WavSpecEx.{WavSpecEx}
 use Rattle.hound_sample.specs.Meaning.{ReadRefusal}
 use Rattle.hound_sample.specs.Reads.{Reads}
 use Rattle.hound_reader.specs.Reader.{ReaderState, IsNext, AreTaken, refusal_at, meaning_at, samples_left}
-use Rattle.hound_reader.specs.Item.{answer_of}
-use Rattle.hound_reader.specs.declared.item.ItemError.{ItemError}
+use Rattle.hound_sample.specs.ItemReads.{answer_of}
+use Rattle.hound_sample.specs.declared.item.ItemError.{ItemError}
 use Rattle.hound_reader.specs.Items.{AreItems, GivesItems}
 
 -- an Ok took exactly a container

@@ -6,10 +6,10 @@ use Rattle.hound_spec.specs.declared.spec.WavSpecEx.{WavSpecEx}
 use Rattle.std.specs.declared.io.Error.{Error as IoFault}
 use Rattle.hound_sample.specs.ManyReads.{ReadsEach, items_of}
 use Rattle.hound_sample.specs.Meaning.{ReadRefusal}
-use Rattle.hound_reader.specs.Item.{answer_of}
+use Rattle.hound_sample.specs.ItemReads.{answer_of}
 use Rattle.hound_reader.specs.Items.{GivesItems}
 use Rattle.hound_reader.specs.Reader.{ReaderState, refusal_at, meaning_at, samples_left}
-use Rattle.hound_reader.specs.declared.item.ItemError.{ItemError}
+use Rattle.hound_sample.specs.declared.item.ItemError.{ItemError}
 
 -- a reader with the bytes that are left in place of what it reads from
 abbrev pub over_bytes : {R : Type 0} → (R → Option (List ℕ)) → ReaderState R

@@ -1,54 +1,21 @@
-// Items: why one has no sample, a reader that saves its last fault, and one that counts the bytes
-// that it gives.
+// Items: a reader that saves its last fault, and one that counts the bytes that it gives.
 ghost use Rattle.std.specs.Prelude.{◌≡◌, ◌<◌, ◌≤◌, List, Option, Result, ℕ, None, IsSome, length, take};
 ghost use Rattle.hound_sample.specs.ManyReads.{FillsFront};
-ghost use Rattle.hound_sample.specs.Reads.{Reads};
+ghost use Rattle.hound_sample.specs.ItemReads.{error_of_item};
+ghost use Rattle.hound_sample.specs.declared.item.ItemError.{ItemError};
 ghost use Rattle.hound_reader.specs.Blocks.{AnswersReadMany};
-ghost use Rattle.hound_reader.specs.Reader.{refusal_at, meaning_at};
-ghost use Rattle.hound_reader.specs.declared.item.ItemError.{ItemError};
-ghost use Rattle.hound_reader.specs.Item.{answer_of, AnswersRead, error_of_item, reason_of, taken_without};
+ghost use Rattle.hound_reader.specs.Reader.{refusal_at};
+ghost use Rattle.hound_reader.specs.Item.{AnswersRead, taken_without};
 ghost use Rattle.std.specs.Borrow.{GName};
 ghost use Rattle.std.specs.Io.KnownBytes.{Consumes, IsAtEnd, Keeps};
 ghost use Rattle.hound_spec.specs.declared.spec.WavSpecEx.{WavSpecEx};
 ghost use Rattle.hound_reader.specs.Counting.{HasGiven, HasGiven-prop};
 
 use hound_number::early_end;
-use hound_sample::Sample;
+use hound_sample::{ContainerReader, ItemError, Sample, reason_of};
 use hound_spec::{Error, WavSpecEx};
 use std::marker::{Brand, PhantomData};
 use std::{io, result};
-
-/// Why an item has no sample.
-///
-/// An `Error` has 96 bytes, which would be filled with zeros and copied for each item; this has
-/// one.
-#[derive(Clone, Copy)]
-pub(crate) enum ItemError {
-    /// A read failed or the input ended, by a fault that was saved.
-    Failed,
-
-    /// Samples of this format aren't read as the type.
-    OtherFormat,
-
-    /// The samples have more bytes than the type.
-    Wider,
-
-    /// Samples of these bits and bytes aren't read as the type.
-    OtherPair,
-}
-
-/// The reason that an error of `Sample::read` gives; there are no others than these.
-#[inline(always)]
-pub(crate) fn reason_of(error: Error) -> ItemError
-    ensures { result ≡ reason_of error }
-{
-    match error {
-        Error::IoError(_) => ItemError::Failed,
-        Error::InvalidSampleFormat => ItemError::OtherFormat,
-        Error::TooWide => ItemError::Wider,
-        _ => ItemError::OtherPair,
-    }
-}
 
 /// The error of an item, with this saved fault.
 ///
@@ -122,6 +89,43 @@ impl<R: io::Read> KeepingReader<R> {
             }
         }
     }
+
+    // Fills the front of a buffer as `fill` does, by a loop.
+    #[cold]
+    #[inline(never)]
+    fn fill_rest(&mut self, buf: &mut [u8]) -> usize
+        ensures within { result ≤ length buf.new }
+        ensures bytes { Consumes (R.remaining self.old.reader) (R.remaining self.new.reader)
+            (take result buf.new) }
+    {
+        let mut at = 0;
+        while at < buf.len() {
+            let count = self.read_or_save_error(&mut buf[at..]);
+            if count == 0 || count > buf.len() - at {
+                return at;
+            }
+            at += count;
+        }
+        at
+    }
+
+    /// Fills the front of a buffer, all of it unless a read fails or the input ends, and returns
+    /// how many bytes. The first read mostly fills it, so the others are in a cold call.
+    #[inline(always)]
+    fn fill(&mut self, buf: &mut [u8]) -> usize
+        ensures within { result ≤ length buf.new }
+        ensures bytes { Consumes (R.remaining self.old.reader) (R.remaining self.new.reader)
+            (take result buf.new) }
+    {
+        let count = self.read_or_save_error(buf);
+        if count == buf.len() {
+            return count;
+        }
+        if count > buf.len() {
+            return 0;
+        }
+        count + self.fill_rest(&mut buf[count..])
+    }
 }
 
 impl<R: io::Read> io::Read for KeepingReader<R> {
@@ -169,6 +173,13 @@ pub(crate) trait ReaderRef: Sized {
         ensures failed { length buf.new < result → Keeps (left self.old) (left self.new) }
         ensures stays { name self.new ≡ name self.old };
 
+    /// Fills the front of a buffer, all of it unless a read fails or the input ends, and returns
+    /// how many bytes.
+    fn fill(&mut self, buf: &mut [u8]) -> usize
+        ensures within { result ≤ length buf.new }
+        ensures bytes { Consumes (left self.old) (left self.new) (take result buf.new) }
+        ensures stays { name self.new ≡ name self.old };
+
     /// The fault of the last read that failed.
     fn last_fault(&self) -> &io::Error;
 }
@@ -181,6 +192,11 @@ impl<R: io::Read> ReaderRef for &mut KeepingReader<R> {
     #[inline(always)]
     fn read_or_save_error(&mut self, buf: &mut [u8]) -> usize {
         KeepingReader::read_or_save_error(*self, buf)
+    }
+
+    #[inline(always)]
+    fn fill(&mut self, buf: &mut [u8]) -> usize {
+        KeepingReader::fill(*self, buf)
     }
 
     #[inline(always)]
@@ -216,7 +232,20 @@ impl<R: ReaderRef, B: CountStart> io::Read for CountingReader<R, B> {
     }
 }
 
-/// A call that reads, whose value has a type of its own: each [`Sample`] is one, by its `read`.
+impl<R: ReaderRef, B: CountStart> ContainerReader for CountingReader<R, B> {
+    #[inline(always)]
+    fn next_container(&mut self, bytes: u16) -> Option<[u8; 4]> {
+        let mut container = [0; 4];
+        let count = self.reader.fill(&mut container[..bytes as usize]);
+        self.given = self.given.saturating_add(count as u64);
+        if count == bytes as usize {
+            return Some(container);
+        }
+        None
+    }
+}
+
+/// A call that reads, whose value has a type of its own: each [`Sample`] is one, by its `read_item`.
 pub(crate) trait TypedRead {
     type Value: Drop;
 
@@ -232,7 +261,7 @@ pub(crate) trait TypedRead {
     ghost Refuses: { WavSpecEx → Type 0 };
 
     /// The value, or why there is none.
-    fn read_typed<R: io::Read>(
+    fn read_typed<R: ContainerReader>(
         reader: &mut R,
         spec_ex: WavSpecEx,
     ) -> result::Result<Self::Value, ItemError>
@@ -262,13 +291,13 @@ impl<S: Sample> TypedRead for S {
     ghost Refuses = { λ s. IsSome (refusal_at S.refusal s) };
 
     #[inline(always)]
-    fn read_typed<R: io::Read>(reader: &mut R, spec_ex: WavSpecEx) -> result::Result<S, ItemError> {
+    fn read_typed<R: ContainerReader>(
+        reader: &mut R,
+        spec_ex: WavSpecEx,
+    ) -> result::Result<S, ItemError> {
         let spec = spec_ex.spec;
         let width = spec_ex.bytes_per_sample;
-        match S::read(reader, spec.sample_format, width, spec.bits_per_sample) {
-            Ok(sample) => Ok(sample),
-            Err(error) => Err(reason_of(error)),
-        }
+        S::read_item(reader, spec.sample_format, width, spec.bits_per_sample)
     }
 
     #[inline(always)]
@@ -392,9 +421,8 @@ pub(crate) fn read_counted<R: io::Read, S: Sample>(
     reader: &mut KeepingReader<R>,
     spec_ex: WavSpecEx,
 ) -> (result::Result<S, ItemError>, u64)
-    ensures read { Reads (refusal_at S.refusal spec_ex) (meaning_at S.meaning spec_ex)
-        spec_ex.bytes_per_sample (R.remaining reader.old.reader) (R.remaining reader.new.reader)
-        (answer_of result.0 reader.new.fault) }
+    ensures item { AnswersRead S.refusal S.meaning spec_ex (R.remaining reader.old.reader)
+        (R.remaining reader.new.reader) result.0 }
     ensures untouched { IsSome (refusal_at S.refusal spec_ex) → reader.new ≡ reader.old }
     ensures given { HasGiven (R.remaining reader.old.reader) result.1
         (R.remaining reader.new.reader) }

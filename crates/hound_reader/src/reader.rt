@@ -1,5 +1,6 @@
 // Readers of files.
 ghost use Rattle.std.specs.Prelude.{◌≡◌, ℕ, ◌+◌, ◌*◌, ◌/◌, ◌%◌, ◌++◌, ⊤, List, length, drop, Some, IsTrue, IfOk, IfErr, IfSome, MatchResult};
+ghost use Rattle.std.specs.declared.io.Error.{Error as IoFault};
 ghost use Rattle.hound_number.specs.Input.{Known};
 ghost use Rattle.hound_number.specs.Number.{number};
 ghost use Rattle.hound_spec.specs.Header.{riff_tag, wave_tag};
@@ -12,20 +13,20 @@ ghost use Rattle.hound_reader.specs.Taken.{TakesAll, UnreadableAfter};
 ghost use Rattle.hound_reader.specs.declared.cause.Cause.{Cause};
 ghost use Rattle.hound_reader.specs.Refusals.{IsRefusal, OpensAs, FailsAs};
 ghost use Rattle.hound_medium.specs.State.{Shifts, WhereTells};
-ghost use Rattle.hound_reader.specs.Reader.{IsNext, HasWholeFrames, samples_left};
+ghost use Rattle.hound_sample.specs.ItemReads.{error_of_item};
+ghost use Rattle.hound_reader.specs.Item.{AnswersNext};
+ghost use Rattle.hound_reader.specs.Reader.{HasWholeFrames, samples_left};
 ghost use Rattle.hound_reader.specs.Blocks.{ReadsBlock};
 ghost use Rattle.hound_reader.specs.Seeking.{Recounts, way_to};
 ghost use Rattle.hound_reader.specs.Samples.{lent_reader, lender, taken_reader};
 
 use crate::cause::{Cause, HeadError, Reason, error_of};
 use crate::chunks::{read_riff_header, read_until_data};
-use crate::item::{
-    ItemError, KeepingReader, error_of_item, read_counted, read_many_counted, taken_without,
-};
+use crate::item::{KeepingReader, error_of_item, read_counted, read_many_counted, taken_without};
 use crate::samples::{WavIntoSamples, WavSamples};
 use hound_medium::{Placed, Source};
 use hound_number::Input;
-use hound_sample::Sample;
+use hound_sample::{ItemError, Sample};
 use hound_spec::{Error, Result, WavSpec, WavSpecEx};
 use std::io::ErrorKind;
 use std::marker::Model;
@@ -194,7 +195,8 @@ impl<R: io::Read + Drop> WavReader<R> {
         ensures reader { lent_reader result ≡ self.old }
         ensures lender { lender result ≡ self.entry.ghost_name }
     {
-        WavSamples::new(self)
+        let spec_ex = self.spec_ex;
+        WavSamples::new(self, spec_ex)
     }
 
     /// The same iterator, which owns the reader. To use the reader afterwards, call
@@ -202,7 +204,8 @@ impl<R: io::Read + Drop> WavReader<R> {
     pub fn into_samples<S: Sample>(self) -> WavIntoSamples<R, S>
         ensures { taken_reader result ≡ self }
     {
-        WavIntoSamples::new(self)
+        let spec_ex = self.spec_ex;
+        WavIntoSamples::new(self, spec_ex)
     }
 
     /// Reads the next samples into the front of a slice, channels in turn, and returns how many:
@@ -277,25 +280,38 @@ impl<R: io::Read + Drop> WavReader<R> {
         (left, Some(left))
     }
 
-    /// The next item, while a sample is left.
+    /// The next item, while a sample is left, by the iterator's copy of the spec. An `Error` is
+    /// large, so the iterator makes that of an item without a sample, where it returns it.
     #[inline(always)]
-    pub(crate) fn next_item<S: Sample>(&mut self) -> Option<Result<S>>
-        ensures { IsNext R.remaining S.refusal S.meaning result self.old self.new }
+    pub(crate) fn next_item<S: Sample>(
+        &mut self,
+        spec_ex: WavSpecEx,
+    ) -> Option<result::Result<S, ItemError>>
+        requires { spec_ex ≡ self.old.spec_ex }
+        ensures answers { AnswersNext R.remaining S.refusal S.meaning result self.old self.new }
+        ensures same { self.new.spec_ex ≡ self.old.spec_ex }
     {
         if self.samples_read >= self.num_samples as u64 {
             return None;
         }
-        let (sample, given) = read_counted::<R, S>(&mut self.reader, self.spec_ex);
-        let width = self.spec_ex.bytes_per_sample;
+        let (sample, given) = read_counted::<R, S>(&mut self.reader, spec_ex);
+        let width = spec_ex.bytes_per_sample;
         self.samples_read += 1;
-        let no_sample = match sample {
+        match sample {
             Ok(sample) => {
                 self.bytes_read += width as u64;
-                return Some(Ok(sample));
+                Some(Ok(sample))
             }
-            Err(no_sample) => no_sample,
-        };
-        self.bytes_read += taken_without(no_sample, given, width);
-        Some(Err(error_of_item(no_sample, &self.reader.fault)))
+            Err(no_sample) => {
+                self.bytes_read += taken_without(no_sample, given, width);
+                Some(Err(no_sample))
+            }
+        }
+    }
+
+    /// The fault that was saved last.
+    #[inline(always)]
+    pub(crate) fn last_fault(&self) -> &io::Error {
+        &self.reader.fault
     }
 }

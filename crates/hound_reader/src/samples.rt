@@ -3,11 +3,11 @@ ghost use Rattle.std.specs.Prelude.{◌≡◌, IfSome, Some};
 ghost use Rattle.std.specs.Iterator.{at_most, UpTo};
 ghost use Rattle.std.specs.Iterator.SizeHint.{IsWithinCount};
 ghost use Rattle.hound_reader.specs.Reader.{samples_left};
-ghost use Rattle.hound_reader.specs.Samples.{lent_reader, lender, taken_reader, LendsNext, TakesNext};
 
+use crate::item::error_of_item;
 use crate::reader::WavReader;
 use hound_sample::Sample;
-use hound_spec::Result;
+use hound_spec::{Result, WavSpecEx};
 use std::io;
 use std::marker::PhantomData;
 
@@ -20,31 +20,47 @@ use std::marker::PhantomData;
 #[derive(Drop)]
 pub struct WavSamples<'wr, R, S> {
     reader: &'wr mut WavReader<R>,
+
+    // A copy of the reader's, which a loop over the items can keep in registers.
+    spec_ex: WavSpecEx,
+
     phantom_sample: PhantomData<S>,
+
+    ghost same: { spec_ex ≡ reader.now.spec_ex },
 }
 
 impl<'wr, R, S> WavSamples<'wr, R, S> {
-    pub(crate) fn new(reader: &'wr mut WavReader<R>) -> WavSamples<'wr, R, S>
+    ghost use Rattle.hound_reader.specs.Samples.{lent_reader, lender};
+
+    pub(crate) fn new(reader: &'wr mut WavReader<R>, spec_ex: WavSpecEx) -> WavSamples<'wr, R, S>
+        requires { spec_ex ≡ reader.now.spec_ex }
         ensures reader { lent_reader result ≡ reader.old }
         ensures lender { lender result ≡ reader.entry.ghost_name }
     {
         WavSamples {
             reader,
+            spec_ex,
             phantom_sample: PhantomData,
         }
     }
 }
 
 impl<R: io::Read + Drop, S: Sample> Iterator for WavSamples<'_, R, S> {
+    ghost use Rattle.hound_reader.specs.Samples.{lent_reader, LendsNext};
+
     type Item = Result<S>;
 
     ghost next_gives = { LendsNext R.remaining S.refusal S.meaning };
 
     ghost remaining = { λ s. at_most (samples_left (lent_reader s)) };
 
-    #[inline(always)]
+    #[inline]
     fn next(&mut self) -> Option<Result<S>> {
-        self.reader.next_item()
+        let no_sample = match self.reader.next_item(self.spec_ex)? {
+            Ok(sample) => return Some(Ok(sample)),
+            Err(no_sample) => no_sample,
+        };
+        Some(Err(error_of_item(no_sample, self.reader.last_fault())))
     }
 
     fn size_hint(&self) -> (usize, Option<usize>)
@@ -67,30 +83,42 @@ impl<R: io::Read + Drop, S: Sample> ExactSizeIterator for WavSamples<'_, R, S> {
 #[derive(Drop)]
 pub struct WavIntoSamples<R, S> {
     reader: WavReader<R>,
+    spec_ex: WavSpecEx,
     phantom_sample: PhantomData<S>,
+    ghost same: { spec_ex ≡ reader.spec_ex },
 }
 
 impl<R, S> WavIntoSamples<R, S> {
-    pub(crate) fn new(reader: WavReader<R>) -> WavIntoSamples<R, S>
+    ghost use Rattle.hound_reader.specs.Samples.{taken_reader};
+
+    pub(crate) fn new(reader: WavReader<R>, spec_ex: WavSpecEx) -> WavIntoSamples<R, S>
+        requires { spec_ex ≡ reader.spec_ex }
         ensures { taken_reader result ≡ reader }
     {
         WavIntoSamples {
             reader,
+            spec_ex,
             phantom_sample: PhantomData,
         }
     }
 }
 
 impl<R: io::Read + Drop, S: Sample> Iterator for WavIntoSamples<R, S> {
+    ghost use Rattle.hound_reader.specs.Samples.{taken_reader, TakesNext};
+
     type Item = Result<S>;
 
     ghost next_gives = { TakesNext R.remaining S.refusal S.meaning };
 
     ghost remaining = { λ s. at_most (samples_left (taken_reader s)) };
 
-    #[inline(always)]
+    #[inline]
     fn next(&mut self) -> Option<Result<S>> {
-        self.reader.next_item()
+        let no_sample = match self.reader.next_item(self.spec_ex)? {
+            Ok(sample) => return Some(Ok(sample)),
+            Err(no_sample) => no_sample,
+        };
+        Some(Err(error_of_item(no_sample, self.reader.last_fault())))
     }
 
     fn size_hint(&self) -> (usize, Option<usize>)

@@ -1,13 +1,17 @@
-// Many samples in few reads: pieces of whole containers are read, and then decoded.
+// Containers that are read and decoded: one, or many in few reads, which fill pieces of whole
+// containers.
 ghost use Rattle.std.specs.Prelude.{◌≡◌, ◌≤◌, ◌<◌, ◌*◌, ℕ, List, length, map, take, None, Ok, Err, OnErr, OnOk};
 ghost use Rattle.std.specs.Io.KnownBytes.{Consumes};
 ghost use Rattle.hound_sample.specs.Container.{containers};
+ghost use Rattle.hound_sample.specs.ItemReads.{ReadsItem};
 ghost use Rattle.hound_sample.specs.ManyReads.{FillsFront, ReadsEach, items_of};
+ghost use Rattle.hound_sample.specs.Reads.{ReadsContainer};
 ghost use Rattle.hound_spec.specs.declared.spec.SampleFormat.{SampleFormat};
 
-use hound_number::early_end;
+use crate::item::{ContainerReader, ItemError};
+use hound_number::{early_end, read_into};
 use hound_spec::{Error, Result, SampleFormat};
-use std::io;
+use std::{io, result};
 
 // The bytes of a piece: enough that a read costs little for each sample.
 const PIECE: usize = 1024;
@@ -31,6 +35,49 @@ pub(crate) trait Decode: Sized + Drop {
         requires decodes { Decodes fmt bytes bits }
         requires width { length container.now ≡ bytes }
         ensures { result ≡ value fmt bytes bits container.now };
+}
+
+/// Reads a container and decodes it, as [`Sample::read`](crate::Sample::read) does if the type
+/// reads the samples.
+#[inline(always)]
+pub(crate) fn read_container<S: Decode, R: io::Read>(
+    reader: &mut R,
+    fmt: SampleFormat,
+    bytes: u16,
+    bits: u16,
+) -> Result<S>
+    requires decodes { S.Decodes fmt bytes bits }
+    requires few { bytes ≤ 4 }
+    ensures { ReadsContainer (S.value fmt bytes bits) bytes (R.remaining reader.old)
+        (R.remaining reader.new) result }
+{
+    let mut container = [0; 4];
+    let container = &mut container[..bytes as usize];
+    match read_into(reader, container) {
+        Ok(()) => Ok(S::decode(container, fmt, bytes, bits)),
+        Err(error) => Err(Error::IoError(error.into())),
+    }
+}
+
+/// Takes the next container and decodes it, as [`Sample::read_item`](crate::Sample::read_item) does
+/// if the type reads the samples.
+#[inline(always)]
+pub(crate) fn decode_next<S: Decode, R: ContainerReader>(
+    reader: &mut R,
+    fmt: SampleFormat,
+    bytes: u16,
+    bits: u16,
+) -> result::Result<S, ItemError>
+    requires decodes { S.Decodes fmt bytes bits }
+    requires some { 1 ≤ bytes }
+    requires few { bytes ≤ 4 }
+    ensures { ReadsItem None (S.value fmt bytes bits) bytes (R.remaining reader.old)
+        (R.remaining reader.new) result }
+{
+    match reader.next_container(bytes) {
+        Some(container) => Ok(S::decode(&container[..bytes as usize], fmt, bytes, bits)),
+        None => Err(ItemError::Failed),
+    }
 }
 
 // Fills the front of a buffer, all of it unless a read fails or the input ends. Returns the count.

@@ -9,10 +9,11 @@ ghost use Rattle.hound_spec.specs.declared.error.Error.TheVariants.{InvalidSampl
 ghost use Rattle.hound_spec.specs.declared.spec.SampleFormat.TheVariants.{Float, Int};
 
 use crate::Sample;
-use crate::decode::{Decode, read_pieces, refuse_many};
-use hound_number::{le_u32, read_into, u32_at};
+use crate::decode::{Decode, decode_next, read_container, read_pieces, refuse_many};
+use crate::item::{ContainerReader, ItemError, reason_of};
+use hound_number::{le_u32, u32_at};
 use hound_spec::{Error, Result, SampleFormat};
-use std::io;
+use std::{io, result};
 
 /// A floating-point sample of 32 bits, by its bit pattern.
 ///
@@ -24,18 +25,6 @@ use std::io;
 /// the type itself returns 0.
 #[derive(Clone, Copy, Debug, PartialEq, Eq)]
 pub struct FloatBits(pub u32);
-
-#[inline(always)]
-fn read_pattern<R: io::Read>(reader: &mut R) -> Result<FloatBits>
-    ensures { ReadsContainer (λ container. record { 0 = pattern container }) 4
-        (R.remaining reader.old) (R.remaining reader.new) result }
-{
-    let mut container = [0; 4];
-    match read_into(reader, &mut container) {
-        Ok(()) => Ok(FloatBits(u32_at(&container, 0))),
-        Err(error) => Err(Error::IoError(error.into())),
-    }
-}
 
 // Why a pattern isn't read from samples of another format or pair.
 #[inline(always)]
@@ -87,9 +76,22 @@ impl Sample for FloatBits {
         bits: u16,
     ) -> Result<FloatBits> {
         if matches!(fmt, SampleFormat::Float) && bytes == 4 && bits == 32 {
-            return read_pattern(reader);
+            return read_container(reader, fmt, 4, 32);
         }
         Err(pattern_refusal(fmt, bytes))
+    }
+
+    #[inline(always)]
+    fn read_item<R: ContainerReader>(
+        reader: &mut R,
+        fmt: SampleFormat,
+        bytes: u16,
+        bits: u16,
+    ) -> result::Result<FloatBits, ItemError> {
+        if matches!(fmt, SampleFormat::Float) && bytes == 4 && bits == 32 {
+            return decode_next(reader, fmt, 4, 32);
+        }
+        Err(reason_of(pattern_refusal(fmt, bytes)))
     }
 
     #[inline(always)]

@@ -11,11 +11,9 @@ ghost use Rattle.hound_spec.specs.declared.spec.SampleFormat.TheVariants.{Float,
 
 use crate::decode::Decode;
 use hound_number::{
-    i16_from_le, i24_from_le, i32_from_le, le_i16, le_i32, read_into, signed_from_u8,
-    u8_from_signed,
+    i16_from_le, i24_from_le, i32_from_le, le_i16, le_i32, signed_from_u8, u8_from_signed,
 };
 use hound_spec::{Error, Result, SampleFormat};
-use std::io;
 
 // The number in eight bits.
 fn narrow_to_i8(x: i32) -> Result<i8>
@@ -124,60 +122,6 @@ pub(crate) fn integer_refusal(fmt: SampleFormat, bytes: u16, most: u16) -> Error
     }
 }
 
-// One unsigned byte, which counts from -128.
-#[inline(always)]
-pub(crate) fn read_8_bits<R: io::Read>(reader: &mut R) -> Result<i8>
-    ensures { ReadsContainer (int_meaning 1 8) 1 (R.remaining reader.old) (R.remaining reader.new)
-        result }
-{
-    let mut container = [0; 1];
-    match read_into(reader, &mut container) {
-        Ok(()) => Ok(signed_from_u8(container[0])),
-        Err(error) => Err(Error::IoError(error.into())),
-    }
-}
-
-#[inline(always)]
-pub(crate) fn read_16_bits<R: io::Read>(reader: &mut R) -> Result<i16>
-    ensures { ReadsContainer (int_meaning 2 16) 2 (R.remaining reader.old) (R.remaining reader.new)
-        result }
-{
-    let mut container = [0; 2];
-    match read_into(reader, &mut container) {
-        Ok(()) => Ok(i16_from_le(container)),
-        Err(error) => Err(Error::IoError(error.into())),
-    }
-}
-
-// The integer in the first bytes.
-#[inline(always)]
-fn integer_of(container: [u8; 4], bits: u16, bytes: u16) -> i32
-    requires { IsPair Int bits bytes }
-    ensures { result ≡ int_meaning bytes bits (take bytes container) }
-{
-    let [low, middle, high, _] = container;
-    match bits {
-        8 => signed_from_u8(low) as i32,
-        16 => i16_from_le([low, middle]) as i32,
-        24 => i24_from_le([low, middle, high]),
-        _ => i32_from_le(container),
-    }
-}
-
-/// An integer of any pair of bits and bytes, in one read of the whole container.
-#[inline(always)]
-pub(crate) fn read_integer<R: io::Read>(reader: &mut R, bits: u16, bytes: u16) -> Result<i32>
-    requires { IsPair Int bits bytes }
-    ensures { ReadsContainer (int_meaning bytes bits) bytes (R.remaining reader.old)
-        (R.remaining reader.new) result }
-{
-    let mut container = [0; 4];
-    match read_into(reader, &mut container[..bytes as usize]) {
-        Ok(()) => Ok(integer_of(container, bits, bytes)),
-        Err(error) => Err(Error::IoError(error.into())),
-    }
-}
-
 impl Decode for i8 {
     ghost Decodes = { λ fmt bytes bits. int_refusal 1 fmt bytes bits ≡ None };
 
@@ -211,9 +155,9 @@ impl Decode for i32 {
     #[inline(always)]
     fn decode(container: &[u8], fmt: SampleFormat, bytes: u16, bits: u16) -> i32 {
         match bits {
-            8 => signed_from_u8(container[0]) as i32,
             16 => i16_from_le([container[0], container[1]]) as i32,
             24 => i24_from_le([container[0], container[1], container[2]]),
+            8 => signed_from_u8(container[0]) as i32,
             _ => i32_from_le([container[0], container[1], container[2], container[3]]),
         }
     }

@@ -4,9 +4,11 @@
 mod decode;
 mod float;
 mod integer;
+mod item;
 mod laws;
 mod sample;
 
 pub use float::FloatBits;
+pub use item::{ContainerReader, ItemError, reason_of};
 pub use laws::{integers_come_back, short_integers_are_kept};
 pub use sample::Sample;

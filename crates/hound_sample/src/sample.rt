@@ -4,17 +4,17 @@ ghost use Rattle.hound_sample.specs.Container.{Refusal, int_container};
 ghost use Rattle.hound_sample.specs.Encoding.{IsEncoded, WritesContainer};
 ghost use Rattle.hound_sample.specs.ContainerLaws.{int_container-in_width};
 ghost use Rattle.hound_sample.specs.Meaning.{ReadRefusal, int_refusal, int_meaning, low_short};
+ghost use Rattle.hound_sample.specs.ItemReads.{ReadsItem};
 ghost use Rattle.hound_sample.specs.ManyReads.{FillsFront, ReadsEach, items_of};
 ghost use Rattle.hound_sample.specs.Reads.{Reads};
 ghost use Rattle.hound_spec.specs.declared.spec.SampleFormat.{SampleFormat};
 
-use crate::decode::{read_pieces, refuse_many};
-use crate::integer::{
-    encode_integer, integer_refusal, lowest_16_bits, read_8_bits, read_16_bits, read_integer,
-};
+use crate::decode::{decode_next, read_container, read_pieces, refuse_many};
+use crate::integer::{encode_integer, integer_refusal, lowest_16_bits};
+use crate::item::{ContainerReader, ItemError, reason_of};
 use hound_number::write_bytes;
 use hound_spec::{Error, Result, SampleFormat, is_pair};
-use std::io;
+use std::{io, result};
 
 /// A type whose samples are read and written.
 ///
@@ -84,6 +84,27 @@ pub trait Sample: Sized + Drop {
             (R.remaining reader.old) (R.remaining reader.new) result }
         ensures untouched { IsSome (refusal fmt bytes bits) → reader.new ≡ reader.old };
 
+    /// Reads a sample as [`Sample::read`] does, from a reader that saves its faults (own).
+    ///
+    /// A `WavReader` reads each item by it. The error of `read` has the fault in it, and so it is
+    /// large; here the reader has the fault. A type of your own needn't implement it.
+    #[inline(always)]
+    fn read_item<R: ContainerReader>(
+        reader: &mut R,
+        fmt: SampleFormat,
+        bytes: u16,
+        bits: u16,
+    ) -> result::Result<Self, ItemError>
+        ensures item { ReadsItem (refusal fmt bytes bits) (meaning fmt bytes bits) bytes
+            (R.remaining reader.old) (R.remaining reader.new) result }
+        ensures untouched { IsSome (refusal fmt bytes bits) → reader.new ≡ reader.old }
+    {
+        match Self::read(reader, fmt, bytes, bits) {
+            Ok(sample) => Ok(sample),
+            Err(error) => Err(reason_of(error)),
+        }
+    }
+
     /// Reads samples one after the other, until the slice is full or `read` returns an error (own).
     ///
     /// Returns how many samples were read, which are the front of the slice, and the error that
@@ -143,9 +164,22 @@ impl Sample for i8 {
     #[inline(always)]
     fn read<R: io::Read>(reader: &mut R, fmt: SampleFormat, bytes: u16, bits: u16) -> Result<Self> {
         if matches!(fmt, SampleFormat::Int) && bytes == 1 && bits == 8 {
-            return read_8_bits(reader);
+            return read_container(reader, fmt, 1, 8);
         }
         Err(integer_refusal(fmt, bytes, 1))
+    }
+
+    #[inline(always)]
+    fn read_item<R: ContainerReader>(
+        reader: &mut R,
+        fmt: SampleFormat,
+        bytes: u16,
+        bits: u16,
+    ) -> result::Result<Self, ItemError> {
+        if matches!(fmt, SampleFormat::Int) && bytes == 1 && bits == 8 {
+            return decode_next(reader, fmt, 1, 8);
+        }
+        Err(reason_of(integer_refusal(fmt, bytes, 1)))
     }
 
     #[inline(always)]
@@ -188,15 +222,26 @@ impl Sample for i16 {
 
     #[inline(always)]
     fn read<R: io::Read>(reader: &mut R, fmt: SampleFormat, bytes: u16, bits: u16) -> Result<Self> {
-        if matches!(fmt, SampleFormat::Int) {
-            if bytes == 2 && bits == 16 {
-                return read_16_bits(reader);
-            }
-            if bytes == 1 && bits == 8 {
-                return Ok(read_8_bits(reader)? as i16);
-            }
+        match (fmt, bytes, bits) {
+            (SampleFormat::Int, 2, 16) => read_container(reader, fmt, 2, 16),
+            (SampleFormat::Int, 1, 8) => read_container(reader, fmt, 1, 8),
+            _ => Err(integer_refusal(fmt, bytes, 2)),
         }
-        Err(integer_refusal(fmt, bytes, 2))
+    }
+
+    #[inline(always)]
+    fn read_item<R: ContainerReader>(
+        reader: &mut R,
+        fmt: SampleFormat,
+        bytes: u16,
+        bits: u16,
+    ) -> result::Result<Self, ItemError> {
+        if matches!(fmt, SampleFormat::Int)
+            && ((bytes == 2 && bits == 16) || (bytes == 1 && bits == 8))
+        {
+            return decode_next(reader, fmt, bytes, bits);
+        }
+        Err(reason_of(integer_refusal(fmt, bytes, 2)))
     }
 
     #[inline(always)]
@@ -241,9 +286,22 @@ impl Sample for i32 {
     #[inline(always)]
     fn read<R: io::Read>(reader: &mut R, fmt: SampleFormat, bytes: u16, bits: u16) -> Result<Self> {
         if matches!(fmt, SampleFormat::Int) && is_pair(fmt, bits, bytes) {
-            return read_integer(reader, bits, bytes);
+            return read_container(reader, fmt, bytes, bits);
         }
         Err(integer_refusal(fmt, bytes, 4))
+    }
+
+    #[inline(always)]
+    fn read_item<R: ContainerReader>(
+        reader: &mut R,
+        fmt: SampleFormat,
+        bytes: u16,
+        bits: u16,
+    ) -> result::Result<Self, ItemError> {
+        if matches!(fmt, SampleFormat::Int) && is_pair(fmt, bits, bytes) {
+            return decode_next(reader, fmt, bytes, bits);
+        }
+        Err(reason_of(integer_refusal(fmt, bytes, 4)))
     }
 
     #[inline(always)]

@@ -89,10 +89,12 @@ pub fn is_pair(format: SampleFormat, bits: u16, width: u16) -> bool
     ensures { result ≡ is_pair format bits width }
 {
     match format {
-        SampleFormat::Int => match (bits, width) {
-            (8, 1) | (16, 2) | (24, 3) | (24, 4) | (32, 4) => true,
-            _ => false,
-        },
+        SampleFormat::Int => {
+            (bits == 8 && width == 1)
+                || (bits == 16 && width == 2)
+                || (bits == 24 && (width == 3 || width == 4))
+                || (bits == 32 && width == 4)
+        }
         SampleFormat::Float => bits == 32 && width == 4,
     }
 }

@@ -53,6 +53,7 @@ impl SampleWords {
     ghost use Rattle.hound.specs.Container.{Refusal, containers, fits, if_fits, int_container, offset_byte, pattern_container};
     ghost use Rattle.hound.specs.ContainerLaws.{int_container-in_width, pattern_container-in_width};
     ghost use Rattle.hound.specs.Encoding.{IsEncoded, WritesContainer};
+    ghost use Rattle.hound.specs.ItemReads.{ReadsItem, error_of_item, reason_of};
     ghost use Rattle.hound.specs.ManyReads.{FillsFront, ReadsEach, items_of};
     ghost use Rattle.hound.specs.Meaning.{ReadRefusal, float_refusal, int_meaning, int_refusal, low_short, pattern};
     ghost use Rattle.hound.specs.Reads.{Reads, ReadsContainer};
@@ -104,7 +105,7 @@ impl ReaderWords {
     ghost use Rattle.hound.specs.Counting.{HasGiven, HasGiven-prop};
     ghost use Rattle.hound.specs.Fmt.{IsSoundSpec, by_subformat, by_tag, fmt_len, fmt_of, wave_format, wave_format_extensible, wave_format_ieee_float, wave_format_pcm};
     ghost use Rattle.hound.specs.Front.{ReportsFront, TakesFront};
-    ghost use Rattle.hound.specs.Item.{AnswersRead, answer_of, error_of_item, reason_of, taken_without};
+    ghost use Rattle.hound.specs.Item.{AnswersNext, AnswersRead, taken_without};
     ghost use Rattle.hound.specs.Items.{AreItems, GivesItems};
     ghost use Rattle.hound.specs.Outcome.{CountsFailed, Gives, Refuses, UnlessReadFailed};
     ghost use Rattle.hound.specs.Reader.{HasSoundCounts, HasWholeFrames, IsNext, ReaderState, meaning_at, refusal_at, samples_left};
@@ -152,6 +153,7 @@ impl WriterWords {
     ghost use Rattle.hound.specs.Publishing.{Checkpoints, Finishes};
     ghost use Rattle.hound.specs.Room.{IsSixteen};
     ghost use Rattle.hound.specs.Sizes.{field};
+    ghost use Rattle.hound.specs.Storing.{IsStored};
     ghost use Rattle.hound.specs.Writer.{AreFrames, HasRoom, IsCounted, IsPadded, IsSound, IsWhole, WriterState, accepted_samples, data_end, data_length, padded_end, sample_count};
 
     fn read() -> bool
@@ -165,7 +167,7 @@ struct SessionWords;
 
 impl SessionWords {
     ghost use Rattle.hound.specs.FirstError.{IsAnswered};
-    ghost use Rattle.hound.specs.Headline.{AppendedSurvives, LosesNothing};
+    ghost use Rattle.hound.specs.Headline.{AppendedSurvives, IsLeftAfter, LosesNothing, accepted_after, cut_point};
     ghost use Rattle.hound.specs.Run.{Begins, Ends, IsNotBegun, IsSession, NoFault, Ran, Runs, Takes};
     ghost use Rattle.hound.specs.Sessions.{AreSessions, RunsAgain, RunsOk, RunsOn, RunsOnce, StopsIn, StopsShort, all_steps};
     ghost use Rattle.hound.specs.Steps.{OnBatched, accepted_by_all, batch_containers, containers_of, is_sixteen, wants_memory};

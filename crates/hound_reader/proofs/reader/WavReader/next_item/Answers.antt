@@ -1,25 +1,72 @@
-use Rattle.std.proofs.Common.{ap, subst, refl, arith, ◌+◌, Some, Ok}
-use Rattle.hound_reader.specs.Reader.{ReaderState, IsNext}
+use Rattle.std.proofs.Common.{◌≡◌, ◌<◌, ◌^◌, ℕ, ap, subst, sym, ◌∙◌, arith, ◌+◌, Some, Ok, Err}
+use Rattle.std.specs.Prelude.{IsSome}
+use Rattle.hound_spec.specs.declared.spec.WavSpecEx.{WavSpecEx}
+use Rattle.hound_sample.specs.ItemReads.{ReadsItem}
+use Rattle.hound_reader.specs.Item.{AnswersNext, taken_without}
+use Rattle.hound_reader.specs.Reader.{ReaderState, meaning_at, refusal_at}
 use Rattle.hound_reader.specs.declared.item.KeepingReader.{KeepingReader}
+use Rattle.hound_reader.proofs.BlockLemmas.{no_sample_is_given}
 use Rattle.hound_reader.proofs.ItemLemmas.{a_sample_is_given}
 use Rattle.hound_reader.proofs.reader.WavReader.next_item.Goals as goal
 
-pub returns-in-Ok : goal.returns-in-Ok
-returns-in-Ok g c =
+pub returns-in-Ok-clause-answers : goal.returns-in-Ok-clause-answers
+returns-in-Ok-clause-answers g c =
     let r = c.self.inside in
-    let new : ReaderState _ =
-    record {
-      reader = c.read_counted-sample.new.reader.reader;
+    let left = g.R.Read.remaining in
+    let refusal = g.S.Sample.refusal in
+    let meaning = g.S.Sample.meaning in
+    let read = c.read_counted-sample in
+    let same : c.args.spec_ex ≡ r.spec_ex =
+    c.requires ∙ sym (ap (λ (v : ReaderState _). v.spec_ex) c.self.view_is) in
+    let new : ℕ → ReaderState _ =
+    λ taken. record {
+      reader = read.new.reader.reader;
       spec_ex = r.spec_ex;
       num_samples = r.num_samples;
       samples_read = r.samples_read + 1;
-      bytes_read =
-          r.bytes_read + r.spec_ex.bytes_per_sample;
+      bytes_read = r.bytes_read + taken;
     } in
-    subst (λ old. IsNext g.R.Read.remaining g.S.Sample.refusal g.S.Sample.meaning
-    (Some (Ok c.in-Ok.sample)) old new) c.self.view_is
-    (a_sample_is_given g.R.Read.remaining g.S.Sample.refusal g.S.Sample.meaning _ new
-    c.read_counted-sample.result.0 c.read_counted-sample.new.reader.fault c.in-Ok.sample
-    (omega (arith, c.if-self.false)) refl c.read_counted-sample.ensures.read
+    let given = subst (λ s. ReadsItem (refusal_at refusal s) (meaning_at meaning s) s.bytes_per_sample
+    (left r.reader.reader) (left read.new.reader.reader) read.result.0) same read.ensures.item in
+    subst (λ old. AnswersNext left refusal meaning (Some (Ok c.in-Ok.sample)) old
+    (new c.args.spec_ex.bytes_per_sample)) c.self.view_is
+    (a_sample_is_given left refusal meaning _ (new c.args.spec_ex.bytes_per_sample) read.result.0
+    read.new.reader.fault c.in-Ok.sample (omega (arith, c.if-self.false))
+    (ap new (ap (λ (s : WavSpecEx). s.bytes_per_sample) same)) (given read.new.reader.fault)
     (λ some. ap (λ (k : KeepingReader _). k.reader)
-    (c.read_counted-sample.ensures.untouched some)) c.in-Ok.is)
+    (read.ensures.untouched (subst (λ s. IsSome (refusal_at refusal s)) (sym same) some)))
+    c.in-Ok.is)
+
+pub returns-in-Err-clause-answers : goal.returns-in-Err-clause-answers
+returns-in-Err-clause-answers g c =
+    let r = c.self.inside in
+    let left = g.R.Read.remaining in
+    let refusal = g.S.Sample.refusal in
+    let meaning = g.S.Sample.meaning in
+    let read = c.read_counted-sample in
+    let reason = c.in-Err.no_sample in
+    let same : c.args.spec_ex ≡ r.spec_ex =
+    c.requires ∙ sym (ap (λ (v : ReaderState _). v.spec_ex) c.self.view_is) in
+    let new : ℕ → ReaderState _ =
+    λ taken. record {
+      reader = read.new.reader.reader;
+      spec_ex = r.spec_ex;
+      num_samples = r.num_samples;
+      samples_read = r.samples_read + 1;
+      bytes_read = r.bytes_read + taken;
+    } in
+    let given = subst (λ a. ReadsItem (refusal_at refusal r.spec_ex) (meaning_at meaning r.spec_ex)
+    r.spec_ex.bytes_per_sample (left r.reader.reader) (left read.new.reader.reader) a) c.in-Err.is
+    (subst (λ s. ReadsItem (refusal_at refusal s) (meaning_at meaning s) s.bytes_per_sample
+    (left r.reader.reader) (left read.new.reader.reader) read.result.0) same read.ensures.item) in
+    let small : r.spec_ex.bytes_per_sample < 2 ^ 64 =
+    omega (arith, c.self.invariant.sound.2, c.self.invariant.sound.0) in
+    subst (λ old. AnswersNext left refusal meaning (Some (Err reason)) old (new c.taken_without.result))
+    c.self.view_is
+    (no_sample_is_given left refusal meaning _ (new c.taken_without.result) reason read.result.1
+    (omega (arith, c.if-self.false)) small
+    (ap new (c.taken_without.ensures
+    ∙ ap (λ (s : WavSpecEx). taken_without reason read.result.1 s.bytes_per_sample) same)) given
+    (λ some. ap (λ (k : KeepingReader _). k.reader)
+    (read.ensures.untouched (subst (λ s. IsSome (refusal_at refusal s)) (sym same) some)))
+    read.ensures.given)

@@ -2,7 +2,8 @@ use Rattle.std.proofs.Common.{◌≡◌, ◌<◌, ◌+◌, ◌*◌, ◌-◌, ◌
 use Rattle.std.specs.Prelude.{OnOk, OnErr}
 use Rattle.hound_sample.specs.ManyReads.{ReadsEach, items_of}
 use Rattle.hound_reader.specs.Blocks.{GivesItemsOfBytes, ReadsBlock, over_bytes}
-use Rattle.hound_reader.specs.Item.{answer_of, error_of_item, taken_without}
+use Rattle.hound_sample.specs.ItemReads.{answer_of, error_of_item}
+use Rattle.hound_reader.specs.Item.{taken_without}
 use Rattle.hound_reader.specs.Reader.{ReaderState, refusal_at, meaning_at, samples_left}
 use Rattle.hound_spec.specs.FmtChunk.{greatest_u32}
 use Rattle.std.proofs.Math.Nat.{le-mul_of_pos_right}
