@@ -45,12 +45,12 @@ pub fn a_second_repair_writes_nothing()
         × (new.contents ≡ next.contents) }
 {}
 
-/// A repair that was cut off can be done again: a file that is half mended is repaired to the same
-/// frames, by either call.
+/// A repair that was cut off can be done again: an Ok repair of a file that is half mended finds the
+/// same frames, by either call.
 ///
-/// So is the file in each intermediate state of a repair, by [`repair_to_end`](crate::repair_to_end).
-/// A data length that is half written may lead to bytes that look like chunks, and then
-/// [`repair`](crate::repair) reports these.
+/// So does one of the file in each intermediate state of a repair, by
+/// [`repair_to_end`](crate::repair_to_end). A data length that is half written may lead to bytes
+/// that look like chunks, and then [`repair`](crate::repair) reports these.
 pub fn a_half_mended_file_is_repaired()
     ensures { (looks again : Bool) (old mid new : MediumState) (found other : Repair) (len start : ℕ)
         → IsFoundAt looks old.contents found len start

@@ -104,32 +104,6 @@ impl<R: io::Read> Ahead<R> {
     }
 }
 
-// Copies a few bytes. A copy of a length that isn't known is a call, and a sample has a few bytes.
-#[inline(always)]
-fn copy_few(buf: &mut [u8], from: &[u8])
-    requires { length buf.old ≡ length from.now }
-    ensures { buf.new ≡ from.now }
-{
-    match buf.len() {
-        2 => {
-            buf[0] = from[0];
-            buf[1] = from[1];
-        }
-        3 => {
-            buf[0] = from[0];
-            buf[1] = from[1];
-            buf[2] = from[2];
-        }
-        4 => {
-            buf[0] = from[0];
-            buf[1] = from[1];
-            buf[2] = from[2];
-            buf[3] = from[3];
-        }
-        _ => buf.copy_from_slice(from),
-    }
-}
-
 // The fault of an input that failed.
 #[cold]
 fn fault() -> io::Error {
@@ -157,7 +131,7 @@ impl<R: io::Read> io::Read for Ahead<R> {
                 None => Err(fault()),
             };
         }
-        copy_few(buf, &self.bytes[self.start..self.start + count]);
+        buf.copy_from_slice(&self.bytes[self.start..self.start + count]);
         self.start += count;
         Ok(count)
     }
