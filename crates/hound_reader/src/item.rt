@@ -121,7 +121,7 @@ impl<R: io::Read> KeepingReader<R> {
         if count == buf.len() {
             return count;
         }
-        if count > buf.len() {
+        if count == 0 || count > buf.len() {
             return 0;
         }
         count + self.fill_rest(&mut buf[count..])
