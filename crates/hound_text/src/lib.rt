@@ -3,7 +3,6 @@
 #![tactic(auto)]
 
 mod ahead;
-mod eight;
 mod laws;
 mod lines;
 mod numbers;
