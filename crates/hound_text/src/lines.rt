@@ -91,17 +91,32 @@ impl Lines {
         self.length += 1;
     }
 
-    // Appends the digits of a number in base 10: those before the last one, and that one.
+    // Appends the digits of a number in base 10, which are made from the last one on.
+    #[inline(always)]
     fn push_decimal(&mut self, number: u32)
-        requires { length self.old + length (decimal number) ≤ 16384 }
+        requires { length self.old + 10 ≤ 16384 }
         ensures { self.new ≡ self.old ++ decimal number }
     {
-        if number < 10 {
-            self.push(b'0' + number as u8);
-            return;
+        let mut text = [0; 10];
+        let mut start = 9;
+        let mut rest = number;
+        while rest >= 10 {
+            text[start] = b'0' + (rest % 10) as u8;
+            rest /= 10;
+            start -= 1;
         }
-        self.push_decimal(number / 10);
-        self.push(b'0' + (number % 10) as u8);
+        text[start] = b'0' + rest as u8;
+        self.append(&text[start..]);
+    }
+
+    // Appends text.
+    fn append(&mut self, text: &[u8])
+        requires { length self.old + length text.now ≤ 16384 }
+        ensures { self.new ≡ self.old ++ text.now }
+    {
+        let start = self.length;
+        self.bytes[start..start + text.len()].copy_from_slice(text);
+        self.length = start + text.len();
     }
 
     /// Writes the lines, in order. There are none after it, whatever it returns; at an `Err` a
@@ -129,10 +144,8 @@ impl io::Write for Lines {
         ensures bytes { WriteAppends (Some self.old) (Some self.new) result buf.now }
         ensures count { result ≡ Ok (min (length buf.now) (16384 - length self.old)) }
     {
-        let start = self.length;
-        let count = buf.len().min(16384 - start);
-        self.bytes[start..start + count].copy_from_slice(&buf[..count]);
-        self.length = start + count;
+        let count = buf.len().min(16384 - self.length);
+        self.append(&buf[..count]);
         Ok(count)
     }
 

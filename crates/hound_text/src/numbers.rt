@@ -1,12 +1,12 @@
 // Numbers as text.
-ghost use Rattle.std.specs.Prelude.{◌≡◌, ℤ, ◌≤◌, IfErr, IfOk, IfSome, OnOk, SomeIff, [], ◌∷◌, Some, None};
+ghost use Rattle.std.specs.Prelude.{◌≡◌, ℤ, ◌≤◌, Bool, List, IfErr, IfOk, IfSome, OnOk, SomeIff, [], ◌∷◌, Some, None, length};
 ghost use Rattle.std.specs.Io.KnownBytes.{IsAtEnd};
 ghost use Rattle.std.specs.Option.{ok_or};
 ghost use Rattle.std.specs.Str.Parse.{IsNumeral, digits_value};
 ghost use Rattle.hound_text.specs.Refusals.{IsRefused, IsTextRefusal};
 ghost use Rattle.hound_text.specs.Reading.{Breaks, Leads, before, ended, longer_magnitude, next_place, signed_within};
 ghost use Rattle.hound_text.specs.Text.{SaysNumbers, is_separator};
-ghost use Rattle.hound_text.specs.declared.numbers.Place.TheVariants.{Between};
+ghost use Rattle.hound_text.specs.declared.numbers.Place.TheVariants.{Between, Inside};
 ghost use Rattle.hound_text.specs.declared.numbers.Refusal.TheVariants.{BadNumber, InputOrOutput, OutOfMemory};
 
 use std::alloc::{AllocFailed, Global};
@@ -146,7 +146,31 @@ fn end_of_word(place: Place, numbers: &mut Vec<i32>) -> Result<(), Refusal>
     }
 }
 
-// Takes bytes of the text, in order.
+// Takes digits that a text begins with, as long as the magnitude with them is one of an `i32`, and
+// gives it and the text after them.
+#[inline(always)]
+fn take_digits(magnitude: u32, text: &[u8]) -> (u32, &[u8])
+    ensures shorter { length result.1.now ≤ length text.now }
+    ensures taken { (negative : Bool) (numbers : List ℤ) →
+        Leads (Inside negative magnitude) text.now numbers (Inside negative result.0) result.1.now
+        numbers }
+{
+    let mut magnitude = magnitude;
+    let mut rest = text;
+    while let Some((byte, others)) = rest.split_first() {
+        if !byte.is_ascii_digit() {
+            break;
+        }
+        let Ok(longer) = with_digit(magnitude, *byte - b'0') else {
+            break;
+        };
+        magnitude = longer;
+        rest = others;
+    }
+    (magnitude, rest)
+}
+
+// Takes bytes of the text, in order: one, and then the digits after it, if a number has begun.
 fn take_bytes(place: Place, bytes: &[u8], numbers: &mut Vec<i32>) -> Result<Place, Refusal>
     ensures taken { IfOk result (λ later.
         Leads place bytes.now numbers.old.items later [] numbers.new.items) }
@@ -157,6 +181,18 @@ fn take_bytes(place: Place, bytes: &[u8], numbers: &mut Vec<i32>) -> Result<Plac
     while let Some((byte, others)) = rest.split_first() {
         place = take_byte(place, *byte, numbers)?;
         rest = others;
+        if let Place::Inside {
+            negative,
+            magnitude,
+        } = place
+        {
+            let (magnitude, after) = take_digits(magnitude, rest);
+            place = Place::Inside {
+                negative,
+                magnitude,
+            };
+            rest = after;
+        }
     }
     Ok(place)
 }
