@@ -2,11 +2,12 @@
 // makes one file of them again.
 //
 // A frame has a sample of each channel, in their order: `read_samples` and `write_samples` of a
-// slice with a place for each channel read and write one frame.
+// slice with a place for each channel read and write one frame. Where a file ends early, the frames
+// before that are written.
 use crate::failure::Failure;
 use hound::{WavReader, WavSpec, WavWriter};
 use std::path::Path;
-use std::slice;
+use std::{io, slice};
 
 /// Writes as many files as the file has channels.
 pub fn split(rt: &HostRuntime, from: &str, to: &[&str]) -> Result<(), Failure> {
@@ -27,8 +28,12 @@ pub fn split(rt: &HostRuntime, from: &str, to: &[&str]) -> Result<(), Failure> {
         writers.push(WavWriter::create(rt, rt.alloc(), Path::new(path), mono)?)?;
     }
     let mut frame = vec![in rt.alloc(); 0i32; to.len()]?;
+    let mut end = Ok(());
     for _ in 0..reader.duration() {
-        reader.read_samples(&mut frame)?;
+        end = reader.read_samples(&mut frame).1;
+        if end.is_err() {
+            break;
+        }
         for (writer, sample) in writers.iter_mut().zip(&frame) {
             writer.write_sample(*sample)?;
         }
@@ -36,6 +41,7 @@ pub fn split(rt: &HostRuntime, from: &str, to: &[&str]) -> Result<(), Failure> {
     for writer in writers {
         writer.finalize()?;
     }
+    end?;
     Ok(())
 }
 
@@ -64,12 +70,27 @@ pub fn merge(rt: &HostRuntime, to: &str, from: &[&str]) -> Result<(), Failure> {
     let spec = WavSpec { channels, ..spec };
     let mut writer = WavWriter::create(rt, rt.alloc(), Path::new(to), spec)?;
     let mut frame = vec![in rt.alloc(); 0i32; from.len()]?;
+    let mut end = Ok(());
     for _ in 0..frames {
-        for (reader, sample) in readers.iter_mut().zip(&mut frame) {
-            reader.read_samples(slice::from_mut(sample))?;
+        end = read_frame(&mut readers, &mut frame);
+        if end.is_err() {
+            break;
         }
         writer.write_samples(&frame)?;
     }
     writer.finalize()?;
+    end?;
+    Ok(())
+}
+
+// Reads a sample of each file.
+fn read_frame<R: io::Read + Drop>(
+    readers: &mut [WavReader<R>],
+    frame: &mut [i32],
+) -> hound::Result<()> {
+    for (reader, sample) in readers.iter_mut().zip(frame) {
+        let (_, result) = reader.read_samples(slice::from_mut(sample));
+        result?;
+    }
     Ok(())
 }

@@ -1,5 +1,6 @@
-use Rattle.std.proofs.Common.{inr, subst, sym}
-use Rattle.hound_commands.proofs.Outputs.{appends-kept, part-written, whole-beginning}
+use Rattle.std.proofs.Common.{inr, refl, subst, sym}
+use Rattle.std.proofs.Transfers.{starts_with_of_eq}
+use Rattle.hound_commands.proofs.Outputs.{appends-kept, part-written}
 use Rattle.hound_commands.proofs.ShowAnswers.{err_is}
 use Rattle.hound_commands.specs.Packing.{IsPacked}
 use Rattle.hound_commands.specs.declared.failure.Failure.TheVariants.{InputOrOutput}
@@ -28,7 +29,7 @@ returns-in_err-flush-clause-until g c =
       subst (IsPacked _ c.in_ok-numbers.numbers.items) (sym c.bytes.ensures) c.in_ok-file.ensures.made,
       (
         c.bytes.result.now,
-        whole-beginning c.bytes.result.now,
+        starts_with_of_eq _ c.bytes.result.now refl,
         appends-kept _ _ _ c.bytes.result.now c.in_ok-write_bytes.ensures c.in_err-flush.ensures.bytes,
       ),
     ))
