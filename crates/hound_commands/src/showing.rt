@@ -8,7 +8,7 @@ ghost use Rattle.hound_text.specs.Writing.{integer_line, pattern_line};
 
 use crate::failure::Failure;
 use hound::{FloatBits, Sample, SampleFormat, WavReader, WavSpec};
-use hound_text::{Ahead, Lines};
+use hound_text::Lines;
 use std::io;
 use std::io::Write;
 
@@ -22,12 +22,8 @@ pub fn show<R: io::Read, O: io::Write>(input: &mut R, output: &mut O) -> Result<
     ensures until { IfErr result (λ failure. ShowsUntil (R.remaining input.old) failure
         (O.contents output.old) (O.contents output.new)) }
 {
-    let mut ahead = Ahead::new(input);
-    let result = show_lines(&mut ahead, output);
+    let result = show_lines(input, output);
     let flushed = output.flush();
-    if ahead.has_failed() {
-        return Err(Failure::InputOrOutput);
-    }
     result?;
     flushed?;
     Ok(())

@@ -1,5 +1,4 @@
 pub mod Decimals
-pub mod Giving
 pub mod Growing
 pub mod Leading
 pub mod Rereading

@@ -4,7 +4,7 @@ ghost use Rattle.std.specs.Fmt.{digit_glyph};
 ghost use Rattle.hound_text.specs.Writing.{integer_line, pattern_line, sign};
 ghost use Rattle.hound_number.specs.Writing.{Writes};
 
-use hound_number::write_bytes;
+use crate::output::write_text;
 use std::io;
 use std::marker::Model;
 
@@ -120,14 +120,14 @@ impl Lines {
     }
 
     /// Writes the lines, in order. There are none after it, whatever it returns; at an `Err` a
-    /// shorter beginning of them is written. `Interrupted` is an error like any other.
+    /// shorter beginning of them is written.
     pub fn write_to<O: io::Write>(&mut self, output: &mut O) -> io::Result<()>
         ensures emptied { self.new ≡ [] }
         ensures written { Writes self.old result (O.contents output.old) (O.contents output.new) }
     {
         let length = self.length;
         self.length = 0;
-        write_bytes(output, &self.bytes[..length])
+        write_text(output, &self.bytes[..length])
     }
 }
 
