@@ -539,23 +539,24 @@ class Reader:
         return count, signed(total, 64), []
 
     def block(self, kind, samples):
-        """Puts samples into the front of a list, up to its end, the last one or an error: how many."""
+        """Puts samples into the front of a list, up to its end, the last one or an error: how many, and
+        that error."""
         for at in range(len(samples)):
-            value = self.next(kind)
+            try:
+                value = self.next(kind)
+            except Refused as error:
+                return at, [str(error)]
             if value is None:
-                return at
+                return at, []
             samples[at] = value
-        return len(samples)
+        return len(samples), []
 
     def sum_by_blocks(self, kind, length):
-        """As `sum`, by blocks of so many; the samples before an error are those that are counted."""
+        """As `sum`, by blocks of so many."""
         count, total = 0, 0
         while True:
-            samples, before, error = [FILLER] * length, self.count, []
-            try:
-                came = self.block(kind, samples)
-            except Refused as refused:
-                came, error = self.count - before - 1, [str(refused)]
+            samples = [FILLER] * length
+            came, error = self.block(kind, samples)
             total += sum((count + place) * value for place, value in enumerate(samples[:came], 1))
             count += came
             if error or came == 0:
@@ -796,10 +797,10 @@ def blocks_asked(reader, kind, extent):
     words = []
     for _ in range(int(times or 1)):
         samples = [FILLER] * int(length)
-        answer = answer_of(lambda: reader.block(kind, samples))
+        count, error = reader.block(kind, samples)
         listed = ",".join(shown(kind, sample) for sample in samples) or "-"
         held = listed if len(samples) <= 8 else f"#{weighted(samples)}"
-        words.append(f"{answer}:{held}:{reader.left()}")
+        words.append(":".join([str(count), *error, held, str(reader.left())]))
     return words
 
 
