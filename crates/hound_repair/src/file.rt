@@ -5,7 +5,7 @@ ghost use Rattle.hound_medium.specs.State.{unknown};
 ghost use Rattle.hound_reader.specs.Fmt.{IsSoundSpec};
 
 use crate::look::find_damage;
-use crate::mend::repair;
+use crate::mend::{repair, repair_to_end};
 use crate::sizes::Repair;
 use hound_medium::{Medium, Placed, Source};
 use hound_spec::{Error, Result};
@@ -79,6 +79,20 @@ fn buffered(alloc: Global, file: fs::File) -> Result<BufReader<fs::File>> {
     }
 }
 
+// A file on disk, opened for reading and writing.
+fn open_in_place(
+    rt: &impl Files<File = fs::File>,
+    alloc: Global,
+    path: Path<'_>,
+) -> Result<FileInPlace> {
+    let file = fs::OpenOptions::new()
+        .read(true)
+        .write(true)
+        .open(rt, path)?;
+    let reader = buffered(alloc, file)?;
+    Ok(FileInPlace { reader })
+}
+
 /// Repairs a file on disk as [`repair`] does, and syncs it where it wrote.
 ///
 /// `rt` is what `main` and each test are given, `alloc` is `rt.alloc()`. The errors, in their order:
@@ -91,12 +105,24 @@ pub fn repair_file(
 ) -> Result<Repair>
     ensures sound { IfOk result (λ found. IsSoundSpec found.spec_ex) }
 {
-    let file = fs::OpenOptions::new()
-        .read(true)
-        .write(true)
-        .open(rt, path)?;
-    let reader = buffered(alloc, file)?;
-    match repair(FileInPlace { reader }) {
+    match repair(open_in_place(rt, alloc, path)?) {
+        Ok((_, found)) => Ok(found),
+        Err((_, error)) => Err(error),
+    }
+}
+
+/// Repairs a file on disk as [`repair_to_end`] does: for a recording whose samples look like chunks
+/// or a tag.
+///
+/// It syncs the file as [`repair_file`] does, and its errors are the same.
+pub fn repair_file_to_end(
+    rt: &impl Files<File = fs::File>,
+    alloc: Global,
+    path: Path<'_>,
+) -> Result<Repair>
+    ensures sound { IfOk result (λ found. IsSoundSpec found.spec_ex) }
+{
+    match repair_to_end(open_in_place(rt, alloc, path)?) {
         Ok((_, found)) => Ok(found),
         Err((_, error)) => Err(error),
     }
