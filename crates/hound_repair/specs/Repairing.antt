@@ -149,7 +149,7 @@ abbrev pub HalfMended : ℕ → ℕ → List ℕ → List ℕ → Type 0
 HalfMended start data_length old new =
     HalfPut (start - 4) (riff_size start data_length) data_length (held start old) old new
 
--- all bytes written were flushed before a pad byte was put at the end, which is the last one
+-- where a pad byte was written at the end, all bytes before it were flushed first
 abbrev pub FlushesBeforePad : MediumState → MediumState → Type 0
 FlushesBeforePad old new =
     length old.contents < length new.contents → length new.past ≤ new.flushed + 1

@@ -10,7 +10,7 @@ use crate::sizes::Repair;
 use hound_medium::{Medium, Placed, Source};
 use hound_spec::{Error, Result};
 use std::alloc::Global;
-use std::io::{BufReader, Read, Seek, SeekFrom, Write};
+use std::io::{BufReader, Read, Seek, Write};
 use std::path::Path;
 use std::rt::Files;
 use std::{fs, io};
@@ -54,9 +54,8 @@ impl Source for FileInPlace {
 impl Medium for FileInPlace {
     ghost replays = { λ _ tells. Prim.absurd (false≢true tells) };
 
-    // The seek drops what was read ahead, so the file is at the place of the next byte.
+    // Each write of a repair comes after a `go`, which drops what was read ahead.
     fn put(&mut self, bytes: &[u8]) -> io::Result<usize> {
-        let _ = self.reader.seek(SeekFrom::Current(0))?;
         let n = self.reader.get_mut().write(bytes)?;
         if n == 0 {
             return Err(io::Error::from(io::ErrorKind::WriteZero));
