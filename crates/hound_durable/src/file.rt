@@ -17,10 +17,17 @@ const FILE_BUFFER_SIZE: usize = 65536;
 /// Bytes are buffered in memory until there are 64 KiB, or until a `go`, a `shift` or a `flush`.
 /// The first `flush` syncs the file with all its metadata, later ones with what is needed to
 /// read it.
+///
+/// After a sync that failed each later `flush` fails too, with a fault of the kind `Other`: the
+/// system may have dropped the bytes that it couldn't store, and would report the next sync as done.
+/// Which of the bytes since the last Ok `flush` the disk has isn't known then, so a recorder
+/// continues in a new file. A write that failed is no such fault: the bytes that the system didn't
+/// take stay in the buffer, and the next `flush` writes them again before it syncs.
 #[derive(Drop)]
 pub struct SyncedFile {
     writer: BufWriter<fs::File>,
     has_synced: bool,
+    has_failed: bool,
 }
 
 impl SyncedFile {
@@ -33,9 +40,23 @@ impl SyncedFile {
             Ok(writer) => Ok(SyncedFile {
                 writer,
                 has_synced: false,
+                has_failed: false,
             }),
             Err(_) => Err(Error::OutOfMemory),
         }
+    }
+
+    // Returns once the disk has what the system was given.
+    fn sync(&mut self) -> io::Result<()> {
+        let file = self.writer.get_ref();
+        let synced = if self.has_synced {
+            file.sync_data()
+        } else {
+            file.sync_all()
+        };
+        self.has_synced = self.has_synced || synced.is_ok();
+        self.has_failed = synced.is_err();
+        synced
     }
 }
 
@@ -64,12 +85,10 @@ impl Medium for SyncedFile {
     }
 
     fn flush(&mut self) -> io::Result<()> {
-        Write::flush(&mut self.writer)?;
-        if self.has_synced {
-            return self.writer.get_ref().sync_data();
+        if self.has_failed {
+            return Err(io::Error::other("an earlier sync of the file failed"));
         }
-        self.writer.get_ref().sync_all()?;
-        self.has_synced = true;
-        Ok(())
+        Write::flush(&mut self.writer)?;
+        self.sync()
     }
 }

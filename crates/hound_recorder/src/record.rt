@@ -3,6 +3,17 @@ use hound::{Medium, Result, SampleFormat, WavSpec, WavWriter};
 use std::io;
 use std::path::Path;
 
+/// How the file is opened.
+#[derive(Clone, Copy)]
+pub enum Opening {
+    /// It is created.
+    Create,
+    /// It is created, and synced at each batch.
+    CreateDurable,
+    /// It is there already, is appended to, and synced at each batch.
+    AppendDurable,
+}
+
 /// The result of a recording.
 #[derive(Clone, Copy)]
 pub struct Recorded {
@@ -22,18 +33,19 @@ fn sample_behind(accepted: u32, bits: u16) -> i16 {
 }
 
 /// Writes a mono file with these bits, in this many batches of this many samples, each of them
-/// published: over a file that is synced at each of these, if `is_durable`.
+/// published. A file that is appended to keeps its bits.
 ///
-/// The samples count up from 0, and begin anew at 32768, or at 128 if they have eight bits.
+/// The samples count up from 0, or from how many the file has, and begin anew at 32768, or at 128 if
+/// they have eight bits.
 /// After each batch that was published the output has a line with the number of samples that the
 /// file then counts, and is flushed. A sample that is an error is tried again as the next one,
-/// and a batch that isn't published has no line. The errors are those of `create`, and of the
-/// output.
+/// and a batch that isn't published has no line. The errors are those of `create`,
+/// `create_durable` or `append_durable`, and of the output.
 pub fn record<O: io::Write>(
     rt: &HostRuntime,
     path: Path<'_>,
     bits: u16,
-    is_durable: bool,
+    opening: Opening,
     lots: u32,
     length: u32,
     output: &mut O,
@@ -44,12 +56,21 @@ pub fn record<O: io::Write>(
         bits_per_sample: bits,
         sample_format: SampleFormat::Int,
     };
-    if is_durable {
-        let writer = WavWriter::create_durable(rt, rt.alloc(), path, spec)?;
-        return record_into(writer, bits, lots, length, output);
+    let alloc = rt.alloc();
+    match opening {
+        Opening::Create => {
+            let writer = WavWriter::create(rt, alloc, path, spec)?;
+            record_into(writer, bits, lots, length, output)
+        }
+        Opening::CreateDurable => {
+            let writer = WavWriter::create_durable(rt, alloc, path, spec)?;
+            record_into(writer, bits, lots, length, output)
+        }
+        Opening::AppendDurable => {
+            let writer = WavWriter::append_durable(rt, alloc, path)?;
+            record_into(writer, bits, lots, length, output)
+        }
     }
-    let writer = WavWriter::create(rt, rt.alloc(), path, spec)?;
-    record_into(writer, bits, lots, length, output)
 }
 
 // Writes the batches, and ends the file.
@@ -60,7 +81,7 @@ fn record_into<W: Medium, O: io::Write>(
     length: u32,
     output: &mut O,
 ) -> Result<Recorded> {
-    let mut accepted = 0u32;
+    let mut accepted = writer.len();
     let mut is_whole = true;
     for _ in 0..lots {
         for _ in 0..length {

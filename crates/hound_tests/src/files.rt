@@ -3,10 +3,12 @@ use crate::helpers::{
     FOUR_SAMPLES, NO_SAMPLES, answer_of, read_all, seeks_everywhere, sixteen, write_all,
 };
 use hound::{
-    RepairState, WavReader, WavWriter, find_damage_in_file, repair_file, repair_file_to_end,
+    Medium, RepairState, SyncedFile, WavReader, WavWriter, find_damage_in_file, repair_file,
+    repair_file_to_end,
 };
 use hound_callers::record_and_read;
 use hound_commands::run_append;
+use std::io::ErrorKind;
 use std::path::{Path, PathBuf};
 use std::test::Fail;
 use std::{env, fs, process};
@@ -131,6 +133,8 @@ const ROWS: &[Row] = &[
             (Deed::AppendDurable(&[19, 23, 29]), "done"),
             (Deed::HasSamples(&[11, 13, 17, 19, 23, 29]), "done"),
             (Deed::HasBytes(&SIX_SAMPLES), "done"),
+            (Deed::CreateDurable(&[11, 13, 17]), "done"),
+            (Deed::HasBytes(THREE_SAMPLES), "done"),
         ],
         is_left: true,
     },
@@ -193,6 +197,7 @@ const ROWS: &[Row] = &[
         name: "a file that is missing stays so",
         deeds: &[
             (Deed::Append(&[]), "IoError"),
+            (Deed::AppendDurable(&[]), "IoError"),
             (Deed::Repair(0, 0), "IoError"),
             (Deed::HasSamples(&[]), "IoError"),
             (Deed::HasBlock(&[]), "IoError"),
@@ -223,6 +228,7 @@ const ROWS: &[Row] = &[
         deeds: &[
             (Deed::Put(&HALF_A_FRAME), "done"),
             (Deed::Append(&[]), "invalid data chunk length"),
+            (Deed::AppendDurable(&[]), "invalid data chunk length"),
             (Deed::HasBytes(&HALF_A_FRAME), "done"),
         ],
         is_left: true,
@@ -418,5 +424,30 @@ fn files_do_as_their_rows_say(rt: HostRuntime) -> Result<(), Fail> {
     for row in ROWS {
         assert!(rt; row.holds(&rt, path.as_path()), "{}", row.name);
     }
+    Ok(())
+}
+
+// The kind of the fault of two flushes, one after the other, of a device to which a byte was written.
+fn faults_of(rt: &HostRuntime, device: &str) -> Result<[Option<ErrorKind>; 2], Fail> {
+    let mut file = SyncedFile::new(rt.alloc(), fs::create(rt, Path::new(device))?)?;
+    file.put(&[0])?;
+    let first = file.flush().err().map(|fault| fault.kind());
+    let second = file.flush().err().map(|fault| fault.kind());
+    Ok([first, second])
+}
+
+// One device takes bytes and can't be synced, the other takes none.
+#[test]
+fn a_failed_sync_is_remembered_and_a_write_is_tried_again(rt: HostRuntime) -> Result<(), Fail> {
+    let synced = faults_of(&rt, "/dev/null")?;
+    let written = faults_of(&rt, "/dev/full")?;
+    assert_eq!(rt;
+        synced,
+        [Some(ErrorKind::InvalidInput), Some(ErrorKind::Other)]
+    );
+    assert_eq!(rt;
+        written,
+        [Some(ErrorKind::StorageFull), Some(ErrorKind::StorageFull)]
+    );
     Ok(())
 }

@@ -30,19 +30,29 @@ fn buffered(alloc: Global, file: fs::File) -> Result<io::BufWriter<fs::File>>
     }
 }
 
-// Returns once the disk has the name of this file, which its folder holds.
-fn sync_folder(rt: &impl Files<File = fs::File>, path: Path<'_>) -> Result<()>
+// Returns once the disk has the name of this file. Where the path is a link, it is the folder of the
+// file itself that has this name.
+fn sync_folder(rt: &impl Files<File = fs::File>, alloc: Global, path: Path<'_>) -> Result<()>
     ensures { IfErr result (λ e. IsIoError e) }
 {
-    let folder = match path.parent() {
-        Some(folder) if !folder.as_str().is_empty() => folder,
-        _ => Path::new("."),
-    };
-    fs::OpenOptions::new()
-        .read(true)
-        .open(rt, folder)?
-        .sync_all()?;
+    let file = rt.canonicalize(alloc, path.as_str())?;
+    let folder = file.parent().unwrap_or(Path::new("/"));
+    fs::open(rt, folder)?.sync_all()?;
     Ok(())
+}
+
+// A medium over this file, once the disk has its contents and its name.
+fn synced(
+    rt: &impl Files<File = fs::File>,
+    alloc: Global,
+    path: Path<'_>,
+    file: fs::File,
+) -> Result<Durable<SyncedFile>>
+    ensures { IfErr result (λ e. IsIoError e ⊎ (e ≡ OutOfMemory)) }
+{
+    file.sync_all()?;
+    sync_folder(rt, alloc, path)?;
+    Ok(Durable::new(SyncedFile::new(alloc, file)?))
 }
 
 impl WavWriter<io::BufWriter<fs::File>> {
@@ -109,12 +119,18 @@ impl WavWriter<io::BufWriter<fs::File>> {
 
 impl WavWriter<Durable<SyncedFile>> {
     /// Creates a file as [`WavWriter::create`] does, and syncs it: here until the disk has the
-    /// file's name, and at each `flush` first the samples, then the sizes that count them.
+    /// empty file and its name, and at each `flush` first the samples, then the sizes that count
+    /// them.
+    ///
+    /// A loss of power before this call returns may leave what was at the path before. After its Ok
+    /// it leaves an empty file or the new one. After a sync that failed each later `flush` fails too:
+    /// see [`SyncedFile`].
     ///
     /// What a loss of power leaves is proved for a [`Durable`] medium whose bytes are known to
     /// contracts; for a real file the order of the calls is tested, and only the errors are proved.
     /// They are those of `create`, in the same order, and after the file was created `IoError`
-    /// if its folder can't be opened or synced.
+    /// if the file or its folder can't be synced. If the path is a link, this folder is that of the
+    /// file that it leads to.
     pub fn create_durable(
         rt: &impl Files<File = fs::File>,
         alloc: Global,
@@ -125,15 +141,15 @@ impl WavWriter<Durable<SyncedFile>> {
             (λ e. (IsIoError e ⊎ (e ≡ OutOfMemory)) ⊎ ((e ≡ Unsupported) × (IsWritable (with_default_width spec) → ⊥))) }
     {
         let file = fs::create(rt, path)?;
-        sync_folder(rt, path)?;
-        let file = SyncedFile::new(alloc, file)?;
-        WavWriter::new(Durable::new(file), spec)
+        WavWriter::new(synced(rt, alloc, path, file)?, spec)
     }
 
     /// Appends to a file as [`WavWriter::append`] does, and syncs it at each `flush` as
     /// [`WavWriter::create_durable`] does.
     ///
-    /// The errors are those of `append`, in the same order.
+    /// It first syncs the file as it was found, and its folder, since whoever wrote it may not have.
+    /// The errors are those of `append`, in the same order, and before that of the writer's buffer
+    /// `IoError` if the file or its folder can't be synced.
     pub fn append_durable(
         rt: &impl Files<File = fs::File>,
         alloc: Global,
@@ -155,7 +171,7 @@ impl WavWriter<Durable<SyncedFile>> {
             Ok(head) => head,
             Err(error) => return Err(error_of(error)),
         };
-        let writer = Durable::new(SyncedFile::new(alloc, reader.into_inner())?);
+        let writer = synced(rt, alloc, path, reader.into_inner())?;
         match append_at(writer, head) {
             Ok(writer) => Ok(writer),
             Err((_, error)) => Err(error),
