@@ -18,9 +18,9 @@ abbrev pub broadcast_tags : List (List ℕ)
 broadcast_tags =
     codes "bext" ∷ codes "levl" ∷ codes "cart" ∷ codes "axml" ∷ codes "chna" ∷ codes "iXML" ∷ []
 
--- tags of what names a work: XMP (Adobe), and ID3v2, which taggers write with two tags
-abbrev pub work_tags : List (List ℕ)
-work_tags = codes "_PMX" ∷ codes "id3 " ∷ codes "ID3 " ∷ []
+-- tags of metadata: XMP (Adobe), and ID3v2, for which taggers use two tags
+abbrev pub metadata_tags : List (List ℕ)
+metadata_tags = codes "_PMX" ∷ codes "id3 " ∷ codes "ID3 " ∷ []
 
 -- tags of programs: acid and strc (Sonic Foundry), afsp (AFsp), PEAK (libsndfile), FLLR (Apple)
 abbrev pub program_tags : List (List ℕ)
@@ -29,7 +29,7 @@ program_tags =
 
 -- the tags that show that a chunk begins, whatever follows them
 abbrev pub known_tags : List (List ℕ)
-known_tags = riff_tags ++ update_tags ++ broadcast_tags ++ work_tags ++ program_tags
+known_tags = riff_tags ++ update_tags ++ broadcast_tags ++ metadata_tags ++ program_tags
 
 -- the first four bytes are such a tag
 unfoldable pub has_known_tag : List ℕ → Bool

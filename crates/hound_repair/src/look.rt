@@ -20,7 +20,7 @@ use hound_spec::{Error, Result, WavSpecEx, is_pair};
 use std::{io, result};
 
 // The tags that show that a chunk begins, whatever follows them: those of RIFF and of its update,
-// of broadcasts, of what names a work, and of programs.
+// of broadcasts, of metadata, and of programs.
 const KNOWN_TAGS: [[u8; 4]; 24] = [
     *b"LIST", *b"INFO", *b"fact", *b"cue ", *b"plst", *b"JUNK", *b"PAD ", *b"DISP", *b"inst",
     *b"smpl", *b"bext", *b"levl", *b"cart", *b"axml", *b"chna", *b"iXML", *b"_PMX", *b"id3 ",
