@@ -21,8 +21,10 @@ pub enum RepairState {
     /// A size is wrong, as where a recording was cut off.
     CutOff,
 
-    /// The data length is followed by chunks with printable tags, to the end of the file: it wasn't
-    /// cut off.
+    /// Something follows the data, by the data length, so the file wasn't cut off in them: a chunk
+    /// with a tag of RIFF or its common extensions, as `LIST`, `bext` or `id3 `, which may itself be
+    /// cut off; chunks with printable tags to the end of the file; or an ID3v1 tag at the end. The
+    /// pad byte after the data may lack.
     HasChunksAfterData,
 }
 
