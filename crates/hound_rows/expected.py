@@ -30,6 +30,12 @@ TEXTS = {
     "TooLong": "The file would be longer than its size fields can say.",
     "OutOfMemory": "There is not enough memory.",
 }
+# The tags of RIFF and of its update, of broadcasts, of XMP and ID3v2, and of programs.
+KNOWN_TAGS = [
+    *[b"LIST", b"INFO", b"fact", b"cue ", b"plst", b"JUNK", b"PAD ", b"DISP", b"inst", b"smpl"],
+    *[b"bext", b"levl", b"cart", b"axml", b"chna", b"iXML", b"_PMX", b"id3 ", b"ID3 "],
+    *[b"acid", b"strc", b"afsp", b"PEAK", b"FLLR"],
+]
 USAGE = b"usage: hound_tool pack CHANNELS RATE BITS | show | append FILE\n"
 
 
@@ -1099,7 +1105,7 @@ class Damage:
             raise Refused("TooLong")
         if (length, int.from_bytes(data[4:8], "little")) == (self.length, self.size):
             self.was = "whole"
-        elif looks and are_chunks(data[self.start + length + length % 2 :]):
+        elif looks and is_followed(data[self.start :], length):
             self.was = "followed"
             self.frames, self.left = divmod(length, frame)
         else:
@@ -1117,16 +1123,26 @@ class Damage:
         return data[:4] + size + data[8 : self.start - 4] + length + data[self.start :] + pad
 
 
-def are_chunks(data):
-    """Whether there are chunks with printable tags up to the end, and at least one."""
-    if not data:
-        return False
+def is_followed(data, length):
+    """Whether a chunk begins after the data, with or without a pad byte, or an ID3v1 tag is at the
+    end."""
+    if len(data) - length >= 128 and data[-128:-125] == b"TAG":
+        return True
+    return begins_chunk(data[length:]) or begins_chunk(data[length + length % 2 :])
+
+
+def begins_chunk(data):
+    """Whether chunks with printable tags, and at least one, reach to the end or to a known tag."""
+    is_first = True
     while data:
+        if data[:4] in KNOWN_TAGS:
+            return True
         length = int.from_bytes(data[4:8], "little")
         if len(data) < 8 + length or not all(32 <= byte < 127 for byte in data[:4]):
             return False
         data = data[8 + length + length % 2 :]
-    return True
+        is_first = False
+    return not is_first
 
 
 def repaired(data):

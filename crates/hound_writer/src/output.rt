@@ -436,8 +436,9 @@ impl<W: Medium> Output<W> {
         ensures place { WhereTells W.tells (OnOk result ((W.state self.new.medium).place
             ≡ self.old.data_start)) }
         ensures moments { WhereKeeps W.tells W.keeps
-            (PatchesAtEach (self.old.data_start - 4) self.old.out result (W.state self.old.medium)
-            (W.state self.new.medium)) }
+            (PatchesAtEach (self.old.data_start - 4)
+            (riff_size self.old.data_start self.old.out) self.old.out result
+            (W.state self.old.medium) (W.state self.new.medium)) }
     {
         self.may_have_moved = true;
         let riff_size = riff_size(self.data_start, self.data_bytes_written as u64) as u32;
@@ -475,8 +476,9 @@ impl<W: Medium> Output<W> {
         ensures place { WhereTells W.tells (OnOk result ((W.state self.new.medium).place
             ≡ self.old.data_start + self.old.out)) }
         ensures moments { WhereKeeps W.tells W.keeps
-            (PatchesAtEach (self.old.data_start - 4) self.old.out result (W.state self.old.medium)
-            (W.state self.new.medium)) }
+            (PatchesAtEach (self.old.data_start - 4)
+            (riff_size self.old.data_start self.old.out) self.old.out result
+            (W.state self.old.medium) (W.state self.new.medium)) }
     {
         self.publish()?;
         self.go_to_end()
