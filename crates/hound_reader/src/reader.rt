@@ -152,8 +152,16 @@ impl<R: io::Read + Drop> WavReader<R> {
         }
     }
 
-    /// The properties of the audio data; its bits are the used ones. The bytes of a sample are no
-    /// part of it; the reader counts with them.
+    /// The properties of the audio data, with the bytes that a sample takes: a file that is begun
+    /// with this spec has containers of the same width.
+    pub fn spec_ex(&self) -> WavSpecEx
+        ensures { result ≡ self.now.spec_ex }
+    {
+        self.spec_ex
+    }
+
+    /// The properties of the audio data; its bits are the used ones. The bytes of a sample are those
+    /// of [`WavReader::spec_ex`].
     pub fn spec(&self) -> WavSpec
         ensures { result ≡ self.now.spec_ex.spec }
     {

@@ -1,10 +1,10 @@
 // Files on disk. What is done to a file is a row of a table (`ROWS`).
 use crate::helpers::{
-    FOUR_SAMPLES, NO_SAMPLES, answer_of, read_all, seeks_everywhere, sixteen, write_all,
+    FOUR_SAMPLES, NO_SAMPLES, answer_of, integers, read_all, seeks_everywhere, sixteen, write_all,
 };
 use hound::{
-    Medium, RepairState, SyncedFile, WavReader, WavWriter, find_damage_in_file, repair_file,
-    repair_file_to_end,
+    FloatBits, Medium, RepairState, SyncedFile, WavReader, WavWriter, find_damage_in_file,
+    repair_file, repair_file_to_end,
 };
 use hound_callers::record_and_read;
 use hound_commands::run_append;
@@ -449,5 +449,26 @@ fn a_failed_sync_is_remembered_and_a_write_is_tried_again(rt: HostRuntime) -> Re
         written,
         [Some(ErrorKind::StorageFull), Some(ErrorKind::StorageFull)]
     );
+    Ok(())
+}
+
+#[test]
+fn a_file_keeps_the_width_of_its_containers(rt: HostRuntime) -> Result<(), Fail> {
+    let path = path_of(&rt)?;
+    let wide = integers(1, 44100, 24, 4);
+    let begun = WavWriter::create_with_spec_ex(&rt, rt.alloc(), path.as_path(), wide)?.spec_ex();
+    let found = WavReader::open(&rt, rt.alloc(), path.as_path())?.spec_ex();
+    let durable =
+        WavWriter::create_durable_with_spec_ex(&rt, rt.alloc(), path.as_path(), wide)?.spec_ex();
+    fs::remove_file(&rt, path.as_path())?;
+    assert_eq!(rt; (begun, found, durable), (wide, wide, wide));
+    Ok(())
+}
+
+#[test]
+fn floats_are_the_patterns_of_their_numbers(rt: HostRuntime) -> Result<(), Fail> {
+    let half = FloatBits::from(0.5);
+    let number = f32::from(FloatBits(0xbfc0_0000));
+    assert_eq!(rt; (half, number == -1.5), (FloatBits(0x3f00_0000), true));
     Ok(())
 }

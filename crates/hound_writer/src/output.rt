@@ -529,6 +529,13 @@ impl<W: Medium> Output<W> {
         writer
     }
 
+    /// The spec that the file was begun with, with the bytes that a sample takes.
+    pub(crate) fn spec_ex(&self) -> WavSpecEx
+        ensures { result ≡ self.now.spec_ex }
+    {
+        self.spec_ex
+    }
+
     /// The spec that the file was begun with.
     pub(crate) fn spec(&self) -> WavSpec
         ensures spec { result ≡ self.now.spec_ex.spec }
