@@ -5,27 +5,36 @@
 // slice with a place for each channel read and write one frame. Where a file ends early, the frames
 // before that are written.
 use crate::failure::Failure;
-use hound::{WavReader, WavSpec, WavWriter};
+use hound::{WavReader, WavSpec, WavSpecEx, WavWriter};
 use std::path::Path;
 use std::{io, slice};
+
+// The spec with another number of channels, and samples of the same width.
+fn with_channels(spec_ex: WavSpecEx, channels: u16) -> WavSpecEx {
+    WavSpecEx {
+        spec: WavSpec {
+            channels,
+            ..spec_ex.spec
+        },
+        ..spec_ex
+    }
+}
 
 /// Writes as many files as the file has channels.
 pub fn split(rt: &HostRuntime, from: &str, to: &[&str]) -> Result<(), Failure> {
     let mut reader = WavReader::open(rt, rt.alloc(), Path::new(from))?;
-    let spec = reader.spec();
-    if to.len() != spec.channels as usize {
+    let spec_ex = reader.spec_ex();
+    if to.len() != spec_ex.spec.channels as usize {
         return Err(Failure::Usage);
     }
-    let mono = WavSpec {
-        channels: 1,
-        ..spec
-    };
+    let mono = with_channels(spec_ex, 1);
     let mut writers = Vec::new(rt.alloc());
     for path in to {
         if *path == from {
             return Err(Failure::SameFile);
         }
-        writers.push(WavWriter::create(rt, rt.alloc(), Path::new(path), mono)?)?;
+        let writer = WavWriter::create_with_spec_ex(rt, rt.alloc(), Path::new(path), mono)?;
+        writers.push(writer)?;
     }
     let mut frame = vec![in rt.alloc(); 0i32; to.len()]?;
     let mut end = Ok(());
@@ -52,14 +61,15 @@ pub fn merge(rt: &HostRuntime, to: &str, from: &[&str]) -> Result<(), Failure> {
         return Err(Failure::Usage);
     };
     let first = WavReader::open(rt, rt.alloc(), Path::new(first))?;
-    let (spec, frames) = (first.spec(), first.duration());
+    let (spec_ex, frames) = (first.spec_ex(), first.duration());
     let mut readers = Vec::new(rt.alloc());
     for path in from {
         if *path == to {
             return Err(Failure::SameFile);
         }
         let reader = WavReader::open(rt, rt.alloc(), Path::new(path))?;
-        if reader.spec() != spec || spec.channels != 1 || reader.duration() != frames {
+        let is_mono = spec_ex.spec.channels == 1;
+        if reader.spec_ex() != spec_ex || !is_mono || reader.duration() != frames {
             return Err(Failure::OtherSpec);
         }
         readers.push(reader)?;
@@ -67,8 +77,8 @@ pub fn merge(rt: &HostRuntime, to: &str, from: &[&str]) -> Result<(), Failure> {
     let Ok(channels) = u16::try_from(from.len()) else {
         return Err(Failure::Usage);
     };
-    let spec = WavSpec { channels, ..spec };
-    let mut writer = WavWriter::create(rt, rt.alloc(), Path::new(to), spec)?;
+    let merged = with_channels(spec_ex, channels);
+    let mut writer = WavWriter::create_with_spec_ex(rt, rt.alloc(), Path::new(to), merged)?;
     let mut frame = vec![in rt.alloc(); 0i32; from.len()]?;
     let mut end = Ok(());
     for _ in 0..frames {

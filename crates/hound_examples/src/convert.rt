@@ -7,7 +7,7 @@ ghost use Rattle.std.specs.Prelude.{◌<◌, IfSome};
 
 use crate::failure::Failure;
 use crate::frames::{block_of, whole_frames};
-use hound::{Error, SampleFormat, WavReader, WavSpec, WavWriter};
+use hound::{Error, SampleFormat, WavReader, WavSpec, WavSpecEx, WavWriter};
 use std::io;
 use std::path::Path;
 
@@ -30,11 +30,14 @@ pub fn convert<O: io::Write>(
     if old.sample_format == SampleFormat::Float {
         return Err(Error::InvalidSampleFormat.into());
     }
-    let new = WavSpec {
+    let mut new = WavSpecEx::from(WavSpec {
         bits_per_sample: bits,
         ..old
-    };
-    let mut writer = WavWriter::create(rt, rt.alloc(), Path::new(to), new)?;
+    });
+    if bits == old.bits_per_sample {
+        new = reader.spec_ex();
+    }
+    let mut writer = WavWriter::create_with_spec_ex(rt, rt.alloc(), Path::new(to), new)?;
     let mut block = block_of(rt.alloc(), old.channels, 0i32)?;
     let mut clipped = 0u32;
     let mut end = Ok(());

@@ -14,16 +14,16 @@ pub fn join(rt: &HostRuntime, to: &str, from: &[&str]) -> Result<(), Failure> {
     let Some(first) = from.first() else {
         return Err(Failure::Usage);
     };
-    let spec = WavReader::open(rt, rt.alloc(), Path::new(first))?.spec();
+    let spec_ex = WavReader::open(rt, rt.alloc(), Path::new(first))?.spec_ex();
     for part in from {
         if *part == to {
             return Err(Failure::SameFile);
         }
-        if WavReader::open(rt, rt.alloc(), Path::new(part))?.spec() != spec {
+        if WavReader::open(rt, rt.alloc(), Path::new(part))?.spec_ex() != spec_ex {
             return Err(Failure::OtherSpec);
         }
     }
-    WavWriter::create(rt, rt.alloc(), Path::new(to), spec)?.finalize()?;
+    WavWriter::create_with_spec_ex(rt, rt.alloc(), Path::new(to), spec_ex)?.finalize()?;
     for part in from {
         append(rt, Path::new(to), Path::new(part))?;
     }
