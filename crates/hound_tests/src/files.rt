@@ -338,9 +338,10 @@ fn repair_to_end(
 fn has_block(rt: &HostRuntime, path: Path<'_>, samples: &[i16]) -> hound::Result<bool> {
     let mut reader = WavReader::open(rt, rt.alloc(), path)?;
     let mut block = [0i16; 64];
-    let count = reader.read_samples(&mut block)?;
+    let (count, result) = reader.read_samples(&mut block);
+    result?;
     let is_so = count == samples.len() && block.starts_with(samples);
-    Ok(is_so && reader.read_samples(&mut block)? == 0)
+    Ok(is_so && matches!(reader.read_samples(&mut block), (0, Ok(()))))
 }
 
 fn append_text(rt: &HostRuntime, path: Path<'_>, text: &[u8], status: u8, line: &[u8]) -> bool {
