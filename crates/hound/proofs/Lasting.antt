@@ -304,15 +304,12 @@ kept_after_loss s start found steps marks cuts end last after counted never flus
     let here =
     (counted (length steps) end.flushed (length end.past) sector contents (omega arith) begun known
     (omega arith) last (omega (arith, after)) ascends some one lost).1 in (
-      here.0,
-      here.1,
-      here.2,
-      here.3,
-      λ i inside is marked uncut.
+      (here.0, here.1, here.2, here.3),
+      λ i inside is marked whole.
           omega (
             arith,
-            here.3,
-            never i here.0 inside is marked
-                (omega (arith, flushed i inside is marked, here.1)) here.2 uncut,
+            whole.3,
+            never i whole.0 inside is marked
+                (omega (arith, flushed i inside is marked, whole.1)) whole.2 whole.4,
           ),
     )

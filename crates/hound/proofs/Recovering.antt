@@ -1,6 +1,6 @@
 -- What a flush of a run has published, in whatever the run leaves later.
-use Rattle.std.proofs.Common.{◌≡◌, ◌⊎◌, ℕ, zero, suc, ◌+◌, ◌-◌, ◌*◌, ◌/◌, ◌<◌, ◌≤◌, false, true, Bool, List, [], ◌∷◌, ◌++◌, length, take, drop, map, Result, Err, IsTrue, inl, inr, refl, sym, ◌∙◌, ap, subst, arith, length-append, slice_index_or}
-use Rattle.std.specs.List.{concat, AllByRecursion}
+use Rattle.std.proofs.Common.{◌≡◌, ℕ, zero, suc, ◌+◌, ◌-◌, ◌*◌, ◌<◌, ◌≤◌, false, true, Bool, List, [], ◌∷◌, ◌++◌, length, take, drop, Result, IsTrue, inl, inr, sym, ◌∙◌, ap, subst, arith, length-append, slice_index_or}
+use Rattle.std.specs.List.{concat}
 use Rattle.std.proofs.lemmas.Bool.{cases_lt}
 use Rattle.std.proofs.lemmas.List.{take_all, get_or-drop}
 use Rattle.std.proofs.lemmas.Nat.{mul-le}
@@ -16,18 +16,15 @@ use Rattle.hound_repair.proofs.Keeping.{keeps_stored}
 use Rattle.hound_repair.specs.Repairing.{IsNoPad, ReadsFrames, Repairs}
 use Rattle.hound_repair.specs.declared.sizes.Repair.{Repair}
 use Rattle.hound_repair.specs.declared.sizes.RepairState.TheVariants.{HasChunksAfterData}
-use Rattle.hound_writer.specs.Answers.{mark_of}
-use Rattle.hound_writer.specs.Counts.{Counts}
 use Rattle.hound_writer.specs.Sizes.{field}
 use Rattle.hound_writer.specs.Storing.{IsStored}
 use Rattle.hound_writer.specs.Writer.{WriterState, IsWhole, accepted_samples}
-use Rattle.hound_durable.specs.Losses.{Ascends, SurvivesLoss}
 use Rattle.hound.specs.declared.session.Step.{Step}
 use Rattle.hound.specs.declared.session.Step.TheVariants.{Flush}
 use Rattle.hound.specs.declared.session.Begin.TheVariants.{New}
 use Rattle.hound.specs.declared.session.End.{End}
 use Rattle.hound.specs.Headline.{CountedAfterLoss, CountedAtEach, HeadAtEach, IsLeftAfter, PublishedByFlushes, StoredAtEach, accepted_after, cut_point}
-use Rattle.hound.specs.Run.{Ran, Runs, Takes}
+use Rattle.hound.specs.Run.{Ran, Runs}
 use Rattle.hound.specs.Steps.{accepted_by_all}
 use Rattle.hound.proofs.AfterLoss.{accepted_all, step_of}
 use Rattle.hound.proofs.Losing.{stored_survives}

@@ -642,8 +642,8 @@ module _ {M : Type 0} (tells keeps : Bool) (state : M → MediumState) (told : I
       contents
       → LosesNothing spec start found steps marks cuts flushed_at contents
 
-  kept_run : Ran tells keeps state (New s) steps marks end old answer medium
-      → (cuts : List ℕ) × Kept s (data_start s) [] cuts
+  kept_run : (r : Ran tells keeps state (New s) steps marks end old answer medium)
+      → Kept s (data_start s) [] r.cuts
   kept_run r =
       let b = r.begins.begun in
       let file = r.begins.file told in
@@ -669,22 +669,22 @@ module _ {M : Type 0} (tells keeps : Bool) (state : M → MediumState) (told : I
       (last_cut tells keeps state told kept replays steps r.answers r.cuts r.first r.last
       (state medium) r.runs) (m.after_loss file.whole) (m.never_less file.whole)
       (λ i inside is marked. omega (arith, m.flushed file.whole i inside is marked, later))
-      sector contents (omega (arith, begun, header_put, first)) within ascends some one lost in (
-        r.cuts,
-        subst (λ (x : WavSpecEx × (ℕ × List (List ℕ))). Kept x.0 x.1.0 x.1.1 r.cuts)
-            (λ i. (
-              b.spec i,
-              (b.start i, none_accepted state r.first b.sound b.none_waits b.none_out i),
-            )) all,
-      )
+      sector contents (omega (arith, begun, header_put, first)) within ascends some one lost in
+      subst (λ (x : WavSpecEx × (ℕ × List (List ℕ))). Kept x.0 x.1.0 x.1.1 r.cuts)
+      (λ i. (
+        b.spec i,
+        (b.start i, none_accepted state r.first b.sound b.none_waits b.none_out i),
+      )) all
 
   pub loses_nothing : IsSession tells keeps state begin steps marks end old answer medium
-      → (cuts : List ℕ) × Kept s (data_start s) [] cuts
+      → (r : Ran tells keeps state (New s) steps marks end old answer medium)
+      × Kept s (data_start s) [] r.cuts
   loses_nothing (inl n) =
       absurd (not_begun tells keeps state told kept s old medium unused f begun within n.error
       (subst (λ b. IsNotBegun tells keeps state b old medium n.error) is_new n.why))
-  loses_nothing (inr r) =
-      kept_run (subst (λ b. Ran tells keeps state b steps marks end old answer medium) is_new r)
+  loses_nothing (inr ran) =
+      let r = subst (λ b. Ran tells keeps state b steps marks end old answer medium) is_new ran in
+      (r, kept_run r)
 
 -- no mark is true in a run that didn't begin
 none_marked : (n i : ℕ) → slice_index_or (replicate n false) i false ≡ true → ⊥
@@ -729,8 +729,8 @@ module _ {M : Type 0} (tells keeps : Bool) (state : M → MediumState) (told : I
   abbrev last_flushed : MediumState
   last_flushed = record (state medium) { flushed = f }
 
-  appended_run : Ran tells keeps state Append steps marks end old answer medium
-      → AppendedSurvives steps marks (state old).contents last_flushed
+  appended_run : (r : Ran tells keeps state Append steps marks end old answer medium)
+      → AppendedSurvives steps marks r.cuts (state old).contents last_flushed
   appended_run r =
       let w = r.first in
       let file = r.begins.file told in
@@ -760,7 +760,6 @@ module _ {M : Type 0} (tells keeps : Bool) (state : M → MediumState) (told : I
         spec_ex = w.spec_ex;
         data_length = data_length w;
         start = w.data_start;
-        cuts = r.cuts;
         head = file.head;
         after_loss = λ there sector contents some one lost.
             let whole : IsWhole state w = omega (arith, there, out, ap length stays) in
@@ -785,21 +784,23 @@ module _ {M : Type 0} (tells keeps : Bool) (state : M → MediumState) (told : I
       }
 
   pub appended : IsSession tells keeps state begin steps marks end old answer medium
-      → ((state medium).past ≡ []) ⊎ AppendedSurvives steps marks (state old).contents last_flushed
+      → ((state medium).past ≡ [])
+      ⊎ ((r : Ran tells keeps state Append steps marks end old answer medium)
+      × AppendedSurvives steps marks r.cuts (state old).contents last_flushed)
   appended (inl n) =
       let why : IsNotBegun tells keeps state Append old medium n.error =
       subst (λ b. IsNotBegun tells keeps state b old medium n.error) is_append n.why in
       inl ((why told).puts.stays.past ∙ unused)
-  appended (inr r) =
-      inr (appended_run (subst (λ b. Ran tells keeps state b steps marks end old answer medium)
-      is_append r))
+  appended (inr ran) =
+      let r = subst (λ b. Ran tells keeps state b steps marks end old answer medium) is_append ran in
+      inr (r, appended_run r)
 
 -- what survives depends only on the past and the last flush
-pub appended_over : (steps : List Step) (marks : List Bool) (before same : List ℕ)
+pub appended_over : (steps : List Step) (marks : List Bool) (cuts before same : List ℕ)
     (a b : MediumState) → before ≡ same → a.start ≡ b.start → a.past ≡ b.past
-    → a.flushed ≡ b.flushed → AppendedSurvives steps marks before a
-    → AppendedSurvives steps marks same b
-appended_over steps marks before same a b is start past flushed survives =
+    → a.flushed ≡ b.flushed → AppendedSurvives steps marks cuts before a
+    → AppendedSurvives steps marks cuts same b
+appended_over steps marks cuts before same a b is start past flushed survives =
     let seen : (List ℕ × List (ℕ × ℕ)) × ℕ → MediumState =
     λ x. record { contents = []; place = 0; faults = 0; start = x.0.0; past = x.0.1; flushed = x.1 } in
     let s = survives.spec_ex in
@@ -809,7 +810,6 @@ appended_over steps marks before same a b is start past flushed survives =
       spec_ex = s;
       data_length = survives.data_length;
       start = h;
-      cuts = survives.cuts;
       head = subst (λ c. Head c s survives.data_length h) is survives.head;
       after_loss =
           subst (λ (x : List ℕ × ((List ℕ × List (ℕ × ℕ)) × ℕ)).
@@ -818,6 +818,6 @@ appended_over steps marks before same a b is start past flushed survives =
           → SurvivesLoss sector (seen x.1).start (seen x.1).past (seen x.1).flushed
           (length (seen x.1).past) contents
           → Counts s h (containers width (survives.data_length / width) (drop h x.0) ++ accepted_by_all s steps marks) contents
-          × LosesNothing s h (containers width (survives.data_length / width) (drop h x.0)) steps marks survives.cuts (seen x.1) contents)
+          × LosesNothing s h (containers width (survives.data_length / width) (drop h x.0)) steps marks cuts (seen x.1) contents)
           (λ i. (is i, ((start i, past i), flushed i))) survives.after_loss;
     }

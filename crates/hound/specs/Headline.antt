@@ -117,17 +117,25 @@ CountedAfterLoss s start found steps marks cuts medium =
     ≡ field (start - 4) (moment medium.start medium.past j)))
     × Head contents s (field (start - 4) contents) start
 
+-- The length field at p is that of a state since the medium was last flushed in which no write of it
+-- is cut, by the calls after the step with number i.
+abbrev pub HasWholeLength : ℕ → List Step → List ℕ → ℕ → MediumState → List ℕ → Type 0
+HasWholeLength p steps cuts i medium contents =
+    (k : ℕ) × (medium.flushed ≤ k) × (k ≤ length medium.past)
+    × (field p contents ≡ field p (moment medium.start medium.past k))
+    × IsUncut p (length (drop (suc i) steps)) (drop (suc i) cuts) medium k
+
 -- These contents, which a loss of power left, have lost no published sample: their length field is
--- that of a state since the medium was last flushed, and if no write of it is cut in that state, it
--- counts at least the samples that were accepted before each flush with a mark.
+-- that of a state since the medium was last flushed, and it counts at least the samples that were
+-- accepted before each flush with a mark, unless a write of it is cut in every such state.
 abbrev pub LosesNothing : WavSpecEx → ℕ → List (List ℕ) → List Step → List Bool → List ℕ →
     MediumState → List ℕ → Type 0
 LosesNothing s start found steps marks cuts medium contents =
-    (k : ℕ) × (medium.flushed ≤ k) × (k ≤ length medium.past)
-    × (field (start - 4) contents ≡ field (start - 4) (moment medium.start medium.past k))
+    ((k : ℕ) × (medium.flushed ≤ k) × (k ≤ length medium.past)
+    × (field (start - 4) contents ≡ field (start - 4) (moment medium.start medium.past k)))
     × ((i : ℕ) → i < length steps → slice_index_or steps i Flush ≡ Flush →
     slice_index_or marks i false ≡ true →
-    IsUncut (start - 4) (length (drop (suc i) steps)) (drop (suc i) cuts) medium k →
+    HasWholeLength (start - 4) steps cuts i medium contents →
     length (concat (accepted_after s found steps marks i)) ≤ field (start - 4) contents)
 
 -- The same for a medium that has written bytes only at ascending places since it was last flushed,
@@ -143,14 +151,13 @@ KeptAfterLoss s start found steps marks cuts medium =
     SurvivesLoss sector medium.start medium.past medium.flushed (length medium.past) contents →
     LosesNothing s start found steps marks cuts medium contents
 
--- What a loss of power at the end of a run leaves of a file that it appended to, whose data were
--- complete, counts, and has lost no published sample.
-pub record AppendedSurvives (steps : List Step) (marks : List Bool) (before : List ℕ)
+-- What a loss of power at the end of a run with these cut points leaves of a file that it appended
+-- to, whose data were complete, counts, and has lost no published sample.
+pub record AppendedSurvives (steps : List Step) (marks : List Bool) (cuts before : List ℕ)
     (medium : MediumState) : Type 0 where
   pub spec_ex : WavSpecEx
   pub data_length : ℕ
   pub start : ℕ
-  pub cuts : List ℕ
   pub head : Head before spec_ex data_length start
   pub after_loss : start + data_length ≤ length before →
       (sector : ℕ) (contents : List ℕ) → 1 ≤ sector →

@@ -1,7 +1,7 @@
 -- The modules of definitions of all crates, each under its own name: a crate over this one imports
 -- their words as `Rattle.hound.specs.MODULE`. After those of a crate come the types of its code
 -- that clauses name and that the root of this crate doesn't export; those that it exports are
--- `Rattle.hound.specs.declared.TYPE`. The file is made by `modules.sh`.
+-- `Rattle.hound.specs.declared.TYPE`. The file is made by `scripts/make_words`.
 pub use Rattle.hound_number.specs.Ending
 pub use Rattle.hound_number.specs.Input
 pub use Rattle.hound_number.specs.Number

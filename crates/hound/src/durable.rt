@@ -10,12 +10,14 @@ ghost use Rattle.hound.specs.declared.session.Begin.TheVariants.{New, Append};
 ghost use Rattle.hound.specs.declared.session.End.TheVariants.{Finalize};
 ghost use Rattle.hound.specs.declared.session.Step.TheVariants.{Flush};
 ghost use Rattle.hound.specs.Headline.{AppendedSurvives, LosesNothing};
+ghost use Rattle.hound.specs.Run.{IsSession, Ran};
 ghost use Rattle.hound.specs.Steps.{accepted_by_all};
+ghost use Rattle.hound_durable.specs.Durables.{Around};
 
 use crate::runs::run_session;
 use crate::session::{Begin, End, Step};
 use hound_durable::Durable;
-use hound_medium::{Medium, Source};
+use hound_medium::{Medium, Placed, Source};
 use hound_spec::Result;
 use std::alloc::Global;
 
@@ -23,11 +25,13 @@ use std::alloc::Global;
 /// medium.
 ///
 /// A new file on an empty medium that loses power after its header was flushed, which the first
-/// `Flush` does, counts no more than what it holds: whatever sectors keep what was written since
-/// the last Ok flush, reading gives exactly the first samples that its length counts, or
-/// rejects a length of no whole frames. A machine that loses power is a medium whose calls all
-/// fail from then on, so this holds for the medium as the run left it, whatever failed. Sizes are
-/// in bytes; a sector must hold the four bytes of the length, as one of 128 bytes or more does.
+/// marked `Flush` does, counts no more than what it holds: whatever sectors keep what was written
+/// since the last Ok flush, reading gives exactly the first samples that its length counts, or
+/// rejects a length of no whole frames. The length counts at least what each marked `Flush`
+/// published, unless a write of the length since then is cut in each state that has this length. A
+/// machine that loses power is a medium whose calls all fail from then on, so this holds for the
+/// medium as the run left it, whatever failed. Sizes are in bytes; a sector must hold the four bytes
+/// of the length, as one of any multiple of four bytes does in a new file.
 ///
 /// The medium must be new: its place is 0, and nothing has been written to it yet.
 pub fn run_durable_session<M: Source + Medium>(
@@ -43,6 +47,11 @@ pub fn run_durable_session<M: Source + Medium>(
     requires flushed { WhereKeeps M.tells M.keeps ((M.state medium).flushed ≡ 0) }
     requires size { length steps.now ≡ length marks.old }
     ensures size { length marks.new ≡ length marks.old }
+
+    // It is a session as that of `run_session`, over a durable medium around this one.
+    ensures session { let state = ⟦<Durable<M> as Placed>⟧.state in
+        Around (M.state medium) (M.state result.0) (λ old new. ((state old).faults ≡ 0)
+        × IsSession M.tells M.keeps state begin steps.now marks.new end old result.1 new) }
 
     // A new file that was finalized is the canonical one of what was accepted.
     ensures canonical { WhereTells M.tells ((spec_ex : WavSpecEx) → begin ≡ New spec_ex
@@ -67,17 +76,23 @@ pub fn run_durable_session<M: Source + Medium>(
     // And what is left has lost no sample that such a flush has published.
     ensures kept_after_loss { WhereKeeps M.tells M.keeps ((spec_ex : WavSpecEx) → begin ≡ New spec_ex
         → (M.state medium).contents ≡ []
-        → data_start spec_ex ≤ (M.state result.0).flushed → (cuts : List ℕ)
+        → data_start spec_ex ≤ (M.state result.0).flushed
+        → let state = ⟦<Durable<M> as Placed>⟧.state in
+        Around (M.state medium) (M.state result.0) (λ old new.
+        (run : Ran M.tells M.keeps state (New spec_ex) steps.now marks.new end old result.1 new)
         × ((sector : ℕ) (contents : List ℕ) → 1 ≤ sector
         → (data_start spec_ex - 4) / sector ≡ (data_start spec_ex - 1) / sector
         → (let s = M.state result.0 in
         SurvivesLoss sector s.start s.past s.flushed (length s.past) contents) →
-        LosesNothing spec_ex (data_start spec_ex) [] steps.now marks.new cuts (M.state result.0) contents)) }
+        LosesNothing spec_ex (data_start spec_ex) [] steps.now marks.new run.cuts (M.state result.0) contents))) }
 
     // The same for a file that was appended to, if a byte was written at all.
     ensures appended { WhereKeeps M.tells M.keeps (begin ≡ Append
         → ((M.state result.0).past ≡ [])
-        ⊎ AppendedSurvives steps.now marks.new (M.state medium).contents (M.state result.0)) }
+        ⊎ (let state = ⟦<Durable<M> as Placed>⟧.state in
+        Around (M.state medium) (M.state result.0) (λ old new.
+        (run : Ran M.tells M.keeps state Append steps.now marks.new end old result.1 new)
+        × AppendedSurvives steps.now marks.new run.cuts (M.state medium).contents (M.state result.0)))) }
 {
     let (durable, answer) = run_session(alloc, Durable::new(medium), begin, steps, marks, end);
     (durable.into_inner(), answer)

@@ -1,2 +1,3 @@
 pub mod Twelve
 pub mod Either
+pub mod Checkpoints

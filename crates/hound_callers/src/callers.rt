@@ -1,11 +1,13 @@
 // Functions of a user of the library, whose contracts follow from its public ones.
-ghost use Rattle.std.specs.Prelude.{◌≡◌, ℕ, suc, ◌+◌, ◌-◌, ◌/◌, ◌<◌, ◌≤◌, ◌++◌, Bool, false, true, List, length, drop, [], ◌∷◌, slice_index_or, Ok, Result, IfOk, OnOk};
+ghost use Rattle.std.specs.Prelude.{◌≡◌, ℕ, suc, ◌+◌, ◌-◌, ◌/◌, ◌<◌, ◌≤◌, ◌++◌, Bool, false, true, List, length, drop, [], ◌∷◌, slice_index_or, None, Ok, Result, IfOk, IfSome, OnOk};
+ghost use Rattle.std.specs.List.{concat};
 ghost use Rattle.hound.specs.Batch.{IsSameFile};
 ghost use Rattle.hound.specs.Container.{containers};
 ghost use Rattle.hound.specs.Containers.{AreContainers};
 ghost use Rattle.hound.specs.Counts.{Counts};
 ghost use Rattle.hound.specs.Header.{canonical, data_start};
-ghost use Rattle.hound.specs.Headline.{IsLeftAfter, accepted_after, cut_point};
+ghost use Rattle.hound.specs.Durables.{Around};
+ghost use Rattle.hound.specs.Headline.{HasWholeLength, IsLeftAfter, accepted_after, cut_point};
 ghost use Rattle.hound.specs.Held.{frame_length};
 ghost use Rattle.hound.specs.Losses.{SurvivesLoss};
 ghost use Rattle.hound.specs.Many.{containers_in};
@@ -14,20 +16,23 @@ ghost use Rattle.hound.specs.Reader.{samples_left};
 ghost use Rattle.hound.specs.Refusals.{OpensAs};
 ghost use Rattle.hound.specs.Repairing.{ReadsFrames};
 ghost use Rattle.hound.specs.Room.{IsSixteen};
-ghost use Rattle.hound.specs.Run.{Ran};
+ghost use Rattle.hound.specs.Run.{IsSession, Ran};
+ghost use Rattle.hound.specs.Sizes.{field};
 ghost use Rattle.hound.specs.State.{WhereKeeps, WhereTells};
 ghost use Rattle.hound.specs.Steps.{accepted_by_all};
 ghost use Rattle.hound.specs.declared.Error.{Error};
 ghost use Rattle.hound.specs.declared.session.Begin.TheVariants.{New};
 ghost use Rattle.hound.specs.declared.session.End.{End};
-ghost use Rattle.hound.specs.declared.session.Step.TheVariants.{Batch, Flush};
+ghost use Rattle.hound.specs.declared.session.End.TheVariants.{Drop};
+ghost use Rattle.hound.specs.declared.session.Step.TheVariants.{Flush};
 ghost use Rattle.hound.specs.Writable.{IsWritable};
 ghost use Rattle.hound.specs.Writer.{IsWhole, accepted_samples, sample_count};
 ghost use Rattle.hound.specs.declared.WavSpecEx.{WavSpecEx};
+ghost use Rattle.hound_callers.specs.Checkpoints.{IsLast};
 
 use hound::{
-    Begin, End, Error, Medium, Repair, Sample, Source, Step, WavReader, WavSpecEx, WavWriter,
-    a_repair_loses_no_published_sample, one_answer, repair_to_end, run_durable_session,
+    Begin, Durable, End, Error, Medium, Placed, Repair, Sample, Source, Step, WavReader, WavSpecEx,
+    WavWriter, a_repair_loses_no_published_sample, one_answer, repair_to_end, run_durable_session,
     written_is_read,
 };
 use std::alloc::Global;
@@ -80,30 +85,62 @@ pub fn record_blocks<S: Sample + Copy, M: Medium>(
     writer.flush()
 }
 
-/// Records a batch and a checkpoint after it over a medium that may lose its power, and says whether
-/// the checkpoint was made: whatever a loss of power then leaves counts no more than it holds.
+// The number of the last `Flush` with a mark.
+fn last_checkpoint(steps: &[Step], marks: &[bool]) -> Option<usize>
+    requires { length steps.now ≡ length marks.now }
+    ensures { IsLast steps.now marks.now (length steps.now) result }
+{
+    let mut last = None;
+    for i in 0..steps.len() {
+        if marks[i] && matches!(steps[i], Step::Flush) {
+            last = Some(i);
+        }
+    }
+    last
+}
+
+/// Records over a medium that may lose its power, and returns the number of the step that was the
+/// last checkpoint: the last `Flush` with a mark. Without one, no step is a `Flush`, the spec can't
+/// be written, or the medium failed.
+///
+/// Whatever a loss of power then leaves is read as the first of the accepted samples: at least as
+/// those accepted before this checkpoint, unless a write of the length since then is cut in each
+/// state that has this length.
 pub fn record_through_a_loss<M: Source + Medium>(
     alloc: Global,
     medium: M,
     spec_ex: WavSpecEx,
-    samples: &[i16],
-) -> (M, bool)
+    steps: &[Step],
+    marks: &mut [bool],
+) -> (M, Option<usize>)
     requires place { WhereTells M.tells ((M.state medium).place ≡ 0) }
     requires past { WhereKeeps M.tells M.keeps ((M.state medium).past ≡ []) }
     requires flushed { WhereKeeps M.tells M.keeps ((M.state medium).flushed ≡ 0) }
     requires empty { (M.state medium).contents ≡ [] }
-    ensures { WhereKeeps M.tells M.keeps (result.1 ≡ true → (mark : Bool)
+    requires size { length steps.now ≡ length marks.old }
+    ensures size { length marks.new ≡ length marks.old }
+    ensures last { IsLast steps.now marks.new (length steps.now) result.1 }
+    ensures none { WhereTells M.tells (result.1 ≡ None → IsWritable spec_ex
+        → (i : ℕ) → i < length steps.now → slice_index_or steps.now i Flush ≡ Flush →
+        let state = ⟦<Durable<M> as Placed>⟧.state in
+        Around (M.state medium) (M.state result.0) (λ old new. (answer : Result Unit Error)
+        × ((state old).faults ≡ 0) × IsSession M.tells M.keeps state (New spec_ex) steps.now marks.new Drop old answer new
+        × (1 ≤ (state new).faults))) }
+    ensures survives { WhereKeeps M.tells M.keeps (IfSome result.1 (λ i.
+        let state = ⟦<Durable<M> as Placed>⟧.state in
+        Around (M.state medium) (M.state result.0) (λ old new. (answer : Result Unit Error)
+        × (run : Ran M.tells M.keeps state (New spec_ex) steps.now marks.new Drop old answer new)
         × ((sector : ℕ) (contents : List ℕ) → 1 ≤ sector
         → (data_start spec_ex - 4) / sector ≡ (data_start spec_ex - 1) / sector
         → (let s = M.state result.0 in
         SurvivesLoss sector s.start s.past s.flushed (length s.past) contents) →
-        Counts spec_ex (data_start spec_ex) (accepted_by_all spec_ex (Batch samples.entry ∷ Flush ∷ []) (mark ∷ true ∷ [])) contents)) }
+        Counts spec_ex (data_start spec_ex) (accepted_by_all spec_ex steps.now marks.new) contents
+        × (HasWholeLength (data_start spec_ex - 4) steps.now run.cuts i (M.state result.0) contents →
+        length (concat (accepted_after spec_ex [] steps.now marks.new i)) ≤ field (data_start spec_ex - 4) contents))))) }
 {
-    let steps = [Step::Batch(samples), Step::Flush];
-    let mut marks = [false; 2];
     let begin = Begin::New(spec_ex);
-    let (medium, _) = run_durable_session(alloc, medium, begin, &steps, &mut marks, End::Drop);
-    (medium, marks[1])
+    let (medium, _) = run_durable_session(alloc, medium, begin, steps, marks, End::Drop);
+    (medium, last_checkpoint(steps, marks))
 }
 
 /// Repairs what a recorder has left, whichever run over a medium of type `M` it was: no sample is

@@ -1,9 +1,9 @@
 -- What contracts see of a medium that flushes another one before it goes back.
-use Rattle.std.specs.Prelude.{◌≡◌, ◌⊎◌, ℕ, ◌<◌, ◌≤◌, List, [], length, drop, Option, Some, None, Bool, IsTrue, cond, Result, OnErr}
+use Rattle.std.specs.Prelude.{◌≡◌, ◌⊎◌, ℕ, ◌+◌, ◌-◌, ◌<◌, ◌≤◌, List, [], length, drop, Option, Some, None, Bool, IsTrue, cond, Result}
 use Rattle.std.proofs.Common.{ap, sym, ◌∙◌}
 use Rattle.std.proofs.lemmas.Bool.{cond-true}
 use Rattle.hound_medium.specs.Bytes.{overlay}
-use Rattle.hound_medium.specs.State.{MediumState, one_more}
+use Rattle.hound_medium.specs.State.{MediumState, faults_after}
 use Rattle.hound_durable.specs.Losses.{place_of}
 
 -- the state of the medium within, with these counts in place of its own; if it doesn't record its
@@ -30,14 +30,19 @@ IsBelow end past f = (i : ℕ) → f ≤ i → i < length past → place_of past
 abbrev pub LeadsBack : ℕ → List (ℕ × ℕ) → ℕ → Type 0
 LeadsBack to past f = (i : ℕ) × (f ≤ i) × (i < length past) × (to ≤ place_of past i)
 
+-- the last byte written is right before the end, unless that is 0, and not among the first f
+abbrev pub IsLastBefore : ℕ → List (ℕ × ℕ) → ℕ → Type 0
+IsLastBefore end past f =
+    0 < end → (f < length past) × (place_of past (length past - 1) + 1 ≡ end)
+
 -- a later state of the medium within: it has been flushed no further, or up to all that was written
 pub record OnlySyncs (old new : MediumState) : Type 0 where
   pub grows : old.flushed ≤ new.flushed
   pub is : (new.flushed ≡ old.flushed) ⊎ (new.flushed ≡ length new.past)
 
--- an Err comes from the medium within, which has counted a fault
+-- an Err comes from the medium within, which has counted one fault, and an Ok hides none of it
 abbrev pub IsItsFault : {T E : Type 0} → Result T E → MediumState → MediumState → Type 0
-IsItsFault result old new = OnErr result (new.faults ≡ one_more old.faults)
+IsItsFault result old new = new.faults ≡ faults_after result old.faults
 
 -- a law of the state with counts of its own
 pub replays_own : (keeps : Bool) (s : MediumState) (faults flushed : ℕ) → IsTrue keeps

@@ -5,7 +5,7 @@ ghost use Rattle.std.specs.Io.{ReadsAtMost};
 ghost use Rattle.std.specs.Io.KnownBytes.{ReadConsumes};
 ghost use Rattle.hound_medium.specs.State.{Goes, Shifts, Gets, Puts, Flushes, Stays, WhereTells, WhereKeeps, one_more, faults_after};
 ghost use Rattle.hound_durable.specs.Losses.{Ascends};
-ghost use Rattle.hound_durable.specs.Own.{IsBelow, IsItsFault, LeadsBack, OnlySyncs, own, left_of, replays_own, left_own};
+ghost use Rattle.hound_durable.specs.Own.{IsBelow, IsItsFault, IsLastBefore, LeadsBack, OnlySyncs, own, left_of, replays_own, left_own};
 
 use hound_medium::{Medium, Placed, Source};
 use std::io;
@@ -35,6 +35,8 @@ pub struct Durable<M: Medium> {
     ghost after: { end ≤ place },
     ghost covered: { WhereKeeps M.tells M.keeps
         (IsBelow end (M.state inner).past (M.state inner).flushed) },
+    ghost last: { WhereKeeps M.tells M.keeps
+        (IsLastBefore end (M.state inner).past (M.state inner).flushed) },
     ghost ascends: { WhereKeeps M.tells M.keeps
         (Ascends (M.state inner).past (M.state inner).flushed (length (M.state inner).past)) },
     ghost marked: { WhereKeeps M.tells M.keeps (flushed ≤ (M.state inner).flushed) },
@@ -127,6 +129,9 @@ impl<M: Medium> Placed for Durable<M> {
         ensures barrier { WhereKeeps M.tells M.keeps
             (LeadsBack to (within self.old).past (synced self.old)
             → OnOk result (synced self.new ≡ length (within self.new).past)) }
+        ensures needed { WhereKeeps M.tells M.keeps
+            ((LeadsBack to (within self.old).past (synced self.old) → ⊥)
+            → synced self.new ≡ synced self.old) }
         ensures only_syncs { WhereKeeps M.tells M.keeps (OnlySyncs (within self.old) (within self.new)) }
         ensures fault { WhereTells M.tells (IsItsFault result (within self.old) (within self.new)) }
     {
@@ -151,6 +156,9 @@ impl<M: Medium> Placed for Durable<M> {
         ensures barrier { WhereKeeps M.tells M.keeps
             (LeadsBack (within self.new).place (within self.old).past (synced self.old)
             → OnOk result (synced self.new ≡ length (within self.new).past)) }
+        ensures needed { WhereKeeps M.tells M.keeps
+            ((LeadsBack (within self.new).place (within self.old).past (synced self.old) → ⊥)
+            → OnOk result (synced self.new ≡ synced self.old)) }
         ensures only_syncs { WhereKeeps M.tells M.keeps (OnlySyncs (within self.old) (within self.new)) }
         ensures fault { WhereTells M.tells
             (FitsUnsigned w64 (pos (within self.old).place +ℤ by)
@@ -219,6 +227,8 @@ impl<M: Medium> Medium for Durable<M> {
 }
 
 impl<M: Medium + Source> io::Read for Durable<M> {
+    ghost use Rattle.hound_durable.specs.Durables.{within, synced};
+
     ghost remaining = { λ d. left_of M.tells (M.state d.inner) };
 
     #[inline]
@@ -228,6 +238,9 @@ impl<M: Medium + Source> io::Read for Durable<M> {
             (⟦<Durable<M> as io::Read>⟧.remaining self.new) result buf.new }
         ensures gets { let state = ⟦<Durable<M> as Placed>⟧.state in
             WhereTells M.tells (Gets buf.new result (state self.old) (state self.new)) }
+        ensures synced { WhereKeeps M.tells M.keeps (synced self.new ≡ synced self.old) }
+        ensures fault { WhereTells M.tells ((within self.old).place + length buf.old < 2 ^ 64
+            → IsItsFault result (within self.old) (within self.new)) }
     {
         self.get(buf)
     }

@@ -2,8 +2,9 @@
 // standard input.
 //
 // A `flush` follows the header, and each COUNT samples. If the program is killed after the first
-// one, the file can be read, and has all samples that an Ok `flush` has published; with `durable`
-// also if the power goes. How such a file is mended is said at the end.
+// one, the file can be read, and has all samples that an Ok `flush` has published. With `durable`
+// each flush syncs the file, so it has them after a loss of power too if the disk keeps
+// what it says it has. How such a file is mended is said at the end.
 ghost use Rattle.std.specs.Prelude.{◌<◌};
 
 use crate::failure::Failure;

@@ -1,8 +1,8 @@
 // Losses of power over a medium in memory. A machine that loses power is a medium whose calls all
 // fail from then on; of what was written since the last flush any sector may be saved or lost.
 use crate::helpers::integers;
-use hound::{Begin, End, Journal, Step, Tape, WavReader, run_durable_session};
-use hound_callers::repair_recording;
+use hound::{Durable, Journal, Medium, Step, Tape, WavReader};
+use hound_callers::{record_through_a_loss, repair_recording};
 use std::alloc::Global;
 use std::test::Fail;
 
@@ -122,7 +122,7 @@ fn has_published_once_repaired(contents: Vec<u8>, published: u32) -> bool {
 #[test]
 fn a_loss_of_power_loses_no_published_sample(rt: HostRuntime) -> Result<(), Fail> {
     let alloc = rt.alloc();
-    let begin = Begin::New(integers(1, 44100, 16, 2));
+    let spec_ex = integers(1, 44100, 16, 2);
     let mut seed = 1;
     let mut losses = 0u32;
     let mut wrong = 0u32;
@@ -131,18 +131,14 @@ fn a_loss_of_power_loses_no_published_sample(rt: HostRuntime) -> Result<(), Fail
         let mut journal = Journal::new(alloc, Vec::new(alloc))?;
         journal.fail(calls, u64::MAX);
         let mut marks = [false; 16];
-        let (journal, _) = run_durable_session(
-            alloc,
-            journal,
-            begin,
-            &STEPS,
-            &mut marks,
-            End::Drop,
-        );
+        let (journal, last) = record_through_a_loss(alloc, journal, spec_ex, &STEPS, &mut marks);
         if journal.flushed() < HEADER {
             continue;
         }
         let (accepted, published) = counted(&marks);
+        if last.map(|step| step / 4 * 3 + 3).unwrap_or(0) != published as usize {
+            wrong = wrong.wrapping_add(1);
+        }
         all = published;
         let states = states_since_flush(alloc, &journal)?;
         for _ in 0..50 {
@@ -155,5 +151,19 @@ fn a_loss_of_power_loses_no_published_sample(rt: HostRuntime) -> Result<(), Fail
         }
     }
     assert_eq!(rt; (wrong, all, 4000 < losses), (0, 12, true));
+    Ok(())
+}
+
+// The disk may not have what a file held before it was appended to, though nothing was written since.
+#[test]
+fn a_durable_medium_flushes_also_where_nothing_was_written(rt: HostRuntime) -> Result<(), Fail> {
+    let alloc = rt.alloc();
+    let mut journal = Journal::new(alloc, Vec::new(alloc))?;
+    journal.fail(2, 2);
+    let mut durable = Durable::new(journal);
+    let first = durable.flush().is_ok();
+    let second = durable.flush().is_ok();
+    let third = durable.flush().is_ok();
+    assert_eq!(rt; (first, second, third), (true, false, true));
     Ok(())
 }

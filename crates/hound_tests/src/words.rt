@@ -1,5 +1,5 @@
 // Each word that a clause of the library imports can be imported over `hound` alone. The file is
-// made by `words.sh`. The checker reads the imports because the clauses use them.
+// made by `scripts/make_words`. The checker reads the imports because the clauses use them.
 ghost use Rattle.std.specs.Prelude.{◌≡◌};
 
 struct NumberWords;
@@ -83,9 +83,9 @@ impl MediumWords {
 struct DurableWords;
 
 impl DurableWords {
-    ghost use Rattle.hound.specs.Durables.{synced, within};
+    ghost use Rattle.hound.specs.Durables.{Around, synced, within};
     ghost use Rattle.hound.specs.Losses.{Ascends, SurvivesLoss};
-    ghost use Rattle.hound.specs.Own.{IsBelow, IsItsFault, LeadsBack, OnlySyncs, left_of, left_own, own, replays_own};
+    ghost use Rattle.hound.specs.Own.{IsBelow, IsItsFault, IsLastBefore, LeadsBack, OnlySyncs, left_of, left_own, own, replays_own};
 
     fn read() -> bool
         ensures { result ≡ result }
@@ -126,9 +126,7 @@ impl ReaderWords {
 struct ReaderVariants;
 
 impl ReaderVariants {
-    ghost use Rattle.hound.specs.Cause.TheVariants.{Ended, Format};
     ghost use Rattle.hound.specs.HeadError.TheVariants.{Refused};
-    ghost use Rattle.hound.specs.Reason.TheVariants.{NoDataChunk};
 
     fn read() -> bool
         ensures { result ≡ result }
@@ -155,6 +153,35 @@ impl WriterWords {
     ghost use Rattle.hound.specs.Sizes.{field};
     ghost use Rattle.hound.specs.Storing.{IsStored};
     ghost use Rattle.hound.specs.Writer.{AreFrames, HasRoom, IsCounted, IsPadded, IsSound, IsWhole, WriterState, accepted_samples, data_end, data_length, padded_end, sample_count};
+
+    fn read() -> bool
+        ensures { result ≡ result }
+    {
+        true
+    }
+}
+
+struct RepairWords;
+
+impl RepairWords {
+    ghost use Rattle.hound.specs.Damages.{FindsDamage, HalfPutAtEach, IsDamage, IsSoundDamage, MeasuresDamage, PutsPad, PutsSizes, repair_of};
+    ghost use Rattle.hound.specs.Following.{are_chunks, chunk_content, has_tag, is_followed, is_printable, said_length};
+    ghost use Rattle.hound.specs.Held.{are_right, data_held, frame_length, frames_held, held, right_length, torn_bytes};
+    ghost use Rattle.hound.specs.Repairing.{Finds, HalfMended, IsFoundAt, IsNoPad, IsNotFound, IsNotRepaired, Looks, MendsAtEach, ReadsFrames, Repairs, found_length, repair_fault, size_fault, state_of};
+    ghost use Rattle.hound.specs.declared.Repair.{Repair};
+    ghost use Rattle.hound.specs.declared.RepairState.{RepairState};
+
+    fn read() -> bool
+        ensures { result ≡ result }
+    {
+        true
+    }
+}
+
+struct RepairVariants;
+
+impl RepairVariants {
+    ghost use Rattle.hound.specs.declared.RepairState.TheVariants.{HasChunksAfterData, Whole};
 
     fn read() -> bool
         ensures { result ≡ result }

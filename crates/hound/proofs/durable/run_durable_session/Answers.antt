@@ -58,15 +58,21 @@ returns-clause-kept_after_loss g c tells keeps s is_new empty long =
     c.run_session-durable.ensures.session in
     let end_state : (List ℕ × List (ℕ × ℕ)) × ℕ → MediumState =
     λ x. record { contents = []; place = 0; faults = 0; start = x.0.0; past = x.0.1; flushed = x.1 } in (
-      all.0,
-      subst (λ (x : (List ℕ × List (ℕ × ℕ)) × ℕ). (sector : ℕ) (contents : List ℕ) → 1 ≤ sector
-          → (data_start s - 4) / sector ≡ (data_start s - 1) / sector
-          → SurvivesLoss sector x.0.0 x.0.1 x.1 (length x.0.1) contents
-          → LosesNothing s (data_start s) [] steps marks all.0 (end_state x) contents)
-          (λ i. (
-            (sym (ap (λ (m : MediumState). m.start) is) i, (kept ∙ sym (ap (λ (m : MediumState). m.past) is)) i),
-            sym (ap (λ (m : MediumState). m.flushed) is) i,
-          )) all.1,
+      c.new.result,
+      d,
+      c.new.ensures.within,
+      sym is,
+      (
+        all.0,
+        subst (λ (x : (List ℕ × List (ℕ × ℕ)) × ℕ). (sector : ℕ) (contents : List ℕ) → 1 ≤ sector
+            → (data_start s - 4) / sector ≡ (data_start s - 1) / sector
+            → SurvivesLoss sector x.0.0 x.0.1 x.1 (length x.0.1) contents
+            → LosesNothing s (data_start s) [] steps marks all.0.cuts (end_state x) contents)
+            (λ i. (
+              (sym (ap (λ (m : MediumState). m.start) is) i, (kept ∙ sym (ap (λ (m : MediumState). m.past) is)) i),
+              sym (ap (λ (m : MediumState). m.flushed) is) i,
+            )) all.1,
+      ),
     )
 
 pub returns-clause-appended : goal.returns-clause-appended
@@ -88,14 +94,23 @@ returns-clause-appended g c tells keeps is_append =
     (subst (λ l. Ascends l inner.flushed (length l)) (sym kept) (d.ascends tells keeps))
     c.run_session-durable.ensures.session) [
       | inl none ↦ inl (ap (λ (m : MediumState). m.past) is ∙ sym kept ∙ none)
-      | inr survives ↦
-          inr (appended_over steps marks (shown c.new.result).contents
-          (M.state c.args.medium).contents
-          (record (shown d) { flushed = inner.flushed }) (M.state c.into_inner.result)
-          c.new.ensures.contents
-          (sym (ap (λ (m : MediumState). m.start) is))
-          (kept ∙ sym (ap (λ (m : MediumState). m.past) is))
-          (sym (ap (λ (m : MediumState). m.flushed) is)) survives)
+      | inr found ↦
+          inr (
+            c.new.result,
+            d,
+            c.new.ensures.within,
+            sym is,
+            (
+              found.0,
+              appended_over steps marks found.0.cuts (shown c.new.result).contents
+                  (M.state c.args.medium).contents
+                  (record (shown d) { flushed = inner.flushed }) (M.state c.into_inner.result)
+                  c.new.ensures.contents
+                  (sym (ap (λ (m : MediumState). m.start) is))
+                  (kept ∙ sym (ap (λ (m : MediumState). m.past) is))
+                  (sym (ap (λ (m : MediumState). m.flushed) is)) found.1,
+            ),
+          )
     ]
 
 pub returns-clause-header : goal.returns-clause-header
@@ -116,3 +131,12 @@ returns-clause-header g c tells keeps s is_new i inside is marked =
       cond-true M.keeps d.flushed 0 keeps,
       ap (λ (m : MediumState). m.flushed) same,
     )
+
+pub returns-clause-session : goal.returns-clause-session
+returns-clause-session g c = (
+  c.new.result,
+  c.run_session-durable.result.0,
+  c.new.ensures.within,
+  sym c.into_inner.ensures,
+  (c.new.ensures.faults, c.run_session-durable.ensures.session),
+)

@@ -1,28 +1,85 @@
-use Rattle.std.proofs.Common.{◌≡◌, Bool, true, false, List, length, [], ◌∷◌, slice_index_or, refl, ap, subst, arith}
+use Rattle.std.proofs.Common.{◌≡◌, ℕ, ◌-◌, ◌/◌, ◌≤◌, List, [], length, Option, None, Some, IfSome, refl, subst, arith}
+use Rattle.std.specs.List.{concat}
+use Rattle.hound.specs.Durables.{Around}
 use Rattle.hound.specs.Counts.{Counts}
+use Rattle.hound.specs.Headline.{HasWholeLength, accepted_after}
 use Rattle.hound.specs.Header.{data_start}
+use Rattle.hound.specs.Losses.{SurvivesLoss}
+use Rattle.hound.specs.Own.{own}
+use Rattle.hound.specs.Run.{Ran}
+use Rattle.hound.specs.Sizes.{field}
 use Rattle.hound.specs.Steps.{accepted_by_all}
-use Rattle.hound.specs.declared.session.Step.TheVariants.{Batch, Flush}
+use Rattle.hound.specs.declared.Durable.{Durable}
+use Rattle.hound.specs.declared.session.Begin.TheVariants.{New}
+use Rattle.hound.specs.declared.session.End.TheVariants.{Drop}
+use Rattle.hound_callers.specs.Checkpoints.{IsLast}
+use Rattle.hound_callers.proofs.Failing.{failed, unmarked_at}
 use Rattle.hound_callers.proofs.callers.record_through_a_loss.Goals as goal
 
--- the first of two marks whose second is true
-first_of_two : (marks : List Bool) → length marks ≡ 2 → slice_index_or marks 1 false ≡ true
-    → (mark : Bool) × (marks ≡ mark ∷ true ∷ [])
-first_of_two [] two is = absurd (omega (arith, two))
-first_of_two (a ∷ []) two is = absurd (omega (arith, two))
-first_of_two (a ∷ b ∷ []) two is = (a, ap (λ m. a ∷ m ∷ []) is)
-first_of_two (a ∷ b ∷ c ∷ marks) two is = absurd (omega (arith, two))
-
-pub returns : goal.returns
-returns g c tells keeps marked =
+pub returns-clause-none : goal.returns-clause-none
+returns-clause-none g c tells none writable i inside is =
+    let M = g.M.Placed in
     let run = c.run_durable_session-medium in
-    let spec = c.args.spec_ex in
-    let marks = first_of_two run.new.marks run.ensures.size marked in
-    let long = run.ensures.header tells keeps spec refl 1 (omega arith) refl marked in (
-      marks.0,
-      λ sector contents some one lost.
-          subst (λ m. Counts spec (data_start spec)
-          (accepted_by_all spec (Batch c.args.samples ∷ Flush ∷ []) m) contents) marks.1
-          (run.ensures.after_loss tells keeps spec refl c.requires.empty long sector some one contents
-          lost),
+    let s = run.ensures.session in
+    let steps = c.args.steps.now in
+    let marks = run.new.marks in
+    let last = subst (IsLast steps marks (length steps)) none c.last_checkpoint.ensures in
+    let shown : Durable _ M → _ = λ d. own M.keeps (M.state d.inner) d.faults d.flushed in (
+      s.0,
+      s.1,
+      s.2,
+      s.3,
+      (
+        run.result.1,
+        s.4.0,
+        s.4.1,
+        failed M.tells M.keeps shown tells c.args.spec_ex steps marks Drop run.result.1 s.0 s.1
+            writable s.4.1 i inside is
+            (unmarked_at marks i (omega (arith, inside, c.requires.size, run.ensures.size))
+            (λ marked. last i (omega arith) inside (inside, is, marked))),
+      ),
     )
+
+pub returns-clause-survives : goal.returns-clause-survives
+returns-clause-survives g c tells keeps = by c.last_checkpoint.result c.last_checkpoint.ensures
+  where
+    by : (last : Option ℕ)
+        → IsLast c.args.steps.now c.run_durable_session-medium.new.marks (length c.args.steps.now) last
+        → IfSome last (λ i.
+        Around {g = g.M.Placed} (g.M.Placed.state c.args.medium)
+        (g.M.Placed.state c.run_durable_session-medium.result.0) (λ old new. (answer : _)
+        × (run : Ran g.M.Placed.tells g.M.Placed.keeps
+        (λ (d : Durable _ g.M.Placed). own g.M.Placed.keeps (g.M.Placed.state d.inner) d.faults d.flushed)
+        (New c.args.spec_ex) c.args.steps.now c.run_durable_session-medium.new.marks Drop old answer new)
+        × ((sector : ℕ) (contents : List ℕ) → 1 ≤ sector
+        → (data_start c.args.spec_ex - 4) / sector ≡ (data_start c.args.spec_ex - 1) / sector
+        → (let s = g.M.Placed.state c.run_durable_session-medium.result.0 in
+        SurvivesLoss sector s.start s.past s.flushed (length s.past) contents) →
+        Counts c.args.spec_ex (data_start c.args.spec_ex)
+        (accepted_by_all c.args.spec_ex c.args.steps.now c.run_durable_session-medium.new.marks)
+        contents
+        × (HasWholeLength (data_start c.args.spec_ex - 4) c.args.steps.now run.cuts i
+        (g.M.Placed.state c.run_durable_session-medium.result.0) contents →
+        length (concat (accepted_after c.args.spec_ex [] c.args.steps.now
+        c.run_durable_session-medium.new.marks i)) ≤ field (data_start c.args.spec_ex - 4) contents))))
+    by None last = tt
+    by (Some i) last =
+        let run = c.run_durable_session-medium in
+        let spec = c.args.spec_ex in
+        let flushed = last.1 in
+        let long = run.ensures.header tells keeps spec refl i flushed.0 flushed.1 flushed.2 in
+        let kept = run.ensures.kept_after_loss tells keeps spec refl c.requires.empty long in (
+          kept.0,
+          kept.1,
+          kept.2,
+          kept.3,
+          (
+            run.result.1,
+            kept.4.0,
+            λ sector contents some one lost. (
+              run.ensures.after_loss tells keeps spec refl c.requires.empty long sector some one
+                  contents lost,
+              (kept.4.1 sector contents some one lost).1 i flushed.0 flushed.1 flushed.2,
+            ),
+          ),
+        )

@@ -1,4 +1,4 @@
-use Rattle.std.proofs.Common.{◌≡◌, false, inl, [], Result, Ok, Err, MatchResult, IfOk}
+use Rattle.std.proofs.Common.{◌≡◌, false, inl, [], Ok, Err, MatchResult, IfOk}
 use Rattle.std.proofs.lemmas.Bool.{false≢true}
 use Rattle.hound.specs.declared.Error.{Error}
 use Rattle.hound.specs.declared.Repair.{Repair}

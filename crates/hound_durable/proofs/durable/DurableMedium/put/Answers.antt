@@ -1,8 +1,8 @@
-use Rattle.std.proofs.Common.{◌≡◌, ◌++◌, ap, sym, ◌+◌, length, take, arith, subst, length-take-le}
+use Rattle.std.proofs.Common.{◌≡◌, ◌++◌, ◌∙◌, ap, sym, ◌+◌, ◌-◌, length, take, arith, subst, length-take-le}
 use Rattle.hound_medium.specs.Bytes.{placed}
-use Rattle.hound_durable.specs.Losses.{Ascends}
+use Rattle.hound_durable.specs.Losses.{Ascends, place_of}
 use Rattle.hound_durable.specs.Own.{IsBelow}
-use Rattle.hound_durable.proofs.Ascending.{length_put, below_more, ascends_more}
+use Rattle.hound_durable.proofs.Ascending.{length_put, below_more, ascends_more, place_after}
 use Rattle.hound_durable.proofs.durable.DurableMedium.put.Goals as goal
 
 pub invariant_of-self-in-Ok-clause-counts : goal.invariant_of-self-in-Ok-clause-counts
@@ -38,6 +38,27 @@ invariant_of-self-in-Ok-clause-covered g c tells keeps =
     (sym puts.takes.flushed)
     (below_more old.past old.place d.end old.flushed bytes (d.covered tells keeps)
     (omega (arith, d.after, d.is_there tells)))))
+
+pub invariant_of-self-in-Ok-clause-last : goal.invariant_of-self-in-Ok-clause-last
+invariant_of-self-in-Ok-clause-last g c tells keeps before =
+    let d = c.args.self.now in
+    let old = g.M.Placed.state d.inner in
+    let puts = c.in-Ok.ensures.puts tells in
+    let bytes = take c.in-Ok.n c.args.bytes.now in
+    let size = length-take-le c.in-Ok.n c.args.bytes.now c.in-Ok.ensures.bound.1 in
+    let some = c.in-Ok.ensures.bound.0 in
+    let i = length old.past + c.in-Ok.n - 1 in
+    let long = ap length (puts.takes.past keeps) ∙ length_put old.past old.place bytes in (
+      omega (arith, puts.takes.flushed, d.known tells keeps, some, long, size),
+      omega (
+        arith,
+        d.is_there tells,
+        ap (λ n. place_of (g.M.Placed.state c.put.new.self).past (n - 1)) (long ∙ ap (λ n. length old.past + n) size),
+        ap (λ past. place_of past i) (puts.takes.past keeps),
+        place_after old.past old.place bytes i (omega (arith, some)) (omega (arith, some, size)),
+        some,
+      ),
+    )
 
 pub invariant_of-self-in-Ok-clause-ascends : goal.invariant_of-self-in-Ok-clause-ascends
 invariant_of-self-in-Ok-clause-ascends g c tells keeps =
