@@ -1,8 +1,7 @@
 -- How a text of numbers is read from its front: what is left to be said at each place.
-use Rattle.std.specs.Prelude.{◌≡◌, ℕ, ℤ, ◌+◌, ◌-◌, ◌*◌, ◌<◌, ◌≤◌, Bool, true, false, cond, ◌==◌, ⊤, nat_le, List, [], ◌∷◌, ◌++◌, length, drop, take, Option, Some, None}
+use Rattle.std.specs.Prelude.{◌≡◌, ℕ, ℤ, ◌+◌, ◌-◌, ◌*◌, Bool, true, false, cond, ◌==◌, ⊤, nat_le, List, [], ◌∷◌, ◌++◌, length, Option, Some, None}
 use Rattle.std.specs.Option.{option_and_then, option_map}
 use Rattle.std.specs.Int.{is_in_range}
-use Rattle.std.specs.Str.Parse.{AllDigits, digits_value}
 use Rattle.hound_text.specs.Text.{is_separator, signed_value}
 use Rattle.hound_text.specs.declared.numbers.Place.{Place}
 use Rattle.hound_text.specs.declared.numbers.Place.TheVariants.{Between, AfterMinus, Inside}

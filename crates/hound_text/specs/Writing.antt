@@ -1,5 +1,5 @@
 -- The text of numbers that are written.
-use Rattle.std.specs.Prelude.{ℕ, ℤ, ◌/◌, ◌%◌, ◌^◌, ◌==◌, zero, suc, pos, negsuc, Bool, false, List, [], ◌∷◌, ◌++◌}
+use Rattle.std.specs.Prelude.{ℕ, ℤ, ◌/◌, ◌%◌, ◌^◌, zero, suc, pos, negsuc, false, List, [], ◌∷◌, ◌++◌}
 use Rattle.std.specs.Fmt.{digit_glyph, signed_decimal}
 
 -- the last k digits of a number in a base, the highest one first
