@@ -34,13 +34,16 @@ AT_ONCE = 100  # States that a machine looks at.
 NOT_RUN = 3  # The status where something is missing.
 
 # How a file system is made, and checked: before each mount, as a machine does where there is no journal, or where a
-# mount fails.
-FileSystem = collections.namedtuple("FileSystem", "kind mebibytes make modules before_mount if_it_fails", defaults=["", ""])
+# mount fails. Whether the recording machine writes early, 0.1 seconds after a program has written, and not after 30
+# seconds as usual: on vfat it doesn't, since Linux may then leave a file's size out of a sync (`vfat-early`).
+FileSystem = collections.namedtuple("FileSystem", "kind mebibytes make modules before_mount if_it_fails is_early", defaults=["", "", True])
 EXT4 = "mkfs.ext4 -q -F -J size=4 -E lazy_itable_init=0,lazy_journal_init=0,nodiscard"
+VFAT = FileSystem("vfat", 40, "mkfs.vfat -F 32 -s 1", ["vfat", "nls_cp437", "nls_ascii", "nls_utf8"], "fsck.vfat -a -w")
 FILE_SYSTEMS = {
     "ext4": FileSystem("ext4", 32, EXT4 + " -b 4096", [], if_it_fails="e2fsck -fy"),
     "ext4-1k": FileSystem("ext4", 32, EXT4 + " -b 1024", [], if_it_fails="e2fsck -fy"),
-    "vfat": FileSystem("vfat", 40, "mkfs.vfat -F 32 -s 1", ["vfat", "nls_cp437", "nls_ascii", "nls_utf8"], "fsck.vfat -a -w"),
+    "vfat": VFAT._replace(is_early=False),
+    "vfat-early": VFAT,
     "xfs": FileSystem("xfs", 320, "mkfs.xfs -q -K", ["xfs"]),
     "btrfs": FileSystem("btrfs", 128, "mkfs.btrfs -q -K", ["btrfs"]),
 }
@@ -95,6 +98,7 @@ def fresh(path, system):
 def script_of(sessions, system, size, left_out):
     """What the recording machine does. A mark is one sector, written past the file system and not flushed: what the
     recorder has said by then. The recorder stops while it is written. Another program writes a file beside it."""
+    early = "echo 5 > /proc/sys/vm/dirty_writeback_centisecs; echo 10 > /proc/sys/vm/dirty_expire_centisecs"
     lines = [f"""
 mark() {{
     echo "mark $1 $2" | dd of=/dev/vda bs={SPARE} seek={size // SPARE} conv=sync,notrunc oflag=direct
@@ -113,10 +117,10 @@ record() {{
     wait $recorder
     echo "recorded $number: $?"
 }} 2> /dev/null
-echo 5 > /proc/sys/vm/dirty_writeback_centisecs; echo 10 > /proc/sys/vm/dirty_expire_centisecs
+{early if system.is_early else "true"}
 mount -t {system.kind} /dev/vda /disk || echo guest: no mount
 mkfifo /tmp/lines
-while usleep 20000; do dd if=/dev/urandom of=/disk/other bs=4096 count=25 2> /dev/null; done &
+while usleep 20000; do dd if=/dev/urandom of=/disk/other bs=4096 count=25 {"" if system.is_early else "oflag=direct"} 2> /dev/null; done &
 """]
     tracing = ["strace", "-o", "/dev/null", "-e", "trace=fsync,fdatasync"] if left_out else []
     for calls in left_out:
@@ -196,7 +200,7 @@ def count_of(data):
 def fault_of(data, least, most):
     """What is wrong with a file, if anything."""
     if not has_header(data):
-        return "no header" if least and data else "no file" if least else None
+        return "it has no header" if least and data else "there is none" if least else None
     count = count_of(data)
     if len(data) < HEADER + 2 * count:
         return f"it counts {count} samples and holds {(len(data) - HEADER) // 2}"
@@ -292,11 +296,12 @@ def look(folder, system, size, states):
 class Trial:
     """Losses of power of one recording."""
 
-    def __init__(self, name, control, folder):
-        self.name, self.control, self.folder = name, control, folder
+    def __init__(self, name, control, folder, is_kept):
+        self.name, self.control, self.folder, self.is_kept = name, control, folder, is_kept
         self.system = FILE_SYSTEMS[name]
         self.size = self.system.mebibytes << 20
-        self.sessions, self.left_out = (CONTROLS[control].sessions, CONTROLS[control].left_out) if control else (SESSIONS, [])
+        what = CONTROLS[control] if control else Control(name, SESSIONS, [])
+        self.sessions, self.left_out = what.sessions, what.left_out
         self.wrong, self.counts = [], collections.Counter()
 
     def prepare(self):
@@ -319,22 +324,21 @@ class Trial:
             how, lost = replay.lose(chances[turn])
             kept = {**replay.kept, **lost}
             yield turn, moments[turn], how, {number: data for number, data in kept.items() if number * disk.SECTOR < self.size}
-            self.counts["pending"] = max(self.counts["pending"], len(replay.pending))
+            self.counts["writes that could be lost, at most"] = max(self.counts["writes that could be lost, at most"], len(replay.pending))
 
     def judge(self, turn, moment, how, found):
         """Notes what is wrong with a state."""
         before, after = found or ({}, {})
         self.counts["states"] += 1
-        self.counts["no mount"] += found is None
+        self.counts["disks that have no mount"] += found is None
         for file, bounds in expected(self.sessions, self.marks, moment).items():
             least, most = bounds or (0, 0)
-            fault = bounds and fault_of(before.get(file), least, most)
-            if fault is None and bounds:
-                fault = fault_of_repair(before.get(file), after.get(file), least)
-            self.counts["files"] += file in before
-            self.counts["repaired to more"] += has_header(before.get(file)) and count_of(after[file]) > count_of(before[file])
+            fault = bounds and (fault_of(before.get(file), least, most) or fault_of_repair(before.get(file), after.get(file), least))
+            self.counts["files read"] += file in before
+            self.counts["repairs that found more"] += has_header(before.get(file)) and count_of(after[file]) > count_of(before[file])
             if fault:
-                self.wrong.append((turn, f"{self.name}, entry {moment} of {len(self.log.entries)} ({how}), {file}.wav: {fault}; {least} were published"))
+                where = f"{self.name}, entry {moment} of {len(self.log.entries)} ({how}), {file}.wav"
+                self.wrong.append((turn, f"{where}: {least} samples were published, and {fault}"))
 
     def run(self, seed, turns):
         batches, batch = [], []
@@ -357,16 +361,22 @@ class Trial:
                     self.judge(turn, moment, how, found)
 
     def report(self, seed, took):
+        """Says how many states are wrong; of a control one of them, and of the others how each is made again."""
         turns = {turn for turn, _ in self.wrong}
         what = f"{self.name}, {self.control or 'nothing left out'}"
-        counts = ", ".join(f"{count} {name}" for name, count in sorted(self.counts.items()) if name != "states")
-        print(f"power: {what}: {self.counts['states']} states, {len(turns)} wrong ({counts}; seed {seed}, {took:.0f} seconds)", flush=True)
-        if self.wrong and self.control is None:
-            kept = tempfile.mkdtemp(prefix="hound_power_wrong_")
-            for part in ("image", "log"):
-                shutil.copy(os.path.join(self.folder, part), kept)
+        counts = ", ".join(f"{name}: {count}" for name, count in self.counts.items() if name != "states")
+        print(f"power: {what}: {self.counts['states']} states, {len(turns)} wrong; {counts}; seed {seed}, {took:.0f} seconds", flush=True)
+        if self.control:
+            for _, words in self.wrong[:1]:
+                print(f"power: as it must be: {words}", flush=True)
+        elif self.wrong:
+            kept = self.folder
+            if not self.is_kept:
+                kept = tempfile.mkdtemp(prefix="hound_power_wrong_")
+                for part in ("image", "log"):
+                    shutil.copy(os.path.join(self.folder, part), kept)
             for turn, words in self.wrong[:20]:
-                print(f"power: wrong: {words}\n    again: ./faults power 1 {seed} --fs {self.name} --control none --log {kept} --turn {turn}")
+                print(f"power: wrong: {words}\n    again: ./faults power 1 {seed} --fs {self.name} --control none --log {kept} --turn {turn}", flush=True)
         return len(turns)
 
 
@@ -403,15 +413,19 @@ def main():
     controls = list(CONTROLS) if options.control is None else [] if options.control == "none" else options.control.split(",")
     trials = [(name, None, options.states // len(names)) for name in names]
     trials += [(CONTROLS[control].fs, control, options.states // 5 // len(controls)) for control in controls]
-    failed = False
+    failed, since = False, time.time()
     for name, control, states in trials:
         with tempfile.TemporaryDirectory(prefix="hound_power_") as folder:
-            trial, begun = Trial(name, control, options.log or folder), time.time()
-            trial.prepare()
-            trial.run(options.seed, [options.turn] if options.turn is not None else range(states))
+            trial, begun = Trial(name, control, options.log or folder, bool(options.log)), time.time()
+            try:
+                trial.prepare()
+                trial.run(options.seed, [options.turn] if options.turn is not None else range(states))
+            except RuntimeError as fault:
+                sys.exit(f"power: {name}, {control}: {fault}")
             wrong = trial.report(options.seed, time.time() - begun)
             failed = failed or (wrong > 0) == (control is None)
-    print("power: " + ("a state is wrong, or a control is right" if failed else "no durable state is wrong, and each control is"))
+    ended = "a state is wrong, or a control finds none" if failed else "no state is wrong but those of the controls, and each of these finds some"
+    print(f"power: {ended}; {time.time() - since:.0f} seconds")
     sys.exit(failed)
 
 
