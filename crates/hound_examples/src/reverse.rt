@@ -25,8 +25,12 @@ pub fn reverse(rt: &HostRuntime, from: &str, to: &str) -> Result<(), Failure> {
     for frame in frames.chunks_mut(spec.channels.max(1) as usize) {
         frame.reverse();
     }
-    let mut writer =
-        WavWriter::create_with_spec_ex(rt, rt.alloc(), Path::new(to), reader.spec_ex())?;
+    let mut writer = WavWriter::create_with_spec_ex(
+        rt,
+        rt.alloc(),
+        Path::new(to),
+        reader.spec_ex(),
+    )?;
     writer.write_samples(frames)?;
     writer.finalize()?;
     end?;

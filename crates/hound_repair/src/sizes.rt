@@ -35,7 +35,8 @@ impl fmt::Display for RepairState {
         f.write_str(match self {
             RepairState::Whole => "the file is whole",
             RepairState::CutOff => "the recording was cut off",
-            RepairState::HasChunksAfterData => "something follows the data, so they weren't cut off",
+            RepairState::HasChunksAfterData =>
+                "something follows the data, so they weren't cut off",
         })
     }
 }

@@ -459,8 +459,12 @@ fn a_file_keeps_the_width_of_its_containers(rt: HostRuntime) -> Result<(), Fail>
     let wide = integers(1, 44100, 24, 4);
     let begun = WavWriter::create_with_spec_ex(&rt, rt.alloc(), path.as_path(), wide)?.spec_ex();
     let found = WavReader::open(&rt, rt.alloc(), path.as_path())?.spec_ex();
-    let durable =
-        WavWriter::create_durable_with_spec_ex(&rt, rt.alloc(), path.as_path(), wide)?.spec_ex();
+    let durable = WavWriter::create_durable_with_spec_ex(
+        &rt,
+        rt.alloc(),
+        path.as_path(),
+        wide,
+    )?.spec_ex();
     fs::remove_file(&rt, path.as_path())?;
     assert_eq!(rt; (begun, found, durable), (wide, wide, wide));
     Ok(())
