@@ -27,7 +27,7 @@ fn show<O: io::Write>(rt: &HostRuntime, path: Path<'_>, output: &mut O) -> hound
     let mut reader = WavReader::open(rt, rt.alloc(), path)?;
     for sample in reader.samples::<FloatBits>() {
         let sample = sample?;
-        let (pattern, number) = (sample.0, f32::from(sample));
+        let (pattern, number) = (sample.0, sample.to_f32());
         writeln!(output, "{pattern:08x} {number}")?;
     }
     Ok(())

@@ -21,7 +21,7 @@ use std::{io, result};
 ///
 /// It is written with 32 bits in four bytes, and read so from samples of format `Float`. Every
 /// pattern stays as it is. `FloatBits::from(number)` is the sample of a number, and
-/// `f32::from(sample)` the number of a sample; every NaN has one pattern there. `==` compares
+/// `sample.to_f32()` the number of a sample; every NaN has one pattern there. `==` compares
 /// patterns, so 0.0 and -0.0 differ. It can't be cast to sixteen bits: generic code can't do it,
 /// and `as_i16` of the type itself returns 0.
 #[derive(Clone, Copy, Debug, PartialEq, Eq)]
@@ -37,13 +37,13 @@ impl From<f32> for FloatBits {
     }
 }
 
-/// The number of a pattern.
-impl From<FloatBits> for f32 {
-    ghost from_gives = { λ sample number. number ≡ from_bits binary32 sample.0 };
-
+impl FloatBits {
+    /// The number of this pattern. That of a NaN gives a NaN.
     #[inline]
-    fn from(sample: FloatBits) -> f32 {
-        f32_from_bits_with_nan(sample.0)
+    pub fn to_f32(self) -> f32
+        ensures { result ≡ from_bits binary32 self.0 }
+    {
+        f32_from_bits_with_nan(self.0)
     }
 }
 

@@ -473,7 +473,7 @@ fn a_file_keeps_the_width_of_its_containers(rt: HostRuntime) -> Result<(), Fail>
 #[test]
 fn floats_are_the_patterns_of_their_numbers(rt: HostRuntime) -> Result<(), Fail> {
     let half = FloatBits::from(0.5);
-    let number = f32::from(FloatBits(0xbfc0_0000));
+    let number = FloatBits(0xbfc0_0000).to_f32();
     assert_eq!(rt; (half, number == -1.5), (FloatBits(0x3f00_0000), true));
     Ok(())
 }
