@@ -168,8 +168,8 @@ def marks_of(log, size):
 
 
 def expected(sessions, marks, moment):
-    """Per file how many samples it has at least and at most at this moment, or None where nothing is promised. A file
-    that is begun anew may be the old one until something of the new one is published."""
+    """Per file how many samples it has at least and at most at this moment, or None where nothing is promised: of a
+    plain one, and of one that is begun anew over another until something of it is published."""
     found = {session.file: (0, 0) for session in sessions}
     held = dict.fromkeys(found, 0)
     for number, session in enumerate(sessions):
@@ -184,7 +184,7 @@ def expected(sessions, marks, moment):
         elif session.kind == "plain":
             held[file], found[file] = total, None
         else:
-            found[file] = (0, max(held[file], total)) if published is None else (published, total)
+            found[file] = (published, total) if published is not None else None if held[file] else (0, total)
             held[file] = total
     return found
 
