@@ -37,15 +37,13 @@ NOT_RUN = 3  # The status where something is missing.
 # mount fails. Whether the recording machine writes early, 0.1 seconds after a program has written, and not after 30
 # seconds as usual: on vfat it doesn't, since Linux may then leave a file's size out of a sync (`vfat-early`).
 FileSystem = collections.namedtuple("FileSystem", "kind mebibytes make modules before_mount if_it_fails is_early", defaults=["", "", True])
-EXT4 = "mkfs.ext4 -q -F -J size=4 -E lazy_itable_init=0,lazy_journal_init=0,nodiscard"
 VFAT = FileSystem("vfat", 40, "mkfs.vfat -F 32 -s 1", ["vfat", "nls_cp437", "nls_ascii", "nls_utf8"], "fsck.vfat -a -w")
 FILE_SYSTEMS = {
-    "ext4": FileSystem("ext4", 32, EXT4 + " -b 4096", [], if_it_fails="e2fsck -fy"),
-    "ext4-1k": FileSystem("ext4", 32, EXT4 + " -b 1024", [], if_it_fails="e2fsck -fy"),
+    "ext4": FileSystem("ext4", 32, "mkfs.ext4 -q -F -b 4096 -J size=4 -E lazy_itable_init=0,lazy_journal_init=0,nodiscard", [],
+                       if_it_fails="e2fsck -fy"),
     "vfat": VFAT._replace(is_early=False),
     "vfat-early": VFAT,
     "xfs": FileSystem("xfs", 320, "mkfs.xfs -q -K", ["xfs"]),
-    "btrfs": FileSystem("btrfs", 128, "mkfs.btrfs -q -K", ["btrfs"]),
 }
 USUAL = ["ext4", "vfat", "xfs"]
 
@@ -383,7 +381,7 @@ class Trial:
 def missing():
     """What isn't here, or None."""
     programs = {"qemu-system-x86_64": "qemu-system-x86", "busybox": "busybox-static", "strace": "strace", "mkfs.ext4": "e2fsprogs",
-                "mkfs.vfat": "dosfstools", "mkfs.xfs": "xfsprogs", "mkfs.btrfs": "btrfs-progs"}
+                "mkfs.vfat": "dosfstools", "mkfs.xfs": "xfsprogs"}
     packages = sorted({package for program, package in programs.items() if not shutil.which(program)})
     if packages:
         return f"programs are missing: apt-get install --no-install-recommends {' '.join(packages)}"
