@@ -30,6 +30,12 @@ TEXTS = {
     "TooLong": "The file would be longer than its size fields can say.",
     "OutOfMemory": "There is not enough memory.",
 }
+# The tags of RIFF and of its update, of broadcasts, of XMP and ID3v2, and of programs.
+KNOWN_TAGS = [
+    *[b"LIST", b"INFO", b"fact", b"cue ", b"plst", b"JUNK", b"PAD ", b"DISP", b"inst", b"smpl"],
+    *[b"bext", b"levl", b"cart", b"axml", b"chna", b"iXML", b"_PMX", b"id3 ", b"ID3 "],
+    *[b"acid", b"strc", b"afsp", b"PEAK", b"FLLR"],
+]
 USAGE = b"usage: hound_tool pack CHANNELS RATE BITS | show | append FILE\n"
 
 
@@ -539,23 +545,24 @@ class Reader:
         return count, signed(total, 64), []
 
     def block(self, kind, samples):
-        """Puts samples into the front of a list, up to its end, the last one or an error: how many."""
+        """Puts samples into the front of a list, up to its end, the last one or an error: how many, and
+        that error."""
         for at in range(len(samples)):
-            value = self.next(kind)
+            try:
+                value = self.next(kind)
+            except Refused as error:
+                return at, [str(error)]
             if value is None:
-                return at
+                return at, []
             samples[at] = value
-        return len(samples)
+        return len(samples), []
 
     def sum_by_blocks(self, kind, length):
-        """As `sum`, by blocks of so many; the samples before an error are those that are counted."""
+        """As `sum`, by blocks of so many."""
         count, total = 0, 0
         while True:
-            samples, before, error = [FILLER] * length, self.count, []
-            try:
-                came = self.block(kind, samples)
-            except Refused as refused:
-                came, error = self.count - before - 1, [str(refused)]
+            samples = [FILLER] * length
+            came, error = self.block(kind, samples)
             total += sum((count + place) * value for place, value in enumerate(samples[:came], 1))
             count += came
             if error or came == 0:
@@ -796,10 +803,10 @@ def blocks_asked(reader, kind, extent):
     words = []
     for _ in range(int(times or 1)):
         samples = [FILLER] * int(length)
-        answer = answer_of(lambda: reader.block(kind, samples))
+        count, error = reader.block(kind, samples)
         listed = ",".join(shown(kind, sample) for sample in samples) or "-"
         held = listed if len(samples) <= 8 else f"#{weighted(samples)}"
-        words.append(f"{answer}:{held}:{reader.left()}")
+        words.append(":".join([str(count), *error, held, str(reader.left())]))
     return words
 
 
@@ -1099,7 +1106,7 @@ class Damage:
             raise Refused("TooLong")
         if (length, int.from_bytes(data[4:8], "little")) == (self.length, self.size):
             self.was = "whole"
-        elif looks and are_chunks(data[self.start + length + length % 2 :]):
+        elif looks and is_followed(data[self.start :], length):
             self.was = "followed"
             self.frames, self.left = divmod(length, frame)
         else:
@@ -1117,16 +1124,26 @@ class Damage:
         return data[:4] + size + data[8 : self.start - 4] + length + data[self.start :] + pad
 
 
-def are_chunks(data):
-    """Whether there are chunks with printable tags up to the end, and at least one."""
-    if not data:
-        return False
+def is_followed(data, length):
+    """Whether a chunk begins after the data, with or without a pad byte, or an ID3v1 tag is at the
+    end."""
+    if len(data) - length >= 128 and data[-128:-125] == b"TAG":
+        return True
+    return begins_chunk(data[length:]) or begins_chunk(data[length + length % 2 :])
+
+
+def begins_chunk(data):
+    """Whether chunks with printable tags, and at least one, reach to the end or to a known tag."""
+    is_first = True
     while data:
+        if data[:4] in KNOWN_TAGS:
+            return True
         length = int.from_bytes(data[4:8], "little")
         if len(data) < 8 + length or not all(32 <= byte < 127 for byte in data[:4]):
             return False
         data = data[8 + length + length % 2 :]
-    return True
+        is_first = False
+    return not is_first
 
 
 def repaired(data):

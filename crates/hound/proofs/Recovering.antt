@@ -13,6 +13,7 @@ use Rattle.hound_reader.specs.Chunks.{Head}
 use Rattle.hound_reader.proofs.WrittenLemmas.{length-concat}
 use Rattle.hound_repair.proofs.Joining.{AreWide, wide_front}
 use Rattle.hound_repair.proofs.Keeping.{keeps_stored}
+use Rattle.hound_repair.specs.Held.{held}
 use Rattle.hound_repair.specs.Repairing.{IsNoPad, ReadsFrames, Repairs}
 use Rattle.hound_repair.specs.declared.sizes.Repair.{Repair}
 use Rattle.hound_repair.specs.declared.sizes.RepairState.TheVariants.{HasChunksAfterData}
@@ -218,7 +219,8 @@ module _ {M : Type 0} (tells keeps : Bool) (state : M → MediumState) (told : I
   pub none_lost : (looks : Bool) (cut mended : MediumState) (found : Repair)
       → IsLeftAfter (data_start s) from_run (state medium) cut.contents
       → Repairs looks cut found mended → (IsTrue looks → found.was ≡ HasChunksAfterData → ⊥)
-      → IsNoPad s (field (data_start s - 4) cut.contents) (accepted_after s [] steps marks i)
+      → IsNoPad s (field (data_start s - 4) cut.contents) (held (data_start s) cut.contents)
+      (accepted_after s [] steps marks i)
       → (found.spec_ex ≡ s)
       × ReadsFrames found (data_start s) (accepted_after s [] steps marks i) mended.contents
   none_lost looks cut mended found left repairs alone no_pad =

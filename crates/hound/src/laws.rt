@@ -7,6 +7,7 @@ ghost use Rattle.hound_medium.specs.State.{MediumState, WhereKeeps, WhereTells};
 ghost use Rattle.hound_writer.specs.Answers.{mark_of};
 ghost use Rattle.hound_writer.specs.Writer.{WriterState, IsWhole, accepted_samples, data_length};
 ghost use Rattle.hound_writer.specs.Sizes.{field};
+ghost use Rattle.hound_repair.specs.Held.{held};
 ghost use Rattle.hound_repair.specs.Repairing.{IsNoPad, ReadsFrames, Repairs};
 ghost use Rattle.hound_repair.specs.declared.sizes.Repair.{Repair};
 ghost use Rattle.hound_repair.specs.declared.sizes.RepairState.TheVariants.{HasChunksAfterData};
@@ -64,8 +65,8 @@ pub fn sessions_leave_one_file<'a, M: Medium>(spec_ex: WavSpecEx, sessions: &'a 
 /// from the return of a marked `Flush` on, in each intermediate state, and in what a loss of power
 /// leaves of a medium that wrote bytes at ascending places only since it was flushed, as a `Durable`
 /// does. Frames of the samples accepted before that flush are read first once the contents are
-/// repaired, unless chunks follow the data, or, with frames of one byte, the last one is taken for a
-/// pad byte.
+/// repaired, unless chunks follow the data, or, with frames of one byte and a data length that is one
+/// less than what is held, the last one is taken for a pad byte.
 pub fn a_repair_loses_no_published_sample<M: Medium>(steps: &[Step])
     ensures { WhereKeeps M.tells M.keeps ((spec_ex : WavSpecEx) (marks : List Bool) (end : End)
         (old medium : M) (answer : Result Unit Error)
@@ -78,7 +79,8 @@ pub fn a_repair_loses_no_published_sample<M: Medium>(steps: &[Step])
         → Repairs looks cut found mended
         → (IsTrue looks → found.was ≡ HasChunksAfterData → ⊥) →
         let published = accepted_after spec_ex [] steps.now marks i in
-        IsNoPad spec_ex (field (data_start spec_ex - 4) cut.contents) published →
+        IsNoPad spec_ex (field (data_start spec_ex - 4) cut.contents)
+        (held (data_start spec_ex) cut.contents) published →
         (found.spec_ex ≡ spec_ex)
         × ReadsFrames found (data_start spec_ex) published mended.contents) }
 {}

@@ -15,7 +15,8 @@
 //! `read_samples` for many at once, `seek`; [`read_wave_header`] for only the first twelve bytes.
 //!
 //! To mend a file whose recording was cut off: [`repair_file`], or [`repair`] in any medium;
-//! [`find_damage_in_file`] and [`find_damage`] only look.
+//! [`find_damage_in_file`] and [`find_damage`] only look; [`repair_file_to_end`] and
+//! [`repair_to_end`] take all after the data header for samples.
 //!
 //! A recorder that needs to know which samples were accepted calls a whole run at once:
 //!
@@ -88,7 +89,7 @@ pub use hound_reader::{
 pub use hound_repair::{
     Repair, RepairState, a_half_mended_file_is_repaired, a_repair_keeps_stored_samples,
     a_second_repair_writes_nothing, find_damage, find_damage_in_file, repair, repair_file,
-    repair_to_end,
+    repair_file_to_end, repair_to_end,
 };
 pub use hound_sample::{FloatBits, Sample, integers_come_back, short_integers_are_kept};
 pub use hound_spec::{

@@ -78,11 +78,13 @@ fn read_blocks<S: Summed, R: io::Read + Drop>(
     let mut reader = reader;
     let mut sum = 0i64;
     for _ in 0..u64::MAX {
-        let count = match reader.read_samples(block) {
-            Ok(0) => break,
-            Ok(count) => count,
-            Err(error) => return Err(error),
-        };
+        let (count, result) = reader.read_samples(block);
+        if let Err(error) = result {
+            return Err(error);
+        }
+        if count == 0 {
+            break;
+        }
         for sample in block.iter().take(count) {
             sum = sum.wrapping_add(sample.value());
         }

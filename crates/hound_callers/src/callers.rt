@@ -8,13 +8,13 @@ ghost use Rattle.hound.specs.Counts.{Counts};
 ghost use Rattle.hound.specs.Header.{canonical, data_start};
 ghost use Rattle.hound.specs.Durables.{Around};
 ghost use Rattle.hound.specs.Headline.{HasWholeLength, IsLeftAfter, accepted_after, cut_point};
-ghost use Rattle.hound.specs.Held.{frame_length};
+ghost use Rattle.hound.specs.Held.{held};
 ghost use Rattle.hound.specs.Losses.{SurvivesLoss};
 ghost use Rattle.hound.specs.Many.{containers_in};
 ghost use Rattle.hound.specs.Publishing.{ReadsAs};
 ghost use Rattle.hound.specs.Reader.{samples_left};
 ghost use Rattle.hound.specs.Refusals.{OpensAs};
-ghost use Rattle.hound.specs.Repairing.{ReadsFrames};
+ghost use Rattle.hound.specs.Repairing.{IsNoPad, ReadsFrames};
 ghost use Rattle.hound.specs.Room.{IsSixteen};
 ghost use Rattle.hound.specs.Run.{IsSession, Ran};
 ghost use Rattle.hound.specs.Sizes.{field};
@@ -144,7 +144,8 @@ pub fn record_through_a_loss<M: Source + Medium>(
 }
 
 /// Repairs what a recorder has left, whichever run over a medium of type `M` it was: no sample is
-/// missing that a flush of this run has published, whether calls failed or the power went.
+/// missing that a flush of this run has published, whether calls failed or the power went. With
+/// frames of one byte, what is left must not hold exactly one byte more than its data length counts.
 pub fn repair_recording<M: Medium, N: Source + Medium>(
     left: N,
     steps: &[Step],
@@ -156,9 +157,12 @@ pub fn repair_recording<M: Medium, N: Source + Medium>(
         (i : ℕ) → i < length steps.now → slice_index_or steps.now i Flush ≡ Flush
         → slice_index_or marks i false ≡ true
         → IsLeftAfter (data_start spec_ex) (cut_point (drop (suc i) run.cuts) (M.state medium) 0)
-        (M.state medium) (N.state left).contents → 2 ≤ frame_length spec_ex →
+        (M.state medium) (N.state left).contents →
+        let published = accepted_after spec_ex [] steps.now marks i in
+        IsNoPad spec_ex (field (data_start spec_ex - 4) (N.state left).contents)
+        (held (data_start spec_ex) (N.state left).contents) published →
         IfOk result (λ done. (done.1.spec_ex ≡ spec_ex) × ReadsFrames done.1 (data_start spec_ex)
-        (accepted_after spec_ex [] steps.now marks i) (N.state done.0).contents))) }
+        published (N.state done.0).contents))) }
 {
     a_repair_loses_no_published_sample::<M>(steps);
     repair_to_end(left)

@@ -13,13 +13,14 @@ pub fn record_and_read(rt: &HostRuntime, path: Path<'_>, spec: WavSpec) -> hound
     writer.finalize()?;
     let mut reader = WavReader::open(rt, rt.alloc(), path)?;
     let mut block = [0i16; 4096];
-    reader.read_samples(&mut block)?; // The first 4096 by one call, the others one by one.
+    let (count, result) = reader.read_samples(&mut block); // 4096, or those before an error.
     let mut sum = 0i64;
-    for sample in &block {
+    for sample in &block[..count] {
         sum = sum.wrapping_add(*sample as i64);
     }
+    result?;
     for sample in reader.into_samples::<i16>() {
-        sum = sum.wrapping_add(sample? as i64);
+        sum = sum.wrapping_add(sample? as i64); // The others one by one.
     }
     Ok(sum)
 }

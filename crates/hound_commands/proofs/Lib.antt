@@ -1,4 +1,3 @@
-pub mod Blocks
 pub mod Outputs
 pub mod PackAnswers
 pub mod ShowAnswers

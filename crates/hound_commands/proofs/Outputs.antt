@@ -1,8 +1,11 @@
 -- What an output got, one write after the other.
 use Rattle.std.proofs.Common.{ℕ, ◌<◌, List, [], ◌++◌, length, take, drop, Option, Some, None, Result, Ok, Err, OnErr, refl, sym, ◌∙◌, ap, subst, append_assoc, append-nil, take-append-drop}
+use Rattle.std.specs.Io.{StartsWith}
 use Rattle.std.specs.Io.KnownBytes.{Appends, Keeps}
+use Rattle.std.proofs.KnownBytes.{starts_with_rest}
+use Rattle.std.proofs.Transfers.{starts_with_of_append, starts_with_trans}
 use Rattle.hound.specs.Writing.{Writes}
-use Rattle.hound_commands.specs.Output.{GetsBeginning, GetsBuffered, IsBeginning}
+use Rattle.hound_commands.specs.Output.{GetsBeginning, GetsBuffered}
 
 -- texts appended one after the other
 pub appends-then : (old mid new : Option (List ℕ)) (first rest : List ℕ) → Appends old mid first
@@ -52,25 +55,24 @@ gets-written old mid new text buffered (first, text_is, front) back =
 -- a beginning of the buffer was written
 pub gets-stopped : (old mid new : Option (List ℕ)) (text buffered : List ℕ)
     → GetsBuffered old mid buffered text → GetsBeginning mid new buffered → GetsBeginning old new text
-gets-stopped old mid new text buffered (first, text_is, front) (part, (rest, part_is), back) = (
-  first ++ part,
-  (rest, text_is ∙ ap (λ l. first ++ l) part_is ∙ sym (append_assoc first part rest)),
-  appends-then old mid new first part front back,
-)
+gets-stopped old mid new text buffered (first, text_is, front) (part, begins, back) =
+    let rest = drop (length part) buffered in (
+      first ++ part,
+      starts_with_of_append text (first ++ part) rest
+          (text_is ∙ ap (λ l. first ++ l) (starts_with_rest buffered part begins) ∙ sym (append_assoc first part rest)),
+      appends-then old mid new first part front back,
+    )
 
 -- ---- beginnings
-
-pub whole-beginning : (text : List ℕ) → IsBeginning text text
-whole-beginning text = ([], sym (append-nil text))
-
-pub beginning-then : (part mid text : List ℕ) → IsBeginning part mid → IsBeginning mid text → IsBeginning part text
-beginning-then part mid text (rest, mid_is) (more, text_is) =
-    (rest ++ more, text_is ∙ ap (λ l. l ++ more) mid_is ∙ append_assoc part rest more)
 
 -- what a write that failed leaves
 pub part-written : (text : List ℕ) (old new : Option (List ℕ))
     → (n : ℕ) × (n < length text) × Appends old new (take n text) → GetsBeginning old new text
-part-written text old new (n, short, all) = (take n text, (drop n text, sym (take-append-drop n text)), all)
+part-written text old new (n, short, all) = (
+  take n text,
+  starts_with_of_append text (take n text) (drop n text) (sym (take-append-drop n text)),
+  all,
+)
 
 pub written-part : {T E : Type 0} (text : List ℕ) (result : Result T E) (old new : Option (List ℕ))
     → Writes text result old new → OnErr result (GetsBeginning old new text)
@@ -79,9 +81,9 @@ written-part text (Err e) old new writes = part-written text old new writes
 
 -- a failed write of a buffer leaves a beginning of all that its text begins
 pub stopped-within : {T E : Type 0} (result : Result T E) (old mid new : Option (List ℕ)) (text buffered whole : List ℕ)
-    → GetsBuffered old mid buffered text → GetsBeginning mid new buffered → IsBeginning text whole
+    → GetsBuffered old mid buffered text → GetsBeginning mid new buffered → StartsWith whole text
     → OnErr result (GetsBeginning old new whole)
 stopped-within (Ok x) old mid new text buffered whole got stopped front = tt
 stopped-within (Err e) old mid new text buffered whole got stopped front =
     let (part, beginning, all) = gets-stopped old mid new text buffered got stopped in
-    (part, beginning-then part text whole beginning front, all)
+    (part, starts_with_trans whole text part front beginning, all)

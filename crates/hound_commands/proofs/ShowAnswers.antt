@@ -1,6 +1,8 @@
 -- What the lines of samples are, one sample after the other.
 use Rattle.std.proofs.Common.{◌≡◌, ℕ, zero, suc, ◌+◌, ◌*◌, ◌<◌, ◌≤◌, List, [], ◌∷◌, ◌++◌, length, map, take, drop, Option, Some, None, Result, Ok, Err, IfErr, IfSome, IsErrAnd, OnOk, inl, inr, refl, sym, ◌∙◌, ap, subst, append_assoc, append-nil, length-drop, drop-drop, arith}
+use Rattle.std.specs.Io.{StartsWith}
 use Rattle.std.specs.Io.KnownBytes.{Appends, Keeps}
+use Rattle.std.proofs.Transfers.{starts_with_of_eq, starts_with_trans}
 use Rattle.hound.specs.Input.{Known}
 use Rattle.hound.specs.Meaning.{ReadRefusal, other_format, wider, other_pair, float_refusal, int_meaning, int_refusal, pattern}
 use Rattle.hound.specs.Reader.{ReaderState, meaning_at, refusal_at}
@@ -18,9 +20,9 @@ use Rattle.hound.specs.declared.SampleFormat.TheVariants.{Float, Int}
 use Rattle.hound.specs.declared.WavSpec.{WavSpec}
 use Rattle.hound.specs.declared.WavSpecEx.{WavSpecEx}
 use Rattle.hound_text.specs.Writing.{integer_line, pattern_line}
-use Rattle.hound_commands.proofs.Outputs.{appends-kept, appends-none, beginning-then, gets-more, gets-none, gets-stopped, gets-then, gets-written, whole-beginning}
+use Rattle.hound_commands.proofs.Outputs.{appends-kept, appends-none, gets-more, gets-none, gets-stopped, gets-then, gets-written}
 use Rattle.hound_commands.specs.Failing.{failure_of}
-use Rattle.hound_commands.specs.Output.{GetsBeginning, GetsBuffered, IsBeginning}
+use Rattle.hound_commands.specs.Output.{GetsBeginning, GetsBuffered}
 use Rattle.hound_commands.specs.Showing.{AreShowable, Shows, ShowsSamples, ShowsUntil, StopsAt, StopsSamples, spec_line, line_for, refusal_for, sample_line, sample_lines, show_refusal}
 use Rattle.hound_commands.specs.declared.failure.Failure.{Failure}
 use Rattle.hound_commands.specs.declared.failure.Failure.TheVariants.{BadNumber, InputOrOutput, Refused}
@@ -163,7 +165,7 @@ room_stops s k count (Some xs) None old new newer first text lines room within r
 room_stops s k count (Some xs) (Some ys) old new newer first text lines room within (left_is, showable, text_is) got stopped emptied =
     let (part, beginning, all) = gets-stopped old new newer text lines got stopped in (
       part,
-      (k, within, showable, subst (IsBeginning part) text_is beginning),
+      (k, within, showable, subst (λ t. StartsWith t part) text_is beginning),
       (part, sym (append-nil part) ∙ ap (λ l. part ++ l) (sym emptied), all),
     )
 
@@ -188,7 +190,7 @@ read_stops {A} s zero count (Some refusal) meaning error (Some xs) (Some ys) nex
     of other_pair shows = (within, (other_pair, shows, refl), refl)
 read_stops s k count None meaning (errors.IoError e) (Some xs) (Some ys) next old new first text lines within same (left_is, showable, text_is) got read = (
   first ++ sample_lines s k xs,
-  (k, omega arith, showable, whole-beginning (first ++ sample_lines s k xs)),
+  (k, omega arith, showable, starts_with_of_eq _ (first ++ sample_lines s k xs) refl),
   subst (GetsBuffered old new lines) text_is got,
 )
 read_stops s k count None meaning (errors.FormatError e) (Some xs) (Some ys) next old new first text lines within same shown got read = absurd read
@@ -391,13 +393,13 @@ part_stops_again s n BadNumber (Some ys) out0 out1 out2 first last (text, stops,
 part_stops_again s n InputOrOutput (Some ys) out0 out1 out2 first last (text, (k, within, showable, front), gets) part =
     let (written, beginning, all) = gets-stopped out0 out1 out2 text last gets part in (
       written,
-      (k, within, showable, beginning-then written text (first ++ sample_lines s k ys) beginning front),
+      (k, within, showable, starts_with_trans (first ++ sample_lines s k ys) text written front beginning),
       (written, sym (append-nil written), all),
     )
 part_stops_again s n (Refused e) (Some ys) out0 out1 out2 first last (text, (some, refused, text_is), gets) part =
     let (written, beginning, all) = gets-stopped out0 out1 out2 text last gets part in (
       written,
-      (0, omega arith, none_showable s ys, subst (IsBeginning written) (text_is ∙ sym (append-nil first)) beginning),
+      (0, omega arith, none_showable s ys, subst (λ t. StartsWith t written) (text_is ∙ sym (append-nil first)) beginning),
       (written, sym (append-nil written), all),
     )
 
@@ -439,14 +441,14 @@ lines_until input left s n (Err failure) spec samples out0 out1 out2 head first 
 whole_stops : (s : WavSpecEx) (n : ℕ) (bytes first text : List ℕ) → AreShowable s n bytes
     → text ≡ first ++ sample_lines s n bytes → StopsAt s n InputOrOutput bytes first text
 whole_stops s n bytes first text showable text_is =
-    (n, omega arith, showable, subst (IsBeginning text) text_is (whole-beginning text))
+    (n, omega arith, showable, starts_with_of_eq _ text (sym text_is))
 
 faulted : (s : WavSpecEx) (n : ℕ) (failure : Failure) (bytes first text : List ℕ)
     → StopsAt s n failure bytes first text → StopsAt s n InputOrOutput bytes first text
 faulted s n BadNumber bytes first text stops = absurd stops
 faulted s n InputOrOutput bytes first text stops = stops
 faulted s n (Refused e) bytes first text (some, refused, text_is) =
-    (0, omega arith, none_showable s bytes, subst (IsBeginning text) (text_is ∙ sym (append-nil first)) (whole-beginning text))
+    (0, omega arith, none_showable s bytes, starts_with_of_eq _ text (append-nil first ∙ sym text_is))
 
 pub fault_reported : (input out0 out1 out2 : Option (List ℕ)) (result : Result (Unit {0}) Failure)
     → OnOk result (Shows input out0 out1) → IfErr result (λ failure. ShowsUntil input failure out0 out1)

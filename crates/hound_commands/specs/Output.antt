@@ -1,14 +1,11 @@
 -- How much of a text an output got.
 use Rattle.std.specs.Prelude.{◌≡◌, ℕ, List, ◌++◌, Option}
+use Rattle.std.specs.Io.{StartsWith}
 use Rattle.std.specs.Io.KnownBytes.{Appends}
-
--- a text begins with this part
-abbrev pub IsBeginning : List ℕ → List ℕ → Type 0
-IsBeginning part text = (rest : List ℕ) × (text ≡ part ++ rest)
 
 -- the output got a beginning of a text, and no other byte
 abbrev pub GetsBeginning : Option (List ℕ) → Option (List ℕ) → List ℕ → Type 0
-GetsBeginning old new text = (part : List ℕ) × IsBeginning part text × Appends old new part
+GetsBeginning old new text = (part : List ℕ) × StartsWith text part × Appends old new part
 
 -- the output got a text but for its end, which is buffered
 abbrev pub GetsBuffered : Option (List ℕ) → Option (List ℕ) → List ℕ → List ℕ → Type 0

@@ -1,5 +1,6 @@
 -- What `show` writes of a file: the line of its spec, and then a line for each sample.
 use Rattle.std.specs.Prelude.{◌≡◌, ℕ, ◌*◌, ◌<◌, ◌≤◌, ◌⊎◌, ⊤, IfSome, List, [], ◌∷◌, ◌++◌, codes, decimal, drop, length, Option, None, Some}
+use Rattle.std.specs.Io.{StartsWith}
 use Rattle.std.specs.Io.KnownBytes.{Appends}
 use Rattle.std.specs.List.{flat_map}
 use Rattle.hound.specs.Cause.{Cause}
@@ -13,7 +14,7 @@ use Rattle.hound.specs.declared.SampleFormat.{SampleFormat}
 use Rattle.hound.specs.declared.SampleFormat.TheVariants.{Float, Int}
 use Rattle.hound.specs.declared.WavSpec.{WavSpec}
 use Rattle.hound.specs.declared.WavSpecEx.{WavSpecEx}
-use Rattle.hound_commands.specs.Output.{GetsBuffered, IsBeginning}
+use Rattle.hound_commands.specs.Output.{GetsBuffered}
 use Rattle.hound_commands.specs.declared.failure.Failure.{Failure}
 use Rattle.hound_commands.specs.declared.failure.Failure.TheVariants.{BadNumber, InputOrOutput, Refused}
 use Rattle.hound_text.specs.Writing.{integer_line, pattern_line}
@@ -74,7 +75,7 @@ RefusesSamples s e =
 abbrev pub StopsAt : WavSpecEx → ℕ → Failure → List ℕ → List ℕ → List ℕ → Type 0
 StopsAt s count BadNumber bytes first text = ⊥
 StopsAt s count InputOrOutput bytes first text = (shown : ℕ) × (shown ≤ count)
-    × AreShowable s shown bytes × IsBeginning text (first ++ sample_lines s shown bytes)
+    × AreShowable s shown bytes × StartsWith (first ++ sample_lines s shown bytes) text
 StopsAt s count (Refused e) bytes first text =
     (0 < count) × RefusesSamples s e × (text ≡ first)
 

@@ -11,8 +11,7 @@ use crate::failure::Failure;
 use crate::packing::file_of;
 use crate::showing::show;
 use hound::{SampleFormat, Tape, WavSpec, WavWriter};
-use hound_number::write_bytes;
-use hound_text::{digits, read_numbers};
+use hound_text::{digits, read_numbers, write_text};
 use std::alloc::Global;
 use std::fmt::Display;
 use std::io::Write;
@@ -142,7 +141,7 @@ fn pack<R: io::Read, O: io::Write>(
 {
     let numbers = read_numbers(alloc, input)?;
     let file = file_of(alloc, spec, numbers)?;
-    write_bytes(output, Tape::bytes(&file))?;
+    write_text(output, Tape::bytes(&file))?;
     output.flush()?;
     Ok(())
 }

@@ -22,10 +22,7 @@ pub fn file_of(alloc: Global, spec: WavSpec, numbers: Vec<i32>) -> Result<Tape, 
         (⟦<Tape as Placed>⟧.state file).contents) }
     ensures refused { IfErr result (IsPackFailure (with_default_width spec) numbers.items) }
 {
-    let spec_ex = WavSpecEx {
-        spec,
-        bytes_per_sample: spec.bits_per_sample.div_ceil(8),
-    };
+    let spec_ex = WavSpecEx::from(spec);
     if !spec_ex.is_writable() {
         return Err(Failure::Refused(Error::Unsupported));
     }

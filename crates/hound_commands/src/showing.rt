@@ -1,16 +1,14 @@
 // A file to lines.
-ghost use Rattle.std.specs.Prelude.{◌≡◌, ◌+◌, ◌<◌, ◌≤◌, ◌++◌, ℕ, [], List, IfErr, OnErr, OnOk, length, min, take};
+ghost use Rattle.std.specs.Prelude.{◌≡◌, ◌+◌, ◌<◌, ◌≤◌, ◌++◌, ℕ, [], List, IfErr, OnErr, OnOk, length};
 ghost use Rattle.std.specs.List.{flat_map};
-ghost use Rattle.hound.specs.Blocks.{GivesItemsOfBytes};
-ghost use Rattle.hound.specs.ManyReads.{items_of};
-ghost use Rattle.hound.specs.Reader.{meaning_at, refusal_at, samples_left};
+ghost use Rattle.hound.specs.Reader.{meaning_at, refusal_at};
 ghost use Rattle.hound_commands.specs.Output.{GetsBeginning, GetsBuffered};
 ghost use Rattle.hound_commands.specs.Showing.{Shows, ShowsSamples, ShowsUntil, StopsSamples, sample_line, show_refusal, spec_line};
 ghost use Rattle.hound_text.specs.Writing.{integer_line, pattern_line};
 
 use crate::failure::Failure;
 use hound::{FloatBits, Sample, SampleFormat, WavReader, WavSpec};
-use hound_text::{Ahead, Lines};
+use hound_text::Lines;
 use std::io;
 use std::io::Write;
 
@@ -24,12 +22,8 @@ pub fn show<R: io::Read, O: io::Write>(input: &mut R, output: &mut O) -> Result<
     ensures until { IfErr result (λ failure. ShowsUntil (R.remaining input.old) failure
         (O.contents output.old) (O.contents output.new)) }
 {
-    let mut ahead = Ahead::new(input);
-    let result = show_lines(&mut ahead, output);
+    let result = show_lines(input, output);
     let flushed = output.flush();
-    if ahead.has_failed() {
-        return Err(Failure::InputOrOutput);
-    }
     result?;
     flushed?;
     Ok(())
@@ -140,29 +134,12 @@ fn show_blocks<S: Line, R: io::Read, O: io::Write>(
         (O.contents output.old) (O.contents output.new) lines.old lines.new) }
 {
     loop {
-        let (count, result) = read_block(reader, block);
+        let (count, result) = reader.read_samples(block);
         push_lines(&block[..count], lines, output)?;
         result?;
         if count == 0 {
             return Ok(());
         }
-    }
-}
-
-// Reads the next samples into the front of a block: how many, and the error after them.
-fn read_block<S: Sample, R: io::Read>(
-    reader: &mut WavReader<&mut R>,
-    block: &mut [S],
-) -> (usize, hound::Result<()>)
-    ensures within { result.0 ≤ min (length block.new) (samples_left reader.old) }
-    ensures all { OnOk result.1 (result.0 ≡ min (length block.new) (samples_left reader.old)) }
-    ensures items { GivesItemsOfBytes (λ r. R.remaining r.now) S.refusal S.meaning
-        (items_of (take result.0 block.new) result.1) reader.old reader.new }
-{
-    let left = reader.samples_left();
-    match reader.read_samples(block) {
-        Ok(count) => (count, Ok(())),
-        Err(error) => ((left - reader.samples_left() - 1) as usize, Err(error)),
     }
 }
 

@@ -1,11 +1,13 @@
 // A file with another number of bits: `convert IN OUT BITS`, with 8, 16, 24 or 32 of them.
 //
 // Samples are read as `i32`, whatever their width. More bits are got by a shift; fewer by rounding,
-// where a half goes up, and what then passes the largest sample is clipped to it, and counted.
+// where a half goes up, and what then passes the largest sample is clipped to it, and counted. Of a
+// file that ends early the frames before that are converted.
 ghost use Rattle.std.specs.Prelude.{◌<◌, IfSome};
 
 use crate::failure::Failure;
-use hound::{Error, SampleFormat, WavReader, WavSpec, WavWriter};
+use crate::frames::{block_of, whole_frames};
+use hound::{Error, SampleFormat, WavReader, WavSpec, WavSpecEx, WavWriter};
 use std::io;
 use std::path::Path;
 
@@ -28,29 +30,36 @@ pub fn convert<O: io::Write>(
     if old.sample_format == SampleFormat::Float {
         return Err(Error::InvalidSampleFormat.into());
     }
-    let new = WavSpec {
+    let mut new = WavSpecEx::from(WavSpec {
         bits_per_sample: bits,
         ..old
-    };
-    let mut writer = WavWriter::create(rt, rt.alloc(), Path::new(to), new)?;
+    });
+    if bits == old.bits_per_sample {
+        new = reader.spec_ex();
+    }
+    let mut writer = WavWriter::create_with_spec_ex(rt, rt.alloc(), Path::new(to), new)?;
+    let mut block = block_of(rt.alloc(), old.channels, 0i32)?;
     let mut clipped = 0u32;
-    let mut block = [0i32; 4096];
+    let mut end = Ok(());
     for _ in 0..u64::MAX {
-        let count = reader.read_samples(&mut block)?;
-        if count == 0 {
-            break;
-        }
-        for sample in &mut block[..count] {
+        let (count, result) = reader.read_samples(&mut block);
+        let frames = &mut block[..whole_frames(count, old.channels)];
+        for sample in frames.iter_mut() {
             let (value, is_clipped) = fitted(*sample, old_shift, new_shift);
             *sample = value;
             if is_clipped {
                 clipped = clipped.saturating_add(1);
             }
         }
-        writer.write_samples(&block[..count])?;
+        writer.write_samples(frames)?;
+        if count < block.len() {
+            end = result;
+            break;
+        }
     }
     writer.finalize()?;
     writeln!(output, "{clipped} samples clipped")?;
+    end?;
     Ok(())
 }
 

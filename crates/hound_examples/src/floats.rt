@@ -5,7 +5,6 @@
 use crate::failure::Failure;
 use hound::{Error, FloatBits, WavReader};
 use std::io;
-use std::num::f32_from_bits_with_nan;
 use std::path::Path;
 
 /// Writes a line for each sample, or a line that says why there are none.
@@ -27,8 +26,8 @@ pub fn floats<O: io::Write>(
 fn show<O: io::Write>(rt: &HostRuntime, path: Path<'_>, output: &mut O) -> hound::Result<()> {
     let mut reader = WavReader::open(rt, rt.alloc(), path)?;
     for sample in reader.samples::<FloatBits>() {
-        let FloatBits(pattern) = sample?;
-        let number = f32_from_bits_with_nan(pattern);
+        let sample = sample?;
+        let (pattern, number) = (sample.0, sample.to_f32());
         writeln!(output, "{pattern:08x} {number}")?;
     }
     Ok(())

@@ -1,7 +1,8 @@
 // How loud a file is, tenth by tenth of a second: `levels FILE`.
 //
 // `seek` leads to the first frame of each tenth, and one call reads it. Its root mean square (RMS)
-// and its peak are in decibels relative to full scale (dBFS): 0 is the largest, silence is -inf.
+// and its peak are in decibels relative to full scale (dBFS): 0 is the largest, silence is -inf. Of a
+// file that ends early the last line is that of the samples before that.
 use crate::failure::Failure;
 use hound::WavReader;
 use std::io;
@@ -22,15 +23,18 @@ pub fn levels<O: io::Write>(
     let full = 2f64.powi(i32::from(spec.bits_per_sample) - 1);
     for frame in (0..reader.duration()).step_by(tenth) {
         reader.seek(frame)?;
-        let count = reader.read_samples(&mut samples)?;
-        let (square, peak) = level_of(&samples[..count]);
-        let seconds = f64::from(frame) / f64::from(rate);
-        let rms = 20.0 * (square.sqrt() / full).log10();
-        let peak = 20.0 * (peak / full).log10();
-        writeln!(
-            output,
-            "{seconds:.1} s  RMS {rms:.2} dBFS, peak {peak:.2} dBFS"
-        )?;
+        let (count, result) = reader.read_samples(&mut samples);
+        if count > 0 {
+            let (square, peak) = level_of(&samples[..count]);
+            let seconds = f64::from(frame) / f64::from(rate);
+            let rms = 20.0 * (square.sqrt() / full).log10();
+            let peak = 20.0 * (peak / full).log10();
+            writeln!(
+                output,
+                "{seconds:.1} s  RMS {rms:.2} dBFS, peak {peak:.2} dBFS"
+            )?;
+        }
+        result?;
     }
     Ok(())
 }

@@ -6,6 +6,7 @@ mod chunks;
 mod convert;
 mod failure;
 mod floats;
+mod frames;
 mod info;
 mod join;
 mod levels;

@@ -2,7 +2,9 @@
 //
 // One call of `read_samples` reads them all, since the `Vec` has a place for each, and one of
 // `write_samples` writes them. Frames are reversed as a whole, so that channels stay where they are.
+// Of a file that ends early the frames before that are written.
 use crate::failure::Failure;
+use crate::frames::whole_frames;
 use hound::{Error, SampleFormat, WavReader, WavWriter};
 use std::path::Path;
 
@@ -17,13 +19,20 @@ pub fn reverse(rt: &HostRuntime, from: &str, to: &str) -> Result<(), Failure> {
         return Err(Error::InvalidSampleFormat.into());
     }
     let mut samples = vec![in rt.alloc(); 0i32; reader.len() as usize]?;
-    reader.read_samples(&mut samples)?;
-    samples.reverse();
-    for frame in samples.chunks_mut(spec.channels.max(1) as usize) {
+    let (count, end) = reader.read_samples(&mut samples);
+    let frames = &mut samples[..whole_frames(count, spec.channels)];
+    frames.reverse();
+    for frame in frames.chunks_mut(spec.channels.max(1) as usize) {
         frame.reverse();
     }
-    let mut writer = WavWriter::create(rt, rt.alloc(), Path::new(to), spec)?;
-    writer.write_samples(&samples)?;
+    let mut writer = WavWriter::create_with_spec_ex(
+        rt,
+        rt.alloc(),
+        Path::new(to),
+        reader.spec_ex(),
+    )?;
+    writer.write_samples(frames)?;
     writer.finalize()?;
+    end?;
     Ok(())
 }

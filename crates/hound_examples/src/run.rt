@@ -9,7 +9,7 @@ use crate::info::info;
 use crate::join::join;
 use crate::levels::levels;
 use crate::memory::memory;
-use crate::mend::mend;
+use crate::mend::{How, mend};
 use crate::mulaw::mulaw;
 use crate::record::record;
 use crate::reverse::reverse;
@@ -67,8 +67,9 @@ fn carry_out<I: io::Read, O: io::Write>(
         ["session", call] => session(rt, call, output)?,
         ["levels", file] => levels(rt, Path::new(file), output)?,
         ["mulaw", file] => mulaw(rt, Path::new(file), output)?,
-        ["mend", file] => mend(rt, Path::new(file), false, output)?,
-        ["mend", file, "--yes"] => mend(rt, Path::new(file), true, output)?,
+        ["mend", file] => mend(rt, Path::new(file), How::Look, output)?,
+        ["mend", file, "--yes"] => mend(rt, Path::new(file), How::Mend, output)?,
+        ["mend", file, "--to-end"] => mend(rt, Path::new(file), How::MendToEnd, output)?,
         ["info", file] => info(rt, Path::new(file), output)?,
         _ => return Err(Failure::Usage),
     }

@@ -1,5 +1,6 @@
 // The definitions at files and containers that were written elsewhere, evaluated by the prover.
-ghost use Rattle.std.specs.Prelude.{◌≡◌, ◌∷◌, [], pos, negsuc, take, Ok, map};
+ghost use Rattle.std.specs.Prelude.{◌≡◌, ◌∷◌, ◌++◌, [], true, false, codes, pos, negsuc, replicate, take, Ok, map};
+ghost use Rattle.hound_repair.specs.Following.{is_followed};
 ghost use Rattle.hound_spec.specs.Header.{canonical, header, mask, riff_size};
 ghost use Rattle.hound_sample.specs.Container.{int_container};
 ghost use Rattle.hound_reader.specs.Chunks.{Head, Refused};
@@ -124,6 +125,25 @@ fn the_definition_gives_the_files()
     ensures more_after_68 { riff_size 68 4294967235 ≡ 4294967296 }
 {}
 
+// The definition of what follows data at these bytes, by computing.
+#[tactic(auto, unfolding(hound_repair::specs::Following::is_followed, hound_repair::specs::Following::are_chunks, hound_repair::specs::Following::are_at_most, hound_repair::specs::Following::chunk_content, hound_repair::specs::Following::has_known_tag, hound_repair::specs::Following::ends_with_id3))]
+fn the_definition_finds_what_follows()
+    ensures nothing { is_followed 2 (2 ∷ 0 ∷ []) ≡ false }
+    ensures zeros { is_followed 0 (replicate 12 0) ≡ false }
+    ensures tag { is_followed 2 (2 ∷ 0 ∷ codes "LIST") ≡ true }
+    ensures cut_tag { is_followed 2 (2 ∷ 0 ∷ codes "LIS") ≡ false }
+    ensures no_pad { is_followed 1 (128 ∷ codes "bext") ≡ true }
+    ensures pad { is_followed 1 (128 ∷ 0 ∷ codes "bext") ≡ true }
+    ensures later { is_followed 2 (2 ∷ 0 ∷ 0 ∷ 0 ∷ codes "LIST") ≡ false }
+    ensures other_tag { is_followed 2 (2 ∷ 0 ∷ codes "note") ≡ false }
+    ensures other_chunk { is_followed 2 (2 ∷ 0 ∷ codes "note" ++ (1 ∷ 0 ∷ 0 ∷ 0 ∷ 7 ∷ [])) ≡ true }
+    ensures cut_chunk { is_followed 2 (2 ∷ 0 ∷ codes "note" ++ (2 ∷ 0 ∷ 0 ∷ 0 ∷ 7 ∷ [])) ≡ false }
+    ensures both { is_followed 2 (2 ∷ 0 ∷ codes "note" ++ ((1 ∷ 0 ∷ 0 ∷ 0 ∷ 7 ∷ 0 ∷ []) ++ codes "PEAK")) ≡ true }
+    ensures id3 { is_followed 2 (2 ∷ 0 ∷ codes "TAG" ++ replicate 125 32) ≡ true }
+    ensures id3_in_data { is_followed 3 (2 ∷ 0 ∷ codes "TAG" ++ replicate 125 32) ≡ false }
+    ensures id3_before { is_followed 2 (2 ∷ 0 ∷ codes "TAG" ++ replicate 126 32) ≡ false }
+{}
+
 // The definition of a mask at these channels, by computing.
 fn the_definition_gives_the_masks()
     ensures none { mask 0 ≡ 0 }
@@ -205,6 +225,7 @@ fn definitions_at_files()
 fn definitions_give_what_files_have(_rt: HostRuntime) {
     the_definition_gives_the_headers();
     the_definition_gives_the_files();
+    the_definition_finds_what_follows();
     the_definition_gives_the_masks();
     the_definition_gives_the_containers();
     definitions_at_files();

@@ -1,5 +1,5 @@
 -- Blocks of samples, by their items.
-use Rattle.std.specs.Prelude.{◌≡◌, ℕ, ◌≤◌, min, List, length, take, drop, Option, IsSome, Result, Ok, OnOk}
+use Rattle.std.specs.Prelude.{◌≡◌, ℕ, ◌+◌, ◌-◌, ◌<◌, ◌≤◌, min, List, length, take, drop, Option, IsSome, Result, Ok, Err, OnOk, OnErr}
 use Rattle.hound_spec.specs.declared.error.Error.{Error}
 use Rattle.hound_spec.specs.declared.spec.SampleFormat.{SampleFormat}
 use Rattle.hound_spec.specs.declared.spec.WavSpecEx.{WavSpecEx}
@@ -29,17 +29,22 @@ abbrev pub GivesItemsOfBytes : {R A : Type 0} → (R → Option (List ℕ))
 GivesItemsOfBytes left refusal meaning items old new = GivesItems (λ (bytes : Option (List ℕ)). bytes)
     refusal meaning items (over_bytes left old) (over_bytes left new)
 
--- `read_samples`: a block is items. The Oks are the front of the slice, as many as `count`; they are
--- all that fit or are left, unless the next item is the error. The rest of the slice stays.
+-- how many samples a block requested: those that came, and the one in whose place an error came
+abbrev pub requested : {T E : Type 0} → ℕ → Result T E → ℕ
+requested count (Ok done) = count
+requested count (Err error) = count + 1
+
+-- `read_samples`: a block is items. The samples that came are the front of the slice, `count` of them:
+-- all that fit or are left, or fewer if the next item is the error. The rest of the slice stays.
 pub record ReadsBlock {R A : Type 0} (left : R → Option (List ℕ))
     (refusal : SampleFormat → ℕ → ℕ → Option ReadRefusal)
-    (meaning : SampleFormat → ℕ → ℕ → List ℕ → A) (result : Result ℕ Error) (before after : List A)
-    (old new : ReaderState R) : Type 0 where
-  pub count : ℕ
+    (meaning : SampleFormat → ℕ → ℕ → List ℕ → A) (count : ℕ) (result : Result (Unit {0}) Error)
+    (before after : List A) (old new : ReaderState R) : Type 0 where
   pub within : count ≤ min (length after) (samples_left old)
-  pub told : OnOk result (result ≡ Ok count)
   pub all : OnOk result (count ≡ min (length after) (samples_left old))
+  pub part : OnErr result (count < min (length after) (samples_left old))
   pub items : GivesItemsOfBytes left refusal meaning (items_of (take count after) result) old new
+  pub counted : samples_left new ≡ samples_left old - requested count result
   pub rest : drop count after ≡ drop count before
   pub untouched : IsSome (refusal_at refusal old.spec_ex) → new.reader ≡ old.reader
 

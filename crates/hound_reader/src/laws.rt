@@ -91,9 +91,10 @@ pub fn a_reader_stands_as_counted<R: Source, S: Sample>()
         StandsAsCounted R.remaining bytes old → IsNext R.remaining S.refusal S.meaning next old
         new →
         StandsAsCounted R.remaining bytes new }
-    ensures block { (bytes : List ℕ) (old new : ReaderState R) (result : Result ℕ Error)
-        (before after : List S) → StandsAsCounted R.remaining bytes old →
-        ReadsBlock R.remaining S.refusal S.meaning result before after old new →
+    ensures block { (bytes : List ℕ) (old new : ReaderState R) (count : ℕ)
+        (result : Result (Unit {0}) Error) (before after : List S) →
+        StandsAsCounted R.remaining bytes old →
+        ReadsBlock R.remaining S.refusal S.meaning count result before after old new →
         StandsAsCounted R.remaining bytes new }
     ensures ahead { (bytes : List ℕ) (time : ℕ) (old new : ReaderState R) → WhereTells R.tells (
         StandsAsCounted R.remaining bytes old → Seeks R.state time old new →
@@ -102,9 +103,9 @@ pub fn a_reader_stands_as_counted<R: Source, S: Sample>()
         IsNext R.remaining S.refusal S.meaning (Some item) old new →
         ReadsInPlace (R.state old.reader) (R.state new.reader) →
         PassesItem R.remaining R.state old new }
-    ensures passes_block { (old new : ReaderState R) (result : Result ℕ Error)
+    ensures passes_block { (old new : ReaderState R) (count : ℕ) (result : Result (Unit {0}) Error)
         (before after : List S) →
-        ReadsBlock R.remaining S.refusal S.meaning result before after old new →
+        ReadsBlock R.remaining S.refusal S.meaning count result before after old new →
         ReadsInPlace (R.state old.reader) (R.state new.reader) →
         PassesItem R.remaining R.state old new }
     ensures place { (start : ℕ) (calls : List (Option ℕ)) (old new : ReaderState R) →

@@ -1,6 +1,5 @@
 // Readers of files.
 ghost use Rattle.std.specs.Prelude.{◌≡◌, ℕ, ◌+◌, ◌*◌, ◌/◌, ◌%◌, ◌++◌, ⊤, List, length, drop, Some, IsTrue, IfOk, IfErr, IfSome, MatchResult};
-ghost use Rattle.std.specs.declared.io.Error.{Error as IoFault};
 ghost use Rattle.hound_number.specs.Input.{Known};
 ghost use Rattle.hound_number.specs.Number.{number};
 ghost use Rattle.hound_spec.specs.Header.{riff_tag, wave_tag};
@@ -13,7 +12,6 @@ ghost use Rattle.hound_reader.specs.Taken.{TakesAll, UnreadableAfter};
 ghost use Rattle.hound_reader.specs.declared.cause.Cause.{Cause};
 ghost use Rattle.hound_reader.specs.Refusals.{IsRefusal, OpensAs, FailsAs};
 ghost use Rattle.hound_medium.specs.State.{Shifts, WhereTells};
-ghost use Rattle.hound_sample.specs.ItemReads.{error_of_item};
 ghost use Rattle.hound_reader.specs.Item.{AnswersNext};
 ghost use Rattle.hound_reader.specs.Reader.{HasWholeFrames, samples_left};
 ghost use Rattle.hound_reader.specs.Blocks.{ReadsBlock};
@@ -154,8 +152,16 @@ impl<R: io::Read + Drop> WavReader<R> {
         }
     }
 
-    /// The properties of the audio data; its bits are the used ones. The bytes of a sample are no
-    /// part of it; the reader counts with them.
+    /// The properties of the audio data, with the bytes that a sample takes: a file that is begun
+    /// with this spec has containers of the same width.
+    pub fn spec_ex(&self) -> WavSpecEx
+        ensures { result ≡ self.now.spec_ex }
+    {
+        self.spec_ex
+    }
+
+    /// The properties of the audio data; its bits are the used ones. The bytes of a sample are those
+    /// of [`WavReader::spec_ex`].
     pub fn spec(&self) -> WavSpec
         ensures { result ≡ self.now.spec_ex.spec }
     {
@@ -208,17 +214,17 @@ impl<R: io::Read + Drop> WavReader<R> {
         WavIntoSamples::new(self, spec_ex)
     }
 
-    /// Reads the next samples into the front of a slice, channels in turn, and returns how many:
-    /// as many as fit or are left, so 0 only at the end or for an empty slice (own).
+    /// Reads the next samples into the front of a slice, channels in turn. Returns how many came, and
+    /// why no more if the slice isn't full (own).
     ///
     /// The samples are those that the iterator of [`WavReader::samples`] would give, and exactly
-    /// their containers are taken; the rest of the slice stays as it was. An `Err` is the item that
-    /// the iterator would give next, and counts as one: an error of the type, which comes before
-    /// any byte is taken, a fault, or an early end. The samples before it are in the slice: one
-    /// less than [`WavReader::samples_left`] falls by.
-    pub fn read_samples<S: Sample>(&mut self, samples: &mut [S]) -> Result<usize>
-        ensures { ReadsBlock R.remaining S.refusal S.meaning result samples.old samples.new
-            self.old self.new }
+    /// their containers are taken; the rest of the slice stays as it was. With an Ok as many came as
+    /// fit or are left, so 0 only at the end or for an empty slice. An `Err` is the item that the
+    /// iterator would give next, and [`WavReader::samples_left`] counts it as one: an error of the
+    /// type, which comes before any byte is taken, a fault, or an early end.
+    pub fn read_samples<S: Sample>(&mut self, samples: &mut [S]) -> (usize, Result<()>)
+        ensures { ReadsBlock R.remaining S.refusal S.meaning result.0 result.1 samples.old
+            samples.new self.old self.new }
     {
         let wanted = samples.len().min(self.samples_left() as usize);
         let (count, answer, given) = read_many_counted::<R, S>(
@@ -231,11 +237,11 @@ impl<R: io::Read + Drop> WavReader<R> {
         self.samples_read += count as u64;
         self.bytes_read += bytes;
         let Err(no_sample) = answer else {
-            return Ok(count);
+            return (count, Ok(()));
         };
         self.samples_read += 1;
         self.bytes_read += taken_without(no_sample, given.saturating_sub(bytes), width);
-        Err(error_of_item(no_sample, &self.reader.fault))
+        (count, Err(error_of_item(no_sample, &self.reader.fault)))
     }
 
     /// Moves the source to the first container of a frame; `time` counts frames from 0.

@@ -1,11 +1,14 @@
 -- Chunks after the data, one by one.
-use Rattle.std.proofs.Common.{◌≡◌, ℕ, zero, suc, ◌+◌, ◌≤◌, ◌<◌, Bool, true, false, cond, if◌then◌else◌, ◌&&◌, nat_lt, nat_le, List, [], ◌∷◌, Option, None, Some, length, drop, take, refl, sym, ◌∙◌, ap, arith, length-drop}
-use Rattle.std.specs.Prelude.{slice_index}
+use Rattle.std.proofs.Common.{◌≡◌, ℕ, zero, suc, ◌+◌, ◌≤◌, ◌<◌, Bool, true, false, cond, if◌then◌else◌, ◌&&◌, ◌||◌, nat_lt, nat_le, List, [], ◌∷◌, Option, None, Some, length, drop, take, refl, sym, ◌∙◌, ap, arith, length-drop, length-take, eqb-true}
+use Rattle.std.specs.Prelude.{◌==◌, bytes_eq, slice_index}
+use Rattle.std.proofs.lemmas.Bool.{false≢true}
+use Rattle.std.specs.Cmp.Lexicographic.{same_text}
+use Rattle.std.specs.List.{list_all, list_any}
 use Rattle.std.proofs.lemmas.Bool.Decides.{nat_tests}
 use Rattle.std.proofs.lemmas.List.{get_or-take, drop-take, take-take}
 use Rattle.hound_number.specs.Number.{number}
 use Rattle.hound_spec.specs.Header.{padded}
-use Rattle.hound_repair.specs.Following.{are_at_most, are_chunks, chunk_content, has_tag, if_some, is_printable, said_length}
+use Rattle.hound_repair.specs.Following.{are_at_most, are_chunks, chunk_content, has_known_tag, has_tag, if_some, known_tags, is_printable, said_length}
 
 -- no bytes are no chunks
 pub none_left : (bytes : List ℕ) → length bytes ≡ 0 → are_chunks bytes ≡ true
@@ -30,31 +33,78 @@ enough (suc n) zero [] a b = refl
 enough (suc n) zero (x ∷ bytes) a b = absurd (omega (arith, b))
 enough (suc n) (suc m) [] a b = refl
 enough (suc n) (suc m) (x ∷ bytes) a b =
-    by_content (chunk_content (x ∷ bytes))
+    ap (λ rest. has_known_tag (x ∷ bytes) || rest)
+    (by_content (chunk_content (x ∷ bytes))
     (λ content. are_at_most n (drop (8 + content) (x ∷ bytes)))
     (λ content. are_at_most m (drop (8 + content) (x ∷ bytes)))
     (λ content. enough n m (drop (8 + content) (x ∷ bytes))
     (omega (arith, length-drop (8 + content) (x ∷ bytes), a))
-    (omega (arith, length-drop (8 + content) (x ∷ bytes), b)))
+    (omega (arith, length-drop (8 + content) (x ∷ bytes), b))))
+
+-- bytes that begin with a known tag
+pub known_chunk : (bytes : List ℕ) → 0 < length bytes → has_known_tag bytes ≡ true
+    → are_chunks bytes ≡ true
+unfolding are_chunks are_at_most
+known_chunk [] some known = absurd (omega (arith, some))
+known_chunk (x ∷ bytes) some known =
+    ap (λ b. b || if_some (chunk_content (x ∷ bytes)) (λ k. are_at_most (length bytes) (drop (8 + k) (x ∷ bytes)))) known
 
 -- bytes that don't begin with a chunk
-pub no_chunk : (bytes : List ℕ) → 0 < length bytes → chunk_content bytes ≡ None
-    → are_chunks bytes ≡ false
+pub no_chunk : (bytes : List ℕ) → 0 < length bytes → has_known_tag bytes ≡ false
+    → chunk_content bytes ≡ None → are_chunks bytes ≡ false
 unfolding are_chunks are_at_most
-no_chunk [] some none = absurd (omega (arith, some))
-no_chunk (x ∷ bytes) some none =
-    ap (λ o. if_some o (λ content. are_at_most (length bytes) (drop (8 + content) (x ∷ bytes)))) none
+no_chunk [] some other none = absurd (omega (arith, some))
+no_chunk (x ∷ bytes) some other none = λ i.
+    other i || if_some (none i) (λ k. are_at_most (length bytes) (drop (8 + k) (x ∷ bytes)))
 
--- bytes that do
-pub chunk_then : (bytes : List ℕ) (content : ℕ) → 0 < length bytes
+-- bytes that do, with another tag
+pub chunk_then : (bytes : List ℕ) (content : ℕ) → 0 < length bytes → has_known_tag bytes ≡ false
     → chunk_content bytes ≡ Some content → are_chunks bytes ≡ are_chunks (drop (8 + content) bytes)
 unfolding are_chunks are_at_most
-chunk_then [] content some is = absurd (omega (arith, some))
-chunk_then (x ∷ bytes) content some is =
+chunk_then [] content some other is = absurd (omega (arith, some))
+chunk_then (x ∷ bytes) content some other is =
     let rest = drop (8 + content) (x ∷ bytes) in
     let short : length rest ≤ length bytes = omega (arith, length-drop (8 + content) (x ∷ bytes)) in
-    let here = λ (o : Option ℕ). if_some o (λ k. are_at_most (length bytes) (drop (8 + k) (x ∷ bytes))) in
-    ap here is ∙ enough (length bytes) (length rest) rest short (omega arith)
+    (λ i. other i || if_some (is i) (λ k. are_at_most (length bytes) (drop (8 + k) (x ∷ bytes))))
+    ∙ enough (length bytes) (length rest) rest short (omega arith)
+
+-- texts of other lengths aren't equal
+unequal : (xs ys : List ℕ) → (length xs ≡ length ys → ⊥) → bytes_eq xs ys ≡ false
+unequal xs ys not = by (bytes_eq xs ys) refl
+  where
+    by : (b : Bool) → b ≡ bytes_eq xs ys → bytes_eq xs ys ≡ false
+    by true same = absurd (not (ap length (same_text xs ys same)))
+    by false other = sym other
+
+none_equal : (tags : List (List ℕ)) (bytes : List ℕ)
+    → list_all (λ tag. length tag == 4) tags ≡ true → length bytes < 4
+    → list_any (λ tag. bytes_eq tag bytes) tags ≡ false
+none_equal [] bytes all few = refl
+none_equal (tag ∷ tags) bytes all few =
+    by (length tag == 4) refl all (λ each. none_equal tags bytes each few)
+  where
+    others : Bool
+    others = list_any (λ t. bytes_eq t bytes) tags
+
+    by : (b : Bool) → (length tag == 4) ≡ b → (b && list_all (λ t. length t == 4) tags) ≡ true
+        → (list_all (λ t. length t == 4) tags ≡ true → others ≡ false)
+        → (bytes_eq tag bytes || others) ≡ false
+    by false long each none = absurd (false≢true each)
+    by true long each none = λ i.
+        unequal tag bytes (λ same. omega (arith, eqb-true (length tag) 4 long, few, same)) i
+        || none each i
+
+-- too few bytes for a tag
+pub no_tag : (bytes : List ℕ) → length bytes < 4 → false ≡ has_known_tag bytes
+unfolding has_known_tag
+no_tag bytes few =
+    sym (none_equal known_tags (take 4 bytes) refl (omega (arith, few, length-take 4 bytes)))
+
+-- the first four bytes show whether there is one
+pub tag_is : (bytes tag : List ℕ) → tag ≡ take 4 bytes
+    → list_any (λ known. bytes_eq known tag) known_tags ≡ has_known_tag bytes
+unfolding has_known_tag
+tag_is bytes tag is = ap (λ t. list_any (λ known. bytes_eq known t) known_tags) is
 
 -- too few bytes for a header
 pub too_short : (bytes : List ℕ) → length bytes < 8 → chunk_content bytes ≡ None

@@ -1,5 +1,5 @@
 -- A file in each intermediate state of its repair.
-use Rattle.std.proofs.Common.{◌≡◌, ℕ, ◌-◌, ◌≤◌, Bool, List, [], ◌∷◌, length, take, inl, inr, Result, Ok, Err, IsTrue, MatchResult, sym, ap, ◌∙◌, subst, arith, length-append, length-take, append-nil}
+use Rattle.std.proofs.Common.{◌≡◌, ℕ, ◌+◌, ◌-◌, ◌<◌, ◌≤◌, Bool, List, [], ◌∷◌, length, take, inl, inr, Result, Ok, Err, IsTrue, MatchResult, sym, ap, ◌∙◌, subst, arith, length-append, length-take, append-nil}
 use Rattle.std.proofs.lemmas.Bool.{cases_lt}
 use Rattle.hound_medium.specs.Bytes.{moment, overlay, placed}
 use Rattle.hound_medium.specs.State.{MediumState}
@@ -7,9 +7,9 @@ use Rattle.hound_medium.proofs.Overlays.{length-placed}
 use Rattle.hound_medium.proofs.Spans.{moment_before, moment_last}
 use Rattle.hound_spec.specs.declared.error.Error.{Error}
 use Rattle.hound_writer.specs.Appending.{PutsNothing}
-use Rattle.hound_writer.specs.Parts.{PatchesAtEach}
-use Rattle.hound_repair.specs.Damages.{HalfPut, HalfPutAtEach, IsDamage, PutsPad, repair_of}
-use Rattle.hound_repair.specs.Repairing.{HalfMended, IsFoundAt, MendsAtEach, found_length}
+use Rattle.hound_writer.specs.Parts.{Patches, PatchesAtEach}
+use Rattle.hound_repair.specs.Damages.{HalfPutAtEach, IsDamage, PutsPad, repair_of}
+use Rattle.hound_repair.specs.Repairing.{FlushesBeforePad, HalfMended, HalfPut, IsFoundAt, MendsAtEach, found_length}
 use Rattle.hound_repair.specs.declared.look.Damage.{Damage}
 use Rattle.hound_repair.specs.declared.sizes.Repair.{Repair}
 use Rattle.hound_repair.specs.declared.sizes.RepairState.TheVariants.{CutOff}
@@ -17,7 +17,7 @@ use Rattle.hound_repair.proofs.Mending.{found_of, half_is}
 
 -- while the sizes are written
 pub sizes_at_each : {T E : Type 0} (p riff n h : ℕ) (result : Result T E) (a b : MediumState)
-    → PatchesAtEach p n result a b → HalfPutAtEach p riff n h a b
+    → PatchesAtEach p riff n result a b → HalfPutAtEach p riff n h a b
 sizes_at_each p riff n h result a b at k from to =
     let one = at.span.each k from to in
     let here = moment b.start b.past k in
@@ -25,8 +25,7 @@ sizes_at_each p riff n h result a b at k from to =
       sizes = here;
       k = k - at.split;
       within = omega (arith, to, at.puts.within);
-      same = one.same;
-      torn = one.field;
+      half = one;
       pad = [];
       one = omega arith;
       is = sym (append-nil here);
@@ -36,7 +35,7 @@ sizes_at_each p riff n h result a b at k from to =
 
 -- and the pad byte after them
 pub pad_at_each : {T E U F : Type 0} (keeps : Bool) (p riff n h end : ℕ) (first : Result U F)
-    (result : Result T E) (a b c : MediumState) → IsTrue keeps → PatchesAtEach p n first a b
+    (result : Result T E) (a b c : MediumState) → IsTrue keeps → PatchesAtEach p riff n first a b
     → PutsPad keeps end result b c → c.contents ≡ overlay c.start c.past
     → HalfPut p riff n h a.contents c.contents → HalfPutAtEach p riff n h a c
 pad_at_each keeps p riff n h end first result a b c kept at pads replays half k from to =
@@ -63,18 +62,42 @@ pad_at_each keeps p riff n h end first result a b c kept at pads replays half k 
           (sym (ap (moment c.start c.past) last ∙ moment_last c replays)) half
     ]
 
+-- sizes alone come before no pad byte
+pub sizes_flushed : {T E : Type 0} (p riff n : ℕ) (result : Result T E) (a b : MediumState)
+    → Patches p riff n result a b → FlushesBeforePad a b
+sizes_flushed p riff n result a b patches longer =
+    absurd (omega (arith, longer, patches.half.2.same.long))
+
+-- and they are flushed before it
+pub pad_flushed : {T E : Type 0} (keeps : Bool) (end : ℕ) (result : Result T E)
+    (a b c : MediumState) → IsTrue keeps → b.flushed ≡ length b.past → PutsPad keeps end result b c
+    → FlushesBeforePad a c
+pad_flushed keeps end (Ok x) a b c kept flushed pads longer = omega (arith, pads.flushed)
+pad_flushed keeps end (Err e) a b c kept flushed pads longer =
+    let added = placed end (take pads.count (0 ∷ [])) in
+    omega (
+      arith,
+      pads.flushed,
+      flushed,
+      ap length (pads.past kept),
+      length-append b.past added,
+      length-placed end (take pads.count (0 ∷ [])),
+      length-take {A = ℕ} pads.count (0 ∷ []),
+    )
+
 -- so the file is half mended
 pub mends_at_each : (looks : Bool) (d : Damage) (a b : MediumState) → IsDamage looks a.contents d
-    → d.was ≡ CutOff
+    → d.was ≡ CutOff → FlushesBeforePad a b
     → HalfPutAtEach (d.head.data_start - 4) d.sizes.riff_size d.sizes.data_length d.held a b
     → MendsAtEach looks a b
-mends_at_each looks d a b at cut half =
+mends_at_each looks d a b at cut order half =
     inr (
       repair_of d,
       d.head.data_length,
       d.head.data_start,
       found_of looks a.contents d at,
       cut,
+      order,
       λ k from to. half_is looks a.contents d at cut (moment b.start b.past k) (half k from to),
     )
 
@@ -85,7 +108,8 @@ each_after looks old mid new puts (inl same) = inl (same ∙ puts.stays.past)
 each_after looks old mid new puts (inr mends) =
     inr (subst (λ (x : List ℕ × List (ℕ × ℕ)).
     (found : Repair) × (len : ℕ) × (start : ℕ) × IsFoundAt looks x.0 found len start
-    × (found.was ≡ CutOff) × ((k : ℕ) → length x.1 ≤ k → k ≤ length new.past →
+    × (found.was ≡ CutOff) × (length x.0 < length new.contents → length new.past ≤ new.flushed + 1)
+    × ((k : ℕ) → length x.1 ≤ k → k ≤ length new.past →
     HalfMended start (found_length found) x.0 (moment new.start new.past k)))
     (λ i. (puts.stays.contents i, puts.stays.past i)) mends)
 

@@ -27,6 +27,7 @@ use Rattle.hound_repair.specs.Repairing.{IsNoPad, IsNotRepaired, IsRepairFault, 
 use Rattle.hound_repair.specs.declared.sizes.Repair.{Repair}
 use Rattle.hound_repair.specs.declared.sizes.RepairState.{RepairState}
 use Rattle.hound_repair.specs.declared.sizes.RepairState.TheVariants.{Whole, CutOff, HasChunksAfterData}
+use Rattle.hound_repair.proofs.Dividing.{times_le}
 use Rattle.hound_repair.proofs.Joining.{AreWide, concat_front, wide_take}
 use Rattle.hound_repair.proofs.RightSizes.{same_sizes}
 
@@ -40,7 +41,7 @@ containers_fewer w (suc n) (suc m) bytes le =
 
 -- of bytes that hold at least this many whole frames, so many are found, unless the last byte is
 -- taken for a pad byte and is one of them
-pub frames_kept : (f len n q : ℕ) → 1 ≤ f → q * f ≤ n → (2 ≤ f) ⊎ (q * f ≤ len)
+pub frames_kept : (f len n q : ℕ) → 1 ≤ f → q * f ≤ n → (f ≡ 1 → n ≡ len + 1 → q * f ≤ len)
     → q ≤ data_held f len n / f
 unfolding data_held ends_with_pad
 frames_kept f len n q some few no_pad = by (n == len + 1) (len % 2 == 1) (len % f == 0) refl refl refl
@@ -53,8 +54,8 @@ frames_kept f len n q some few no_pad = by (n == len + 1) (len % 2 == 1) (len % 
     by false b c ea eb ec = fits n few
     by true false c ea eb ec = fits n few
     by true true false ea eb ec = fits n few
-    by true true true ea eb ec = elim no_pad [
-      | inr le ↦ fits len le
+    by true true true ea eb ec = elim (cases_lt 1 f) [
+      | inr one ↦ fits len (no_pad (omega (arith, some, one)) (eqb-true n (len + 1) ea))
       | inl two ↦
           let m = len / f in
           let whole : m * f ≡ len =
@@ -109,7 +110,7 @@ module _ (looks : Bool) (old new : MediumState) (found : Repair)
     (list : List (List ℕ)) (sound : IsSoundSpec found.spec_ex)
     (wide : AreWide found.spec_ex.bytes_per_sample list)
     (stored : IsStored r.start (concat list) 0 (length (concat list)) old.contents)
-    (no_pad : IsNoPad found.spec_ex r.len list) where
+    (no_pad : IsNoPad found.spec_ex r.len (held r.start old.contents) list) where
   abbrev s : WavSpecEx
   s = found.spec_ex
 
@@ -155,8 +156,10 @@ module _ (looks : Bool) (old new : MediumState) (found : Repair)
   frame : 1 ≤ frame_length s
   frame = mul-le 1 1 channels w sound.0 sound.1
 
-  not_pad : (2 ≤ frame_length s) ⊎ (q * frame_length s ≤ r.len)
-  not_pad = elim no_pad [ inl two ↦ inl two | inr le ↦ inr (omega (arith, bytes, inside, le)) ]
+  not_pad : frame_length s ≡ 1 → length rest ≡ r.len + 1 → q * frame_length s ≤ r.len
+  not_pad one more =
+      let whole : q * frame_length s ≡ q = ap (λ f. q * f) one ∙ (let e : q * 1 ≡ q = omega arith in e) in
+      omega (arith, whole, few, times_le q channels sound.0, no_pad one more)
 
   frames : q ≤ found.frames
   frames =
@@ -204,7 +207,8 @@ pub keeps_stored : (looks : Bool) (old new : MediumState) (found : Repair) (s : 
     (len start : ℕ) (list : List (List ℕ)) → Repairs looks old found new
     → (IsTrue looks → found.was ≡ HasChunksAfterData → ⊥) → Head old.contents s len start
     → IsSoundSpec s → AllByRecursion (λ c. length c ≡ s.bytes_per_sample) list
-    → IsStored start (concat list) 0 (length (concat list)) old.contents → IsNoPad s len list
+    → IsStored start (concat list) 0 (length (concat list)) old.contents
+    → IsNoPad s len (held start old.contents) list
     → (found.spec_ex ≡ s) × ReadsFrames found start list new.contents
 keeps_stored looks old new found s len start list r alone head sound wide stored no_pad =
     let agree = heads_agree old.contents found.spec_ex s r.len len r.start start r.is.head head in
@@ -215,8 +219,8 @@ keeps_stored looks old new found s len start list r alone head sound wide stored
           (not_followed looks _ _ found.was r.is.was alone) list (subst IsSoundSpec (sym agree.0) sound)
           (subst (λ (x : WavSpecEx). AreWide x.bytes_per_sample list) (sym agree.0) wide)
           (subst (λ h. IsStored h bytes 0 (length bytes) old.contents) (sym agree.2) stored)
-          (subst (λ (x : WavSpecEx × ℕ). IsNoPad x.0 x.1 list)
-          (λ i. (sym agree.0 i, sym agree.1 i)) no_pad)),
+          (subst (λ (x : WavSpecEx × ℕ × ℕ). IsNoPad x.0 x.1 (held x.2 old.contents) list)
+          (λ i. (sym agree.0 i, sym agree.1 i, sym agree.2 i)) no_pad)),
     )
 
 -- a head that fails no check isn't repaired only if the medium failed

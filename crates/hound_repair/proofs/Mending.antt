@@ -5,7 +5,6 @@ use Rattle.std.proofs.lemmas.Bool.{false≢true}
 use Rattle.std.proofs.lemmas.List.{append-nil}
 use Rattle.std.specs.declared.io.Error.{Error as IoFault}
 use Rattle.hound_spec.specs.declared.error.Error.{Error}
-use Rattle.hound_number.specs.Number.{mix}
 use Rattle.hound_spec.specs.Header.{riff_size}
 use Rattle.hound_medium.specs.State.{MediumState, faults_after, one_more}
 use Rattle.hound_medium.proofs.Overlays.{overlay_at_end}
@@ -17,9 +16,9 @@ use Rattle.hound_repair.proofs.RightSizes.{frames_read, head_put, length_put, ri
 use Rattle.hound_writer.specs.Appending.{PutsNothing}
 use Rattle.hound_writer.specs.Parts.{Patches}
 use Rattle.hound_writer.specs.Sizes.{field, with_sizes}
-use Rattle.hound_repair.specs.Damages.{HalfPut, IsDamage, PutsPad, PutsSizes, frames_told, repair_of, torn_told}
+use Rattle.hound_repair.specs.Damages.{IsDamage, PutsPad, PutsSizes, frames_told, repair_of, torn_told}
 use Rattle.hound_repair.specs.Held.{frame_length, held, mended, missing_pad, right_length}
-use Rattle.hound_repair.specs.Repairing.{HalfMended, HasRightSizes, IsFoundAt, IsNotRepaired, LeavesFor, LeavesHalf, IsRepairFault, Repairs, UnlessFollowed, found_length, frames_found, state_of, torn_found}
+use Rattle.hound_repair.specs.Repairing.{HalfMended, HalfPut, HasRightSizes, IsFoundAt, IsNotRepaired, LeavesFor, LeavesHalf, IsRepairFault, Repairs, UnlessFollowed, found_length, frames_found, state_of, torn_found}
 use Rattle.hound_repair.specs.declared.look.Damage.{Damage}
 use Rattle.hound_repair.specs.declared.sizes.Repair.{Repair}
 use Rattle.hound_repair.specs.declared.sizes.RepairState.{RepairState}
@@ -49,10 +48,9 @@ put_cut d fault (Err e) a b err patches = record {
   contents = tt;
   half = record {
     sizes = b.contents;
-    k = patches.torn.0;
-    within = patches.torn.1;
-    same = patches.same;
-    torn = patches.torn.2;
+    k = patches.half.0;
+    within = patches.half.1;
+    half = patches.half.2;
     pad = [];
     one = omega arith;
     is = sym (append-nil b.contents);
@@ -74,10 +72,9 @@ put_sizes_only d x a b none patches = record {
       (sym none);
   half = record {
     sizes = b.contents;
-    k = patches.torn.0;
-    within = patches.torn.1;
-    same = patches.same;
-    torn = patches.torn.2;
+    k = patches.half.0;
+    within = patches.half.1;
+    half = patches.half.2;
     pad = [];
     one = omega arith;
     is = sym (append-nil b.contents);
@@ -98,28 +95,32 @@ put_both keeps d x result a b c end at missing patches pads =
     let sizes = with_sizes (d.head.data_start - 4) d.sizes.riff_size d.sizes.data_length a.contents in
     let is : c.contents ≡ b.contents ++ take pads.count (0 ∷ []) =
     pads.contents
-    ∙ overlay_at_end b.contents end (take pads.count (0 ∷ [])) (at ∙ sym patches.same.long) in
+    ∙ overlay_at_end b.contents end (take pads.count (0 ∷ [])) (at ∙ sym patches.half.2.same.long) in
     record {
       contents = done result pads.whole (λ one. is ∙ (λ i. patches.contents i ++ (ap (λ k. take k (0 ∷ [])) one
           ∙ sym missing) i));
       half = record {
         sizes = b.contents;
-        k = patches.torn.0;
-        within = patches.torn.1;
-        same = patches.same;
-        torn = patches.torn.2;
+        k = patches.half.0;
+        within = patches.half.1;
+        half = patches.half.2;
         pad = take pads.count (0 ∷ []);
         one = omega (arith, length-take {A = ℕ} pads.count (0 ∷ []));
         is = is;
         last = λ some. patches.contents;
         missing = λ some. (λ i. take (one pads.count pads.within some i) (0 ∷ [])) ∙ sym missing;
       };
-      flushed = pads.flushed;
+      flushed = at_ok (c.flushed ≡ length c.past) (c.flushed ≡ b.flushed) result pads.flushed;
       faults = pads.faults ∙ ap (faults_after result) patches.faults;
     }
   where
     one : (count : ℕ) → count ≤ 1 → 1 ≤ length (take {A = ℕ} count (0 ∷ [])) → count ≡ 1
     one count few some = omega (arith, few, some, length-take {A = ℕ} count (0 ∷ []))
+
+    at_ok : {X Y : Type 0} (P Q : Type 0) (r : Result X Y) → MatchResult r (λ _. P) (λ _. Q)
+        → OnOk r P
+    at_ok P Q (Ok x) p = p
+    at_ok P Q (Err e) q = tt
 
     done : {X Y P Q : Type 0} (r : Result X Y) → OnOk r P → (P → Q) → OnOk r Q
     done (Ok x) p f = f p
@@ -163,19 +164,9 @@ module _ (looks : Bool) (contents : List ℕ) (d : Damage) (at : IsDamage looks 
   pub half_is : (new : List ℕ)
       → HalfPut (d.head.data_start - 4) d.sizes.riff_size d.sizes.data_length d.held contents new
       → HalfMended d.head.data_start (found_length (repair_of d)) contents new
-  half_is new half = record {
-    sizes = half.sizes;
-    k = half.k;
-    within = half.within;
-    same = half.same;
-    torn = half.torn ∙ ap (mix half.k (field (d.head.data_start - 4) contents)) length_is;
-    pad = half.pad;
-    one = half.one;
-    is = half.is;
-    last = λ some. half.last some
-        ∙ (λ i. with_sizes (d.head.data_start - 4) (riff_is i) (length_is i) contents);
-    missing = λ some. half.missing some ∙ (λ i. missing_pad (length_is i) (at.held_is i));
-  }
+  half_is new half =
+      subst (λ (x : ℕ × ℕ × ℕ). HalfPut (d.head.data_start - 4) x.0 x.1 x.2 contents new)
+      (λ i. (riff_is i, length_is i, at.held_is i)) half
 
   pub mended_is : with_sizes (d.head.data_start - 4) d.sizes.riff_size d.sizes.data_length contents
       ++ missing_pad d.sizes.data_length d.held

@@ -121,7 +121,7 @@ module _ (looks again : Bool) (old mid new : MediumState) (found other : Repair)
   inside = head_inside old.contents s len start at.head
 
   long : length half.sizes ≡ length old.contents
-  long = half.same.long
+  long = half.half.same.long
 
   frames_are : found.frames ≡ frames_held s len n
   frames_are = at.frames ∙ held_frames found.was s len n apart
@@ -135,9 +135,9 @@ module _ (looks again : Bool) (old mid new : MediumState) (found other : Repair)
       subst (λ c. Head c s (field (start - 4) c) start) (sym half.is)
       (head_with old.contents s len start at.head (half.sizes ++ half.pad)
       (omega (arith, long, inside, length-append half.sizes half.pad))
-      (take-append-le 4 half.sizes half.pad (omega (arith, behind, inside, long)) ∙ half.same.front)
+      (take-append-le 4 half.sizes half.pad (omega (arith, behind, inside, long)) ∙ half.half.same.front)
       (ap (drop 8) (take-append-le (start - 4) half.sizes half.pad (omega (arith, inside, long)))
-      ∙ half.same.middle))
+      ∙ half.half.same.middle))
 
   field_is : field (start - 4) mid.contents ≡ field (start - 4) half.sizes
   field_is =
@@ -163,7 +163,7 @@ module _ (looks again : Bool) (old mid new : MediumState) (found other : Repair)
   frames_before none =
       let held_same : held start mid.contents ≡ n = omega (arith, held_is, none) in
       let torn : field (start - 4) mid.contents ≡ mix half.k len (data_held f len n / f * f) =
-      field_is ∙ half.torn
+      field_is ∙ half.half.field
       ∙ (λ i. mix half.k (head_field old.contents s len start at.head i) (length_of i)) in
       (λ i. data_held f (torn i) (held_same i) / f) ∙ frames_half f len n half.k some at.small
 

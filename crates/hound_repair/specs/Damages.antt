@@ -1,6 +1,5 @@
 -- What the private parts of a repair find and do.
-use Rattle.std.specs.Prelude.{◌≡◌, ℕ, ◌-◌, ◌/◌, ◌%◌, ◌≤◌, ◌^◌, ◌⊎◌, Bool, ◌&&◌, IsTrue, List, [], ◌∷◌, ◌++◌, length, drop, take, Some, None, Result, Ok, Err, OnOk}
-use Rattle.hound_number.specs.Number.{mix}
+use Rattle.std.specs.Prelude.{◌≡◌, ℕ, ◌-◌, ◌/◌, ◌%◌, ◌≤◌, ◌^◌, ◌⊎◌, Bool, ◌&&◌, IsTrue, List, [], ◌∷◌, ◌++◌, length, drop, take, Some, None, Result, Ok, Err, OnOk, MatchResult}
 use Rattle.hound_spec.specs.declared.error.Error.{Error}
 use Rattle.hound_spec.specs.FmtChunk.{greatest_u32}
 use Rattle.hound_spec.specs.Header.{riff_size}
@@ -11,10 +10,10 @@ use Rattle.hound_reader.specs.Chunks.{Head, IsDataPlace}
 use Rattle.hound_reader.specs.Fmt.{IsSoundSpec}
 use Rattle.hound_writer.specs.Answers.{IsIoError}
 use Rattle.hound_writer.specs.Appending.{AppendFault, NamesFault, PutsNothing}
-use Rattle.hound_writer.specs.Sizes.{SameButSizes, field, with_sizes}
+use Rattle.hound_writer.specs.Sizes.{field, with_sizes}
 use Rattle.hound_repair.specs.Following.{is_followed}
 use Rattle.hound_repair.specs.Held.{are_right, frame_length, frames_held, held, missing_pad, right_length, torn_bytes}
-use Rattle.hound_repair.specs.Repairing.{IsNotFound, repair_fault, state_of}
+use Rattle.hound_repair.specs.Repairing.{HalfPut, IsNotFound, repair_fault, state_of}
 use Rattle.hound_repair.specs.declared.look.Damage.{Damage}
 use Rattle.hound_repair.specs.declared.sizes.Repair.{Repair}
 use Rattle.hound_repair.specs.declared.sizes.RepairState.{RepairState}
@@ -97,26 +96,14 @@ pub record PutsPad {T E : Type 0} (keeps : Bool) (end : ℕ) (result : Result T 
   pub contents : new.contents ≡ overlay old.contents (placed end (take count (0 ∷ [])))
   pub start : new.start ≡ old.start
   pub past : IsTrue keeps → new.past ≡ old.past ++ placed end (take count (0 ∷ []))
-  pub flushed : OnOk result (new.flushed ≡ length new.past)
+  pub flushed : MatchResult result (λ _. new.flushed ≡ length new.past)
+      (λ _. new.flushed ≡ old.flushed)
   pub faults : new.faults ≡ faults_after result old.faults
 
 -- nothing was written and no call failed: at most the place has changed
 pub record IsSame (old new : MediumState) : Type 0 where
   pub puts : PutsNothing old new
   pub faults : new.faults ≡ old.faults
-
--- the contents while the sizes and the pad byte are written, where so many bytes are held
-pub record HalfPut (p riff data_length n : ℕ) (old new : List ℕ) : Type 0 where
-  pub sizes : List ℕ
-  pub k : ℕ
-  pub within : k ≤ 4
-  pub same : SameButSizes p old sizes
-  pub torn : field p sizes ≡ mix k (field p old) data_length
-  pub pad : List ℕ
-  pub one : length pad ≤ 1
-  pub is : new ≡ sizes ++ pad
-  pub last : 1 ≤ length pad → sizes ≡ with_sizes p riff data_length old
-  pub missing : 1 ≤ length pad → pad ≡ missing_pad data_length n
 
 -- The sizes were put and the pad byte where it was missing, or a fault came before.
 pub record PutsSizes {T E : Type 0} (d : Damage) (result : Result T E) (old new : MediumState) :

@@ -1,11 +1,10 @@
 -- What a file is found as, and what repairing it leaves.
-use Rattle.std.specs.Prelude.{◌≡◌, ℕ, ◌-◌, ◌*◌, ◌/◌, ◌%◌, ◌≤◌, ◌⊎◌, Bool, true, false, ◌&&◌, not, nat_lt, if◌then◌else◌, ⊤, List, ◌++◌, length, take, drop, Option, Some, None, Result}
+use Rattle.std.specs.Prelude.{◌≡◌, ℕ, ◌+◌, ◌-◌, ◌*◌, ◌/◌, ◌%◌, ◌≤◌, ◌<◌, ◌⊎◌, Bool, true, false, ◌&&◌, not, nat_lt, if◌then◌else◌, ⊤, List, ◌++◌, length, take, drop, Option, Some, None, Result}
 use Rattle.hound_spec.specs.declared.error.Error.{Error}
 use Rattle.hound_spec.specs.declared.spec.WavSpecEx.{WavSpecEx}
 use Rattle.hound_spec.specs.FmtChunk.{greatest_u32}
 use Rattle.hound_spec.specs.Header.{riff_size}
 use Rattle.hound_spec.specs.Writable.{is_pair}
-use Rattle.hound_number.specs.Number.{mix}
 use Rattle.hound_medium.specs.Bytes.{moment}
 use Rattle.hound_medium.specs.State.{MediumState, faults_after, one_more}
 use Rattle.hound_sample.specs.Container.{containers}
@@ -14,7 +13,8 @@ use Rattle.hound_reader.specs.declared.cause.Cause.TheVariants.{Unsupported}
 use Rattle.hound_reader.specs.Chunks.{Head, Readable, Refused}
 use Rattle.hound_writer.specs.Answers.{IsIoError}
 use Rattle.hound_writer.specs.Appending.{AppendFault, by_bytes, too_long, NamesFault, PutsNothing}
-use Rattle.hound_writer.specs.Sizes.{SameButSizes, field, with_sizes}
+use Rattle.hound_writer.specs.Parts.{IsPatched}
+use Rattle.hound_writer.specs.Sizes.{field, with_sizes}
 use Rattle.hound_repair.specs.Following.{is_followed}
 use Rattle.hound_repair.specs.Held.{are_right, frame_length, frames_held, held, mended, missing_pad, right_length, torn_bytes}
 use Rattle.hound_repair.specs.declared.sizes.Repair.{Repair}
@@ -131,28 +131,37 @@ pub record Repairs (looks : Bool) (old : MediumState) (found : Repair) (new : Me
     pub sizes : UnlessFollowed found.was (HasRightSizes found start new.contents)
     pub faults : new.faults ≡ old.faults
 
--- The contents while a file is mended: of the data length the k low bytes are new, the RIFF size may
--- be torn, and nothing else has changed but that a missing pad byte may have been put at the end, once
--- both sizes were.
-pub record HalfMended (start data_length : ℕ) (old new : List ℕ) : Type 0 where
+-- The contents while the sizes are written, the RIFF size first, and after both the pad byte where it
+-- is missing: k low bytes of the data length are new. So many bytes are held from the data on.
+pub record HalfPut (p riff data_length n : ℕ) (old new : List ℕ) : Type 0 where
   pub sizes : List ℕ
   pub k : ℕ
   pub within : k ≤ 4
-  pub same : SameButSizes (start - 4) old sizes
-  pub torn : field (start - 4) sizes ≡ mix k (field (start - 4) old) data_length
+  pub half : IsPatched p riff old data_length k sizes
   pub pad : List ℕ
   pub one : length pad ≤ 1
   pub is : new ≡ sizes ++ pad
-  pub last : 1 ≤ length pad → sizes ≡ with_sizes (start - 4) (riff_size start data_length) data_length old
-  pub missing : 1 ≤ length pad → pad ≡ missing_pad data_length (held start old)
+  pub last : 1 ≤ length pad → sizes ≡ with_sizes p riff data_length old
+  pub missing : 1 ≤ length pad → pad ≡ missing_pad data_length n
+
+-- the contents while a file is mended, for data of this length
+abbrev pub HalfMended : ℕ → ℕ → List ℕ → List ℕ → Type 0
+HalfMended start data_length old new =
+    HalfPut (start - 4) (riff_size start data_length) data_length (held start old) old new
+
+-- where a pad byte was written at the end, all bytes before it were flushed first
+abbrev pub FlushesBeforePad : MediumState → MediumState → Type 0
+FlushesBeforePad old new =
+    length old.contents < length new.contents → length new.past ≤ new.flushed + 1
 
 -- In each intermediate state of a repair nothing was written, or the file is half mended, for the
--- frames that were found in it.
+-- frames that were found in it. The sizes are flushed before a pad byte is written.
 abbrev pub MendsAtEach : Bool → MediumState → MediumState → Type 0
 MendsAtEach looks old new =
     (new.past ≡ old.past)
     ⊎ ((found : Repair) × (len : ℕ) × (start : ℕ) × IsFoundAt looks old.contents found len start
-    × (found.was ≡ CutOff) × ((k : ℕ) → length old.past ≤ k → k ≤ length new.past →
+    × (found.was ≡ CutOff) × FlushesBeforePad old new
+    × ((k : ℕ) → length old.past ≤ k → k ≤ length new.past →
     HalfMended start (found_length found) old.contents (moment new.start new.past k)))
 
 -- what is left where the medium failed: all, or a file that is half mended
@@ -182,7 +191,7 @@ pub record ReadsFrames (found : Repair) (start : ℕ) (list : List (List ℕ)) (
       (drop start contents))
       ≡ whole_frames found.spec_ex list
 
--- The last byte of these samples can't be taken for a pad byte: a frame has more than one byte, or
--- the data length counts all of them.
-abbrev pub IsNoPad : WavSpecEx → ℕ → List (List ℕ) → Type 0
-IsNoPad s len list = (2 ≤ frame_length s) ⊎ (length list * s.bytes_per_sample ≤ len)
+-- No byte of these samples is taken for a pad byte: where a frame has one byte, and the data length
+-- is one less than what is held, the last byte held isn't theirs.
+abbrev pub IsNoPad : WavSpecEx → ℕ → ℕ → List (List ℕ) → Type 0
+IsNoPad s len n list = frame_length s ≡ 1 → n ≡ len + 1 → length list ≤ len

@@ -5,12 +5,12 @@ ghost use Rattle.hound_medium.specs.State.{unknown};
 ghost use Rattle.hound_reader.specs.Fmt.{IsSoundSpec};
 
 use crate::look::find_damage;
-use crate::mend::repair;
+use crate::mend::{repair, repair_to_end};
 use crate::sizes::Repair;
 use hound_medium::{Medium, Placed, Source};
 use hound_spec::{Error, Result};
 use std::alloc::Global;
-use std::io::{BufReader, Read, Seek, SeekFrom, Write};
+use std::io::{BufReader, Read, Seek, Write};
 use std::path::Path;
 use std::rt::Files;
 use std::{fs, io};
@@ -54,9 +54,8 @@ impl Source for FileInPlace {
 impl Medium for FileInPlace {
     ghost replays = { λ _ tells. Prim.absurd (false≢true tells) };
 
-    // The seek drops what was read ahead, so the file is at the place of the next byte.
+    // Each write of a repair comes after a `go`, which drops what was read ahead.
     fn put(&mut self, bytes: &[u8]) -> io::Result<usize> {
-        let _ = self.reader.seek(SeekFrom::Current(0))?;
         let n = self.reader.get_mut().write(bytes)?;
         if n == 0 {
             return Err(io::Error::from(io::ErrorKind::WriteZero));
@@ -79,6 +78,20 @@ fn buffered(alloc: Global, file: fs::File) -> Result<BufReader<fs::File>> {
     }
 }
 
+// A file on disk, opened for reading and writing.
+fn open_in_place(
+    rt: &impl Files<File = fs::File>,
+    alloc: Global,
+    path: Path<'_>,
+) -> Result<FileInPlace> {
+    let file = fs::OpenOptions::new()
+        .read(true)
+        .write(true)
+        .open(rt, path)?;
+    let reader = buffered(alloc, file)?;
+    Ok(FileInPlace { reader })
+}
+
 /// Repairs a file on disk as [`repair`] does, and syncs it where it wrote.
 ///
 /// `rt` is what `main` and each test are given, `alloc` is `rt.alloc()`. The errors, in their order:
@@ -91,12 +104,24 @@ pub fn repair_file(
 ) -> Result<Repair>
     ensures sound { IfOk result (λ found. IsSoundSpec found.spec_ex) }
 {
-    let file = fs::OpenOptions::new()
-        .read(true)
-        .write(true)
-        .open(rt, path)?;
-    let reader = buffered(alloc, file)?;
-    match repair(FileInPlace { reader }) {
+    match repair(open_in_place(rt, alloc, path)?) {
+        Ok((_, found)) => Ok(found),
+        Err((_, error)) => Err(error),
+    }
+}
+
+/// Repairs a file on disk as [`repair_to_end`] does: for a recording whose samples look like chunks
+/// or a tag.
+///
+/// It syncs the file as [`repair_file`] does, and its errors are the same.
+pub fn repair_file_to_end(
+    rt: &impl Files<File = fs::File>,
+    alloc: Global,
+    path: Path<'_>,
+) -> Result<Repair>
+    ensures sound { IfOk result (λ found. IsSoundSpec found.spec_ex) }
+{
+    match repair_to_end(open_in_place(rt, alloc, path)?) {
         Ok((_, found)) => Ok(found),
         Err((_, error)) => Err(error),
     }

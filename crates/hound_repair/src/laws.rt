@@ -18,14 +18,14 @@ ghost use Rattle.hound_repair.specs.declared.sizes.RepairState.TheVariants.{HasC
 ///
 /// Where this head has samples that are written and sizes that fit, the only error is `IoError`.
 ///
-/// Where a frame has one byte (8 bits, mono) and the data length counts all of these bytes but the
-/// last, that one is taken for a pad byte. Where chunks follow the data, `repair` writes nothing.
+/// Where a frame has one byte (8 bits, mono) and the odd data length is one less than what is held,
+/// the last byte is taken for a pad byte. Where chunks follow the data, `repair` writes nothing.
 pub fn a_repair_keeps_stored_samples()
     ensures read { (looks : Bool) (old new : MediumState) (found : Repair) (s : WavSpecEx)
         (len start : ℕ) (list : List (List ℕ)) → Repairs looks old found new
         → (IsTrue looks → found.was ≡ HasChunksAfterData → ⊥) → Head old.contents s len start → IsSoundSpec s
         → AllByRecursion (λ c. length c ≡ s.bytes_per_sample) list
-        → IsStored start (concat list) 0 (length (concat list)) old.contents → IsNoPad s len list →
+        → IsStored start (concat list) 0 (length (concat list)) old.contents → IsNoPad s len (held start old.contents) list →
         (found.spec_ex ≡ s) × ReadsFrames found start list new.contents }
     ensures error { (looks : Bool) (old new : MediumState) (e : Error) (s : WavSpecEx)
         (len start : ℕ) → Head old.contents s len start

@@ -11,7 +11,7 @@ mod look;
 mod mend;
 mod sizes;
 
-pub use file::{find_damage_in_file, repair_file};
+pub use file::{find_damage_in_file, repair_file, repair_file_to_end};
 pub use laws::{
     a_half_mended_file_is_repaired, a_repair_keeps_stored_samples, a_second_repair_writes_nothing,
 };

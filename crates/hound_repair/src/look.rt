@@ -8,7 +8,7 @@ ghost use Rattle.hound_reader.specs.Chunks.{Head, IsDataPlace};
 ghost use Rattle.hound_reader.specs.Fmt.{IsSoundSpec};
 ghost use Rattle.hound_writer.specs.Sizes.{field};
 ghost use Rattle.hound_repair.specs.Damages.{FindsDamage, IsSoundDamage, MeasuresDamage, repair_of};
-ghost use Rattle.hound_repair.specs.Following.{are_chunks, chunk_content, has_tag, is_followed, is_printable, said_length};
+ghost use Rattle.hound_repair.specs.Following.{are_chunks, begins_chunk, chunk_content, ends_with_id3, has_known_tag, has_tag, is_followed, is_printable, said_length};
 ghost use Rattle.hound_repair.specs.Held.{are_right, held};
 ghost use Rattle.hound_repair.specs.Repairing.{Finds, IsNotFound, Looks, state_of};
 
@@ -18,6 +18,19 @@ use hound_number::{early_end, u32_at};
 use hound_reader::{FileHead, error_of, find_data};
 use hound_spec::{Error, Result, WavSpecEx, is_pair};
 use std::{io, result};
+
+// The tags that show that a chunk begins, whatever follows them: those of RIFF and of its update,
+// of broadcasts, of metadata, and of programs.
+const KNOWN_TAGS: [[u8; 4]; 24] = [
+    *b"LIST", *b"INFO", *b"fact", *b"cue ", *b"plst", *b"JUNK", *b"PAD ", *b"DISP", *b"inst",
+    *b"smpl", *b"bext", *b"levl", *b"cart", *b"axml", *b"chna", *b"iXML", *b"_PMX", *b"id3 ",
+    *b"ID3 ", *b"acid", *b"strc", *b"afsp", *b"PEAK", *b"FLLR",
+];
+
+// How many bytes an ID3v1 tag has, which is at the end of a file, and what it begins with.
+const ID3_LENGTH: u64 = 128;
+
+const ID3_TAG: [u8; 3] = *b"TAG";
 
 /// A file as it was found, and the sizes that it should have.
 #[derive(Clone, Copy)]
@@ -145,7 +158,23 @@ fn content_at<S: Source>(source: &mut S, place: u64, end: u64) -> io::Result<Opt
     Ok(content_of(&header, end - place))
 }
 
-// Whether the bytes from a place to the end are chunks with printable tags.
+// Whether a chunk with a known tag begins at a place.
+fn has_known_tag_at<S: Source>(source: &mut S, place: u64, end: u64) -> io::Result<bool>
+    requires inside { place ≤ end }
+    requires ends { WhereTells S.tells (end ≡ length (S.state source.old).contents) }
+    ensures looks { WhereTells S.tells (Looks result (S.state source.old) (S.state source.new)) }
+    ensures known { WhereTells S.tells (IfOk result (λ known.
+        known ≡ has_known_tag (drop place (S.state source.old).contents))) }
+{
+    if end - place < 4 {
+        return Ok(false);
+    }
+    let mut tag = [0; 4];
+    read_at(source, place, &mut tag)?;
+    Ok(KNOWN_TAGS.contains(&tag))
+}
+
+// Whether the bytes from a place on are chunks with printable tags, to the end or to a known tag.
 fn are_chunks<S: Source>(source: &mut S, place: u64, end: u64) -> io::Result<bool>
     requires small { end ≤ 2 ^ 35 }
     requires inside { place ≤ end }
@@ -156,6 +185,10 @@ fn are_chunks<S: Source>(source: &mut S, place: u64, end: u64) -> io::Result<boo
 {
     let mut place = place;
     while place < end {
+        let known = has_known_tag_at(source, place, end)?;
+        if known {
+            return Ok(true);
+        }
         match content_at(source, place, end)? {
             Some(content) => place += 8 + content,
             None => return Ok(false),
@@ -164,7 +197,42 @@ fn are_chunks<S: Source>(source: &mut S, place: u64, end: u64) -> io::Result<boo
     Ok(true)
 }
 
-// Whether chunks follow the data of a file that holds so many bytes from the data on.
+// Whether a chunk begins after so many of the bytes that a file holds from the data on.
+fn begins_chunk<S: Source>(source: &mut S, start: u64, after: u64, held: u64) -> io::Result<bool>
+    requires start { IsDataPlace start }
+    requires small { held ≤ 2 ^ 33 }
+    requires ends { WhereTells S.tells (start + held ≡ length (S.state source.old).contents) }
+    ensures looks { WhereTells S.tells (Looks result (S.state source.old) (S.state source.new)) }
+    ensures begins { WhereTells S.tells (IfOk result (λ begins.
+        begins ≡ begins_chunk (drop after (drop start (S.state source.old).contents)))) }
+{
+    if after >= held {
+        return Ok(false);
+    }
+    are_chunks(source, start + after, start + held)
+}
+
+// Whether an ID3v1 tag is at the end, after so many of the bytes that a file holds from the data on.
+#[tactic(auto, unfolding(crate::specs::Following::ends_with_id3))]
+fn ends_with_id3<S: Source>(source: &mut S, start: u64, after: u64, held: u64) -> io::Result<bool>
+    requires start { IsDataPlace start }
+    requires after { after < 2 ^ 32 }
+    requires small { held ≤ 2 ^ 33 }
+    requires ends { WhereTells S.tells (start + held ≡ length (S.state source.old).contents) }
+    ensures looks { WhereTells S.tells (Looks result (S.state source.old) (S.state source.new)) }
+    ensures ends { WhereTells S.tells (IfOk result (λ ends.
+        ends ≡ ends_with_id3 after (drop start (S.state source.old).contents))) }
+{
+    if after + ID3_LENGTH > held {
+        return Ok(false);
+    }
+    let mut tag = [0; 3];
+    read_at(source, start + held - ID3_LENGTH, &mut tag)?;
+    Ok(tag == ID3_TAG)
+}
+
+// Whether the data of a file that holds so many bytes from the data on weren't cut off: a chunk
+// begins after them, or a tag is at the end.
 #[tactic(auto, unfolding(crate::specs::Following::is_followed))]
 fn is_followed<S: Source>(source: &mut S, head: FileHead, held: u64) -> io::Result<bool>
     requires start { IsDataPlace head.data_start }
@@ -175,12 +243,15 @@ fn is_followed<S: Source>(source: &mut S, head: FileHead, held: u64) -> io::Resu
     ensures followed { WhereTells S.tells (IfOk result (λ followed.
         followed ≡ is_followed head.data_length (drop head.data_start (S.state source.old).contents))) }
 {
+    let start = head.data_start;
     let length = head.data_length as u64;
-    let content = length + length % 2;
-    if content >= held {
-        return Ok(false);
+    if begins_chunk(source, start, length + length % 2, held)? {
+        return Ok(true);
     }
-    are_chunks(source, head.data_start + content, head.data_start + held)
+    if begins_chunk(source, start, length, held)? {
+        return Ok(true);
+    }
+    ends_with_id3(source, start, length, held)
 }
 
 // How a file is found that holds so many bytes, and should have these sizes.

@@ -4,7 +4,7 @@ ghost use Rattle.hound_reader.specs.Fmt.{IsSoundSpec};
 ghost use Rattle.hound_repair.specs.declared.sizes.RepairState.{RepairState};
 ghost use Rattle.hound_medium.specs.State.{WhereKeeps, WhereTells};
 ghost use Rattle.hound_repair.specs.Damages.{HalfPutAtEach, IsDamage, IsSoundDamage, PutsPad, PutsSizes};
-ghost use Rattle.hound_repair.specs.Repairing.{IsNotRepaired, MendsAtEach, Repairs};
+ghost use Rattle.hound_repair.specs.Repairing.{FlushesBeforePad, IsNotRepaired, MendsAtEach, Repairs};
 
 use crate::look::{Damage, look};
 use crate::sizes::{Repair, RepairState};
@@ -32,6 +32,8 @@ fn put_sizes<M: Medium>(medium: &mut M, damage: Damage) -> io::Result<()>
     ensures moments { WhereKeeps M.tells M.keeps (HalfPutAtEach (damage.head.data_start - 4)
         damage.sizes.riff_size damage.sizes.data_length damage.held (M.state medium.old)
         (M.state medium.new)) }
+    ensures order { WhereKeeps M.tells M.keeps
+        (FlushesBeforePad (M.state medium.old) (M.state medium.new)) }
 {
     let start = damage.head.data_start;
     let length = damage.sizes.data_length;
@@ -109,11 +111,12 @@ fn repair_with<M: Source + Medium>(
 /// Repairs a file in a medium that is at its beginning, whose recording was cut off: every whole
 /// frame that it holds is read again.
 ///
-/// Where both sizes are right, nothing is written. Where the data length is followed by chunks with
-/// printable tags, to the end of the file, it wasn't cut off: that is reported, and nothing is
+/// Where both sizes are right, nothing is written. Where chunks or a tag follow the data, by the data
+/// length, it wasn't cut off ([`RepairState::HasChunksAfterData`]): that is reported, and nothing is
 /// written ([`repair_to_end`] repairs it all the same). Else the two sizes become those of the whole
 /// frames from the data on, the RIFF size first, and the medium is flushed. A pad byte is written where
 /// data of an odd length end with the file, and the medium is flushed again. No other byte changes.
+/// All other bytes after the data are taken for samples.
 ///
 /// The errors, in their order: those of a reader's walk to the data, by the bytes; `Unsupported`,
 /// for samples that are not written with these bits, bytes and format; `TooLong`, where the RIFF

@@ -11,6 +11,7 @@ ghost use Rattle.hound_repair.specs.Repairing.{size_fault};
 use hound_reader::FileHead;
 use hound_spec::{Error, Result, WavSpecEx};
 use hound_writer::riff_size;
+use std::fmt;
 
 /// What a file was found as.
 #[derive(Clone, Copy, Debug, PartialEq, Eq)]
@@ -21,13 +22,27 @@ pub enum RepairState {
     /// A size is wrong, as where a recording was cut off.
     CutOff,
 
-    /// The data length is followed by chunks with printable tags, to the end of the file: it wasn't
-    /// cut off.
+    /// Something follows the data, by the data length, so the file wasn't cut off in them: a chunk
+    /// with a tag of RIFF or its common extensions, as `LIST`, `bext` or `id3 `, which may itself be
+    /// cut off; chunks with printable tags to the end of the file; or an ID3v1 tag at the end. The
+    /// pad byte after the data may lack.
     HasChunksAfterData,
 }
 
+/// A sentence without its full stop, for a user.
+impl fmt::Display for RepairState {
+    fn fmt<W: fmt::Write>(&self, f: &mut fmt::Formatter<W>) -> fmt::Result {
+        f.write_str(match self {
+            RepairState::Whole => "the file is whole",
+            RepairState::CutOff => "the recording was cut off",
+            RepairState::HasChunksAfterData =>
+                "something follows the data, so they weren't cut off",
+        })
+    }
+}
+
 /// What a file holds, and how it was found.
-#[derive(Clone, Copy)]
+#[derive(Clone, Copy, Debug, PartialEq, Eq)]
 pub struct Repair {
     /// The spec of the last fmt chunk.
     pub spec_ex: WavSpecEx,

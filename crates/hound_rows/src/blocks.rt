@@ -42,15 +42,17 @@ fn unread<T: Value>(row: &mut Row, length: &str) -> Vec<T> {
     samples
 }
 
-// The result of a block, what the slice then has, and how many samples are left.
+// How many samples a block read, why no more, what the slice then has, and how many are left.
 fn read_block<T: Value>(
     line: &mut Line,
     reader: &mut WavReader<impl io::Read + Drop>,
     samples: &mut [T],
 ) {
-    match reader.read_samples(samples) {
-        Ok(count) => line.shown(count),
-        Err(error) => line.error(error),
+    let (count, result) = reader.read_samples(samples);
+    line.shown(count);
+    if let Err(error) = result {
+        line.put(":");
+        line.put_error(error);
     }
     line.put(":");
     put_samples(line, samples);

@@ -259,25 +259,18 @@ impl Sum {
         sum
     }
 
-    /// For the samples that a reader has left, by blocks of as many as this slice has. After an
-    /// error the samples read are the first of the slice: as many as fewer are left, less one.
+    /// For the samples that a reader has left, by blocks of as many as this slice has.
     pub fn of_blocks<T: Value>(
         reader: &mut WavReader<impl io::Read + Drop>,
         samples: &mut [T],
     ) -> Sum {
         let mut sum = Sum::none();
         for _ in 0..u64::MAX {
-            let left = reader.samples::<T>().len();
-            let answer = reader.read_samples(samples);
-            let gone = left.saturating_sub(reader.samples::<T>().len());
-            match answer {
-                Ok(0) => break,
-                Ok(count) => sum.add_first(samples, count),
-                Err(error) => {
-                    sum.add_first(samples, gone.saturating_sub(1));
-                    sum.error = Some(error);
-                    break;
-                }
+            let (count, result) = reader.read_samples(samples);
+            sum.add_first(samples, count);
+            sum.error = result.err();
+            if count == 0 || sum.error.is_some() {
+                break;
             }
         }
         sum

@@ -2,8 +2,8 @@
 ghost use Rattle.std.specs.Prelude.{◌≡◌};
 
 use crate::row::Row;
-use hound::{Error, SampleFormat, WavSpec};
-use hound_spec::{header_of, with_default_width};
+use hound::{Error, SampleFormat, WavSpec, WavSpecEx};
+use hound_spec::header_of;
 
 /// `writable SPEC`
 pub fn writable(row: &mut Row, words: &[&str]) {
@@ -46,7 +46,7 @@ pub fn width(row: &mut Row, words: &[&str]) {
     let [bits] = words else {
         return row.refuse();
     };
-    let spec_ex = with_default_width(WavSpec {
+    let spec_ex = WavSpecEx::from(WavSpec {
         channels: 1,
         sample_rate: 44100,
         bits_per_sample: row.number(bits),

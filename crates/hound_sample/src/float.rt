@@ -1,5 +1,6 @@
 // Floating-point samples by their bits.
-ghost use Rattle.std.specs.Prelude.{◌≡◌, ◌<◌, ◌≤◌, None, pos, ⊤};
+ghost use Rattle.std.specs.Prelude.{◌≡◌, ◌<◌, ◌≤◌, None, from_bits, pos, to_bits, ⊤};
+ghost use lib.Ieee.{binary32};
 ghost use Rattle.hound_number.specs.Number.{number};
 ghost use Rattle.hound_sample.specs.Container.{pattern_container};
 ghost use Rattle.hound_sample.specs.ContainerLaws.{pattern_container-in_width};
@@ -13,18 +14,38 @@ use crate::decode::{Decode, decode_next, read_container, read_pieces, refuse_man
 use crate::item::{ContainerReader, ItemError, reason_of};
 use hound_number::{le_u32, u32_at};
 use hound_spec::{Error, Result, SampleFormat};
+use std::num::{f32_from_bits_with_nan, f32_to_bits_with_nan};
 use std::{io, result};
 
 /// A floating-point sample of 32 bits, by its bit pattern.
 ///
 /// It is written with 32 bits in four bytes, and read so from samples of format `Float`. Every
-/// pattern stays as it is. `FloatBits(f32_to_bits_with_nan(number))` is the sample of a number,
-/// and `f32_from_bits_with_nan(sample.0)` the number of a sample: both of `std::num`, where
-/// `to_bits` and `from_bits` need a proof that there is no NaN. `==` compares patterns, so 0.0
-/// and -0.0 differ. It can't be cast to sixteen bits: generic code can't do it, and `as_i16` of
-/// the type itself returns 0.
+/// pattern stays as it is. `FloatBits::from(number)` is the sample of a number, and
+/// `sample.to_f32()` the number of a sample; every NaN has one pattern there. `==` compares
+/// patterns, so 0.0 and -0.0 differ. It can't be cast to sixteen bits: generic code can't do it,
+/// and `as_i16` of the type itself returns 0.
 #[derive(Clone, Copy, Debug, PartialEq, Eq)]
 pub struct FloatBits(pub u32);
+
+/// The pattern of a number.
+impl From<f32> for FloatBits {
+    ghost from_gives = { λ number sample. sample.0 ≡ to_bits binary32 number };
+
+    #[inline]
+    fn from(number: f32) -> FloatBits {
+        FloatBits(f32_to_bits_with_nan(number))
+    }
+}
+
+impl FloatBits {
+    /// The number of this pattern. That of a NaN gives a NaN.
+    #[inline]
+    pub fn to_f32(self) -> f32
+        ensures { result ≡ from_bits binary32 self.0 }
+    {
+        f32_from_bits_with_nan(self.0)
+    }
+}
 
 // Why a pattern isn't read from samples of another format or pair.
 #[inline(always)]

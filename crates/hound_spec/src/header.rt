@@ -5,7 +5,7 @@ ghost use Rattle.hound_number.specs.Number.{bytes_of};
 ghost use Rattle.hound_spec.specs.FmtChunk.{fmt_bytes, subformat};
 ghost use Rattle.hound_spec.specs.Header.{is_short, fields, header, mask, short_fmt, long_fmt, sized_fmt};
 
-use crate::{Error, Result, SampleFormat, WavSpec, WavSpecEx, with_default_width};
+use crate::{Error, Result, SampleFormat, WavSpec, WavSpecEx};
 use hound_number::{le_u16, le_u32};
 use std::alloc::Global;
 use std::marker::Model;
@@ -206,7 +206,7 @@ impl WavSpec {
         ensures writable { IsWritable (with_default_width self) →
             IfErr result (λ e. e ≡ OutOfMemory) }
     {
-        let spec_ex = with_default_width(self);
+        let spec_ex = WavSpecEx::from(self);
         if !spec_ex.is_writable() {
             return Err(Error::Unsupported);
         }

@@ -9,4 +9,4 @@ mod spec;
 pub use error::{Error, Result};
 pub use header::{Header, KSDATAFORMAT_SUBTYPE_IEEE_FLOAT, KSDATAFORMAT_SUBTYPE_PCM, header_of};
 pub use laws::{extensions_come_back, fields_come_back};
-pub use spec::{SampleFormat, WavSpec, WavSpecEx, is_pair, with_default_width};
+pub use spec::{SampleFormat, WavSpec, WavSpecEx, is_pair};

@@ -33,7 +33,9 @@ pub struct WavSpec {
 }
 
 /// The properties of the audio data, with the width of a sample in the file.
-#[derive(Clone, Copy)]
+///
+/// `WavSpecEx::from(spec)` has the default width.
+#[derive(Clone, Copy, Debug, PartialEq, Eq)]
 pub struct WavSpecEx {
     /// The properties of the audio data; its bits are the used ones.
     pub spec: WavSpec,
@@ -73,12 +75,14 @@ ghost use Rattle.std.specs.Prelude.{◌≡◌};
 ghost use Rattle.hound_spec.specs.Writable.{is_pair, with_default_width};
 
 /// The spec with as many bytes to a sample as its bits need, rounded down: `(bits + 7) / 8`.
-pub fn with_default_width(spec: WavSpec) -> WavSpecEx
-    ensures { result ≡ with_default_width spec }
-{
-    WavSpecEx {
-        spec,
-        bytes_per_sample: spec.bits_per_sample.div_ceil(8),
+impl From<WavSpec> for WavSpecEx {
+    ghost from_gives = { λ spec spec_ex. spec_ex ≡ with_default_width spec };
+
+    fn from(spec: WavSpec) -> WavSpecEx {
+        WavSpecEx {
+            spec,
+            bytes_per_sample: spec.bits_per_sample.div_ceil(8),
+        }
     }
 }
 

@@ -1,11 +1,17 @@
 // Results that the definition of a run's result excludes, as the prover shows.
 ghost use Rattle.std.specs.Borrow.{Bor};
-ghost use Rattle.std.specs.Prelude.{◌≡◌, ◌≤◌, ℤ, List, [], ◌∷◌, length, pos, Ok, Err};
+ghost use Rattle.std.specs.Prelude.{◌≡◌, ◌<◌, ◌≤◌, ℕ, ℤ, List, [], ◌∷◌, length, min, pos, Ok, Err};
+ghost use Rattle.hound.specs.Blocks.{ReadsBlock};
 ghost use Rattle.hound.specs.FirstError.{AnswersAll, AnswersSession, AnswersStep};
+ghost use Rattle.hound.specs.Reader.{ReaderState, samples_left};
+ghost use Rattle.hound.specs.declared.Error.{Error};
 ghost use Rattle.hound.specs.declared.Error.TheVariants.{OutOfMemory, TooLong, UnfinishedSample};
 ghost use Rattle.hound.specs.declared.Step.{Step};
 ghost use Rattle.hound.specs.declared.Step.TheVariants.{Whole, Batch, Flush};
 ghost use Rattle.hound_tests.specs.Rows.{mono, stereo};
+
+use hound::Sample;
+use std::io;
 
 // A sample that is too wide is ignored; the error of a later step is returned; a fault is
 // reported as another error; an unfinished frame is ignored at a flush or at an end; there is no
@@ -25,7 +31,18 @@ fn wrong_answers()
         AnswersStep mono [] 0 (Batch first) (Err OutOfMemory) }
 {}
 
+// An error beside a slice that is full, or beside all samples that are left; an Ok of fewer.
+fn wrong_blocks<R: io::Read, S: Sample>()
+    ensures error { (count : ℕ) (error : Error) (before after : List S) (old new : ReaderState R) →
+        ReadsBlock R.remaining S.refusal S.meaning count (Err error) before after old new →
+        min (length after) (samples_left old) ≤ count → ⊥ }
+    ensures few { (count : ℕ) (before after : List S) (old new : ReaderState R) →
+        ReadsBlock R.remaining S.refusal S.meaning count (Ok tt) before after old new →
+        count < min (length after) (samples_left old) → ⊥ }
+{}
+
 #[test]
 fn definitions_leave_wrong_answers_out(_rt: HostRuntime) {
     wrong_answers();
+    wrong_blocks::<&[u8], i16>();
 }

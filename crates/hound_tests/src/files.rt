@@ -1,9 +1,10 @@
 // Files on disk. What is done to a file is a row of a table (`ROWS`).
 use crate::helpers::{
-    FOUR_SAMPLES, NO_SAMPLES, answer_of, read_all, seeks_everywhere, sixteen, write_all,
+    FOUR_SAMPLES, NO_SAMPLES, answer_of, integers, read_all, seeks_everywhere, sixteen, write_all,
 };
 use hound::{
-    Medium, RepairState, SyncedFile, WavReader, WavWriter, find_damage_in_file, repair_file,
+    FloatBits, Medium, RepairState, SyncedFile, WavReader, WavWriter, find_damage_in_file,
+    repair_file, repair_file_to_end,
 };
 use hound_callers::record_and_read;
 use hound_commands::run_append;
@@ -33,6 +34,10 @@ enum Deed {
     AppendDurable(&'static [i16]),
     // It is looked at, and then repaired, and has so many frames and bytes that are left over.
     Repair(u32, u32),
+    // It is looked at, and then to be repaired, and chunks are found after so many frames.
+    IsFollowed(u32),
+    // It is repaired to its end, and has so many frames and bytes that are left over.
+    RepairToEnd(u32, u32),
     // The first samples are read at a checkpoint, before the same writer appends the second.
     Checkpoint(&'static [i16], &'static [i16]),
     // The program's `append` over this input: its status and its line of errors.
@@ -69,6 +74,13 @@ const THREE_SAMPLES: &[u8] = b"RIFF\x2a\0\0\0WAVEfmt \x10\0\0\0\x01\0\x01\0\x44\
 
 const FIVE_SAMPLES: &[u8] = b"RIFF\x2e\0\0\0WAVEfmt \x10\0\0\0\x01\0\x01\0\x44\xac\0\0\
     \x88\x58\x01\0\x02\0\x10\0data\x0a\0\0\0\x0b\0\x0d\0\x11\0\x13\0\x17\0";
+
+// The first of these, with a chunk after the data; and the same with its bytes taken for samples.
+const WITH_LIST: &[u8] = b"RIFF\x34\0\0\0WAVEfmt \x10\0\0\0\x01\0\x01\0\x44\xac\0\0\
+    \x88\x58\x01\0\x02\0\x10\0data\x06\0\0\0\x0b\0\x0d\0\x11\0LIST\x02\0\0\0hi";
+
+const LIST_AS_SAMPLES: &[u8] = b"RIFF\x34\0\0\0WAVEfmt \x10\0\0\0\x01\0\x01\0\x44\xac\0\0\
+    \x88\x58\x01\0\x02\0\x10\0data\x10\0\0\0\x0b\0\x0d\0\x11\0LIST\x02\0\0\0hi";
 
 // The first thirty bytes of a file.
 const BEGUN: [u8; 30] = [
@@ -137,6 +149,17 @@ const ROWS: &[Row] = &[
             (Deed::Put(&BEGUN), "done"),
             (Deed::Repair(0, 0), "IoError"),
             (Deed::HasBytes(&BEGUN), "done"),
+        ],
+        is_left: true,
+    },
+    Row {
+        name: "chunks after the data stay what they are, unless a file is repaired to its end",
+        deeds: &[
+            (Deed::Put(WITH_LIST), "done"),
+            (Deed::IsFollowed(3), "done"),
+            (Deed::HasBytes(WITH_LIST), "done"),
+            (Deed::RepairToEnd(8, 0), "done"),
+            (Deed::HasBytes(LIST_AS_SAMPLES), "done"),
         ],
         is_left: true,
     },
@@ -295,12 +318,30 @@ fn repair(rt: &HostRuntime, path: Path<'_>, frames: u32, left_over: u32) -> houn
     Ok(is_found && is_same && again.was == RepairState::Whole)
 }
 
+fn is_followed(rt: &HostRuntime, path: Path<'_>, frames: u32) -> hound::Result<bool> {
+    let looked = find_damage_in_file(rt, rt.alloc(), path)?;
+    let found = repair_file(rt, rt.alloc(), path)?;
+    let is_so = looked.was == RepairState::HasChunksAfterData && found.was == looked.was;
+    Ok(is_so && looked.frames == frames && found.frames == frames)
+}
+
+fn repair_to_end(
+    rt: &HostRuntime,
+    path: Path<'_>,
+    frames: u32,
+    left_over: u32,
+) -> hound::Result<bool> {
+    let found = repair_file_to_end(rt, rt.alloc(), path)?;
+    Ok((found.frames, found.left_over) == (frames, left_over))
+}
+
 fn has_block(rt: &HostRuntime, path: Path<'_>, samples: &[i16]) -> hound::Result<bool> {
     let mut reader = WavReader::open(rt, rt.alloc(), path)?;
     let mut block = [0i16; 64];
-    let count = reader.read_samples(&mut block)?;
+    let (count, result) = reader.read_samples(&mut block);
+    result?;
     let is_so = count == samples.len() && block.starts_with(samples);
-    Ok(is_so && reader.read_samples(&mut block)? == 0)
+    Ok(is_so && matches!(reader.read_samples(&mut block), (0, Ok(()))))
 }
 
 fn append_text(rt: &HostRuntime, path: Path<'_>, text: &[u8], status: u8, line: &[u8]) -> bool {
@@ -346,6 +387,8 @@ fn does(rt: &HostRuntime, path: Path<'_>, deed: Deed) -> hound::Result<bool> {
         Deed::CreateDurable(samples) => create_durable(rt, path, samples),
         Deed::AppendDurable(samples) => append_durable(rt, path, samples),
         Deed::Repair(frames, left_over) => repair(rt, path, frames, left_over),
+        Deed::IsFollowed(frames) => is_followed(rt, path, frames),
+        Deed::RepairToEnd(frames, left_over) => repair_to_end(rt, path, frames, left_over),
         Deed::Checkpoint(first, second) => checkpoint(rt, path, first, second),
         Deed::AppendText(text, status, line) => Ok(append_text(rt, path, text, status, line)),
         Deed::Example(sum) => Ok(record_and_read(rt, path, sixteen(1))? == sum),
@@ -407,5 +450,30 @@ fn a_failed_sync_is_remembered_and_a_write_is_tried_again(rt: HostRuntime) -> Re
         written,
         [Some(ErrorKind::StorageFull), Some(ErrorKind::StorageFull)]
     );
+    Ok(())
+}
+
+#[test]
+fn a_file_keeps_the_width_of_its_containers(rt: HostRuntime) -> Result<(), Fail> {
+    let path = path_of(&rt)?;
+    let wide = integers(1, 44100, 24, 4);
+    let begun = WavWriter::create_with_spec_ex(&rt, rt.alloc(), path.as_path(), wide)?.spec_ex();
+    let found = WavReader::open(&rt, rt.alloc(), path.as_path())?.spec_ex();
+    let durable = WavWriter::create_durable_with_spec_ex(
+        &rt,
+        rt.alloc(),
+        path.as_path(),
+        wide,
+    )?.spec_ex();
+    fs::remove_file(&rt, path.as_path())?;
+    assert_eq!(rt; (begun, found, durable), (wide, wide, wide));
+    Ok(())
+}
+
+#[test]
+fn floats_are_the_patterns_of_their_numbers(rt: HostRuntime) -> Result<(), Fail> {
+    let half = FloatBits::from(0.5);
+    let number = FloatBits(0xbfc0_0000).to_f32();
+    assert_eq!(rt; (half, number == -1.5), (FloatBits(0x3f00_0000), true));
     Ok(())
 }

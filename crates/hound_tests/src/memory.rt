@@ -236,7 +236,7 @@ fn a_block_is_read_without_memory(rt: HostRuntime) -> Result<(), Fail> {
     let blocks = take_all_but(rt.alloc(), 0)?;
     let answer = reader.read_samples(&mut samples);
     drop(blocks);
-    let is_read = matches!(answer, Ok(4));
+    let is_read = matches!(answer, (4, Ok(())));
     assert!(rt; is_read && samples == [2, -3, 5, -7, 0]);
     Ok(())
 }

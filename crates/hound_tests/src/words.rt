@@ -165,9 +165,9 @@ struct RepairWords;
 
 impl RepairWords {
     ghost use Rattle.hound.specs.Damages.{FindsDamage, HalfPutAtEach, IsDamage, IsSoundDamage, MeasuresDamage, PutsPad, PutsSizes, repair_of};
-    ghost use Rattle.hound.specs.Following.{are_chunks, chunk_content, has_tag, is_followed, is_printable, said_length};
+    ghost use Rattle.hound.specs.Following.{are_chunks, begins_chunk, chunk_content, ends_with_id3, has_known_tag, has_tag, is_followed, is_printable, said_length};
     ghost use Rattle.hound.specs.Held.{are_right, data_held, frame_length, frames_held, held, right_length, torn_bytes};
-    ghost use Rattle.hound.specs.Repairing.{Finds, HalfMended, IsFoundAt, IsNoPad, IsNotFound, IsNotRepaired, Looks, MendsAtEach, ReadsFrames, Repairs, found_length, repair_fault, size_fault, state_of};
+    ghost use Rattle.hound.specs.Repairing.{Finds, FlushesBeforePad, HalfMended, IsFoundAt, IsNoPad, IsNotFound, IsNotRepaired, Looks, MendsAtEach, ReadsFrames, Repairs, found_length, repair_fault, size_fault, state_of};
     ghost use Rattle.hound.specs.declared.Repair.{Repair};
     ghost use Rattle.hound.specs.declared.RepairState.{RepairState};
 

@@ -1,11 +1,5 @@
-pub mod Bytes
 pub mod Decimals
-pub mod Eights
-pub mod Fronts
-pub mod Giving
 pub mod Growing
-pub mod Lanes
 pub mod Leading
-pub mod Placing
 pub mod Rereading
 pub mod Saying

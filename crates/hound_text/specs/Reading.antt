@@ -1,8 +1,7 @@
 -- How a text of numbers is read from its front: what is left to be said at each place.
-use Rattle.std.specs.Prelude.{◌≡◌, ℕ, ℤ, ◌+◌, ◌-◌, ◌*◌, ◌<◌, ◌≤◌, Bool, true, false, cond, ◌==◌, ⊤, nat_le, List, [], ◌∷◌, ◌++◌, length, drop, take, Option, Some, None}
+use Rattle.std.specs.Prelude.{◌≡◌, ℕ, ℤ, ◌+◌, ◌-◌, ◌*◌, Bool, true, false, cond, ◌==◌, ⊤, nat_le, List, [], ◌∷◌, ◌++◌, length, Option, Some, None}
 use Rattle.std.specs.Option.{option_and_then, option_map}
 use Rattle.std.specs.Int.{is_in_range}
-use Rattle.std.specs.Str.Parse.{AllDigits, digits_value}
 use Rattle.hound_text.specs.Text.{is_separator, signed_value}
 use Rattle.hound_text.specs.declared.numbers.Place.{Place}
 use Rattle.hound_text.specs.declared.numbers.Place.TheVariants.{Between, AfterMinus, Inside}
@@ -60,19 +59,6 @@ Leads place bytes numbers later rest more =
 -- no text that continues with these bytes says numbers
 abbrev pub Breaks : Place → List ℕ → Type 0
 Breaks place bytes = (tail : List ℕ) → numbers_from place (bytes ++ tail) ≡ None
-
--- Digits that a text begins with: their number, and how many they are, ten at most.
-pub record IsRun (text : List ℕ) (run : ℕ × ℕ) : Type 0 where
-  pub some : 0 < run.1
-  pub few : run.1 ≤ 10
-  pub digits : AllDigits 10 (take run.1 text)
-  pub value : run.0 ≡ digits_value 10 (take run.1 text)
-
--- A number and how many bytes of a text it takes, its separator with it.
-pub record IsFront (text : List ℕ) (front : ℤ × ℕ) : Type 0 where
-  pub some : 0 < front.1
-  pub within : front.1 ≤ length text
-  pub leads : Leads Between text [] Between (drop front.1 text) (front.0 ∷ [])
 
 -- the numbers of an input are those so far, and then those that are still to come
 abbrev pub Follows : Option (List ℕ) → Option (List ℕ) → Place → List ℤ → Type 0

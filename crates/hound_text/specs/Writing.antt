@@ -1,5 +1,5 @@
 -- The text of numbers that are written.
-use Rattle.std.specs.Prelude.{ℕ, ℤ, ◌/◌, ◌%◌, ◌^◌, ◌==◌, zero, suc, Bool, false, List, [], ◌∷◌, ◌++◌}
+use Rattle.std.specs.Prelude.{ℕ, ℤ, ◌/◌, ◌%◌, ◌^◌, zero, suc, pos, negsuc, false, List, [], ◌∷◌, ◌++◌}
 use Rattle.std.specs.Fmt.{digit_glyph, signed_decimal}
 
 -- the last k digits of a number in a base, the highest one first
@@ -7,9 +7,10 @@ abbrev pub padded_digits : ℕ → ℕ → ℕ → List ℕ
 padded_digits base zero n = []
 padded_digits base (suc k) n = digit_glyph false (n / base ^ k % base) ∷ padded_digits base k n
 
--- the text `0`
-abbrev pub is_zero : ℕ → Bool
-is_zero b = b == 48
+-- the minus of a negative number
+abbrev pub sign : ℤ → List ℕ
+sign (pos n) = []
+sign (negsuc n) = 45 ∷ []
 
 -- a line with an integer in base 10
 abbrev pub integer_line : ℤ → List ℕ

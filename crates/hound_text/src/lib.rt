@@ -2,13 +2,12 @@
 //! for its output.
 #![tactic(auto)]
 
-mod ahead;
-mod eight;
 mod laws;
 mod lines;
 mod numbers;
+mod output;
 
-pub use ahead::Ahead;
 pub use laws::lines_say_their_numbers;
 pub use lines::Lines;
 pub use numbers::{Refusal, digits, read_numbers};
+pub use output::write_text;

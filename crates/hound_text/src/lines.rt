@@ -1,12 +1,10 @@
 // Lines of numbers, buffered for the output.
-ghost use Rattle.std.specs.Prelude.{◌≡◌, ◌+◌, ◌≤◌, ◌↔◌, ℕ, IsTrue, List, [], ◌++◌, decimal, drop, length, take};
-ghost use Rattle.std.specs.Int.Digits.{AllBelowBase};
-ghost use Rattle.std.specs.Simd.Lanes.{number_l};
-ghost use Rattle.hound_text.specs.Writing.{integer_line, pattern_line};
+ghost use Rattle.std.specs.Prelude.{◌≡◌, ◌+◌, ◌<◌, ◌≤◌, ◌↔◌, ℕ, false, IsTrue, [], ◌∷◌, ◌++◌, decimal, length};
+ghost use Rattle.std.specs.Fmt.{digit_glyph};
+ghost use Rattle.hound_text.specs.Writing.{integer_line, pattern_line, sign};
 ghost use Rattle.hound_number.specs.Writing.{Writes};
 
-use crate::eight::{decimal_text, hexadecimal_text};
-use hound_number::write_bytes;
+use crate::output::write_text;
 use std::io;
 use std::marker::Model;
 
@@ -54,12 +52,9 @@ impl Lines {
         requires { length self.old + 24 ≤ 16384 }
         ensures { self.new ≡ self.old ++ integer_line number }
     {
-        let start = self.length;
-        self.bytes[start] = b'-';
-        let at = start + (number < 0) as usize;
-        let end = put_magnitude(&mut self.bytes, at, number.unsigned_abs());
-        self.bytes[end] = b'\n';
-        self.length = end + 1;
+        self.push_sign(number);
+        self.push_decimal(number.unsigned_abs());
+        self.push(b'\n');
     }
 
     /// Appends a line with a pattern of bits: eight digits in base 16.
@@ -68,20 +63,71 @@ impl Lines {
         requires { length self.old + 24 ≤ 16384 }
         ensures { self.new ≡ self.old ++ pattern_line pattern }
     {
-        let end = put_text(&mut self.bytes, self.length, hexadecimal_text(pattern), 0);
-        self.bytes[end] = b'\n';
-        self.length = end + 1;
+        let mut place: u32 = 8;
+        while place > 0 {
+            place -= 1;
+            self.push(glyph((pattern >> (4 * place)) % 16));
+        }
+        self.push(b'\n');
+    }
+
+    // Appends the minus of a negative number.
+    #[inline(always)]
+    fn push_sign(&mut self, number: i32)
+        requires { length self.old < 16384 }
+        ensures { self.new ≡ self.old ++ sign number }
+    {
+        if number < 0 {
+            self.push(b'-');
+        }
+    }
+
+    #[inline(always)]
+    fn push(&mut self, byte: u8)
+        requires { length self.old < 16384 }
+        ensures { self.new ≡ self.old ++ byte ∷ [] }
+    {
+        self.bytes[self.length] = byte;
+        self.length += 1;
+    }
+
+    // Appends the digits of a number in base 10, which are made from the last one on.
+    #[inline(always)]
+    fn push_decimal(&mut self, number: u32)
+        requires { length self.old + 10 ≤ 16384 }
+        ensures { self.new ≡ self.old ++ decimal number }
+    {
+        let mut text = [0; 10];
+        let mut start = 9;
+        let mut rest = number;
+        while rest >= 10 {
+            text[start] = b'0' + (rest % 10) as u8;
+            rest /= 10;
+            start -= 1;
+        }
+        text[start] = b'0' + rest as u8;
+        self.append(&text[start..]);
+    }
+
+    // Appends text.
+    fn append(&mut self, text: &[u8])
+        requires { length self.old + length text.now ≤ 16384 }
+        ensures { self.new ≡ self.old ++ text.now }
+    {
+        let start = self.length;
+        self.bytes[start..start + text.len()].copy_from_slice(text);
+        self.length = start + text.len();
     }
 
     /// Writes the lines, in order. There are none after it, whatever it returns; at an `Err` a
-    /// shorter beginning of them is written. `Interrupted` is an error like any other.
+    /// shorter beginning of them is written.
     pub fn write_to<O: io::Write>(&mut self, output: &mut O) -> io::Result<()>
         ensures emptied { self.new ≡ [] }
         ensures written { Writes self.old result (O.contents output.old) (O.contents output.new) }
     {
         let length = self.length;
         self.length = 0;
-        write_bytes(output, &self.bytes[..length])
+        write_text(output, &self.bytes[..length])
     }
 }
 
@@ -98,10 +144,8 @@ impl io::Write for Lines {
         ensures bytes { WriteAppends (Some self.old) (Some self.new) result buf.now }
         ensures count { result ≡ Ok (min (length buf.now) (16384 - length self.old)) }
     {
-        let start = self.length;
-        let count = buf.len().min(16384 - start);
-        self.bytes[start..start + count].copy_from_slice(&buf[..count]);
-        self.length = start + count;
+        let count = buf.len().min(16384 - self.length);
+        self.append(&buf[..count]);
         Ok(count)
     }
 
@@ -114,43 +158,15 @@ impl io::Write for Lines {
     }
 }
 
-// Stores the digits of a number from a place on, and returns the place after them.
+// The text of a digit in base 16.
 #[inline(always)]
-fn put_magnitude(bytes: &mut [u8; 16384], at: usize, magnitude: u32) -> usize
-    requires { at + 16 ≤ 16384 }
-    ensures place { result ≤ at + 16 }
-    ensures put { take result bytes.new ≡ take at bytes.old ++ decimal magnitude }
+fn glyph(digit: u32) -> u8
+    requires { digit < 16 }
+    ensures { result ≡ digit_glyph false digit }
 {
-    if magnitude < 100_000_000 {
-        let (text, zeros) = decimal_text(magnitude);
-        return put_text(bytes, at, text, zeros.min(7));
+    if digit < 10 {
+        b'0' + digit as u8
+    } else {
+        b'a' + (digit - 10) as u8
     }
-    let (high, zeros) = decimal_text(magnitude / 100_000_000);
-    let (low, _) = decimal_text(magnitude % 100_000_000);
-    let middle = put_text(bytes, at, high, zeros);
-    put_text(bytes, middle, low, 0)
-}
-
-// Stores a text of eight bytes from a place on, without so many of its first bytes, and returns
-// the place after it.
-#[inline(always)]
-fn put_text(bytes: &mut [u8; 16384], at: usize, text: u64, without: u32) -> usize
-    requires place { at + 8 ≤ 16384 }
-    requires without { without ≤ 8 }
-    ensures place { result + without ≡ at + 8 }
-    ensures put { (list : List ℕ) → length list ≡ 8 → AllBelowBase 256 list →
-        text ≡ number_l 256 list →
-        take result bytes.new ≡ take at bytes.old ++ drop without list }
-{
-    let shifted = text.checked_shr(8 * without).unwrap_or(0);
-    let [a, b, c, d, e, f, g, h] = shifted.to_le_bytes();
-    bytes[at] = a;
-    bytes[at + 1] = b;
-    bytes[at + 2] = c;
-    bytes[at + 3] = d;
-    bytes[at + 4] = e;
-    bytes[at + 5] = f;
-    bytes[at + 6] = g;
-    bytes[at + 7] = h;
-    at + 8 - without as usize
 }

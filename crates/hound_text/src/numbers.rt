@@ -1,15 +1,14 @@
 // Numbers as text.
-ghost use Rattle.std.specs.Prelude.{◌≡◌, ℤ, ◌≤◌, IfErr, IfOk, IfSome, OnOk, SomeIff, List, [], ◌∷◌, Some, None, drop, length, take};
+ghost use Rattle.std.specs.Prelude.{◌≡◌, ℤ, ◌≤◌, Bool, List, IfErr, IfOk, IfSome, OnOk, SomeIff, [], ◌∷◌, Some, None, length};
 ghost use Rattle.std.specs.Io.KnownBytes.{IsAtEnd};
 ghost use Rattle.std.specs.Option.{ok_or};
 ghost use Rattle.std.specs.Str.Parse.{IsNumeral, digits_value};
 ghost use Rattle.hound_text.specs.Refusals.{IsRefused, IsTextRefusal};
-ghost use Rattle.hound_text.specs.Reading.{Breaks, IsFront, IsRun, Leads, before, ended, longer_magnitude, next_place, signed_within};
+ghost use Rattle.hound_text.specs.Reading.{Breaks, Leads, before, ended, longer_magnitude, next_place, signed_within};
 ghost use Rattle.hound_text.specs.Text.{SaysNumbers, is_separator};
-ghost use Rattle.hound_text.specs.declared.numbers.Place.TheVariants.{Between};
+ghost use Rattle.hound_text.specs.declared.numbers.Place.TheVariants.{Between, Inside};
 ghost use Rattle.hound_text.specs.declared.numbers.Refusal.TheVariants.{BadNumber, InputOrOutput, OutOfMemory};
 
-use crate::eight::leading_digits;
 use std::alloc::{AllocFailed, Global};
 use std::io;
 
@@ -147,117 +146,31 @@ fn end_of_word(place: Place, numbers: &mut Vec<i32>) -> Result<(), Refusal>
     }
 }
 
-// The eight bytes of a window from a place on.
+// Takes digits that a text begins with, as long as the magnitude with them is one of an `i32`, and
+// gives it and the text after them.
 #[inline(always)]
-#[tactic(auto, using(crate::proofs::Fronts::eight_at))]
-fn eight_bytes(window: &[u8; 17], at: usize) -> [u8; 8]
-    requires { at ≤ 9 }
-    ensures { result ≡ take 8 (drop at window.now) }
+fn take_digits(magnitude: u32, text: &[u8]) -> (u32, &[u8])
+    ensures shorter { length result.1.now ≤ length text.now }
+    ensures taken { (negative : Bool) (numbers : List ℤ) →
+        Leads (Inside negative magnitude) text.now numbers (Inside negative result.0) result.1.now
+        numbers }
 {
-    [
-        window[at],
-        window[at + 1],
-        window[at + 2],
-        window[at + 3],
-        window[at + 4],
-        window[at + 5],
-        window[at + 6],
-        window[at + 7],
-    ]
-}
-
-// The number of the digits from a place on, and how many they are: ten at most.
-#[inline(always)]
-fn digits_at(window: &[u8; 17], start: usize) -> Option<(u64, usize)>
-    requires { start ≤ 1 }
-    ensures { IfSome result (IsRun (drop start window.now)) }
-{
-    let first = leading_digits(eight_bytes(window, start));
-    if first.count == 0 {
-        return None;
-    }
-    if first.count < 8 {
-        return Some((first.number, first.count as usize));
-    }
-    let second = leading_digits(eight_bytes(window, start + 8));
-    let scale = match second.count {
-        0 => 1,
-        1 => 10,
-        2 => 100,
-        _ => return None,
-    };
-    let number = first.number.wrapping_mul(scale).wrapping_add(second.number);
-    Some((number, 8 + second.count as usize))
-}
-
-// The number that a text begins with and how many bytes it takes, with the byte that ends it. It
-// has at most ten digits, and the text continues after it: any other is left to `take_byte`.
-#[inline(always)]
-fn whole_number(text: &[u8]) -> Option<(i32, usize)>
-    ensures { IfSome result (IsFront text.now) }
-{
-    // A sign, and eight bytes twice.
-    let window = text.first_chunk::<17>()?;
-    let negative = window[0] == b'-';
-    let start = negative as usize;
-    let (magnitude, count) = digits_at(window, start)?;
-    if !is_separator(window[start + count]) {
-        return None;
-    }
-    let number = signed(negative, u32::try_from(magnitude).ok()?)?;
-    Some((number, start + count + 1))
-}
-
-// Takes numbers from the front of a text, as long as one is whole, and gives the text after them.
-// By itself its loop has registers for all constants of `leading_digits`.
-#[inline(never)]
-fn take_whole<'a>(text: &'a [u8], numbers: &mut Vec<i32>) -> Result<&'a [u8], Refusal>
-    ensures shorter { IfOk result (λ rest. length rest.now ≤ length text.now) }
-    ensures taken { IfOk result (λ rest.
-        Leads Between text.now numbers.old.items Between rest.now numbers.new.items) }
-    ensures refused { IfErr result (λ refusal. refusal ≡ OutOfMemory) }
-{
-    let mut rest = text;
-    while let Some((number, taken)) = whole_number(rest) {
-        numbers.push(number)?;
-        rest = &rest[taken..];
-    }
-    Ok(rest)
-}
-
-// The text after the separators that it begins with.
-fn after_separators(text: &[u8]) -> &[u8]
-    ensures shorter { length result.now ≤ length text.now }
-    ensures taken { (numbers : List ℤ) → Leads Between text.now numbers Between result.now numbers }
-{
+    let mut magnitude = magnitude;
     let mut rest = text;
     while let Some((byte, others)) = rest.split_first() {
-        if !is_separator(*byte) {
+        if !byte.is_ascii_digit() {
             break;
         }
+        let Ok(longer) = with_digit(magnitude, *byte - b'0') else {
+            break;
+        };
+        magnitude = longer;
         rest = others;
     }
-    rest
+    (magnitude, rest)
 }
 
-// Takes separators and whole numbers from the front of a text, where no word has begun.
-fn take_numbers<'a>(
-    place: Place,
-    text: &'a [u8],
-    numbers: &mut Vec<i32>,
-) -> Result<&'a [u8], Refusal>
-    ensures shorter { IfOk result (λ rest. length rest.now ≤ length text.now) }
-    ensures taken { IfOk result (λ rest.
-        Leads place text.now numbers.old.items place rest.now numbers.new.items) }
-    ensures refused { IfErr result (λ refusal. refusal ≡ OutOfMemory) }
-{
-    match place {
-        Place::Between => take_whole(after_separators(text), numbers),
-        _ => Ok(text),
-    }
-}
-
-// Takes bytes of the text, in order: whole numbers where it can, and else one byte.
+// Takes bytes of the text, in order: one, and then the digits after it, if a number has begun.
 fn take_bytes(place: Place, bytes: &[u8], numbers: &mut Vec<i32>) -> Result<Place, Refusal>
     ensures taken { IfOk result (λ later.
         Leads place bytes.now numbers.old.items later [] numbers.new.items) }
@@ -265,14 +178,23 @@ fn take_bytes(place: Place, bytes: &[u8], numbers: &mut Vec<i32>) -> Result<Plac
 {
     let mut place = place;
     let mut rest = bytes;
-    loop {
-        rest = take_numbers(place, rest, numbers)?;
-        let Some((byte, others)) = rest.split_first() else {
-            return Ok(place);
-        };
+    while let Some((byte, others)) = rest.split_first() {
         place = take_byte(place, *byte, numbers)?;
         rest = others;
+        if let Place::Inside {
+            negative,
+            magnitude,
+        } = place
+        {
+            let (magnitude, after) = take_digits(magnitude, rest);
+            place = Place::Inside {
+                negative,
+                magnitude,
+            };
+            rest = after;
+        }
     }
+    Ok(place)
 }
 
 /// Reads numbers to the end of the input.

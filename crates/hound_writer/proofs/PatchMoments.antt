@@ -16,7 +16,7 @@ use Rattle.hound_medium.specs.Spans.{Span, FlushedSince}
 use Rattle.hound_medium.proofs.Outcomes.{from_ok}
 use Rattle.hound_medium.proofs.Overlays.{length-placed}
 use Rattle.hound_medium.proofs.Spans.{span_puts, join, and_still}
-use Rattle.hound_medium.proofs.Torn.{number_at_small, number_at_mix}
+use Rattle.hound_medium.proofs.Torn.{number_at_small}
 use Rattle.hound_spec.specs.declared.error.Error.{Error}
 use Rattle.hound_writer.specs.Counts.{Counts}
 use Rattle.hound_writer.specs.Parts.{HasSize, IsPatched, Patches, PatchesAtEach, PutsAt, IsStanding, IsPublishResult}
@@ -27,83 +27,51 @@ use Rattle.hound_writer.specs.Sizes.{field}
 use Rattle.hound_writer.specs.Writer.{WriterState, AreFrames, IsPadded, IsSound, IsWhole, accepted_samples, data_length, data_end, sample_count}
 use Rattle.hound_writer.proofs.Answers.{on_published_then, published}
 use Rattle.hound_writer.proofs.Later.{drop_later}
+use Rattle.hound_writer.proofs.Patching.{patched_field, patched_riff}
 use Rattle.hound_writer.proofs.Publishing.{publishes}
 use Rattle.hound_writer.proofs.Storing.{stored_same}
 use Rattle.hound_writer.proofs.Samples.{concat-samples, counts_at, length_out, whole_out}
-use Rattle.hound_writer.proofs.Sizes.{same_reflexive, same_transitive, same_riff, field_riff, same_length}
 use Rattle.hound_writer.proofs.Standing.{inside, stands_patched}
 
--- before the first byte
-pub patched_first : (p new : ℕ) (base : List ℕ) → HasSize p base → IsPatched p base new 0 base
-patched_first p new base has = record {
-  same = same_reflexive p base;
-  field = sym (mix_none (field p base) new (number_at_small p base has.inside has.small));
-}
-
--- from one intermediate state of a patch to a later one
-module _ (p new : ℕ) (base c : List ℕ) (has : HasSize p base) (small : AreBytes c)
-    (so_far : IsPatched p base new 0 c) where
-  inside_now : p + 4 ≤ length c
-  inside_now = omega (arith, has.inside, so_far.same.long)
-
-  as_before : field p c ≡ field p base
-  as_before =
-      so_far.field ∙ mix_none (field p base) new (number_at_small p base has.inside has.small)
-
-  patched_riff : (bytes : List ℕ) → length bytes ≤ 4
-      → IsPatched p base new 0 (overlay c (placed 4 bytes))
-  patched_riff bytes few = record {
-    same = same_transitive p base c (overlay c (placed 4 bytes)) so_far.same
-        (same_riff p c has.behind inside_now bytes few);
-    field = field_riff p c has.behind inside_now bytes few ∙ so_far.field;
-  }
-
-  patched_field : (j : ℕ) → j ≤ 4
-      → IsPatched p base new j (overlay c (placed p (take j (bytes_of 4 new))))
-  patched_field j within =
-      let bytes = take j (bytes_of 4 new) in
-      record {
-        same = same_transitive p base c (overlay c (placed p bytes)) so_far.same
-            (same_length p c has.behind inside_now bytes
-            (omega (arith, length-take j (bytes_of 4 new))));
-        field = number_at_mix p c inside_now small new j within ∙ ap (λ n. mix j n new) as_before;
-      }
-
 -- the parts of a patch, all of their bytes or a beginning
-module _ {T E : Type 0} (keeps : Bool) (p new : ℕ) (base : List ℕ) (result : Result T E)
-    (a b : MediumState) (kept : IsTrue keeps) (replays : a.contents ≡ overlay a.start a.past)
-    (small : AreBytes a.contents) (has : HasSize p base)
-    (so_far : IsPatched p base new 0 a.contents) where
+module _ {T E : Type 0} (keeps : Bool) (p size new : ℕ) (result : Result T E)
+    (a b : MediumState) (kept : IsTrue keeps) (replays : a.contents ≡ overlay a.start a.past) where
   -- the RIFF size is written, which comes before the field
-  pub riff_span : (size : ℕ) → PutsAt keeps 4 (bytes_of 4 size) result a b
-      → Span (IsPatched p base new) (length b.past) a b
-  riff_span size puts =
+  pub riff_span : HasSize p a.contents → PutsAt keeps 4 (bytes_of 4 size) result a b
+      → Span (IsPatched p size a.contents new) (length b.past) a b
+  riff_span has puts =
       let bytes = take puts.count (bytes_of 4 size) in
+      let size_of : length bytes ≡ puts.count =
+      length-take-le puts.count (bytes_of 4 size) puts.within in
       let long : length b.past ≡ length a.past + length bytes =
       ap length (puts.past kept) ∙ length-append a.past (placed 4 bytes)
       ∙ ap (λ k. length a.past + k) (length-placed 4 bytes) in
-      span_puts (IsPatched p base new) (length b.past) a b 4 bytes replays puts.start
+      span_puts (IsPatched p size a.contents new) (length b.past) a b 4 bytes replays puts.start
       (puts.past kept) (inl puts.flushed)
       (λ k within. let none : 0 ≡ length a.past + k - length b.past = omega (arith, within, long) in
-      subst (λ j. IsPatched p base new j (overlay a.contents (placed 4 (take k bytes)))) none
-      (patched_riff p new base a.contents has small so_far (take k bytes)
-      (omega (arith, length-take k bytes, length-take puts.count (bytes_of 4 size)))))
+      let first : take k (bytes_of 4 size) ≡ take k bytes =
+      sym (take-take k puts.count (bytes_of 4 size) (omega (arith, within, size_of))) in
+      subst (λ j. IsPatched p size a.contents new j (overlay a.contents (placed 4 (take k bytes)))) none
+      (subst (λ l. IsPatched p size a.contents new 0 (overlay a.contents (placed 4 l))) first
+      (patched_riff p size new a.contents has k (omega (arith, within, size_of, puts.within)))))
 
   -- the field is written
-  pub field_span : PutsAt keeps p (bytes_of 4 new) result a b
-      → Span (IsPatched p base new) (length a.past) a b
-  field_span puts =
+  pub field_span : (base : List ℕ) → HasSize p base → AreBytes a.contents
+      → IsPatched p size base new 0 a.contents → field 4 a.contents ≡ size
+      → PutsAt keeps p (bytes_of 4 new) result a b
+      → Span (IsPatched p size base new) (length a.past) a b
+  field_span base has small so_far riff puts =
       let bytes = take puts.count (bytes_of 4 new) in
       let long : length bytes ≡ puts.count =
       length-take-le puts.count (bytes_of 4 new) puts.within in
-      span_puts (IsPatched p base new) (length a.past) a b p bytes replays puts.start
+      span_puts (IsPatched p size base new) (length a.past) a b p bytes replays puts.start
       (puts.past kept) (inl puts.flushed)
       (λ k within. let level : k ≡ length a.past + k - length a.past = omega arith in
       let first : take k (bytes_of 4 new) ≡ take k bytes =
       sym (take-take k puts.count (bytes_of 4 new) (omega (arith, within, long))) in
-      subst (λ j. IsPatched p base new j (overlay a.contents (placed p (take k bytes)))) level
-      (subst (λ l. IsPatched p base new k (overlay a.contents (placed p l))) first
-      (patched_field p new base a.contents has small so_far k
+      subst (λ j. IsPatched p size base new j (overlay a.contents (placed p (take k bytes)))) level
+      (subst (λ l. IsPatched p size base new k (overlay a.contents (placed p l))) first
+      (patched_field p size new base has a.contents small so_far riff k
       (omega (arith, within, long, puts.within)))))
 
 -- the byte that begins what was added
@@ -116,10 +84,10 @@ first_added old new p (b ∷ bytes) is longer =
     ∙ ap (λ (x : ℕ × ℕ). x.0) (get_or_at old (p, b) (placed (suc p) bytes) (0, 0) (length old) refl)
 
 -- a patch that ended before its field
-pub patches_none : {V F : Type 0} (p new : ℕ) (answer : Result V F) (a b : MediumState)
-    → Span (IsPatched p a.contents new) (length b.past) a b
-    → OnOk answer (length b.past ≡ length b.past + 4) → PatchesAtEach p new answer a b
-patches_none p new answer a b span all = record {
+pub patches_none : {V F : Type 0} (p size new : ℕ) (answer : Result V F) (a b : MediumState)
+    → Span (IsPatched p size a.contents new) (length b.past) a b
+    → OnOk answer (length b.past ≡ length b.past + 4) → PatchesAtEach p size new answer a b
+patches_none p size new answer a b span all = record {
   split = length b.past;
   span = span;
   puts = record {
@@ -131,13 +99,13 @@ patches_none p new answer a b span all = record {
 }
 
 -- both parts, one after the other
-pub patches_both : {T E V F : Type 0} (keeps : Bool) (p new : ℕ) (result : Result T E)
+pub patches_both : {T E V F : Type 0} (keeps : Bool) (p size new : ℕ) (result : Result T E)
     (answer : Result V F) (a b c : MediumState) → IsTrue keeps
-    → Span (IsPatched p a.contents new) (length b.past) a b
-    → Span (IsPatched p a.contents new) (length b.past) b c
+    → Span (IsPatched p size a.contents new) (length b.past) a b
+    → Span (IsPatched p size a.contents new) (length b.past) b c
     → PutsAt keeps p (bytes_of 4 new) result b c → OnOk answer (IsOk result)
-    → PatchesAtEach p new answer a c
-patches_both keeps p new result answer a b c kept first second puts all =
+    → PatchesAtEach p size new answer a c
+patches_both keeps p size new result answer a b c kept first second puts all =
     let bytes = take puts.count (bytes_of 4 new) in
     let long : length c.past ≡ length b.past + puts.count =
     ap length (puts.past kept) ∙ length-append b.past (placed p bytes)
@@ -145,7 +113,7 @@ patches_both keeps p new result answer a b c kept first second puts all =
     (length-placed p bytes ∙ length-take-le puts.count (bytes_of 4 new) puts.within) in
     record {
       split = length b.past;
-      span = join (IsPatched p a.contents new) (length b.past) a b c first second;
+      span = join (IsPatched p size a.contents new) (length b.past) a b c first second;
       puts = record {
         later = omega (arith, ap length first.past, length-append a.past first.added);
         within = omega (arith, long, puts.within);
@@ -157,14 +125,15 @@ patches_both keeps p new result answer a b c kept first second puts all =
     }
 
 -- a patch, and then a call that writes nothing
-pub patches_still : {T E V F : Type 0} (p new : ℕ) (result : Result T E) (answer : Result V F)
+pub patches_still : {T E V F : Type 0} (p size new : ℕ) (result : Result T E) (answer : Result V F)
     (a b c : MediumState) → b.contents ≡ overlay b.start b.past → Stays b c → FlushedSince b c
-    → OnOk answer (IsOk result) → PatchesAtEach p new result a b → PatchesAtEach p new answer a c
-patches_still p new result answer a b c replays stays flushed all patches =
+    → OnOk answer (IsOk result) → PatchesAtEach p size new result a b
+    → PatchesAtEach p size new answer a c
+patches_still p size new result answer a b c replays stays flushed all patches =
     let same : length c.past ≡ length b.past = ap length stays.past in
     record {
       split = patches.split;
-      span = and_still (IsPatched p a.contents new) patches.split a b c patches.span replays stays
+      span = and_still (IsPatched p size a.contents new) patches.split a b c patches.span replays stays
           flushed;
       puts = record {
         later = patches.puts.later;
@@ -178,10 +147,10 @@ patches_still p new result answer a b c replays stays flushed all patches =
     }
 
 -- the field has the old or the new number in each state except those between its four bytes
-old_or_new : (p new split : ℕ) (a b : MediumState) → HasSize p a.contents → new < 2 ^ 32
-    → Span (IsPatched p a.contents new) split a b → PutsLast p split a b
+old_or_new : (p size new split : ℕ) (a b : MediumState) → HasSize p a.contents → new < 2 ^ 32
+    → Span (IsPatched p size a.contents new) split a b → PutsLast p split a b
     → IsOldOrNew p (field p a.contents) new a b
-old_or_new p new split a b has small span puts k from to outside =
+old_or_new p size new split a b has small span puts k from to outside =
     let at = span.each k from to in
     let old = field p a.contents in
     elim (cases_lt split k) [
@@ -204,8 +173,8 @@ pub publishes_at_each : {W : Type 0} (state : W → MediumState) (w : WriterStat
     → IsPadded w (state w.medium).contents → AreBytes (state w.medium).contents
     → (end : W) (patched : Result (Unit {0}) IoFault) (are_frames : Bool)
     (told : Result (Unit {0}) Error) → IsPublishResult patched are_frames told
-    → PatchesAtEach (w.data_start - 4) w.out patched (state w.medium) (state end)
-    → PublishesAtEach state w told end
+    → PatchesAtEach (w.data_start - 4) (riff_size w.data_start w.out) w.out patched
+    (state w.medium) (state end) → PublishesAtEach state w told end
 publishes_at_each state w none sound stands padded small end patched are_frames told is patches =
     let p = w.data_start - 4 in
     let old = (state w.medium).contents in
@@ -223,7 +192,7 @@ publishes_at_each state w none sound stands padded small end patched are_frames 
     let samples : (c : List ℕ) → drop (p + 4) c ≡ drop (p + 4) old
     → take w.out (drop w.data_start c) ≡ take w.out (drop w.data_start old) =
     λ c same. ap (take w.out) ((λ i. drop (sym start i) c) ∙ same ∙ (λ i. drop (start i) old)) in
-    let counts : IsWhole state w → (j : ℕ) (c : List ℕ) → IsPatched p old w.out j c
+    let counts : IsWhole state w → (j : ℕ) (c : List ℕ) → IsPatched p (riff_size w.data_start w.out) old w.out j c
     → Counts w.spec_ex w.data_start (accepted_samples state w) c =
     λ whole j c at. counts_at state w sound (whole_out state w none sound) c whole
     (stands_patched w.spec_ex w.data_start w.out old c stands j at.same at.field)
@@ -231,7 +200,7 @@ publishes_at_each state w none sound stands padded small end patched are_frames 
     let behind : (c : List ℕ) → drop (p + 4) c ≡ drop (p + 4) old
     → drop (data_end w) c ≡ drop (data_end w) old =
     λ c same. drop_later (p + 4) (data_end w) c old (omega (arith, start)) same in
-    let half : (j : ℕ) (c : List ℕ) → IsPatched p old w.out j c → IsHalfPublished w old j c =
+    let half : (j : ℕ) (c : List ℕ) → IsPatched p (riff_size w.data_start w.out) old w.out j c → IsHalfPublished w old j c =
     λ j c at.
     record {
       front = record { front = at.same.front; middle = at.same.middle };
@@ -264,7 +233,7 @@ publishes_at_each state w none sound stands padded small end patched are_frames 
       whole = published
           (length (state end).past ≡ split + 4) patched are_frames told is patches.whole;
       old_or_new = subst (λ n. IsOldOrNew p (field p old) n (state w.medium) (state end)) all
-          (old_or_new p w.out split (state w.medium) (state end) has
+          (old_or_new p (riff_size w.data_start w.out) w.out split (state w.medium) (state end) has
           (omega (arith, sound.fits, sound.after_head, all)) span patches.puts);
       padded = λ i k from more before later to. let c =
           moment (state end).start (state end).past k in
@@ -283,11 +252,15 @@ publishes_at_each state w none sound stands padded small end patched are_frames 
     }
 
 pub patches_at_each_seen : {W : Type 0} (state : W → MediumState) (a b : WriterState W)
-    (result : Result (Unit {0}) IoFault) (end : MediumState) → a ≡ b
-    → PatchesAtEach (a.data_start - 4) a.out result (state a.medium) end
-    → PatchesAtEach (b.data_start - 4) b.out result (state b.medium) end
-patches_at_each_seen state a b result end same patches =
-    subst (λ w. PatchesAtEach (w.data_start - 4) w.out result (state w.medium) end) same patches
+    (riff : ℕ) (result : Result (Unit {0}) IoFault) (end : MediumState) → a ≡ b
+    → riff ≡ riff_size a.data_start a.out
+    → PatchesAtEach (a.data_start - 4) riff a.out result (state a.medium) end
+    → PatchesAtEach (b.data_start - 4) (riff_size b.data_start b.out) b.out result
+    (state b.medium) end
+patches_at_each_seen state a b riff result end same is patches =
+    subst (λ w. PatchesAtEach (w.data_start - 4) (riff_size w.data_start w.out) w.out result
+    (state w.medium) end) same
+    (subst (λ n. PatchesAtEach (a.data_start - 4) n a.out result (state a.medium) end) is patches)
 
 -- a call of a writer that patches, and its result by the frames
 module _ {W : Type 0} (tells keeps : Bool) (state : W → MediumState) (w : WriterState W) (end : W)
@@ -304,7 +277,8 @@ module _ {W : Type 0} (tells keeps : Bool) (state : W → MediumState) (w : Writ
     (Patches (w.data_start - 4) (riff_size w.data_start w.out) w.out patched (state w.medium)
     (state end)))
     (moments : WhereKeeps tells keeps
-    (PatchesAtEach (w.data_start - 4) w.out patched (state w.medium) (state end))) where
+    (PatchesAtEach (w.data_start - 4) (riff_size w.data_start w.out) w.out patched
+    (state w.medium) (state end))) where
   frames : (IsTrue are_frames → AreFrames w) × (AreFrames w → IsTrue are_frames)
   frames =
       subst (λ v. (IsTrue are_frames → AreFrames v) × (AreFrames v → IsTrue are_frames)) same of_new

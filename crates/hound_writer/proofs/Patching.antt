@@ -5,15 +5,15 @@ use Rattle.std.proofs.lemmas.List.{drop_at, length-take-le, take_all}
 use Rattle.std.proofs.lemmas.Slice.{between_is}
 use Rattle.std.proofs.Math.Seq.{take-append-add}
 use Rattle.hound_number.specs.Number.{number, bytes_of, mix, AreBytes}
-use Rattle.hound_number.proofs.Mixing.{mix_none}
+use Rattle.hound_number.proofs.Mixing.{mix_all, mix_none}
 use Rattle.hound_medium.specs.Bytes.{placed, overlay}
 use Rattle.hound_medium.specs.State.{MediumState, Flushes, faults_after, one_more}
 use Rattle.hound_medium.proofs.Overlays.{overlay_is}
 use Rattle.hound_medium.proofs.Inside.{drop_behind, same_size}
 use Rattle.hound_medium.proofs.Torn.{number_at_small, number_at_mix}
-use Rattle.hound_writer.specs.Parts.{PutsAt, Patches}
-use Rattle.hound_writer.specs.Sizes.{SameButSizes, with_sizes, field}
-use Rattle.hound_writer.proofs.Sizes.{same_transitive, same_riff, field_riff, same_length}
+use Rattle.hound_writer.specs.Parts.{HasSize, IsPatched, PutsAt, Patches}
+use Rattle.hound_writer.specs.Sizes.{with_sizes, field}
+use Rattle.hound_writer.proofs.Sizes.{same_transitive, same_riff, field_riff, same_length, riff_length}
 
 -- both sizes written, one after the other
 pub sizes_put : (p size data_length : ℕ) (c : List ℕ) → 8 ≤ p → p + 4 ≤ length c
@@ -42,40 +42,72 @@ sizes_put p size data_length c behind inside =
     ∙ ap (λ l. take 4 c ++ l)
     (append_assoc bs (drop 8 (take p c)) (bytes_of 4 data_length ++ drop (p + 4) c))
 
--- a field that was written, all of it or a beginning, over media
-module _ {T E : Type 0} (keeps : Bool) (p size : ℕ) (r : Result T E) (a b : MediumState)
-    (behind : 8 ≤ p) (inside : p + 4 ≤ length a.contents)
-    (first : PutsAt keeps 4 (bytes_of 4 size) r a b) where
-  few : length (take first.count (bytes_of 4 size)) ≤ 4
-  few = omega (arith, length-take first.count (bytes_of 4 size))
+-- the contents while two sizes are written over a base
+module _ (p size new : ℕ) (base : List ℕ) (has : HasSize p base) where
+  field_small : field p base < 2 ^ 32
+  field_small = number_at_small p base has.inside has.small
 
-  first_same : SameButSizes p a.contents b.contents
-  first_same =
-      subst (SameButSizes p a.contents) (sym first.contents)
-      (same_riff p a.contents behind inside (take first.count (bytes_of 4 size)) few)
+  four : 4 + 4 ≤ length base
+  four = omega (arith, has.behind, has.inside)
 
-  first_field : field p b.contents ≡ field p a.contents
-  first_field =
-      ap (field p) first.contents
-      ∙ field_riff p a.contents behind inside (take first.count (bytes_of 4 size)) few
+  -- the RIFF size, all of its bytes or a beginning
+  pub patched_riff : (k : ℕ) → k ≤ 4
+      → IsPatched p size base new 0 (overlay base (placed 4 (take k (bytes_of 4 size))))
+  patched_riff k within =
+      let bytes = take k (bytes_of 4 size) in
+      let few : length bytes ≤ 4 = omega (arith, length-take k (bytes_of 4 size)) in
+      record {
+        same = same_riff p base has.behind has.inside bytes few;
+        riff = (k, within, number_at_mix 4 base four has.small size k within);
+        order = λ some. absurd (omega (arith, some));
+        field = field_riff p base has.behind has.inside bytes few
+            ∙ sym (mix_none (field p base) new field_small);
+      }
 
-  module _ {V F : Type 0} (data_length : ℕ) (s : Result V F) (c : MediumState)
-      (small : AreBytes b.contents) (second : PutsAt keeps p (bytes_of 4 data_length) s b c) where
-    inside_then : p + 4 ≤ length b.contents
-    inside_then = omega (arith, inside, first_same.long)
+  -- after it the field
+  module _ (c : List ℕ) (small : AreBytes c) (so_far : IsPatched p size base new 0 c)
+      (riff : field 4 c ≡ size) where
+    inside_now : p + 4 ≤ length c
+    inside_now = omega (arith, has.inside, so_far.same.long)
 
-    then_same : SameButSizes p a.contents c.contents
-    then_same = same_transitive p a.contents b.contents c.contents first_same
-        (subst (SameButSizes p b.contents) (sym second.contents)
-        (same_length p b.contents behind inside_then
-        (take second.count (bytes_of 4 data_length))
-        (omega (arith, length-take second.count (bytes_of 4 data_length)))))
+    pub patched_field : (j : ℕ) → j ≤ 4
+        → IsPatched p size base new j (overlay c (placed p (take j (bytes_of 4 new))))
+    patched_field j within =
+        let bytes = take j (bytes_of 4 new) in
+        let few : length bytes ≤ 4 = omega (arith, length-take j (bytes_of 4 new)) in
+        let still = riff_length p c has.behind inside_now bytes few in
+        record {
+          same = same_transitive p base c (overlay c (placed p bytes)) so_far.same
+              (same_length p c has.behind inside_now bytes few);
+          riff = (so_far.riff.0, so_far.riff.1, still ∙ so_far.riff.2);
+          order = λ _. still ∙ riff;
+          field = number_at_mix p c inside_now small new j within
+              ∙ ap (λ n. mix j n new) (so_far.field ∙ mix_none (field p base) new field_small);
+        }
 
-    then_field : field p c.contents ≡ mix second.count (field p a.contents) data_length
-    then_field =
-        ap (field p) second.contents
-        ∙ number_at_mix p b.contents inside_then small data_length second.count second.within
-        ∙ ap (λ n. mix second.count n data_length) first_field
+-- the sizes that were written, over media
+module _ {T E : Type 0} (keeps : Bool) (p size new : ℕ) (r : Result T E) (a b : MediumState)
+    (has : HasSize p a.contents) (first : PutsAt keeps 4 (bytes_of 4 size) r a b) where
+  pub first_half : IsPatched p size a.contents new 0 b.contents
+  first_half =
+      subst (IsPatched p size a.contents new 0) (sym first.contents)
+      (patched_riff p size new a.contents has first.count first.within)
+
+  pub riff_put : first.count ≡ 4 → size < 2 ^ 32 → field 4 b.contents ≡ size
+  riff_put all fits =
+      ap (field 4) first.contents
+      ∙ number_at_mix 4 a.contents (omega (arith, has.behind, has.inside)) has.small size
+      first.count first.within
+      ∙ ap (λ k. mix k (field 4 a.contents) size) all ∙ mix_all (field 4 a.contents) size fits
+
+  module _ {V F : Type 0} (s : Result V F) (c : MediumState) (small : AreBytes b.contents)
+      (all : first.count ≡ 4) (fits : size < 2 ^ 32)
+      (second : PutsAt keeps p (bytes_of 4 new) s b c) where
+    pub second_half : IsPatched p size a.contents new second.count c.contents
+    second_half =
+        subst (IsPatched p size a.contents new second.count) (sym second.contents)
+        (patched_field p size new a.contents has b.contents small first_half
+        (riff_put all fits) second.count second.within)
 
 on_ok : {T E : Type 0} {P : Type 0} (result : Result T E) → P → OnOk result P
 on_ok (Ok x) here = here
@@ -83,48 +115,42 @@ on_ok (Err e) here = tt
 
 -- a patch that a fault ended
 cut : {V F : Type 0} (p size data_length k : ℕ) (answer : Result V F) (a d : MediumState)
-    → IsErr answer → SameButSizes p a.contents d.contents → k ≤ 4
-    → field p d.contents ≡ mix k (field p a.contents) data_length → d.faults ≡ one_more a.faults
-    → Patches p size data_length answer a d
-cut p size data_length k (Ok x) a d err same le torn faults = absurd (false≢true err)
-cut p size data_length k (Err e) a d err same le torn faults =
-    record { contents = tt; same = same; torn = (k, le, torn); flushed = tt; faults = faults }
+    → IsErr answer → k ≤ 4 → IsPatched p size a.contents data_length k d.contents
+    → d.faults ≡ one_more a.faults → Patches p size data_length answer a d
+cut p size data_length k (Ok x) a d err le half faults = absurd (false≢true err)
+cut p size data_length k (Err e) a d err le half faults =
+    record { contents = tt; half = (k, le, half); flushed = tt; faults = faults }
 
 -- a patch whose RIFF size met a fault
 pub cut_first : {T E V F : Type 0} (keeps : Bool) (p size data_length : ℕ) (r : Result T E)
-    (answer : Result V F) (a b : MediumState) → IsErr answer → 8 ≤ p → p + 4 ≤ length a.contents
-    → AreBytes a.contents
+    (answer : Result V F) (a b : MediumState) → IsErr answer → HasSize p a.contents
     → PutsAt keeps 4 (bytes_of 4 size) r a b → b.faults ≡ one_more a.faults
     → Patches p size data_length answer a b
-cut_first keeps p size data_length r answer a b err behind inside small first faults =
-    cut p size data_length 0 answer a b err (first_same keeps p size r a b behind inside first)
-    (omega arith)
-    (first_field keeps p size r a b behind inside first
-    ∙ sym (mix_none (field p a.contents) data_length
-    (number_at_small p a.contents inside small))) faults
+cut_first keeps p size data_length r answer a b err has first faults =
+    cut p size data_length 0 answer a b err (omega arith)
+    (first_half keeps p size data_length r a b has first) faults
 
 -- a patch whose data length met a fault
 pub cut_second : {T E V F X Y : Type 0} (keeps : Bool) (p size data_length : ℕ) (r : Result T E)
-    (s : Result V F) (answer : Result X Y) (a b c : MediumState) → IsErr answer → 8 ≤ p
-    → p + 4 ≤ length a.contents → AreBytes b.contents
-    → PutsAt keeps 4 (bytes_of 4 size) r a b → PutsAt keeps p (bytes_of 4 data_length) s b c
+    (s : Result V F) (answer : Result X Y) (a b c : MediumState) → IsErr answer
+    → HasSize p a.contents → AreBytes b.contents
+    → (first : PutsAt keeps 4 (bytes_of 4 size) r a b) → first.count ≡ 4 → size < 2 ^ 32
+    → PutsAt keeps p (bytes_of 4 data_length) s b c
     → c.faults ≡ one_more a.faults → Patches p size data_length answer a c
-cut_second keeps p size data_length r s answer a b c err behind inside small first second faults =
-    cut p size data_length second.count answer a c err
-    (then_same keeps p size r a b behind inside first data_length s c small second)
-    (second.within)
-    (then_field keeps p size r a b behind inside first data_length s c small second) faults
+cut_second keeps p size data_length r s answer a b c err has small first all fits second faults =
+    cut p size data_length second.count answer a c err second.within
+    (second_half keeps p size data_length r a b has first s c small all fits second) faults
 
 -- a patch whose writes were Ok
 pub patched : {T E V F X Y : Type 0} (keeps : Bool) (p size data_length : ℕ) (r : Result T E)
-    (s : Result V F) (flush : Result X Y) (a b c d : MediumState) → 8 ≤ p
-    → p + 4 ≤ length a.contents → AreBytes b.contents
+    (s : Result V F) (flush : Result X Y) (a b c d : MediumState) → HasSize p a.contents
+    → AreBytes b.contents
     → (first : PutsAt keeps 4 (bytes_of 4 size) r a b)
     (second : PutsAt keeps p (bytes_of 4 data_length) s b c) → first.count ≡ 4
-    → second.count ≡ 4 → c.faults ≡ a.faults → Flushes flush c d
+    → second.count ≡ 4 → size < 2 ^ 32 → c.faults ≡ a.faults → Flushes flush c d
     → Patches p size data_length flush a d
-patched keeps p size data_length r s flush a b c d behind inside small first second all_first
-    all_second faults flushes =
+patched keeps p size data_length r s flush a b c d has small first second all_first
+    all_second fits faults flushes =
     let one : b.contents ≡ overlay a.contents (placed 4 (bytes_of 4 size)) =
     first.contents
     ∙ ap (λ l. overlay a.contents (placed 4 l))
@@ -134,17 +160,15 @@ patched keeps p size data_length r s flush a b c d behind inside small first sec
     ∙ ap (λ l. overlay b.contents (placed p l))
     (take_all second.count (bytes_of 4 data_length) (omega (arith, all_second)))
     ∙ ap (λ l. overlay l (placed p (bytes_of 4 data_length))) one
-    ∙ sizes_put p size data_length a.contents behind inside in
+    ∙ sizes_put p size data_length a.contents has.behind has.inside in
     let same = flushes.stays.contents in
     record {
       contents = on_ok flush (same ∙ both);
-      same = subst (SameButSizes p a.contents) (sym same)
-          (then_same keeps p size r a b behind inside first data_length s c small second);
-      torn = (
+      half = (
         second.count,
         second.within,
-        ap (field p) same
-            ∙ then_field keeps p size r a b behind inside first data_length s c small second,
+        subst (IsPatched p size a.contents data_length second.count) (sym same)
+            (second_half keeps p size data_length r a b has first s c small all_first fits second),
       );
       flushed =
           is_flushed (d.flushed ≡ length d.past) (d.flushed ≡ c.flushed) flush flushes.flushed;

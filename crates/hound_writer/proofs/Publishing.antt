@@ -212,7 +212,8 @@ module _ {W : Type 0} (state : W → MediumState) (w : WriterState W) (none : w.
       → Patches (w.data_start - 4) (riff_size w.data_start w.out) w.out patched (state w.medium)
       (state end) → Publishes state w told end
   publishes patched are_frames told is frames small patches =
-      let same = patches.same in
+      let half = patches.half.2 in
+      let same = half.same in
       let long : w.data_start ≤ length (state end).contents =
       omega (arith, before, there, same.long) in
       let samples : drop w.data_start (state end).contents ≡ drop w.data_start old =
@@ -220,7 +221,7 @@ module _ {W : Type 0} (state : W → MediumState) (w : WriterState W) (none : w.
       ∙ (λ i. drop (before i) old) in
       let still =
       stands_patched w.spec_ex w.data_start w.out old
-      (state end).contents stands patches.torn.0 same patches.torn.2 in
+      (state end).contents stands patches.half.0 same half.field in
       let counts : IsWhole state w
       → Counts w.spec_ex w.data_start (accepted_samples state w) (state end).contents =
       λ whole. counts_at state w sound (whole_out state w none sound)
@@ -292,8 +293,8 @@ pub consistent_patched : {W : Type 0} (tells : Bool) (state : W → MediumState)
     → IsConsistent tells state (record w { medium = end }) true limit
 consistent_patched tells state w end may_have_moved limit riff result keeps patches =
     consistent_moved tells state w end may_have_moved limit keeps
-    (λ told. let p = patches told in stands_patched w.spec_ex w.data_start w.out
-    (state w.medium).contents (state end).contents (keeps.stands told) p.torn.0 p.same p.torn.2)
+    (λ told. let half = (patches told).half in stands_patched w.spec_ex w.data_start w.out
+    (state w.medium).contents (state end).contents (keeps.stands told) half.0 half.2.same half.2.field)
 
 -- a patch of a writer's fields, as contracts see it
 pub patches_seen : {W : Type 0} (state : W → MediumState) (a b : WriterState W) (riff : ℕ)

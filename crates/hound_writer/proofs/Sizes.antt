@@ -85,3 +85,9 @@ module _ (p : ℕ) (c : List ℕ) (behind : 8 ≤ p) (inside : p + 4 ≤ length 
       behind = drop_behind c p bs fits (p + 4) (omega (arith, few));
       long = same_size c p bs fits;
     }
+
+    pub riff_length : field 4 (overlay c (placed p bs)) ≡ field 4 c
+    riff_length =
+        ap number
+        (between_is (overlay c (placed p bs)) 4 8
+        ∙ ap (drop 4) (take_before c p bs fits 8 behind) ∙ sym (between_is c 4 8))

@@ -25,33 +25,35 @@ pub record PutsAt {T E : Type 0} (keeps : Bool) (at : ℕ) (bytes : List ℕ) (r
   pub flushed : new.flushed ≡ old.flushed
   pub faults : new.faults ≡ faults_after result old.faults
 
--- A patch: at an Ok both sizes are there, and the medium was flushed. A fault may have cut either
--- size, and nothing else has changed.
-pub record Patches {T E : Type 0} (p size data_length : ℕ) (result : Result T E)
-    (old new : MediumState) : Type 0 where
-  pub contents : OnOk result (new.contents ≡ with_sizes p size data_length old.contents)
-  pub same : SameButSizes p old.contents new.contents
-  pub torn : (k : ℕ) × (k ≤ 4) × (field p new.contents ≡ mix k (field p old.contents) data_length)
-  pub flushed : OnOk result (new.flushed ≡ length new.past)
-  pub faults : new.faults ≡ faults_after result old.faults
-
 -- there are four bytes at p, after the RIFF size
 pub record HasSize (p : ℕ) (contents : List ℕ) : Type 0 where
   pub behind : 8 ≤ p
   pub inside : p + 4 ≤ length contents
   pub small : AreBytes contents
 
--- the field at p has its j low bytes from the new number and the others from the base; else only
--- the RIFF size has changed
-pub record IsPatched (p : ℕ) (base : List ℕ) (new j : ℕ) (contents : List ℕ) : Type 0 where
+-- The contents while two sizes are written over a base, the RIFF size first: it has its i low bytes
+-- from the new number and the others from the base, and the field at p its j low ones, which come
+-- only after the whole RIFF size. Nothing else has changed.
+pub record IsPatched (p size : ℕ) (base : List ℕ) (new j : ℕ) (contents : List ℕ) : Type 0 where
   pub same : SameButSizes p base contents
+  pub riff : (i : ℕ) × (i ≤ 4) × (field 4 contents ≡ mix i (field 4 base) size)
+  pub order : 1 ≤ j → field 4 contents ≡ size
   pub field : field p contents ≡ mix j (field p base) new
 
+-- A patch: at an Ok both sizes are there, and the medium was flushed. A fault may have cut either
+-- size, and nothing else has changed.
+pub record Patches {T E : Type 0} (p size data_length : ℕ) (result : Result T E)
+    (old new : MediumState) : Type 0 where
+  pub contents : OnOk result (new.contents ≡ with_sizes p size data_length old.contents)
+  pub half : (j : ℕ) × (j ≤ 4) × IsPatched p size old.contents data_length j new.contents
+  pub flushed : OnOk result (new.flushed ≡ length new.past)
+  pub faults : new.faults ≡ faults_after result old.faults
+
 -- the intermediate states of a patch: the field at p has all four bytes of the new number at an Ok
-pub record PatchesAtEach {T E : Type 0} (p new : ℕ) (result : Result T E)
+pub record PatchesAtEach {T E : Type 0} (p size new : ℕ) (result : Result T E)
     (before after : MediumState) : Type 0 where
   pub split : ℕ
-  pub span : Span (IsPatched p before.contents new) split before after
+  pub span : Span (IsPatched p size before.contents new) split before after
   pub puts : PutsLast p split before after
   pub whole : OnOk result (length after.past ≡ split + 4)
 

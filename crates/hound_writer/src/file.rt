@@ -10,7 +10,7 @@ use crate::WavWriter;
 use crate::append::append_at;
 use hound_durable::{Durable, SyncedFile};
 use hound_reader::{error_of, read_until_data};
-use hound_spec::{Error, Result, WavSpec};
+use hound_spec::{Error, Result, WavSpec, WavSpecEx};
 use std::alloc::Global;
 use std::io::Seek;
 use std::path::Path;
@@ -73,9 +73,23 @@ impl WavWriter<io::BufWriter<fs::File>> {
         ensures { MatchResult result (HasBegun (with_default_width spec))
             (λ e. (IsIoError e ⊎ (e ≡ OutOfMemory)) ⊎ ((e ≡ Unsupported) × (IsWritable (with_default_width spec) → ⊥))) }
     {
+        WavWriter::create_with_spec_ex(rt, alloc, path, WavSpecEx::from(spec))
+    }
+
+    /// Creates a file as [`WavWriter::create`] does, with containers of the width of this spec, as
+    /// [`WavWriter::new_with_spec_ex`] does: 24 bits in four bytes, or that of a file that was read.
+    pub fn create_with_spec_ex(
+        rt: &impl Files<File = fs::File>,
+        alloc: Global,
+        path: Path<'_>,
+        spec_ex: WavSpecEx,
+    ) -> Result<WavWriter<io::BufWriter<fs::File>>>
+        ensures { MatchResult result (HasBegun spec_ex)
+            (λ e. (IsIoError e ⊎ (e ≡ OutOfMemory)) ⊎ ((e ≡ Unsupported) × (IsWritable spec_ex → ⊥))) }
+    {
         let file = fs::create(rt, path)?;
         let writer = buffered(alloc, file)?;
-        WavWriter::new(writer, spec)
+        WavWriter::new_with_spec_ex(writer, spec_ex)
     }
 
     /// Appends to an existing file, which is neither created nor emptied: the next sample goes
@@ -140,8 +154,22 @@ impl WavWriter<Durable<SyncedFile>> {
         ensures { MatchResult result (HasBegun (with_default_width spec))
             (λ e. (IsIoError e ⊎ (e ≡ OutOfMemory)) ⊎ ((e ≡ Unsupported) × (IsWritable (with_default_width spec) → ⊥))) }
     {
+        WavWriter::create_durable_with_spec_ex(rt, alloc, path, WavSpecEx::from(spec))
+    }
+
+    /// Creates a file as [`WavWriter::create_durable`] does, with containers of the width of this
+    /// spec.
+    pub fn create_durable_with_spec_ex(
+        rt: &impl Files<File = fs::File>,
+        alloc: Global,
+        path: Path<'_>,
+        spec_ex: WavSpecEx,
+    ) -> Result<WavWriter<Durable<SyncedFile>>>
+        ensures { MatchResult result (HasBegun spec_ex)
+            (λ e. (IsIoError e ⊎ (e ≡ OutOfMemory)) ⊎ ((e ≡ Unsupported) × (IsWritable spec_ex → ⊥))) }
+    {
         let file = fs::create(rt, path)?;
-        WavWriter::new(synced(rt, alloc, path, file)?, spec)
+        WavWriter::new_with_spec_ex(synced(rt, alloc, path, file)?, spec_ex)
     }
 
     /// Appends to a file as [`WavWriter::append`] does, and syncs it at each `flush` as

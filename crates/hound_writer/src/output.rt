@@ -436,8 +436,9 @@ impl<W: Medium> Output<W> {
         ensures place { WhereTells W.tells (OnOk result ((W.state self.new.medium).place
             ≡ self.old.data_start)) }
         ensures moments { WhereKeeps W.tells W.keeps
-            (PatchesAtEach (self.old.data_start - 4) self.old.out result (W.state self.old.medium)
-            (W.state self.new.medium)) }
+            (PatchesAtEach (self.old.data_start - 4)
+            (riff_size self.old.data_start self.old.out) self.old.out result
+            (W.state self.old.medium) (W.state self.new.medium)) }
     {
         self.may_have_moved = true;
         let riff_size = riff_size(self.data_start, self.data_bytes_written as u64) as u32;
@@ -475,8 +476,9 @@ impl<W: Medium> Output<W> {
         ensures place { WhereTells W.tells (OnOk result ((W.state self.new.medium).place
             ≡ self.old.data_start + self.old.out)) }
         ensures moments { WhereKeeps W.tells W.keeps
-            (PatchesAtEach (self.old.data_start - 4) self.old.out result (W.state self.old.medium)
-            (W.state self.new.medium)) }
+            (PatchesAtEach (self.old.data_start - 4)
+            (riff_size self.old.data_start self.old.out) self.old.out result
+            (W.state self.old.medium) (W.state self.new.medium)) }
     {
         self.publish()?;
         self.go_to_end()
@@ -525,6 +527,13 @@ impl<W: Medium> Output<W> {
             buffer: _,
         } = self;
         writer
+    }
+
+    /// The spec that the file was begun with, with the bytes that a sample takes.
+    pub(crate) fn spec_ex(&self) -> WavSpecEx
+        ensures { result ≡ self.now.spec_ex }
+    {
+        self.spec_ex
     }
 
     /// The spec that the file was begun with.

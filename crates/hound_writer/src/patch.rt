@@ -5,6 +5,7 @@ ghost use Rattle.hound_number.specs.Number.{bytes_of};
 ghost use Rattle.hound_medium.specs.Spans.{Span};
 ghost use Rattle.hound_writer.specs.Parts.{HasSize, IsPatched, PatchesAtEach, PutsAt, Patches};
 ghost use Rattle.hound_writer.specs.Block.{all_out};
+ghost use Rattle.hound_writer.specs.Sizes.{field};
 
 use hound_medium::{Medium, put_all};
 use hound_number::le_u32;
@@ -68,9 +69,10 @@ fn put_size<M: Medium>(medium: &mut M, at: u64, size: u32) -> io::Result<()>
 fn put_riff_size<M: Medium>(medium: &mut M, riff_size: u32) -> io::Result<()>
     ensures puts { WhereTells M.tells (PutsAt M.keeps 4 (bytes_of 4 riff_size) result
         (M.state medium.old) (M.state medium.new)) }
-    ensures moments { WhereKeeps M.tells M.keeps ((p data_length : ℕ) (base : List ℕ) →
-        HasSize p base → IsPatched p base data_length 0 (M.state medium.old).contents →
-        Span (IsPatched p base data_length) (length (M.state medium.new).past) (M.state medium.old) (M.state medium.new)) }
+    ensures moments { WhereKeeps M.tells M.keeps ((p data_length : ℕ) →
+        HasSize p (M.state medium.old).contents →
+        Span (IsPatched p riff_size (M.state medium.old).contents data_length)
+        (length (M.state medium.new).past) (M.state medium.old) (M.state medium.new)) }
 {
     put_size(medium, 4, riff_size)
 }
@@ -79,9 +81,11 @@ fn put_riff_size<M: Medium>(medium: &mut M, riff_size: u32) -> io::Result<()>
 fn put_data_length<M: Medium>(medium: &mut M, at: u64, data_length: u32) -> io::Result<()>
     ensures puts { WhereTells M.tells (PutsAt M.keeps at (bytes_of 4 data_length) result
         (M.state medium.old) (M.state medium.new)) }
-    ensures moments { WhereKeeps M.tells M.keeps ((base : List ℕ) →
-        HasSize at base → IsPatched at base data_length 0 (M.state medium.old).contents →
-        Span (IsPatched at base data_length) (length (M.state medium.old).past) (M.state medium.old) (M.state medium.new)) }
+    ensures moments { WhereKeeps M.tells M.keeps ((size : ℕ) (base : List ℕ) →
+        HasSize at base → IsPatched at size base data_length 0 (M.state medium.old).contents →
+        field 4 (M.state medium.old).contents ≡ size →
+        Span (IsPatched at size base data_length) (length (M.state medium.old).past)
+        (M.state medium.old) (M.state medium.new)) }
 {
     put_size(medium, at, data_length)
 }
@@ -102,7 +106,7 @@ pub fn patch<M: Medium>(
     ensures place { WhereTells M.tells (OnOk result ((M.state medium.new).place
         ≡ data_len_offset + 4)) }
     ensures moments { WhereKeeps M.tells M.keeps
-        (PatchesAtEach data_len_offset data_length result (M.state medium.old)
+        (PatchesAtEach data_len_offset riff_size data_length result (M.state medium.old)
         (M.state medium.new)) }
 {
     put_riff_size(medium, riff_size)?;

@@ -3,7 +3,7 @@ use crate::outcome::{Outcome, error_of_outcome};
 use crate::output::Output;
 use hound_medium::{Medium, put_all};
 use hound_sample::Sample;
-use hound_spec::{Error, Result, WavSpec, WavSpecEx, header_of, with_default_width};
+use hound_spec::{Error, Result, WavSpec, WavSpecEx, header_of};
 use std::marker::Model;
 use std::{io, result};
 
@@ -63,7 +63,7 @@ impl<W: Medium> WavWriter<W> {
             (W.state writer))
             (λ e. (back : W) × IsNotBegun W.tells W.keeps W.state (with_default_width spec) writer back e) }
     {
-        WavWriter::new_with_spec_ex(writer, with_default_width(spec))
+        WavWriter::new_with_spec_ex(writer, WavSpecEx::from(spec))
     }
 
     /// Begins a file of this spec, with this many bytes a sample, as [`WavWriter::new`] does
@@ -233,6 +233,14 @@ impl<W: Medium> WavWriter<W> {
     {
         let (writer, _) = self.finalize_into();
         writer
+    }
+
+    /// The spec that the file was begun with, or that was found in the file that is appended to,
+    /// with the bytes that a sample takes.
+    pub fn spec_ex(&self) -> WavSpecEx
+        ensures { result ≡ self.now.spec_ex }
+    {
+        self.output.spec_ex()
     }
 
     /// The spec that the file was begun with, or that was found in the file that is appended to.

@@ -1,4 +1,4 @@
-use Rattle.std.proofs.Common.{◌≡◌, false, inl, [], Ok, Err, MatchResult, IfOk}
+use Rattle.std.proofs.Common.{◌≡◌, false, [], Ok, Err, MatchResult, IfOk}
 use Rattle.std.proofs.lemmas.Bool.{false≢true}
 use Rattle.hound.specs.declared.Error.{Error}
 use Rattle.hound.specs.declared.Repair.{Repair}
@@ -8,7 +8,7 @@ use Rattle.hound.specs.Repairing.{IsNotRepaired, ReadsFrames, Repairs}
 use Rattle.hound_callers.proofs.callers.repair_recording.Goals as goal
 
 pub returns : goal.returns
-returns g c told tells keeps s marks end old medium answer run i inside is marked left two =
+returns g c told tells keeps s marks end old medium answer run i inside is marked left no_pad =
     by c.repair_to_end.result (c.repair_to_end.ensures.repaired told)
   where
     by : (r : _) → MatchResult r
@@ -19,5 +19,5 @@ returns g c told tells keeps s marks end old medium answer run i inside is marke
     by (Ok done) repairs =
         c.a_repair_loses_no_published_sample.ensures tells keeps s marks end old medium answer run i
         false (g.N.Placed.state c.args.left) (g.N.Placed.state done.0) done.1 inside is marked left
-        repairs (λ looks here. absurd (false≢true looks)) (inl two)
+        repairs (λ looks here. absurd (false≢true looks)) no_pad
     by (Err x) refused = tt

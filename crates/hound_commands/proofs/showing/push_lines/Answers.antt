@@ -1,6 +1,7 @@
 use Rattle.std.proofs.Common.{◌≡◌, ◌+◌, ◌∷◌, [], ◌++◌, take, drop, get_or, ap, sym, subst, ◌∙◌, append_assoc, append-nil, take-append-drop, arith}
 use Rattle.std.proofs.lemmas.Grind.{common_steps, flat_map-append}
 use Rattle.std.specs.List.{flat_map}
+use Rattle.std.proofs.Transfers.{starts_with_of_append}
 use Rattle.hound_commands.proofs.Outputs.{gets-more, gets-then, stopped-within}
 use Rattle.hound_commands.specs.Output.{GetsBuffered}
 use Rattle.hound_commands.proofs.showing.push_lines.Goals as goal
@@ -10,13 +11,13 @@ returns-in_err-make_room-clause-stopped g c =
     let line = g.S.Line.line in
     let i = c.loop-sample.sample-index in
     let xs = c.args.samples.now in
-    stopped-within c.from_residual.result _ _ _ (c.args.lines.now ++ flat_map line (take i xs)) _
-    (c.args.lines.now ++ flat_map line xs) c.loop-sample.invariant c.in_err-make_room.ensures.stopped (
-      flat_map line (drop i xs),
-      ap (λ l. c.args.lines.now ++ flat_map line l) (sym (take-append-drop i xs))
-          ∙ ap (λ l. c.args.lines.now ++ l) (flat_map-append line (take i xs) (drop i xs))
-          ∙ sym (append_assoc c.args.lines.now (flat_map line (take i xs)) (flat_map line (drop i xs))),
-    )
+    let text = c.args.lines.now ++ flat_map line (take i xs) in
+    stopped-within c.from_residual.result _ _ _ text _ (c.args.lines.now ++ flat_map line xs)
+    c.loop-sample.invariant c.in_err-make_room.ensures.stopped
+    (starts_with_of_append _ text (flat_map line (drop i xs))
+    (ap (λ l. c.args.lines.now ++ flat_map line l) (sym (take-append-drop i xs))
+    ∙ ap (λ l. c.args.lines.now ++ l) (flat_map-append line (take i xs) (drop i xs))
+    ∙ sym (append_assoc c.args.lines.now (flat_map line (take i xs)) (flat_map line (drop i xs)))))
 
 pub loop-sample-preserved : goal.loop-sample-preserved
 loop-sample-preserved g c =

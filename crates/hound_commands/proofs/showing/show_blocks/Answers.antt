@@ -24,11 +24,11 @@ returns-in_err-push_lines-clause-until g c =
     (block_stops g.S.Sample.refusal g.S.Sample.meaning g.S.Line.line s n c.loop-result.reader.samples_read
     (g.R.Read.remaining c.args.reader.now.reader.now) (g.O.Write.contents c.args.output.now)
     (g.O.Write.contents c.loop-result.output) c.args.lines.now c.loop-result.lines
-    (take c.read_block-count.result.0 c.read_block-count.new.block) c.read_block-count.result.1
+    (take c.read_samples-count.result.0 c.read_samples-count.new.samples) c.read_samples-count.result.1
     (over_bytes (λ r. g.R.Read.remaining r.now) c.loop-result.reader)
-    (over_bytes (λ r. g.R.Read.remaining r.now) c.read_block-count.new.reader) c.requires.refusal
+    (over_bytes (λ r. g.R.Read.remaining r.now) c.read_samples-count.new.self) c.requires.refusal
     c.requires.line loop.spec_ex loop.num_samples refl loop.within loop.shown
-    c.read_block-count.ensures.items _ _
+    c.read_samples-count.ensures.items _ _
     c.in_err-push_lines.ensures.stopped c.in_err-push_lines.ensures.emptied)
 
 pub returns-in_err-result-clause-until : goal.returns-in_err-result-clause-until
@@ -41,11 +41,11 @@ returns-in_err-result-clause-until g c =
     (block_fails g.S.Sample.refusal g.S.Sample.meaning g.S.Line.line s n c.loop-result.reader.samples_read
     (g.R.Read.remaining c.args.reader.now.reader.now) (g.O.Write.contents c.args.output.now)
     (g.O.Write.contents c.loop-result.output) c.args.lines.now c.loop-result.lines
-    (take c.read_block-count.result.0 c.read_block-count.new.block) c.read_block-count.result.1
+    (take c.read_samples-count.result.0 c.read_samples-count.new.samples) c.read_samples-count.result.1
     (over_bytes (λ r. g.R.Read.remaining r.now) c.loop-result.reader)
-    (over_bytes (λ r. g.R.Read.remaining r.now) c.read_block-count.new.reader) c.requires.refusal
+    (over_bytes (λ r. g.R.Read.remaining r.now) c.read_samples-count.new.self) c.requires.refusal
     c.requires.line loop.spec_ex loop.num_samples refl loop.within loop.shown
-    c.read_block-count.ensures.items _ _
+    c.read_samples-count.ensures.items _ _
     c.in_err-result.field-0.0 c.in_err-result.was c.in_ok-push_lines.ensures.pushed)
 
 pub returns-then-count-eq0-clause-shown : goal.returns-then-count-eq0-clause-shown
@@ -56,20 +56,20 @@ returns-then-count-eq0-clause-shown g c =
     let block = block_shown g.S.Sample.refusal g.S.Sample.meaning g.S.Line.line s n c.loop-result.reader.samples_read
     (g.R.Read.remaining c.args.reader.now.reader.now) (g.O.Write.contents c.args.output.now)
     (g.O.Write.contents c.loop-result.output) c.args.lines.now c.loop-result.lines
-    (take c.read_block-count.result.0 c.read_block-count.new.block) c.read_block-count.result.1
+    (take c.read_samples-count.result.0 c.read_samples-count.new.samples) c.read_samples-count.result.1
     (over_bytes (λ r. g.R.Read.remaining r.now) c.loop-result.reader)
-    (over_bytes (λ r. g.R.Read.remaining r.now) c.read_block-count.new.reader) c.requires.refusal
+    (over_bytes (λ r. g.R.Read.remaining r.now) c.read_samples-count.new.self) c.requires.refusal
     c.requires.line loop.spec_ex loop.num_samples refl loop.within loop.shown
-    c.read_block-count.ensures.items _ _ _
+    c.read_samples-count.ensures.items _ _ _
     c.in_ok-result.was c.in_ok-push_lines.ensures.pushed in
     let none = c.if-count-eq0.true in
-    let few = length-take c.read_block-count.result.0 c.read_block-count.new.block in
-    let count : c.read_block-count.result.0
-    ≡ min (length c.read_block-count.new.block) (samples_left c.loop-result.reader) =
-    subst (λ r. OnOk r (c.read_block-count.result.0
-    ≡ min (length c.read_block-count.new.block) (samples_left c.loop-result.reader)))
-    c.in_ok-result.was c.read_block-count.ensures.all in
-    let some : 0 < length c.read_block-count.new.block = search rules in
+    let few = length-take c.read_samples-count.result.0 c.read_samples-count.new.samples in
+    let count : c.read_samples-count.result.0
+    ≡ min (length c.read_samples-count.new.samples) (samples_left c.loop-result.reader) =
+    subst (λ r. OnOk r (c.read_samples-count.result.0
+    ≡ min (length c.read_samples-count.new.samples) (samples_left c.loop-result.reader)))
+    c.in_ok-result.was c.read_samples-count.ensures.all in
+    let some : 0 < length c.read_samples-count.new.samples = search rules in
     all_shown s _ n _ _ _ _ _ _
     (omega (arith, none, count, few, some, loop.within, loop.num_samples, block.4)) block.0
 
@@ -81,15 +81,15 @@ loop-result-smaller g c =
     let block = block_shown g.S.Sample.refusal g.S.Sample.meaning g.S.Line.line s n c.loop-result.reader.samples_read
     (g.R.Read.remaining c.args.reader.now.reader.now) (g.O.Write.contents c.args.output.now)
     (g.O.Write.contents c.loop-result.output) c.args.lines.now c.loop-result.lines
-    (take c.read_block-count.result.0 c.read_block-count.new.block) c.read_block-count.result.1
+    (take c.read_samples-count.result.0 c.read_samples-count.new.samples) c.read_samples-count.result.1
     (over_bytes (λ r. g.R.Read.remaining r.now) c.loop-result.reader)
-    (over_bytes (λ r. g.R.Read.remaining r.now) c.read_block-count.new.reader) c.requires.refusal
+    (over_bytes (λ r. g.R.Read.remaining r.now) c.read_samples-count.new.self) c.requires.refusal
     c.requires.line loop.spec_ex loop.num_samples refl loop.within loop.shown
-    c.read_block-count.ensures.items _ _ _
+    c.read_samples-count.ensures.items _ _ _
     c.in_ok-result.was c.in_ok-push_lines.ensures.pushed in
     let some = c.if-count-eq0.false in
-    let few = length-take c.read_block-count.result.0 c.read_block-count.new.block in
-    let within = c.read_block-count.ensures.within in
+    let few = length-take c.read_samples-count.result.0 c.read_samples-count.new.samples in
+    let within = c.read_samples-count.ensures.within in
     omega (arith, some, few, within, loop.num_samples, block.2, block.3, block.4)
 
 pub loop-result-preserved : goal.loop-result-preserved
@@ -100,11 +100,11 @@ loop-result-preserved g c =
     let block = block_shown g.S.Sample.refusal g.S.Sample.meaning g.S.Line.line s n c.loop-result.reader.samples_read
     (g.R.Read.remaining c.args.reader.now.reader.now) (g.O.Write.contents c.args.output.now)
     (g.O.Write.contents c.loop-result.output) c.args.lines.now c.loop-result.lines
-    (take c.read_block-count.result.0 c.read_block-count.new.block) c.read_block-count.result.1
+    (take c.read_samples-count.result.0 c.read_samples-count.new.samples) c.read_samples-count.result.1
     (over_bytes (λ r. g.R.Read.remaining r.now) c.loop-result.reader)
-    (over_bytes (λ r. g.R.Read.remaining r.now) c.read_block-count.new.reader) c.requires.refusal
+    (over_bytes (λ r. g.R.Read.remaining r.now) c.read_samples-count.new.self) c.requires.refusal
     c.requires.line loop.spec_ex loop.num_samples refl loop.within loop.shown
-    c.read_block-count.ensures.items _ _ _
+    c.read_samples-count.ensures.items _ _ _
     c.in_ok-result.was c.in_ok-push_lines.ensures.pushed in
     record {
       block = search rules;
@@ -112,7 +112,7 @@ loop-result-preserved g c =
       num_samples = block.2;
       within = omega (arith, block.3, block.4);
       shown = subst (λ k. Shown s k (g.R.Read.remaining c.args.reader.now.reader.now)
-          (g.R.Read.remaining c.read_block-count.new.reader.reader.now)
+          (g.R.Read.remaining c.read_samples-count.new.self.reader.now)
           (g.O.Write.contents c.args.output.now) (g.O.Write.contents c.push_lines.new.output)
           c.args.lines.now c.push_lines.new.lines) (sym block.3) block.0;
     }

@@ -6,12 +6,12 @@ pub returns-clause-item : goal.returns-clause-item
 returns-clause-item g c = item_counted g.R.Read.remaining g.S.Sample.refusal g.S.Sample.meaning
 
 pub returns-clause-block : goal.returns-clause-block
-returns-clause-block g c bytes old new result before after stood block =
+returns-clause-block g c bytes old new count result before after stood block =
     took_counted g.R.Read.remaining bytes old new stood
     (run_takes g.S.Sample.refusal g.S.Sample.meaning _ _ _ block.items).0
 
 pub returns-clause-passes_block : goal.returns-clause-passes_block
-returns-clause-passes_block g c old new result before after block place =
+returns-clause-passes_block g c old new count result before after block place =
     let (taken, spec_ex, num_samples) =
     run_takes g.S.Sample.refusal g.S.Sample.meaning _ _ _ block.items in
     record { taken = taken; in_place = place; spec_ex = spec_ex; num_samples = num_samples }

@@ -33,9 +33,11 @@ returns-in-Err-clause-repaired g c told looks at =
 pub returns-in-Ok-clause-moments : goal.returns-in-Ok-clause-moments
 returns-in-Ok-clause-moments g c told kept looks at =
     mends_at_each looks c.args.damage (g.M.Placed.state c.args.medium)
-    (g.M.Placed.state c.put_sizes.new.medium) at c.requires.cut (c.in-Ok.ensures.moments told kept)
+    (g.M.Placed.state c.put_sizes.new.medium) at c.requires.cut (c.in-Ok.ensures.order told kept)
+    (c.in-Ok.ensures.moments told kept)
 
 pub returns-in-Err-clause-moments : goal.returns-in-Err-clause-moments
 returns-in-Err-clause-moments g c told kept looks at =
     mends_at_each looks c.args.damage (g.M.Placed.state c.args.medium)
-    (g.M.Placed.state c.put_sizes.new.medium) at c.requires.cut (c.in-Err.ensures.moments told kept)
+    (g.M.Placed.state c.put_sizes.new.medium) at c.requires.cut (c.in-Err.ensures.order told kept)
+    (c.in-Err.ensures.moments told kept)

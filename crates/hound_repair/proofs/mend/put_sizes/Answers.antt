@@ -1,6 +1,6 @@
 use Rattle.std.proofs.Common.{◌+◌, arith}
 use Rattle.hound_repair.proofs.Mending.{missing_none, missing_one, put_both, put_cut, put_sizes_only}
-use Rattle.hound_repair.proofs.Halves.{pad_at_each, sizes_at_each}
+use Rattle.hound_repair.proofs.Halves.{pad_at_each, pad_flushed, sizes_at_each, sizes_flushed}
 use Rattle.hound_repair.proofs.mend.put_sizes.Goals as goal
 use Rattle.hound_repair.proofs.mend.put_sizes.Goals.{else-damage-length-via-then-damage-length+else-length-eq1, else-damage-length-via-else-damage-length}
 
@@ -39,3 +39,16 @@ returns-then-length-eq1-clause-moments g c told kept =
 pub returns-clause-moments : goal.returns-clause-moments
 returns-clause-moments g c told kept =
     sizes_at_each _ c.args.damage.sizes.riff_size _ c.args.damage.held _ _ _ (c.in_ok-patch.ensures.moments told kept)
+
+pub returns-in_err-patch-clause-order : goal.returns-in_err-patch-clause-order
+returns-in_err-patch-clause-order g c told kept =
+    sizes_flushed _ c.args.damage.sizes.riff_size _ _ _ _ (c.in_err-patch.ensures.patches told)
+
+pub returns-then-length-eq1-clause-order : goal.returns-then-length-eq1-clause-order
+returns-then-length-eq1-clause-order g c told kept =
+    pad_flushed g.M.Placed.keeps _ c.put_pad.result (g.M.Placed.state c.args.medium.now) _ _ kept
+    (c.in_ok-patch.ensures.patches told).flushed (c.put_pad.ensures told)
+
+pub returns-clause-order : goal.returns-clause-order
+returns-clause-order g c told kept =
+    sizes_flushed _ c.args.damage.sizes.riff_size _ _ _ _ (c.in_ok-patch.ensures.patches told)

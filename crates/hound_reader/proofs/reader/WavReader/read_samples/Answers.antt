@@ -1,4 +1,4 @@
-use Rattle.std.proofs.Common.{◌≡◌, ◌<◌, ◌+◌, ◌*◌, ◌-◌, ◌^◌, ◌++◌, [], Option, ◌∷◌, ℕ, List, map, take, drop, length, sym, ap, ◌∙◌, subst, arith, Ok, Err, refl, length-take-le}
+use Rattle.std.proofs.Common.{◌≡◌, ◌<◌, ◌+◌, ◌*◌, ◌-◌, ◌^◌, ◌++◌, [], Option, ◌∷◌, ℕ, List, map, take, drop, length, sym, ap, ◌∙◌, subst, arith, Ok, Err, length-take-le}
 use Rattle.std.specs.Prelude.{OnOk, OnErr}
 use Rattle.hound_sample.specs.ManyReads.{ReadsEach, items_of}
 use Rattle.hound_reader.specs.Blocks.{GivesItemsOfBytes, ReadsBlock, over_bytes}
@@ -58,12 +58,12 @@ returns-in_default g c =
     let given = block_of_samples refusal meaning (take k ys) k (over_bytes left old)
     (left new.reader) (length-take-le k ys front.within)
     (omega (arith, full, size, c.min-wanted.ensures, remain)) each in
-    subst (λ begin. ReadsBlock left refusal meaning (Ok k) xs (ys ++ drop wanted xs) begin new)
+    subst (λ begin. ReadsBlock left refusal meaning k (Ok tt) xs (ys ++ drop wanted xs) begin new)
     c.self.view_is (record {
-      count = k;
       within = omega (arith, full, size, c.min-wanted.ensures, remain, long);
-      told = refl;
       all = omega (arith, full, size, c.min-wanted.ensures, remain, long);
+      part = tt;
+      counted = omega arith;
       items = subst (λ vs. GivesItemsOfBytes left refusal meaning (map Ok vs) old new) (sym taken) given;
       rest = rest;
       untouched = λ some. ap (λ (k : KeepingReader _). k.reader)
@@ -181,12 +181,12 @@ returns g c =
       samples_read = (let e : r.samples_read + (k + 1) ≡ r.samples_read + k + 1 = omega arith in e i);
       bytes_read = (let e : r.bytes_read + (k * width + taken_without reason (c.read_many_counted-count.result.2 - k * width) width) ≡ r.bytes_read + k * width + c.taken_without.result = omega (arith, c.taken_without.ensures ∙ ap (λ n. taken_without reason n width) c.saturating_sub.ensures) in e i);
     } in
-    subst (λ begin. ReadsBlock left refusal meaning (Err c.error_of_item.result) xs (ys ++ drop wanted xs) begin new)
+    subst (λ begin. ReadsBlock left refusal meaning k (Err c.error_of_item.result) xs (ys ++ drop wanted xs) begin new)
     c.self.view_is (record {
-      count = k;
       within = omega (arith, part, size, c.min-wanted.ensures, remain, long);
-      told = tt;
       all = tt;
+      part = omega (arith, part, size, c.min-wanted.ensures, remain, long);
+      counted = omega arith;
       items = subst (λ e. GivesItemsOfBytes left refusal meaning (map Ok (take k (ys ++ drop wanted xs)) ++ (Err e ∷ [])) old new) (sym c.error_of_item.ensures)
           (subst (λ vs. GivesItemsOfBytes left refusal meaning (map Ok vs ++ (Err (error_of_item reason fault) ∷ [])) old new) (sym taken)
           (subst (λ end. GivesItems (λ (bytes : Option (List ℕ)). bytes) refusal meaning (map Ok (take k ys) ++ (Err (error_of_item reason fault) ∷ [])) (over_bytes left old) end) same given));

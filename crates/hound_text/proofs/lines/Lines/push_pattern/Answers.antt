@@ -1,14 +1,40 @@
-use Rattle.std.proofs.Common.{rules, ◌<◌, ◌++◌, ◌∙◌, ap, take, length, arith}
-use Rattle.hound_text.specs.Writing.{padded_digits, pattern_line}
-use Rattle.hound_text.proofs.Decimals.{padded_bytes, padded_length}
-use Rattle.hound_text.proofs.Placing.{line_ended}
+use Rattle.std.proofs.Common.{◌≡◌, suc, ◌-◌, ◌/◌, ◌%◌, ◌^◌, ◌++◌, ◌∷◌, [], false, length, length-append, ap, sym, ◌∙◌, append_assoc, append-nil, arith}
+use Rattle.std.specs.Fmt.{digit_glyph}
+use Rattle.hound_text.specs.Writing.{padded_digits}
+use Rattle.hound_text.proofs.Decimals.{sixteen-pow}
 use Rattle.hound_text.proofs.lines.Lines.push_pattern.Goals as goal
+
+pub loop-place-preserved : goal.loop-place-preserved
+loop-place-preserved c =
+    let loop = c.loop-place in
+    let k = loop.place - 1 in
+    let rest = padded_digits 16 k c.args.pattern in
+    let more : suc k ≡ loop.place = omega (arith, c.loop-place-test.true) in
+    let digit : c.glyph.result ≡ digit_glyph false (c.args.pattern / 16 ^ k % 16) =
+    c.glyph.ensures ∙ ap (λ n. digit_glyph false (c.args.pattern / n % 16)) (sixteen-pow k) in
+    record {
+      within = omega (arith, loop.invariant.within);
+      room = omega (
+        arith,
+        loop.invariant.room,
+        c.loop-place-test.true,
+        ap length c.push.ensures,
+        length-append loop.self (c.glyph.result ∷ []),
+      );
+      digits = ap (λ l. l ++ rest) c.push.ensures
+          ∙ append_assoc loop.self (c.glyph.result ∷ []) rest
+          ∙ ap (λ g. loop.self ++ (g ∷ rest)) digit
+          ∙ ap (λ n. loop.self ++ padded_digits 16 n c.args.pattern) more
+          ∙ loop.invariant.digits;
+    }
 
 pub returns : goal.returns
 returns c =
-    let n = c.args.pattern in
-    let ds = padded_digits 16 8 n in
-    let put = c.put_text-end.ensures.put ds (padded_length 16 8 n) (padded_bytes 16 8 n (omega arith) (omega arith)) c.hexadecimal_text.ensures in
-    let end : c.put_text-end.result < length c.put_text-end.new.bytes = search rules in
-    line_ended c.put_text-end.new.bytes (take c.self.inside.length c.self.inside.bytes) ds c.put_text-end.result end put
-    ∙ ap (λ t. t ++ pattern_line n) c.self.view_is
+    let loop = c.loop-place in
+    let none : loop.place ≡ 0 = omega (arith, c.loop-place-test.false) in
+    c.push-2.ensures
+    ∙ ap (λ l. l ++ 10 ∷ [])
+    (sym (append-nil loop.self)
+    ∙ ap (λ n. loop.self ++ padded_digits 16 n c.args.pattern) (sym none)
+    ∙ loop.invariant.digits)
+    ∙ append_assoc c.args.self.now (padded_digits 16 8 c.args.pattern) (10 ∷ [])

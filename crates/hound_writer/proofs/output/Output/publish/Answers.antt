@@ -26,5 +26,5 @@ returns-clause-patches g c tells =
 
 pub returns-clause-moments : goal.returns-clause-moments
 returns-clause-moments g c tells keeps =
-    patches_at_each_seen g.W.Placed.state _ c.args.self.now c.patch.result _ c.self.view_is
-    (c.patch.ensures.moments tells keeps)
+    patches_at_each_seen g.W.Placed.state _ c.args.self.now _ c.patch.result _ c.self.view_is
+    (omega arith) (c.patch.ensures.moments tells keeps)

@@ -9,4 +9,4 @@ returns g c =
     subst (λ (s : WavSpecEx). MatchResult c.new_with_spec_ex.result
     (Begins W.tells W.keeps W.state s (W.state c.args.writer))
     (λ e. (back : _) × IsNotBegun W.tells W.keeps W.state s c.args.writer back e))
-    c.with_default_width.ensures c.new_with_spec_ex.ensures
+    c.from.ensures c.new_with_spec_ex.ensures
