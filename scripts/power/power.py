@@ -94,7 +94,7 @@ def fresh(path, system):
 
 
 def script_of(sessions, system, size, left_out):
-    """What the recording machine does. A mark is one sector, written past the file system and not flushed: what the
+    """What the recording machine does. A mark is a block, written past the file system and not flushed: what the
     recorder has said by then. The recorder stops while it is written. Another program writes a file beside it."""
     early = "echo 5 > /proc/sys/vm/dirty_writeback_centisecs; echo 10 > /proc/sys/vm/dirty_expire_centisecs"
     lines = [f"""
@@ -149,7 +149,7 @@ def record(folder, system, sessions, left_out):
     for number, session in enumerate(sessions):
         status = 137 if session.killed else 0
         if f"recorded {number}: {status}\n" not in said:
-            raise RuntimeError("the recorders didn't do as they are told:\n" + said)
+            raise RuntimeError("the recorders didn't do as the script says:\n" + said)
     server.log.save(os.path.join(folder, "log"))
     os.remove(used)
     return time.time() - begun
@@ -213,7 +213,7 @@ def fault_of_repair(before, after, least):
     """What is wrong with a repaired file: samples are missing, are others than before, or not those that it holds."""
     if not has_header(before):
         return None
-    if after is None or after[HEADER : len(before)] != before[HEADER:]:
+    if not has_header(after) or after[HEADER : len(before)] != before[HEADER:]:
         return "the repair changes a sample"
     count = count_of(after)
     if count < max(least, count_of(before)):
@@ -333,7 +333,8 @@ class Trial:
             least, most = bounds or (0, 0)
             fault = bounds and (fault_of(before.get(file), least, most) or fault_of_repair(before.get(file), after.get(file), least))
             self.counts["files read"] += file in before
-            self.counts["repairs that found more"] += has_header(before.get(file)) and count_of(after[file]) > count_of(before[file])
+            pair = before.get(file), after.get(file)
+            self.counts["repairs that found more"] += all(map(has_header, pair)) and count_of(pair[1]) > count_of(pair[0])
             if fault:
                 where = f"{self.name}, entry {moment} of {len(self.log.entries)} ({how}), {file}.wav"
                 self.wrong.append((turn, f"{where}: {least} samples were published, and {fault}"))
