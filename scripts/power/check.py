@@ -140,7 +140,7 @@ def what_is_expected():
         (8, {"r0": (25, 40), "r1": None, "r2": (0, 0)}),
         (9, {"r0": (25, 40), "r1": (12, 16), "r2": (0, 0)}),
         (11, {"r0": (25, 40), "r1": (12, 16), "r2": (81, 81)}),
-        (12, {"r0": (25, 40), "r1": (12, 16), "r2": (0, 81)}),
+        (12, {"r0": (25, 40), "r1": (12, 16), "r2": None}),
         (13, {"r0": (25, 40), "r1": (12, 16), "r2": (3, 6)}),
     ]:
         same(power.expected(sessions, marks, moment), wanted, f"what is expected after {moment} entries")

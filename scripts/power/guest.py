@@ -96,7 +96,7 @@ def start(initial, drives):
     _, image, _ = kernel()
     words = ["qemu-system-x86_64", "-accel", "tcg", "-cpu", "max", "-M", "q35", "-m", "256", "-nodefaults", "-no-user-config"]
     words += ["-display", "none", "-no-reboot", "-serial", "stdio", "-kernel", image, "-initrd", initial]
-    words += ["-append", "console=ttyS0 panic=-1 quiet mitigations=off tsc=unstable", *drives]
+    words += ["-append", "console=ttyS0 panic=-1 quiet mitigations=off tsc=unstable no_timer_check", *drives]
     return subprocess.Popen(words, stdin=subprocess.DEVNULL, stdout=subprocess.PIPE, stderr=subprocess.STDOUT)
 
 

@@ -37,15 +37,13 @@ NOT_RUN = 3  # The status where something is missing.
 # mount fails. Whether the recording machine writes early, 0.1 seconds after a program has written, and not after 30
 # seconds as usual: on vfat it doesn't, since Linux may then leave a file's size out of a sync (`vfat-early`).
 FileSystem = collections.namedtuple("FileSystem", "kind mebibytes make modules before_mount if_it_fails is_early", defaults=["", "", True])
-EXT4 = "mkfs.ext4 -q -F -J size=4 -E lazy_itable_init=0,lazy_journal_init=0,nodiscard"
 VFAT = FileSystem("vfat", 40, "mkfs.vfat -F 32 -s 1", ["vfat", "nls_cp437", "nls_ascii", "nls_utf8"], "fsck.vfat -a -w")
 FILE_SYSTEMS = {
-    "ext4": FileSystem("ext4", 32, EXT4 + " -b 4096", [], if_it_fails="e2fsck -fy"),
-    "ext4-1k": FileSystem("ext4", 32, EXT4 + " -b 1024", [], if_it_fails="e2fsck -fy"),
+    "ext4": FileSystem("ext4", 32, "mkfs.ext4 -q -F -b 4096 -J size=4 -E lazy_itable_init=0,lazy_journal_init=0,nodiscard", [],
+                       if_it_fails="e2fsck -fy"),
     "vfat": VFAT._replace(is_early=False),
     "vfat-early": VFAT,
     "xfs": FileSystem("xfs", 320, "mkfs.xfs -q -K", ["xfs"]),
-    "btrfs": FileSystem("btrfs", 128, "mkfs.btrfs -q -K", ["btrfs"]),
 }
 USUAL = ["ext4", "vfat", "xfs"]
 
@@ -96,7 +94,7 @@ def fresh(path, system):
 
 
 def script_of(sessions, system, size, left_out):
-    """What the recording machine does. A mark is one sector, written past the file system and not flushed: what the
+    """What the recording machine does. A mark is a block, written past the file system and not flushed: what the
     recorder has said by then. The recorder stops while it is written. Another program writes a file beside it."""
     early = "echo 5 > /proc/sys/vm/dirty_writeback_centisecs; echo 10 > /proc/sys/vm/dirty_expire_centisecs"
     lines = [f"""
@@ -151,7 +149,7 @@ def record(folder, system, sessions, left_out):
     for number, session in enumerate(sessions):
         status = 137 if session.killed else 0
         if f"recorded {number}: {status}\n" not in said:
-            raise RuntimeError("the recorders didn't do as they are told:\n" + said)
+            raise RuntimeError("the recorders didn't do as the script says:\n" + said)
     server.log.save(os.path.join(folder, "log"))
     os.remove(used)
     return time.time() - begun
@@ -168,8 +166,8 @@ def marks_of(log, size):
 
 
 def expected(sessions, marks, moment):
-    """Per file how many samples it has at least and at most at this moment, or None where nothing is promised. A file
-    that is begun anew may be the old one until something of the new one is published."""
+    """Per file how many samples it has at least and at most at this moment, or None where nothing is promised: of a
+    plain one, and of one that is begun anew over another until something of it is published."""
     found = {session.file: (0, 0) for session in sessions}
     held = dict.fromkeys(found, 0)
     for number, session in enumerate(sessions):
@@ -184,7 +182,7 @@ def expected(sessions, marks, moment):
         elif session.kind == "plain":
             held[file], found[file] = total, None
         else:
-            found[file] = (0, max(held[file], total)) if published is None else (published, total)
+            found[file] = (published, total) if published is not None else None if held[file] else (0, total)
             held[file] = total
     return found
 
@@ -215,7 +213,7 @@ def fault_of_repair(before, after, least):
     """What is wrong with a repaired file: samples are missing, are others than before, or not those that it holds."""
     if not has_header(before):
         return None
-    if after is None or after[HEADER : len(before)] != before[HEADER:]:
+    if not has_header(after) or after[HEADER : len(before)] != before[HEADER:]:
         return "the repair changes a sample"
     count = count_of(after)
     if count < max(least, count_of(before)):
@@ -335,7 +333,8 @@ class Trial:
             least, most = bounds or (0, 0)
             fault = bounds and (fault_of(before.get(file), least, most) or fault_of_repair(before.get(file), after.get(file), least))
             self.counts["files read"] += file in before
-            self.counts["repairs that found more"] += has_header(before.get(file)) and count_of(after[file]) > count_of(before[file])
+            pair = before.get(file), after.get(file)
+            self.counts["repairs that found more"] += all(map(has_header, pair)) and count_of(pair[1]) > count_of(pair[0])
             if fault:
                 where = f"{self.name}, entry {moment} of {len(self.log.entries)} ({how}), {file}.wav"
                 self.wrong.append((turn, f"{where}: {least} samples were published, and {fault}"))
@@ -383,7 +382,7 @@ class Trial:
 def missing():
     """What isn't here, or None."""
     programs = {"qemu-system-x86_64": "qemu-system-x86", "busybox": "busybox-static", "strace": "strace", "mkfs.ext4": "e2fsprogs",
-                "mkfs.vfat": "dosfstools", "mkfs.xfs": "xfsprogs", "mkfs.btrfs": "btrfs-progs"}
+                "mkfs.vfat": "dosfstools", "mkfs.xfs": "xfsprogs"}
     packages = sorted({package for program, package in programs.items() if not shutil.which(program)})
     if packages:
         return f"programs are missing: apt-get install --no-install-recommends {' '.join(packages)}"

@@ -136,9 +136,9 @@ impl WavWriter<Durable<SyncedFile>> {
     /// empty file and its name, and at each `flush` first the samples, then the sizes that count
     /// them.
     ///
-    /// A loss of power before this call returns may leave what was at the path before. After its Ok
-    /// it leaves an empty file or the new one. After a sync that failed each later `flush` fails too:
-    /// see [`SyncedFile`].
+    /// A loss of power before this call returns may leave what was at the path before, and where the
+    /// file system has no journal a part of it. After its Ok it leaves an empty file or the new one.
+    /// After a sync that failed each later `flush` fails too: see [`SyncedFile`].
     ///
     /// What a loss of power leaves is proved for a [`Durable`] medium whose bytes are known to
     /// contracts; for a real file the order of the calls is tested, and only the errors are proved.
