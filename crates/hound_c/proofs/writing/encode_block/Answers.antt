@@ -1,0 +1,44 @@
+use Rattle.std.proofs.Common.{◌≡◌, ◌+◌, ◌*◌, ◌≤◌, Ok, length, take, drop, refl, ◌∙◌, ap, subst, arith, rules}
+use Rattle.hound_sample.specs.Slices.{joined_containers}
+use Rattle.hound_writer.specs.Many.{containers_in}
+use Rattle.hound_sample.proofs.Joined.{joined}
+use Rattle.hound_c.specs.Writing.{Encodes, IsEncodeFault}
+use Rattle.hound_c.proofs.Checks.{encode_failed, passed}
+use Rattle.hound_c.proofs.Puts.{drop_put, take_put}
+use Rattle.hound_c.proofs.writing.encode_block.Goals as goal
+
+pub returns-in-Err-clause-encodes : goal.returns-in-Err-clause-encodes
+returns-in-Err-clause-encodes g c =
+    let values = c.args.samples.now in
+    let room = length c.args.out.now in (
+      refl,
+      subst (λ s. IsEncodeFault c.args.format g.S.Sample.container s values room c.in-Err.fault)
+          c.spec_of-spec_ex.ensures
+          (encode_failed c.args.format g.S.Sample.container c.spec_of-spec_ex.result values room
+          c.in-Err.fault c.in-Err.ensures),
+    )
+
+pub returns-clause-encodes : goal.returns-clause-encodes
+returns-clause-encodes g c =
+    let s = c.spec_of-spec_ex.result in
+    let w = s.bytes_per_sample in
+    let values = c.args.samples.now in
+    let out = c.args.out.now in
+    let n = w * length values in
+    let container = λ (v : g.row.S.Denot). g.S.Sample.container v s.spec.bits_per_sample w in
+    let body = joined_containers container values in
+    let (list, list_is) = passed (containers_in g.S.Sample.container s values) (search rules) in
+    let j = joined container w (λ _ b e. (g.met.S.Sample.in_width _ _ _ b e).0) values list list_is in
+    let room : 0 + n ≤ length out = search rules in
+    let end : length values * w ≡ 0 + n = omega arith in
+    let same : s.spec.sample_format ≡ c.args.format = search rules in
+    subst (λ t. Encodes c.args.format g.S.Sample.container t values out c.write_samples_at.new.out (Ok (length values * w)))
+    c.spec_of-spec_ex.ensures (
+      same,
+      list,
+      list_is,
+      ap (take (length values * w)) c.write_samples_at.ensures
+          ∙ take_put 0 n out body j.size room (length values * w) end ∙ j.bytes,
+      ap (drop (length values * w)) c.write_samples_at.ensures
+          ∙ drop_put 0 n out body j.size room (length values * w) (omega (arith, end)),
+    )

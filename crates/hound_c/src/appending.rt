@@ -1,0 +1,59 @@
+// Files that are appended to.
+ghost use Rattle.std.specs.Prelude.{◌≡◌, ◌≤◌, IfOk, length};
+ghost use Rattle.hound_c.specs.Writing.{Appends};
+
+use crate::fault::Fault;
+use crate::head::find_data_in;
+use crate::writing::{check_samples, sizes_of, write_bytes_at, write_pad_at, write_samples_at};
+use hound_number::le_u32;
+use hound_sample::Sample;
+use hound_spec::{SampleFormat, is_pair};
+
+/// Puts samples behind those of the file in the first bytes, and returns its new length.
+pub(crate) fn append_block<S: Sample + Copy>(
+    file: &mut [u8],
+    used: usize,
+    format: SampleFormat,
+    samples: &[S],
+) -> Result<usize, Fault>
+    ensures appends { Appends format S.container samples.now used file.old file.new result }
+    ensures within { IfOk result (λ n. n ≤ length file.old) }
+    ensures size { length file.new ≡ length file.old }
+{
+    if used > file.len() {
+        return Err(Fault::NoRoom);
+    }
+    let found = match find_data_in(&file[..used]) {
+        Ok(found) => found,
+        Err(cause) => return Err(Fault::Head(cause)),
+    };
+    let spec_ex = found.spec_ex;
+    if spec_ex.spec.sample_format != format {
+        return Err(Fault::OtherFormat);
+    }
+    let bits = spec_ex.spec.bits_per_sample;
+    let width = spec_ex.bytes_per_sample;
+    if !is_pair(spec_ex.spec.sample_format, bits, width) {
+        return Err(Fault::OtherPair);
+    }
+    let end = found.data_start + found.data_length as usize;
+    if end > used {
+        return Err(Fault::Truncated);
+    }
+    if let Err(fault) = check_samples(samples, bits, width) {
+        return Err(fault);
+    }
+    if samples.len() > u32::MAX as usize {
+        return Err(Fault::TooLong);
+    }
+    let count = samples.len() as u64 + found.samples as u64;
+    let (data_length, size) = sizes_of(spec_ex, found.data_start, count)?;
+    if size > file.len() {
+        return Err(Fault::NoRoom);
+    }
+    write_samples_at(file, end, samples, bits, width);
+    write_pad_at(file, found.data_start + data_length as usize, data_length);
+    write_bytes_at(file, 4, &le_u32((size - 8) as u32));
+    write_bytes_at(file, found.data_start - 4, &le_u32(data_length));
+    Ok(size)
+}

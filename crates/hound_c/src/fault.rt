@@ -1,0 +1,80 @@
+// Why a call doesn't do its work, and the number that C gets for it.
+ghost use Rattle.std.specs.Prelude.{◌≡◌, ◌<◌, ◌^◌, IfOk};
+ghost use Rattle.hound_c.specs.Codes.{fault_code, code_for, reason_code};
+
+use hound_reader::{Cause, Reason};
+
+/// Why a call doesn't do its work.
+#[derive(Clone, Copy, Debug, PartialEq, Eq)]
+pub enum Fault {
+    /// The bytes have no data to be read.
+    Head(Cause),
+    /// The samples are floats and integers were asked for, or the other way round.
+    OtherFormat,
+    /// The samples, or a value, are wider than what is to hold them.
+    Wider,
+    /// The spec isn't written, or the type not read from it.
+    OtherPair,
+    /// The next sample isn't among the bytes, though the header counts it.
+    Truncated,
+    /// The sizes of the file would pass 32 bits.
+    TooLong,
+    /// The samples are no whole frames.
+    UnfinishedFrame,
+    /// The file doesn't fit into the caller's memory.
+    NoRoom,
+}
+
+// The number of what is wrong with a file.
+fn code_of_reason(reason: Reason) -> i32
+    ensures { result ≡ reason_code reason }
+{
+    match reason {
+        Reason::NoRiffTag => -10,
+        Reason::NoWaveTag => -11,
+        Reason::NoDataChunk => -12,
+        Reason::NoFmtChunk => -13,
+        Reason::FmtSize => -14,
+        Reason::UnexpectedFmtSize => -15,
+        Reason::ZeroChannels => -16,
+        Reason::BitsExceedWidth => -17,
+        Reason::Inconsistent => -18,
+        Reason::BitsNotWholeBytes => -19,
+        Reason::ZeroBits => -20,
+        Reason::BitsNot8Or16 => -21,
+        Reason::ExSize => -22,
+        Reason::BitsNot32 => -23,
+        Reason::ExtensibleSize => -24,
+        Reason::DataLength => -25,
+        Reason::FrameLength => -26,
+    }
+}
+
+/// The number that C gets for a fault.
+pub(crate) fn code_of_fault(fault: Fault) -> i32
+    ensures { result ≡ fault_code fault }
+{
+    match fault {
+        Fault::Head(Cause::Ended) => -1,
+        Fault::Head(Cause::Unsupported) => -2,
+        Fault::Head(Cause::Format(reason)) => code_of_reason(reason),
+        Fault::OtherFormat => -3,
+        Fault::Wider => -4,
+        Fault::OtherPair => -5,
+        Fault::Truncated => -6,
+        Fault::TooLong => -7,
+        Fault::UnfinishedFrame => -8,
+        Fault::NoRoom => -9,
+    }
+}
+
+/// What C gets for a result: a count, or the number of a fault.
+pub(crate) fn code_of(outcome: Result<usize, Fault>) -> i64
+    requires { IfOk outcome (λ n. n < 2 ^ 63) }
+    ensures { result ≡ code_for outcome }
+{
+    match outcome {
+        Ok(count) => count as i64,
+        Err(fault) => code_of_fault(fault) as i64,
+    }
+}

@@ -1,0 +1,87 @@
+// What is before the data.
+ghost use Rattle.std.specs.Prelude.{◌≡◌, ◌≤◌, ◌/◌, IfOk, IfErr, None, Some, length};
+ghost use Rattle.hound_reader.specs.Chunks.{Head, IsDataPlace, Readable, Unreadable, data_fault};
+ghost use Rattle.hound_reader.specs.Fmt.{IsSoundSpec};
+
+use hound_number::Input;
+use hound_reader::{Cause, FileHead, HeadError, Reason, read_until_data};
+use hound_spec::WavSpecEx;
+use std::io;
+
+/// Bytes that are read from the front.
+#[derive(Drop)]
+struct Window<'a> {
+    rest: &'a [u8],
+}
+
+impl Input for Window<'_> {
+    ghost use Rattle.std.specs.Prelude.{Some};
+
+    ghost left = { λ w. Some w.rest.now };
+
+    ghost account = { λ _. Some (record { failures = 0; kept = tt }) };
+
+    #[inline(always)]
+    fn read_some(&mut self, buf: &mut [u8]) -> io::Result<usize> {
+        let n = buf.len().min(self.rest.len());
+        buf[..n].copy_from_slice(&self.rest[..n]);
+        self.rest = &self.rest[n..];
+        Ok(n)
+    }
+}
+
+/// A file's spec, how many samples its header counts, and where they are.
+#[derive(Clone, Copy)]
+pub(crate) struct Found {
+    pub(crate) spec_ex: WavSpecEx,
+    pub(crate) samples: u32,
+    pub(crate) data_length: u32,
+    pub(crate) data_start: usize,
+}
+
+// Checks that the data are whole frames.
+fn check_data(head: FileHead) -> Result<Found, Cause>
+    requires sound { IsSoundSpec head.spec_ex }
+    requires start { IsDataPlace head.data_start }
+    ensures whole { IfOk result (λ f. data_fault head.spec_ex head.data_length ≡ None) }
+    ensures kept { IfOk result (λ f. (f.spec_ex ≡ head.spec_ex)
+        × (f.data_length ≡ head.data_length) × (f.data_start ≡ head.data_start)) }
+    ensures count { IfOk result (λ f. f.samples ≡ head.data_length / head.spec_ex.bytes_per_sample) }
+    ensures torn { IfErr result (λ c. data_fault head.spec_ex head.data_length ≡ Some c) }
+{
+    let spec_ex = head.spec_ex;
+    let width = spec_ex.bytes_per_sample as u32;
+    if head.data_length % width != 0 {
+        return Err(Cause::Format(Reason::DataLength));
+    }
+    let samples = head.data_length / width;
+    if samples % spec_ex.spec.channels as u32 != 0 {
+        return Err(Cause::Format(Reason::FrameLength));
+    }
+    Ok(Found {
+        spec_ex,
+        samples,
+        data_length: head.data_length,
+        data_start: head.data_start as usize,
+    })
+}
+
+/// Looks for the data in a file.
+pub(crate) fn find_data_in(file: &[u8]) -> Result<Found, Cause>
+    ensures head { IfOk result (λ f. Head file.now f.spec_ex f.data_length f.data_start) }
+    ensures readable { IfOk result (λ f. Readable file.now f.spec_ex f.samples f.data_start) }
+    ensures sound { IfOk result (λ f. IsSoundSpec f.spec_ex) }
+    ensures start { IfOk result (λ f. IsDataPlace f.data_start) }
+    ensures inside { IfOk result (λ f. f.data_start ≤ length file.now) }
+    ensures whole { IfOk result (λ f. data_fault f.spec_ex f.data_length ≡ None) }
+    ensures count { IfOk result (λ f. f.samples ≡ f.data_length / f.spec_ex.bytes_per_sample) }
+    ensures unreadable { IfErr result (λ c. Unreadable file.now c) }
+{
+    let mut window = Window { rest: file };
+    match read_until_data(&mut window) {
+        Ok(head) => check_data(head),
+        Err(HeadError::Refused(cause)) => Err(cause),
+        // No read of a window fails.
+        Err(HeadError::Failed(_)) => Err(Cause::Ended),
+    }
+}

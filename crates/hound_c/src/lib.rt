@@ -1,0 +1,192 @@
+//! WAV files in a C caller's memory: read, written and appended to, with no state, no allocation
+//! and no call back.
+//!
+//! `hound.h` declares what is exported, and says what a caller must keep.
+#![tactic(auto)]
+
+mod appending;
+mod fault;
+mod head;
+mod reading;
+mod spec;
+mod writing;
+
+ghost use Rattle.std.specs.Prelude.{◌≡◌, ◌*◌, ℕ, ℤ, length, pos};
+ghost use Rattle.hound_reader.specs.Chunks.{Readable, Unreadable};
+ghost use Rattle.hound_sample.specs.Container.{int_container, pattern_container};
+ghost use Rattle.hound_sample.specs.Meaning.{float_refusal, int_meaning, int_refusal, pattern};
+ghost use Rattle.hound_spec.specs.declared.spec.SampleFormat.TheVariants.{Float, Int};
+ghost use Rattle.hound_reader.specs.declared.cause.Cause.{Cause};
+ghost use Rattle.hound_c.specs.Codes.{Returns, fault_code};
+ghost use Rattle.hound_c.specs.Reading.{Decodes, Reads};
+ghost use Rattle.hound_c.specs.Writing.{Appends, Encodes, Sizes, Writes, spec_of};
+ghost use Rattle.hound_c.specs.declared.fault.Fault.TheVariants.{Head};
+
+use appending::append_block;
+use fault::{Fault, code_of, code_of_fault};
+use head::find_data_in;
+use hound_sample::FloatBits;
+use hound_spec::SampleFormat;
+use reading::{decode_block, read_block};
+use spec::info_of;
+pub use spec::{HoundInfo, HoundSpec};
+use writing::{encode_block, file_size, write_file};
+
+/// What is before the data: 0, or why it can't be read.
+#[unsafe(no_mangle)]
+pub extern "C" fn hound_info(file: &[u8], info: &mut HoundInfo) -> i32
+    ensures found { result ≡ pos 0 → Readable file.now (spec_of info.new.spec) info.new.samples info.new.data_start }
+    ensures refused { (result ≡ pos 0 → ⊥) → (info.new ≡ info.old)
+        × ((cause : Cause) × (result ≡ fault_code (Head cause)) × Unreadable file.now cause) }
+{
+    match find_data_in(file) {
+        Ok(found) => {
+            *info = info_of(found);
+            0
+        }
+        Err(cause) => code_of_fault(Fault::Head(cause)),
+    }
+}
+
+/// Reads integers into sixteen bits.
+#[unsafe(no_mangle)]
+pub extern "C" fn hound_read_i16(file: &[u8], first: u64, out: &mut [i16]) -> i64
+    ensures size { length out.new ≡ length out.old }
+    ensures reads { Returns result (Reads (int_refusal 2) (λ _. int_meaning) file.now first out.old out.new) }
+{
+    code_of(read_block(file, first, out))
+}
+
+/// Reads integers.
+#[unsafe(no_mangle)]
+pub extern "C" fn hound_read_i32(file: &[u8], first: u64, out: &mut [i32]) -> i64
+    ensures size { length out.new ≡ length out.old }
+    ensures reads { Returns result (Reads (int_refusal 4) (λ _. int_meaning) file.now first out.old out.new) }
+{
+    code_of(read_block(file, first, out))
+}
+
+/// Reads floats, as their bits.
+#[unsafe(no_mangle)]
+pub extern "C" fn hound_read_f32(file: &[u8], first: u64, out: &mut [FloatBits]) -> i64
+    ensures size { length out.new ≡ length out.old }
+    ensures reads { Returns result (Reads float_refusal (λ _ _ _ c. record { 0 = pattern c }) file.now first out.old out.new) }
+{
+    code_of(read_block(file, first, out))
+}
+
+/// How many bytes the file of so many samples has.
+#[unsafe(no_mangle)]
+pub extern "C" fn hound_size(spec: &HoundSpec, samples: u64) -> i64
+    ensures sizes { Returns result (Sizes (spec_of spec.now) samples) }
+{
+    code_of(file_size(*spec, samples))
+}
+
+/// Writes the whole file of these samples.
+#[unsafe(no_mangle)]
+pub extern "C" fn hound_write_i16(spec: &HoundSpec, samples: &[i16], out: &mut [u8]) -> i64
+    ensures size { length out.new ≡ length out.old }
+    ensures writes { Returns result (Writes Int int_container (spec_of spec.now) samples.now out.old out.new) }
+{
+    code_of(write_file(*spec, SampleFormat::Int, samples, out))
+}
+
+/// Writes the whole file of these samples.
+#[unsafe(no_mangle)]
+pub extern "C" fn hound_write_i32(spec: &HoundSpec, samples: &[i32], out: &mut [u8]) -> i64
+    ensures size { length out.new ≡ length out.old }
+    ensures writes { Returns result (Writes Int int_container (spec_of spec.now) samples.now out.old out.new) }
+{
+    code_of(write_file(*spec, SampleFormat::Int, samples, out))
+}
+
+/// Writes the whole file of these floats, given as their bits.
+#[unsafe(no_mangle)]
+pub extern "C" fn hound_write_f32(spec: &HoundSpec, samples: &[FloatBits], out: &mut [u8]) -> i64
+    ensures size { length out.new ≡ length out.old }
+    ensures writes { Returns result (Writes Float (λ v. pattern_container v.0) (spec_of spec.now) samples.now out.old out.new) }
+{
+    code_of(write_file(*spec, SampleFormat::Float, samples, out))
+}
+
+/// Puts samples behind those of the file in the first `used` bytes.
+#[unsafe(no_mangle)]
+pub extern "C" fn hound_append_i16(file: &mut [u8], used: usize, samples: &[i16]) -> i64
+    ensures size { length file.new ≡ length file.old }
+    ensures appends { Returns result (Appends Int int_container samples.now used file.old file.new) }
+{
+    code_of(append_block(file, used, SampleFormat::Int, samples))
+}
+
+/// The same for integers of up to 32 bits.
+#[unsafe(no_mangle)]
+pub extern "C" fn hound_append_i32(file: &mut [u8], used: usize, samples: &[i32]) -> i64
+    ensures size { length file.new ≡ length file.old }
+    ensures appends { Returns result (Appends Int int_container samples.now used file.old file.new) }
+{
+    code_of(append_block(file, used, SampleFormat::Int, samples))
+}
+
+/// The same for floats, given as their bits.
+#[unsafe(no_mangle)]
+pub extern "C" fn hound_append_f32(file: &mut [u8], used: usize, samples: &[FloatBits]) -> i64
+    ensures size { length file.new ≡ length file.old }
+    ensures appends { Returns result (Appends Float (λ v. pattern_container v.0) samples.now used file.old file.new) }
+{
+    code_of(append_block(file, used, SampleFormat::Float, samples))
+}
+
+/// Decodes samples of a spec.
+#[unsafe(no_mangle)]
+pub extern "C" fn hound_decode_i16(spec: &HoundSpec, bytes: &[u8], out: &mut [i16]) -> i64
+    ensures size { length out.new ≡ length out.old }
+    ensures decodes { Returns result (Decodes (int_refusal 2) (λ _. int_meaning) (spec_of spec.now) bytes.now out.old out.new) }
+{
+    code_of(decode_block(*spec, bytes, out))
+}
+
+/// Encodes samples of a spec.
+#[unsafe(no_mangle)]
+pub extern "C" fn hound_encode_i16(spec: &HoundSpec, samples: &[i16], out: &mut [u8]) -> i64
+    ensures size { length out.new ≡ length out.old }
+    ensures encodes { Returns result (Encodes Int int_container (spec_of spec.now) samples.now out.old out.new) }
+{
+    code_of(encode_block(*spec, SampleFormat::Int, samples, out))
+}
+
+/// Decodes samples of a spec.
+#[unsafe(no_mangle)]
+pub extern "C" fn hound_decode_i32(spec: &HoundSpec, bytes: &[u8], out: &mut [i32]) -> i64
+    ensures size { length out.new ≡ length out.old }
+    ensures decodes { Returns result (Decodes (int_refusal 4) (λ _. int_meaning) (spec_of spec.now) bytes.now out.old out.new) }
+{
+    code_of(decode_block(*spec, bytes, out))
+}
+
+/// Encodes samples of a spec.
+#[unsafe(no_mangle)]
+pub extern "C" fn hound_encode_i32(spec: &HoundSpec, samples: &[i32], out: &mut [u8]) -> i64
+    ensures size { length out.new ≡ length out.old }
+    ensures encodes { Returns result (Encodes Int int_container (spec_of spec.now) samples.now out.old out.new) }
+{
+    code_of(encode_block(*spec, SampleFormat::Int, samples, out))
+}
+
+/// Decodes samples of a spec.
+#[unsafe(no_mangle)]
+pub extern "C" fn hound_decode_f32(spec: &HoundSpec, bytes: &[u8], out: &mut [FloatBits]) -> i64
+    ensures size { length out.new ≡ length out.old }
+    ensures decodes { Returns result (Decodes float_refusal (λ _ _ _ c. record { 0 = pattern c }) (spec_of spec.now) bytes.now out.old out.new) }
+{
+    code_of(decode_block(*spec, bytes, out))
+}
+
+/// Encodes samples of a spec.
+#[unsafe(no_mangle)]
+pub extern "C" fn hound_encode_f32(spec: &HoundSpec, samples: &[FloatBits], out: &mut [u8]) -> i64
+    ensures size { length out.new ≡ length out.old }
+    ensures encodes { Returns result (Encodes Float (λ v. pattern_container v.0) (spec_of spec.now) samples.now out.old out.new) }
+{
+    code_of(encode_block(*spec, SampleFormat::Float, samples, out))
+}

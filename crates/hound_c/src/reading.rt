@@ -1,0 +1,94 @@
+// Blocks of samples that are read.
+ghost use Rattle.std.specs.Prelude.{◌≡◌, ◌+◌, ◌*◌, ◌≤◌, IfOk, IsOk, length, take, drop};
+ghost use Rattle.hound_c.specs.Reading.{Decodes, Reads, read_check};
+ghost use Rattle.hound_c.specs.Writing.{spec_of};
+
+use crate::fault::Fault;
+use crate::head::find_data_in;
+use crate::spec::{HoundSpec, spec_of};
+use hound_sample::{Decode, decode_containers};
+use hound_spec::{Error, WavSpecEx};
+
+// Whether samples of a spec are read as a type.
+fn check_type<S: Decode>(spec_ex: WavSpecEx) -> Result<(), Fault>
+    ensures check { result ≡ read_check (S.decode_refusal spec_ex.spec.sample_format
+        spec_ex.bytes_per_sample spec_ex.spec.bits_per_sample) }
+    ensures some { IsOk result → 1 ≤ spec_ex.bytes_per_sample }
+{
+    let spec = spec_ex.spec;
+    match S::check(
+        spec.sample_format,
+        spec_ex.bytes_per_sample,
+        spec.bits_per_sample,
+    ) {
+        Ok(()) => Ok(()),
+        Err(Error::InvalidSampleFormat) => Err(Fault::OtherFormat),
+        Err(Error::TooWide) => Err(Fault::Wider),
+        Err(_) => Err(Fault::OtherPair),
+    }
+}
+
+// The bytes of so many containers, from one on.
+fn part(bytes: &[u8], first: usize, count: usize, width: usize) -> &[u8]
+    requires { (first + count) * width ≤ length bytes.now }
+    ensures { result.now ≡ take (count * width) (drop (first * width) bytes.now) }
+{
+    let start = first * width;
+    &bytes[start..start + count * width]
+}
+
+/// Reads samples from one on into the front of `out`, and returns how many.
+pub(crate) fn read_block<S: Decode>(file: &[u8], first: u64, out: &mut [S]) -> Result<usize, Fault>
+    ensures { Reads S.decode_refusal S.value file.now first out.old out.new result }
+{
+    let found = match find_data_in(file) {
+        Ok(found) => found,
+        Err(cause) => return Err(Fault::Head(cause)),
+    };
+    let spec_ex = found.spec_ex;
+    check_type::<S>(spec_ex)?;
+    let width = spec_ex.bytes_per_sample as usize;
+    let data = &file[found.data_start..];
+    if first >= found.samples as u64 || out.is_empty() {
+        return Ok(0);
+    }
+    let first = first as usize;
+    let stored = (found.samples as usize).min(data.len() / width);
+    if first >= stored {
+        return Err(Fault::Truncated);
+    }
+    let count = out.len().min(stored - first);
+    let from = part(data, first, count, width);
+    decode_containers(
+        from,
+        &mut out[..count],
+        spec_ex.spec.sample_format,
+        spec_ex.bytes_per_sample,
+        spec_ex.spec.bits_per_sample,
+    );
+    Ok(count)
+}
+
+/// Decodes containers of a spec, which lie one after the other, and returns how many.
+pub(crate) fn decode_block<S: Decode>(
+    spec: HoundSpec,
+    bytes: &[u8],
+    out: &mut [S],
+) -> Result<usize, Fault>
+    ensures decodes { Decodes S.decode_refusal S.value (spec_of spec) bytes.now out.old out.new result }
+    ensures within { IfOk result (λ n. n ≤ length out.old) }
+{
+    let spec_ex = spec_of(spec);
+    check_type::<S>(spec_ex)?;
+    let width = spec_ex.bytes_per_sample as usize;
+    let count = out.len().min(bytes.len() / width);
+    let from = part(bytes, 0, count, width);
+    decode_containers(
+        from,
+        &mut out[..count],
+        spec_ex.spec.sample_format,
+        spec_ex.bytes_per_sample,
+        spec_ex.spec.bits_per_sample,
+    );
+    Ok(count)
+}

@@ -1,0 +1,83 @@
+// Specs as C has them.
+ghost use Rattle.std.specs.Prelude.{◌≡◌, ◌<◌};
+ghost use Rattle.hound_c.specs.Writing.{spec_of};
+
+use crate::head::Found;
+use hound_spec::{SampleFormat, WavSpec, WavSpecEx};
+
+/// A spec as C has it.
+#[repr(C)]
+#[derive(Clone, Copy)]
+pub struct HoundSpec {
+    /// The number of frames a second.
+    pub sample_rate: u32,
+    /// The number of channels.
+    pub channels: u16,
+    /// The number of bits of a sample that are used.
+    pub bits_per_sample: u16,
+    /// The number of bytes that a sample takes; 0 in writing: as many as its bits need.
+    pub bytes_per_sample: u16,
+    /// 0 for integers, else floats.
+    pub sample_format: u16,
+}
+
+/// What is before the data of a file.
+#[repr(C)]
+#[derive(Clone, Copy)]
+pub struct HoundInfo {
+    /// The spec.
+    pub spec: HoundSpec,
+    /// How many samples the header counts, of all channels together.
+    pub samples: u32,
+    /// How many bytes are before the data.
+    pub data_start: u64,
+}
+
+/// The spec that C's stands for.
+pub(crate) fn spec_of(spec: HoundSpec) -> WavSpecEx
+    ensures { result ≡ spec_of spec }
+{
+    let sample_format = if spec.sample_format == 0 {
+        SampleFormat::Int
+    } else {
+        SampleFormat::Float
+    };
+    let bytes_per_sample = if spec.bytes_per_sample == 0 {
+        spec.bits_per_sample.div_ceil(8)
+    } else {
+        spec.bytes_per_sample
+    };
+    WavSpecEx {
+        spec: WavSpec {
+            channels: spec.channels,
+            sample_rate: spec.sample_rate,
+            bits_per_sample: spec.bits_per_sample,
+            sample_format,
+        },
+        bytes_per_sample,
+    }
+}
+
+/// What was found in a file, as C gets it.
+pub(crate) fn info_of(found: Found) -> HoundInfo
+    requires { 0 < found.spec_ex.bytes_per_sample }
+    ensures spec { spec_of result.spec ≡ found.spec_ex }
+    ensures samples { result.samples ≡ found.samples }
+    ensures start { result.data_start ≡ found.data_start }
+{
+    let spec = found.spec_ex.spec;
+    HoundInfo {
+        spec: HoundSpec {
+            sample_rate: spec.sample_rate,
+            channels: spec.channels,
+            bits_per_sample: spec.bits_per_sample,
+            bytes_per_sample: found.spec_ex.bytes_per_sample,
+            sample_format: match spec.sample_format {
+                SampleFormat::Int => 0,
+                SampleFormat::Float => 1,
+            },
+        },
+        samples: found.samples,
+        data_start: found.data_start as u64,
+    }
+}

@@ -1,0 +1,186 @@
+// Whole files that are written.
+ghost use Rattle.std.specs.Prelude.{◌≡◌, ◌+◌, ◌*◌, ◌%◌, ◌^◌, ◌≤◌, ◌++◌, IsOk, IfOk, IfErr, length, take, drop};
+ghost use Rattle.hound_spec.specs.FmtChunk.{greatest_u32};
+ghost use Rattle.hound_spec.specs.Header.{data_start, padded, padding, riff_size};
+ghost use Rattle.hound_sample.specs.Slices.{all_containers, joined_containers};
+ghost use Rattle.hound_c.specs.Writing.{Encodes, IsSizeFault, Sizes, Writes, check_of, spec_of};
+
+use crate::fault::Fault;
+use crate::spec::{HoundSpec, spec_of};
+use hound_sample::{Sample, check_containers, have_containers, store_containers};
+use hound_spec::{Error, SampleFormat, WavSpecEx, header_of, is_pair};
+
+/// Checks that all samples have containers.
+pub(crate) fn check_samples<S: Sample + Copy>(
+    samples: &[S],
+    bits: u16,
+    width: u16,
+) -> Result<(), Fault>
+    ensures { result ≡ check_of (all_containers (λ s. S.container s bits width) samples.now) }
+{
+    if have_containers(samples, bits, width) {
+        return Ok(());
+    }
+    match check_containers(samples, bits, width) {
+        Ok(()) => Ok(()),
+        Err(Error::TooWide) => Err(Fault::Wider),
+        Err(_) => Err(Fault::OtherPair),
+    }
+}
+
+/// Stores bytes at a place.
+pub(crate) fn write_bytes_at(out: &mut [u8], at: usize, bytes: &[u8])
+    requires { at + length bytes.now ≤ length out.old }
+    ensures { out.new ≡ take at out.old ++ (bytes.now ++ drop (at + length bytes.now) out.old) }
+{
+    out[at..at + bytes.len()].copy_from_slice(bytes);
+}
+
+/// Stores the containers of samples at a place, and the pad byte after an odd number of bytes.
+pub(crate) fn write_samples_at<S: Sample + Copy>(
+    out: &mut [u8],
+    at: usize,
+    samples: &[S],
+    bits: u16,
+    width: u16,
+)
+    requires have { IsOk (all_containers (λ s. S.container s bits width) samples.now) }
+    requires width { width ≤ 4 }
+    requires room { at + width * length samples.now ≤ length out.old }
+    ensures { let joined = joined_containers (λ s. S.container s bits width) samples.now in
+        out.new ≡ take at out.old ++ (joined ++ drop (at + width * length samples.now) out.old) }
+{
+    let end = at + width as usize * samples.len();
+    store_containers(&mut out[at..end], samples, bits, width);
+}
+
+/// Stores the pad byte after data of an odd length.
+pub(crate) fn write_pad_at(out: &mut [u8], at: usize, data_length: u32)
+    requires { at + data_length % 2 ≤ length out.old }
+    ensures { out.new ≡ take at out.old
+        ++ (padding data_length ++ drop (at + data_length % 2) out.old) }
+{
+    if data_length % 2 == 1 {
+        write_bytes_at(out, at, &[0]);
+    }
+}
+
+// How many bytes the header has.
+fn data_start_of(spec_ex: WavSpecEx) -> usize
+    ensures { result ≡ data_start spec_ex }
+{
+    if spec_ex.spec.channels <= 2 && spec_ex.spec.bits_per_sample <= 16 {
+        44
+    } else {
+        68
+    }
+}
+
+/// How many bytes so many samples take, and how many the file that has them behind a header of
+/// this many.
+pub(crate) fn sizes_of(
+    spec_ex: WavSpecEx,
+    data_start: usize,
+    samples: u64,
+) -> Result<(u32, usize), Fault>
+    requires channels { 1 ≤ spec_ex.spec.channels }
+    requires width { 1 ≤ spec_ex.bytes_per_sample }
+    requires some { 8 ≤ data_start }
+    requires few { data_start ≤ 2 ^ 33 }
+    ensures data { IfOk result (λ r. r.0 ≡ samples * spec_ex.bytes_per_sample) }
+    ensures end { IfOk result (λ r. r.1 ≡ data_start + padded (samples * spec_ex.bytes_per_sample)) }
+    ensures fits { IfOk result (λ r. riff_size data_start (samples * spec_ex.bytes_per_sample) ≤ greatest_u32) }
+    ensures frames { IfOk result (λ r. samples % spec_ex.spec.channels ≡ 0) }
+    ensures refused { IfErr result (IsSizeFault spec_ex data_start samples) }
+{
+    if samples > u32::MAX as u64 {
+        return Err(Fault::TooLong);
+    }
+    let count = samples as u32;
+    if count % spec_ex.spec.channels as u32 != 0 {
+        return Err(Fault::UnfinishedFrame);
+    }
+    let data_length = count as u64 * spec_ex.bytes_per_sample as u64;
+    let end = data_start as u64 + data_length + data_length % 2;
+    if end - 8 > u32::MAX as u64 {
+        return Err(Fault::TooLong);
+    }
+    Ok((data_length as u32, end as usize))
+}
+
+/// How many bytes the file of so many samples has.
+pub(crate) fn file_size(spec: HoundSpec, samples: u64) -> Result<usize, Fault>
+    ensures sizes { Sizes (spec_of spec) samples result }
+    ensures small { IfOk result (λ n. n ≤ 2 ^ 33) }
+{
+    let spec_ex = spec_of(spec);
+    if !spec_ex.is_writable() {
+        return Err(Fault::OtherPair);
+    }
+    let (_, size) = sizes_of(spec_ex, data_start_of(spec_ex), samples)?;
+    Ok(size)
+}
+
+/// Writes the file of these samples to the front of `out`, and returns its length.
+pub(crate) fn write_file<S: Sample + Copy>(
+    spec: HoundSpec,
+    format: SampleFormat,
+    samples: &[S],
+    out: &mut [u8],
+) -> Result<usize, Fault>
+    ensures writes { Writes format S.container (spec_of spec) samples.now out.old out.new result }
+    ensures within { IfOk result (λ n. n ≤ length out.old) }
+    ensures size { length out.new ≡ length out.old }
+{
+    let spec_ex = spec_of(spec);
+    if !spec_ex.is_writable() {
+        return Err(Fault::OtherPair);
+    }
+    if spec_ex.spec.sample_format != format {
+        return Err(Fault::OtherFormat);
+    }
+    let bits = spec_ex.spec.bits_per_sample;
+    let width = spec_ex.bytes_per_sample;
+    if let Err(fault) = check_samples(samples, bits, width) {
+        return Err(fault);
+    }
+    let data_start = data_start_of(spec_ex);
+    let (data_length, size) = sizes_of(spec_ex, data_start, samples.len() as u64)?;
+    if size > out.len() {
+        return Err(Fault::NoRoom);
+    }
+    let header = header_of(spec_ex, (size - 8) as u32, data_length);
+    write_bytes_at(out, 0, header.as_slice());
+    write_samples_at(out, data_start, samples, bits, width);
+    write_pad_at(out, data_start + data_length as usize, data_length);
+    Ok(size)
+}
+
+/// Encodes samples as containers of a spec, one after the other, and returns how many bytes.
+pub(crate) fn encode_block<S: Sample + Copy>(
+    spec: HoundSpec,
+    format: SampleFormat,
+    samples: &[S],
+    out: &mut [u8],
+) -> Result<usize, Fault>
+    ensures encodes { Encodes format S.container (spec_of spec) samples.now out.old out.new result }
+    ensures within { IfOk result (λ n. n ≤ length out.old) }
+{
+    let spec_ex = spec_of(spec);
+    if spec_ex.spec.sample_format != format {
+        return Err(Fault::OtherFormat);
+    }
+    let bits = spec_ex.spec.bits_per_sample;
+    let width = spec_ex.bytes_per_sample;
+    if !is_pair(spec_ex.spec.sample_format, bits, width) {
+        return Err(Fault::OtherPair);
+    }
+    if let Err(fault) = check_samples(samples, bits, width) {
+        return Err(fault);
+    }
+    if samples.len() > out.len() / width as usize {
+        return Err(Fault::NoRoom);
+    }
+    write_samples_at(out, 0, samples, bits, width);
+    Ok(samples.len() * width as usize)
+}
