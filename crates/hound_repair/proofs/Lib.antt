@@ -9,3 +9,4 @@ pub mod Joining
 pub mod Halves
 pub mod Keeping
 pub mod Again
+pub mod InPlace

@@ -276,25 +276,31 @@ module _ (looks : Bool) (old : MediumState) (d : Damage) (at : IsDamage looks ol
     faults = refl;
   }
 
-  pub repairs_cut : {E : Type 0} (new : MediumState) (x : Unit {0}) → d.was ≡ CutOff
-      → PutsSizes {E = E} d (Ok x) old new → Repairs looks old (repair_of d) new
-  repairs_cut new x cut puts =
+  pub repairs_put : (new : MediumState) → d.was ≡ CutOff
+      → new.contents ≡ with_sizes (d.head.data_start - 4) d.sizes.riff_size d.sizes.data_length old.contents
+      ++ missing_pad d.sizes.data_length d.held
+      → new.flushed ≡ length new.past → new.faults ≡ old.faults → Repairs looks old (repair_of d) new
+  repairs_put new cut contents flushed faults =
       let frames : d.sizes.frames ≡ frames_told d.was d = ap (λ w. frames_told w d) (sym cut) in
       let is : new.contents ≡ mended d.head.data_start (found_length (repair_of d)) old.contents =
-      puts.contents ∙ mended_is looks old.contents d at cut in
+      contents ∙ mended_is looks old.contents d at cut in
       record {
         len = d.head.data_length;
         start = d.head.data_start;
         is = found_of looks old.contents d at;
         leaves = subst (λ w. LeavesFor w (repair_of d) d.head.data_start old new) (sym cut)
-            (is, puts.flushed);
+            (is, flushed);
         sizes = subst
             (λ w. UnlessFollowed w (HasRightSizes (repair_of d) d.head.data_start new.contents))
             (sym cut)
             (subst (HasRightSizes (repair_of d) d.head.data_start) (sym is)
             (right_sizes_put looks old.contents d at sound (frames_told d.was d) frames));
-        faults = puts.faults;
+        faults = faults;
       }
+
+  pub repairs_cut : {E : Type 0} (new : MediumState) (x : Unit {0}) → d.was ≡ CutOff
+      → PutsSizes {E = E} d (Ok x) old new → Repairs looks old (repair_of d) new
+  repairs_cut new x cut puts = repairs_put new cut puts.contents puts.flushed puts.faults
 
 -- a file that was looked at first
 repairs_after : (looks : Bool) (old mid new : MediumState) (found : Repair) → PutsNothing old mid

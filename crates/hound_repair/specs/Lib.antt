@@ -2,3 +2,4 @@ pub mod Held
 pub mod Following
 pub mod Repairing
 pub mod Damages
+pub mod InMemory

@@ -5,12 +5,14 @@
 //! holds; [`find_damage`] says what it would do and writes nothing.
 #![tactic(auto)]
 
+mod bytes;
 mod file;
 mod laws;
 mod look;
 mod mend;
 mod sizes;
 
+pub use bytes::{Unrepaired, repair_bytes};
 pub use file::{find_damage_in_file, repair_file, repair_file_to_end};
 pub use laws::{
     a_half_mended_file_is_repaired, a_repair_keeps_stored_samples, a_second_repair_writes_nothing,

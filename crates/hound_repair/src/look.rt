@@ -19,18 +19,19 @@ use hound_reader::{FileHead, error_of, find_data};
 use hound_spec::{Error, Result, WavSpecEx, is_pair};
 use std::{io, result};
 
-// The tags that show that a chunk begins, whatever follows them: those of RIFF and of its update,
-// of broadcasts, of metadata, and of programs.
-const KNOWN_TAGS: [[u8; 4]; 24] = [
+/// The tags that show that a chunk begins, whatever follows them: those of RIFF and of its update,
+/// of broadcasts, of metadata, and of programs.
+pub(crate) const KNOWN_TAGS: [[u8; 4]; 24] = [
     *b"LIST", *b"INFO", *b"fact", *b"cue ", *b"plst", *b"JUNK", *b"PAD ", *b"DISP", *b"inst",
     *b"smpl", *b"bext", *b"levl", *b"cart", *b"axml", *b"chna", *b"iXML", *b"_PMX", *b"id3 ",
     *b"ID3 ", *b"acid", *b"strc", *b"afsp", *b"PEAK", *b"FLLR",
 ];
 
-// How many bytes an ID3v1 tag has, which is at the end of a file, and what it begins with.
-const ID3_LENGTH: u64 = 128;
+/// How many bytes an ID3v1 tag has, which is at the end of a file.
+pub(crate) const ID3_LENGTH: u64 = 128;
 
-const ID3_TAG: [u8; 3] = *b"TAG";
+/// What an ID3v1 tag begins with.
+pub(crate) const ID3_TAG: [u8; 3] = *b"TAG";
 
 /// A file as it was found, and the sizes that it should have.
 #[derive(Clone, Copy)]
@@ -125,9 +126,9 @@ fn has_tag(header: &[u8]) -> bool
         && is_printable(header[3])
 }
 
-// How many bytes the content of a chunk with this header takes, if its tag is printable and so many
-// bytes from the header on have room for it.
-fn content_of(header: &[u8], left: u64) -> Option<u64>
+/// How many bytes the content of a chunk with this header takes, if its tag is printable and so many
+/// bytes from the header on have room for it.
+pub(crate) fn content_of(header: &[u8], left: u64) -> Option<u64>
     requires { 8 ≤ length header.now }
     ensures content { result ≡ (if (has_tag header.now && nat_le (8 + said_length header.now) left)
         then Some (padded (said_length header.now)) else None) }
