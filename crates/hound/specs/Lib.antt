@@ -17,6 +17,7 @@ pub use Rattle.hound_sample.specs.ItemReads
 pub use Rattle.hound_sample.specs.ManyReads
 pub use Rattle.hound_sample.specs.Meaning
 pub use Rattle.hound_sample.specs.Reads
+pub use Rattle.hound_sample.specs.Slices
 pub use Rattle.hound_sample.specs.declared.item.ItemError
 pub use Rattle.hound_medium.specs.Bytes
 pub use Rattle.hound_medium.specs.Spans
@@ -64,6 +65,8 @@ pub use Rattle.hound_repair.specs.Held
 pub use Rattle.hound_repair.specs.Following
 pub use Rattle.hound_repair.specs.Repairing
 pub use Rattle.hound_repair.specs.Damages
+pub use Rattle.hound_repair.specs.InMemory
+pub use Rattle.hound_repair.specs.declared.bytes.Unrepaired
 pub mod FirstError
 pub mod Headline
 pub mod Run

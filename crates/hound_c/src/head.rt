@@ -1,6 +1,6 @@
 // What is before the data.
 ghost use Rattle.std.specs.Prelude.{◌≡◌, ◌≤◌, ◌/◌, IfOk, IfErr, None, Some, length};
-ghost use Rattle.hound_reader.specs.Chunks.{Head, IsDataPlace, Readable, Unreadable, data_fault};
+ghost use Rattle.hound_reader.specs.Chunks.{Head, IsDataPlace, Readable, Refused, Unreadable, data_fault};
 ghost use Rattle.hound_reader.specs.Fmt.{IsSoundSpec};
 
 use hound_number::Input;
@@ -66,6 +66,23 @@ fn check_data(head: FileHead) -> Result<Found, Cause>
     })
 }
 
+/// Walks over a file up to its data.
+pub(crate) fn find_head(file: &[u8]) -> Result<FileHead, Cause>
+    ensures head { IfOk result (λ h. Head file.now h.spec_ex h.data_length h.data_start) }
+    ensures sound { IfOk result (λ h. IsSoundSpec h.spec_ex) }
+    ensures start { IfOk result (λ h. IsDataPlace h.data_start) }
+    ensures inside { IfOk result (λ h. h.data_start ≤ length file.now) }
+    ensures refused { IfErr result (λ c. Refused file.now c) }
+{
+    let mut window = Window { rest: file };
+    match read_until_data(&mut window) {
+        Ok(head) => Ok(head),
+        Err(HeadError::Refused(cause)) => Err(cause),
+        // No read of a window fails.
+        Err(HeadError::Failed(_)) => Err(Cause::Ended),
+    }
+}
+
 /// Looks for the data in a file.
 pub(crate) fn find_data_in(file: &[u8]) -> Result<Found, Cause>
     ensures head { IfOk result (λ f. Head file.now f.spec_ex f.data_length f.data_start) }
@@ -77,11 +94,8 @@ pub(crate) fn find_data_in(file: &[u8]) -> Result<Found, Cause>
     ensures count { IfOk result (λ f. f.samples ≡ f.data_length / f.spec_ex.bytes_per_sample) }
     ensures unreadable { IfErr result (λ c. Unreadable file.now c) }
 {
-    let mut window = Window { rest: file };
-    match read_until_data(&mut window) {
+    match find_head(file) {
         Ok(head) => check_data(head),
-        Err(HeadError::Refused(cause)) => Err(cause),
-        // No read of a window fails.
-        Err(HeadError::Failed(_)) => Err(Cause::Ended),
+        Err(cause) => Err(cause),
     }
 }

@@ -8,6 +8,7 @@ mod appending;
 mod fault;
 mod head;
 mod reading;
+mod repairing;
 mod spec;
 mod writing;
 
@@ -19,6 +20,7 @@ ghost use Rattle.hound_spec.specs.declared.spec.SampleFormat.TheVariants.{Float,
 ghost use Rattle.hound_reader.specs.declared.cause.Cause.{Cause};
 ghost use Rattle.hound_c.specs.Codes.{Returns, fault_code};
 ghost use Rattle.hound_c.specs.Reading.{Decodes, Reads};
+ghost use Rattle.hound_c.specs.Repairing.{RepairsFile};
 ghost use Rattle.hound_c.specs.Writing.{Appends, Encodes, Sizes, Writes, spec_of};
 ghost use Rattle.hound_c.specs.declared.fault.Fault.TheVariants.{Head};
 
@@ -28,8 +30,9 @@ use head::find_data_in;
 use hound_sample::FloatBits;
 use hound_spec::SampleFormat;
 use reading::{decode_block, read_block};
+use repairing::repair_file;
 use spec::info_of;
-pub use spec::{HoundInfo, HoundSpec};
+pub use spec::{HoundInfo, HoundRepair, HoundSpec};
 use writing::{encode_block, file_size, write_file};
 
 /// What is before the data: 0, or why it can't be read.
@@ -54,7 +57,7 @@ pub extern "C" fn hound_read_i16(file: &[u8], first: u64, out: &mut [i16]) -> i6
     ensures size { length out.new ≡ length out.old }
     ensures reads { Returns result (Reads (int_refusal 2) (λ _. int_meaning) file.now first out.old out.new) }
 {
-    code_of(read_block(file, first, out))
+    code_of(read_block::<i16>(file, first, out))
 }
 
 /// Reads integers.
@@ -63,7 +66,7 @@ pub extern "C" fn hound_read_i32(file: &[u8], first: u64, out: &mut [i32]) -> i6
     ensures size { length out.new ≡ length out.old }
     ensures reads { Returns result (Reads (int_refusal 4) (λ _. int_meaning) file.now first out.old out.new) }
 {
-    code_of(read_block(file, first, out))
+    code_of(read_block::<i32>(file, first, out))
 }
 
 /// Reads floats, as their bits.
@@ -72,7 +75,7 @@ pub extern "C" fn hound_read_f32(file: &[u8], first: u64, out: &mut [FloatBits])
     ensures size { length out.new ≡ length out.old }
     ensures reads { Returns result (Reads float_refusal (λ _ _ _ c. record { 0 = pattern c }) file.now first out.old out.new) }
 {
-    code_of(read_block(file, first, out))
+    code_of(read_block::<FloatBits>(file, first, out))
 }
 
 /// How many bytes the file of so many samples has.
@@ -89,7 +92,7 @@ pub extern "C" fn hound_write_i16(spec: &HoundSpec, samples: &[i16], out: &mut [
     ensures size { length out.new ≡ length out.old }
     ensures writes { Returns result (Writes Int int_container (spec_of spec.now) samples.now out.old out.new) }
 {
-    code_of(write_file(*spec, SampleFormat::Int, samples, out))
+    code_of(write_file::<i16>(*spec, SampleFormat::Int, samples, out))
 }
 
 /// Writes the whole file of these samples.
@@ -98,7 +101,7 @@ pub extern "C" fn hound_write_i32(spec: &HoundSpec, samples: &[i32], out: &mut [
     ensures size { length out.new ≡ length out.old }
     ensures writes { Returns result (Writes Int int_container (spec_of spec.now) samples.now out.old out.new) }
 {
-    code_of(write_file(*spec, SampleFormat::Int, samples, out))
+    code_of(write_file::<i32>(*spec, SampleFormat::Int, samples, out))
 }
 
 /// Writes the whole file of these floats, given as their bits.
@@ -107,7 +110,7 @@ pub extern "C" fn hound_write_f32(spec: &HoundSpec, samples: &[FloatBits], out: 
     ensures size { length out.new ≡ length out.old }
     ensures writes { Returns result (Writes Float (λ v. pattern_container v.0) (spec_of spec.now) samples.now out.old out.new) }
 {
-    code_of(write_file(*spec, SampleFormat::Float, samples, out))
+    code_of(write_file::<FloatBits>(*spec, SampleFormat::Float, samples, out))
 }
 
 /// Puts samples behind those of the file in the first `used` bytes.
@@ -116,7 +119,7 @@ pub extern "C" fn hound_append_i16(file: &mut [u8], used: usize, samples: &[i16]
     ensures size { length file.new ≡ length file.old }
     ensures appends { Returns result (Appends Int int_container samples.now used file.old file.new) }
 {
-    code_of(append_block(file, used, SampleFormat::Int, samples))
+    code_of(append_block::<i16>(file, used, SampleFormat::Int, samples))
 }
 
 /// The same for integers of up to 32 bits.
@@ -125,7 +128,7 @@ pub extern "C" fn hound_append_i32(file: &mut [u8], used: usize, samples: &[i32]
     ensures size { length file.new ≡ length file.old }
     ensures appends { Returns result (Appends Int int_container samples.now used file.old file.new) }
 {
-    code_of(append_block(file, used, SampleFormat::Int, samples))
+    code_of(append_block::<i32>(file, used, SampleFormat::Int, samples))
 }
 
 /// The same for floats, given as their bits.
@@ -134,7 +137,16 @@ pub extern "C" fn hound_append_f32(file: &mut [u8], used: usize, samples: &[Floa
     ensures size { length file.new ≡ length file.old }
     ensures appends { Returns result (Appends Float (λ v. pattern_container v.0) samples.now used file.old file.new) }
 {
-    code_of(append_block(file, used, SampleFormat::Float, samples))
+    code_of(append_block::<FloatBits>(file, used, SampleFormat::Float, samples))
+}
+
+/// Repairs the file in the first `used` bytes.
+#[unsafe(no_mangle)]
+pub extern "C" fn hound_repair(file: &mut [u8], used: usize, found: &mut HoundRepair) -> i64
+    ensures size { length file.new ≡ length file.old }
+    ensures repairs { Returns result (RepairsFile used file.old file.new found.old found.new) }
+{
+    code_of(repair_file(file, used, found))
 }
 
 /// Decodes samples of a spec.
@@ -143,7 +155,7 @@ pub extern "C" fn hound_decode_i16(spec: &HoundSpec, bytes: &[u8], out: &mut [i1
     ensures size { length out.new ≡ length out.old }
     ensures decodes { Returns result (Decodes (int_refusal 2) (λ _. int_meaning) (spec_of spec.now) bytes.now out.old out.new) }
 {
-    code_of(decode_block(*spec, bytes, out))
+    code_of(decode_block::<i16>(*spec, bytes, out))
 }
 
 /// Encodes samples of a spec.
@@ -152,7 +164,7 @@ pub extern "C" fn hound_encode_i16(spec: &HoundSpec, samples: &[i16], out: &mut 
     ensures size { length out.new ≡ length out.old }
     ensures encodes { Returns result (Encodes Int int_container (spec_of spec.now) samples.now out.old out.new) }
 {
-    code_of(encode_block(*spec, SampleFormat::Int, samples, out))
+    code_of(encode_block::<i16>(*spec, SampleFormat::Int, samples, out))
 }
 
 /// Decodes samples of a spec.
@@ -161,7 +173,7 @@ pub extern "C" fn hound_decode_i32(spec: &HoundSpec, bytes: &[u8], out: &mut [i3
     ensures size { length out.new ≡ length out.old }
     ensures decodes { Returns result (Decodes (int_refusal 4) (λ _. int_meaning) (spec_of spec.now) bytes.now out.old out.new) }
 {
-    code_of(decode_block(*spec, bytes, out))
+    code_of(decode_block::<i32>(*spec, bytes, out))
 }
 
 /// Encodes samples of a spec.
@@ -170,7 +182,7 @@ pub extern "C" fn hound_encode_i32(spec: &HoundSpec, samples: &[i32], out: &mut 
     ensures size { length out.new ≡ length out.old }
     ensures encodes { Returns result (Encodes Int int_container (spec_of spec.now) samples.now out.old out.new) }
 {
-    code_of(encode_block(*spec, SampleFormat::Int, samples, out))
+    code_of(encode_block::<i32>(*spec, SampleFormat::Int, samples, out))
 }
 
 /// Decodes samples of a spec.
@@ -179,7 +191,7 @@ pub extern "C" fn hound_decode_f32(spec: &HoundSpec, bytes: &[u8], out: &mut [Fl
     ensures size { length out.new ≡ length out.old }
     ensures decodes { Returns result (Decodes float_refusal (λ _ _ _ c. record { 0 = pattern c }) (spec_of spec.now) bytes.now out.old out.new) }
 {
-    code_of(decode_block(*spec, bytes, out))
+    code_of(decode_block::<FloatBits>(*spec, bytes, out))
 }
 
 /// Encodes samples of a spec.
@@ -188,5 +200,5 @@ pub extern "C" fn hound_encode_f32(spec: &HoundSpec, samples: &[FloatBits], out:
     ensures size { length out.new ≡ length out.old }
     ensures encodes { Returns result (Encodes Float (λ v. pattern_container v.0) (spec_of spec.now) samples.now out.old out.new) }
 {
-    code_of(encode_block(*spec, SampleFormat::Float, samples, out))
+    code_of(encode_block::<FloatBits>(*spec, SampleFormat::Float, samples, out))
 }

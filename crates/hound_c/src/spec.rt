@@ -1,11 +1,11 @@
-// Specs as C has them.
+// The structs that C has.
 ghost use Rattle.std.specs.Prelude.{◌≡◌, ◌<◌};
 ghost use Rattle.hound_c.specs.Writing.{spec_of};
 
 use crate::head::Found;
 use hound_spec::{SampleFormat, WavSpec, WavSpecEx};
 
-/// A spec as C has it.
+/// A spec.
 #[repr(C)]
 #[derive(Clone, Copy)]
 pub struct HoundSpec {
@@ -33,7 +33,21 @@ pub struct HoundInfo {
     pub data_start: u64,
 }
 
-/// The spec that C's stands for.
+/// What a repair found.
+#[repr(C)]
+#[derive(Clone, Copy)]
+pub struct HoundRepair {
+    /// The spec.
+    pub spec: HoundSpec,
+    /// How many whole frames the file holds.
+    pub frames: u32,
+    /// How many bytes of a torn frame follow them.
+    pub left_over: u32,
+    /// 0 for a file that was whole, 1 for one that was cut off, 2 where chunks follow the data.
+    pub state: u32,
+}
+
+/// The spec that C's is.
 pub(crate) fn spec_of(spec: HoundSpec) -> WavSpecEx
     ensures { result ≡ spec_of spec }
 {
@@ -58,25 +72,33 @@ pub(crate) fn spec_of(spec: HoundSpec) -> WavSpecEx
     }
 }
 
-/// What was found in a file, as C gets it.
+/// A spec that was found, for C.
+pub(crate) fn spec_for_c(spec_ex: WavSpecEx) -> HoundSpec
+    requires { 0 < spec_ex.bytes_per_sample }
+    ensures { spec_of result ≡ spec_ex }
+{
+    let spec = spec_ex.spec;
+    HoundSpec {
+        sample_rate: spec.sample_rate,
+        channels: spec.channels,
+        bits_per_sample: spec.bits_per_sample,
+        bytes_per_sample: spec_ex.bytes_per_sample,
+        sample_format: match spec.sample_format {
+            SampleFormat::Int => 0,
+            SampleFormat::Float => 1,
+        },
+    }
+}
+
+/// What was found in a file, for C.
 pub(crate) fn info_of(found: Found) -> HoundInfo
     requires { 0 < found.spec_ex.bytes_per_sample }
     ensures spec { spec_of result.spec ≡ found.spec_ex }
     ensures samples { result.samples ≡ found.samples }
     ensures start { result.data_start ≡ found.data_start }
 {
-    let spec = found.spec_ex.spec;
     HoundInfo {
-        spec: HoundSpec {
-            sample_rate: spec.sample_rate,
-            channels: spec.channels,
-            bits_per_sample: spec.bits_per_sample,
-            bytes_per_sample: found.spec_ex.bytes_per_sample,
-            sample_format: match spec.sample_format {
-                SampleFormat::Int => 0,
-                SampleFormat::Float => 1,
-            },
-        },
+        spec: spec_for_c(found.spec_ex),
         samples: found.samples,
         data_start: found.data_start as u64,
     }

@@ -192,6 +192,7 @@ fn mend_bytes(
     requires cut { damage.was ≡ RepairState.CutOff }
     requires found { IsDamage true (take used bytes.old) damage }
     ensures size { length bytes.new ≡ length bytes.old }
+    ensures sound { IfOk result (λ done. IsSoundSpec done.0.spec_ex) }
     ensures repairs { IfOk result (λ done. RepairsBytes used done.1 done.0 bytes.old bytes.new) }
     ensures within { IfOk result (λ done. done.1 ≤ length bytes.old) }
     ensures kept { IfErr result (λ why. (bytes.new ≡ bytes.old)
@@ -224,6 +225,7 @@ pub fn repair_bytes(
     requires start { IsDataPlace head.data_start }
     requires head { Head (take used bytes.old) head.spec_ex head.data_length head.data_start }
     ensures size { length bytes.new ≡ length bytes.old }
+    ensures sound { IfOk result (λ done. IsSoundSpec done.0.spec_ex) }
     ensures repairs { IfOk result (λ done. RepairsBytes used done.1 done.0 bytes.old bytes.new) }
     ensures within { IfOk result (λ done. done.1 ≤ length bytes.old) }
     ensures kept { IfErr result (λ why. (bytes.new ≡ bytes.old)

@@ -225,7 +225,7 @@ pub encoded_ok : (asked : Result (List ℕ) Refusal) (answer : Result (List ℕ)
 encoded_ok (Ok container) answer is = ap is_ok is
 encoded_ok (Err refusal) answer is = ap is_ok is
 
--- an error that `encode` returns is that of all, if the refusal is
+-- the first error that `encode` returns is that of all
 pub refused_as : {T : Type 0} (asked : Result (List ℕ) Refusal) (all : Result T Refusal) (e : Error)
     → IsEncoded asked (Err e) → ((refusal : Refusal) → asked ≡ Err refusal → all ≡ Err refusal)
     → first_error all ≡ Err e

@@ -56,7 +56,8 @@ impl SampleWords {
     ghost use Rattle.hound.specs.ItemReads.{ReadsItem, error_of_item, reason_of};
     ghost use Rattle.hound.specs.ManyReads.{FillsFront, ReadsEach, items_of};
     ghost use Rattle.hound.specs.Meaning.{ReadRefusal, float_refusal, int_meaning, int_refusal, low_short, pattern};
-    ghost use Rattle.hound.specs.Reads.{Reads, ReadsContainer};
+    ghost use Rattle.hound.specs.Reads.{Reads, ReadsContainer, read_error};
+    ghost use Rattle.hound.specs.Slices.{all_containers, first_error, joined_containers};
 
     fn read() -> bool
         ensures { result ≡ result }
@@ -146,11 +147,11 @@ impl WriterWords {
     ghost use Rattle.hound.specs.Block.{GoesOut, IsLimit, all_out, answer_of, or_fault};
     ghost use Rattle.hound.specs.Counts.{Counts};
     ghost use Rattle.hound.specs.Fields.{IsConsistent, bytes_kept, of_fields};
-    ghost use Rattle.hound.specs.Many.{AcceptsEach, all_containers, containers_in, joined_containers, outcome_of, sample_bytes};
+    ghost use Rattle.hound.specs.Many.{AcceptsEach, containers_in, outcome_of, sample_bytes};
     ghost use Rattle.hound.specs.Parts.{HasSize, IsPatched, IsPublishResult, IsStanding, Patches, PatchesAtEach, PutsAt};
     ghost use Rattle.hound.specs.Publishing.{Checkpoints, Finishes};
     ghost use Rattle.hound.specs.Room.{IsSixteen};
-    ghost use Rattle.hound.specs.Sizes.{field};
+    ghost use Rattle.hound.specs.Sizes.{field, with_sizes};
     ghost use Rattle.hound.specs.Storing.{IsStored};
     ghost use Rattle.hound.specs.Writer.{AreFrames, HasRoom, IsCounted, IsPadded, IsSound, IsWhole, WriterState, accepted_samples, data_end, data_length, padded_end, sample_count};
 
@@ -166,7 +167,8 @@ struct RepairWords;
 impl RepairWords {
     ghost use Rattle.hound.specs.Damages.{FindsDamage, HalfPutAtEach, IsDamage, IsSoundDamage, MeasuresDamage, PutsPad, PutsSizes, repair_of};
     ghost use Rattle.hound.specs.Following.{are_chunks, begins_chunk, chunk_content, ends_with_id3, has_known_tag, has_tag, is_followed, is_printable, said_length};
-    ghost use Rattle.hound.specs.Held.{are_right, data_held, frame_length, frames_held, held, right_length, torn_bytes};
+    ghost use Rattle.hound.specs.Held.{are_right, data_held, frame_length, frames_held, held, missing_pad, right_length, torn_bytes};
+    ghost use Rattle.hound.specs.InMemory.{IsUnrepaired, RepairsBytes, bytes_fault};
     ghost use Rattle.hound.specs.Repairing.{Finds, FlushesBeforePad, HalfMended, IsFoundAt, IsNoPad, IsNotFound, IsNotRepaired, Looks, MendsAtEach, ReadsFrames, Repairs, found_length, repair_fault, size_fault, state_of};
     ghost use Rattle.hound.specs.declared.Repair.{Repair};
     ghost use Rattle.hound.specs.declared.RepairState.{RepairState};
@@ -181,6 +183,7 @@ impl RepairWords {
 struct RepairVariants;
 
 impl RepairVariants {
+    ghost use Rattle.hound.specs.Unrepaired.TheVariants.{NoRoom};
     ghost use Rattle.hound.specs.declared.RepairState.TheVariants.{HasChunksAfterData, Whole};
 
     fn read() -> bool

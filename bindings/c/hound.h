@@ -1,0 +1,183 @@
+/* WAV files in the caller's memory: read, written, appended to and repaired by proved code
+   (crates/hound_c of the repository).
+
+   A file is an array of bytes: mapped, read by fread, or still to be written. No call keeps a state,
+   allocates, blocks, aborts or calls back. So each of them may be made from an audio callback, from
+   any number of threads at once, and over shared memory, and nothing has to be freed.
+
+   Samples are counted over all channels and are interleaved; a frame has one sample of each channel.
+   Integers are signed at every width, also at 8 bits.
+
+   A caller must keep these conditions, which nothing checks:
+   - A pointer and the length after it are an array of that many elements, at most PTRDIFF_MAX bytes,
+     aligned for its type, and the pointer isn't NULL, also where the length is 0.
+   - Memory that is passed without const overlaps no other argument, and nobody else uses it during
+     the call. Memory that is passed with const isn't written during the call, so a mapped file must
+     not change or get shorter.
+   - All memory is initialized, also where it is only written to.
+
+   After an error the caller's memory is as it was before the call. */
+#ifndef HOUND_H
+#define HOUND_H
+#include <stddef.h>
+#include <stdint.h>
+#ifdef __cplusplus
+extern "C" {
+#endif
+
+/* The errors: what is returned below 0. */
+enum {
+    HOUND_ENDED = -1,            /* the bytes end before the data begin */
+    HOUND_UNSUPPORTED = -2,      /* the format tag or subformat is neither PCM nor IEEE float */
+    HOUND_OTHER_FORMAT = -3,     /* the samples are floats and the type is an integer, or vice versa */
+    HOUND_TOO_WIDE = -4,         /* the samples are wider than the type, or a value than its bits */
+    HOUND_NOT_WRITABLE = -5,     /* samples with these bits and bytes aren't read or written */
+    HOUND_TRUNCATED = -6,        /* the header counts a sample that isn't among the bytes */
+    HOUND_TOO_LONG = -7,         /* the sizes of the file would not fit in 32 bits */
+    HOUND_UNFINISHED_FRAME = -8, /* the samples are no whole frames */
+    HOUND_NO_ROOM = -9,          /* the file needs more bytes than the capacity */
+    /* What is wrong with the bytes of a file. */
+    HOUND_NO_RIFF_TAG = -10,
+    HOUND_NO_WAVE_TAG = -11,
+    HOUND_NO_DATA_CHUNK = -12,
+    HOUND_NO_FMT_CHUNK = -13,
+    HOUND_FMT_SIZE = -14,
+    HOUND_UNEXPECTED_FMT_SIZE = -15,
+    HOUND_ZERO_CHANNELS = -16,
+    HOUND_BITS_EXCEED_WIDTH = -17,
+    HOUND_INCONSISTENT = -18,
+    HOUND_BITS_NOT_WHOLE_BYTES = -19,
+    HOUND_ZERO_BITS = -20,
+    HOUND_BITS_NOT_8_OR_16 = -21,
+    HOUND_EX_SIZE = -22,
+    HOUND_BITS_NOT_32 = -23,
+    HOUND_EXTENSIBLE_SIZE = -24,
+    HOUND_DATA_LENGTH = -25,
+    HOUND_FRAME_LENGTH = -26
+};
+
+/* The formats of samples. */
+enum { HOUND_INT = 0, HOUND_FLOAT = 1 };
+
+/* How hound_repair found a file. */
+enum {
+    HOUND_WHOLE = 0,                 /* both sizes were right */
+    HOUND_CUT_OFF = 1,               /* a size was wrong, as after a recording that was cut off */
+    HOUND_HAS_CHUNKS_AFTER_DATA = 2  /* chunks or a tag follow the data */
+};
+
+/* Integers are written with 8, 16, 24 (in 3 or 4 bytes) and 32 bits, floats with 32 bits. */
+typedef struct {
+    uint32_t sample_rate;
+    uint16_t channels;
+    uint16_t bits_per_sample;
+    uint16_t bytes_per_sample; /* of a container; 0 where a spec is passed: as many as the bits need */
+    uint16_t sample_format;    /* HOUND_INT; any other number is HOUND_FLOAT */
+} hound_spec;
+
+typedef struct {
+    hound_spec spec;
+    uint32_t samples;    /* how many the header counts, of all channels together */
+    uint64_t data_start; /* how many bytes are before the first sample */
+} hound_info_t;
+
+typedef struct {
+    hound_spec spec;
+    uint32_t frames;    /* how many whole frames the file holds */
+    uint32_t left_over; /* how many bytes of a torn frame follow them */
+    uint32_t state;     /* HOUND_WHOLE, HOUND_CUT_OFF or HOUND_HAS_CHUNKS_AFTER_DATA */
+} hound_repair_t;
+
+/* Finds what is before the data. Returns 0 or an error, and looks at no byte of the data. */
+int32_t hound_info(const uint8_t *file, size_t length, hound_info_t *info);
+
+/* Reads samples from number `first` on, counted from 0, and returns how many: as many as fit, as the
+   header counts and as the bytes hold. So 0 means the end, or that count is 0. HOUND_TRUNCATED means
+   that the header counts sample `first` and the bytes don't hold it. The rest of `out` stays.
+   _i16 reads 8 and 16 bits, _i32 reads all integers, _f32 reads floats and keeps every NaN. */
+int64_t hound_read_i16(const uint8_t *file, size_t length, uint64_t first, int16_t *out, size_t count);
+int64_t hound_read_i32(const uint8_t *file, size_t length, uint64_t first, int32_t *out, size_t count);
+int64_t hound_read_f32(const uint8_t *file, size_t length, uint64_t first, float *out, size_t count);
+
+/* Returns how many bytes the file of so many samples has. */
+int64_t hound_size(const hound_spec *spec, uint64_t samples);
+
+/* Writes the whole file of these samples to the front of `out`, and returns its length. The rest of
+   `out` stays. Each value must fit in the bits of the spec. A file of 0 samples is one to append to. */
+int64_t hound_write_i16(const hound_spec *spec, const int16_t *samples, size_t count, uint8_t *out, size_t capacity);
+int64_t hound_write_i32(const hound_spec *spec, const int32_t *samples, size_t count, uint8_t *out, size_t capacity);
+int64_t hound_write_f32(const hound_spec *spec, const float *samples, size_t count, uint8_t *out, size_t capacity);
+
+/* Appends whole frames to the file in the first `used` bytes, and returns its new length: it is a
+   whole file after each call. Chunks after the data are overwritten. */
+int64_t hound_append_i16(uint8_t *file, size_t capacity, size_t used, const int16_t *samples, size_t count);
+int64_t hound_append_i32(uint8_t *file, size_t capacity, size_t used, const int32_t *samples, size_t count);
+int64_t hound_append_f32(uint8_t *file, size_t capacity, size_t used, const float *samples, size_t count);
+
+/* Repairs the file in the first `used` bytes, and returns its length: where its recording was cut off,
+   both sizes become those of the whole frames that it holds. The length is one more where a pad byte
+   was missing. Where chunks follow the data, or both sizes are right, nothing is written. */
+int64_t hound_repair(uint8_t *file, size_t capacity, size_t used, hound_repair_t *found);
+
+/* Samples without a file around them: containers one after the other, as in the data of a file. They
+   are for streams, and for a file whose header is too long to be walked over for each block.
+   Decoding returns how many samples, as many as fit and as the bytes hold; encoding returns how many
+   bytes. The rate and the channels of the spec have no effect. */
+int64_t hound_decode_i16(const hound_spec *spec, const uint8_t *bytes, size_t length, int16_t *out, size_t count);
+int64_t hound_decode_i32(const hound_spec *spec, const uint8_t *bytes, size_t length, int32_t *out, size_t count);
+int64_t hound_decode_f32(const hound_spec *spec, const uint8_t *bytes, size_t length, float *out, size_t count);
+int64_t hound_encode_i16(const hound_spec *spec, const int16_t *samples, size_t count, uint8_t *out, size_t capacity);
+int64_t hound_encode_i32(const hound_spec *spec, const int32_t *samples, size_t count, uint8_t *out, size_t capacity);
+int64_t hound_encode_f32(const hound_spec *spec, const float *samples, size_t count, uint8_t *out, size_t capacity);
+
+/* A sentence for an error, without its full stop. */
+static inline const char *hound_error_text(int64_t code) {
+    switch (code) {
+    case HOUND_ENDED: return "the bytes end before the data begin";
+    case HOUND_UNSUPPORTED: return "the format is neither PCM nor IEEE float";
+    case HOUND_OTHER_FORMAT: return "the samples are floats and the type is an integer, or vice versa";
+    case HOUND_TOO_WIDE: return "the samples are wider than the type, or a value than its bits";
+    case HOUND_NOT_WRITABLE: return "samples with these bits and bytes are not read or written";
+    case HOUND_TRUNCATED: return "the header counts a sample that the file does not hold";
+    case HOUND_TOO_LONG: return "the sizes of the file would not fit in 32 bits";
+    case HOUND_UNFINISHED_FRAME: return "the samples are no whole frames";
+    case HOUND_NO_ROOM: return "the file needs more bytes than the capacity";
+    case HOUND_NO_RIFF_TAG: return "no RIFF tag found";
+    case HOUND_NO_WAVE_TAG: return "no WAVE tag found";
+    case HOUND_NO_DATA_CHUNK: return "missing data chunk";
+    case HOUND_NO_FMT_CHUNK: return "missing fmt chunk";
+    case HOUND_FMT_SIZE: return "invalid fmt chunk size";
+    case HOUND_UNEXPECTED_FMT_SIZE: return "unexpected fmt chunk size";
+    case HOUND_ZERO_CHANNELS: return "file contains zero channels";
+    case HOUND_BITS_EXCEED_WIDTH: return "sample bits exceeds size of sample";
+    case HOUND_INCONSISTENT: return "inconsistent fmt chunk";
+    case HOUND_BITS_NOT_WHOLE_BYTES: return "bits per sample is not a multiple of 8";
+    case HOUND_ZERO_BITS: return "bits per sample is 0";
+    case HOUND_BITS_NOT_8_OR_16: return "bits per sample is not 8 or 16";
+    case HOUND_EX_SIZE: return "unexpected WAVEFORMATEX size";
+    case HOUND_BITS_NOT_32: return "bits per sample is not 32";
+    case HOUND_EXTENSIBLE_SIZE: return "unexpected WAVEFORMATEXTENSIBLE size";
+    case HOUND_DATA_LENGTH: return "data chunk length is not a multiple of sample size";
+    case HOUND_FRAME_LENGTH: return "invalid data chunk length";
+    default: return code < 0 ? "unknown error" : "no error";
+    }
+}
+
+#ifdef __cplusplus
+}
+#define HOUND_ASSERT(condition) static_assert(condition, #condition)
+#elif defined(__STDC_VERSION__) && __STDC_VERSION__ >= 201112L
+#define HOUND_ASSERT(condition) _Static_assert(condition, #condition)
+#endif
+#if defined(HOUND_ASSERT) && (!defined(__cplusplus) || __cplusplus >= 201103L)
+HOUND_ASSERT(sizeof(float) == 4);
+HOUND_ASSERT(sizeof(hound_spec) == 12 && offsetof(hound_spec, channels) == 4
+             && offsetof(hound_spec, bits_per_sample) == 6
+             && offsetof(hound_spec, bytes_per_sample) == 8 && offsetof(hound_spec, sample_format) == 10);
+HOUND_ASSERT(sizeof(hound_info_t) == 24 && offsetof(hound_info_t, samples) == 12
+             && offsetof(hound_info_t, data_start) == 16);
+HOUND_ASSERT(sizeof(hound_repair_t) == 24 && offsetof(hound_repair_t, frames) == 12
+             && offsetof(hound_repair_t, left_over) == 16 && offsetof(hound_repair_t, state) == 20);
+#endif
+#undef HOUND_ASSERT
+#endif

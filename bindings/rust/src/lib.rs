@@ -1,0 +1,373 @@
+//! WAV files in memory, read, written, appended to and repaired by proved code.
+//!
+//! A file is a slice of bytes. Samples are interleaved. After an error the slices that were passed
+//! are as they were before.
+#![warn(missing_docs)]
+
+use std::{error, fmt};
+
+/// Why a call failed.
+#[derive(Clone, Copy, Debug, PartialEq, Eq, Hash)]
+#[repr(i64)]
+pub enum Error {
+    /// The bytes end before the data begin.
+    Ended = -1,
+    /// The format is neither PCM nor IEEE float.
+    Unsupported = -2,
+    /// The samples are floats and the type is an integer, or vice versa.
+    OtherFormat = -3,
+    /// The samples are wider than the type, or a value than its bits.
+    TooWide = -4,
+    /// Samples with these bits and bytes aren't read or written.
+    NotWritable = -5,
+    /// The header counts a sample that the bytes don't hold.
+    Truncated = -6,
+    /// The sizes of the file would not fit in 32 bits.
+    TooLong = -7,
+    /// The samples are no whole frames.
+    UnfinishedFrame = -8,
+    /// The file needs more bytes than the slice has.
+    NoRoom = -9,
+    /// The RIFF tag is missing.
+    NoRiffTag = -10,
+    /// The WAVE tag is missing.
+    NoWaveTag = -11,
+    /// There is no data chunk.
+    NoDataChunk = -12,
+    /// There is no fmt chunk before the data.
+    NoFmtChunk = -13,
+    /// The fmt chunk is too short.
+    FmtSize = -14,
+    /// The fmt chunk has a length that its tag doesn't have.
+    UnexpectedFmtSize = -15,
+    /// The file has no channels.
+    ZeroChannels = -16,
+    /// A sample has more bits than its bytes hold.
+    BitsExceedWidth = -17,
+    /// The fields of the fmt chunk contradict each other.
+    Inconsistent = -18,
+    /// The bits of a sample are no whole bytes.
+    BitsNotWholeBytes = -19,
+    /// A sample has no bits.
+    ZeroBits = -20,
+    /// A PCM sample without the extensible format has other than 8 or 16 bits.
+    BitsNot8Or16 = -21,
+    /// The extension of the fmt chunk has a wrong length.
+    ExSize = -22,
+    /// A float sample has other than 32 bits.
+    BitsNot32 = -23,
+    /// The extensible format has a wrong length.
+    ExtensibleSize = -24,
+    /// The data are no whole samples.
+    DataLength = -25,
+    /// The data are no whole frames.
+    FrameLength = -26,
+}
+
+/// All errors, by their code without its sign, from 1 on.
+pub const ERRORS: [Error; 26] = [
+    Error::Ended,
+    Error::Unsupported,
+    Error::OtherFormat,
+    Error::TooWide,
+    Error::NotWritable,
+    Error::Truncated,
+    Error::TooLong,
+    Error::UnfinishedFrame,
+    Error::NoRoom,
+    Error::NoRiffTag,
+    Error::NoWaveTag,
+    Error::NoDataChunk,
+    Error::NoFmtChunk,
+    Error::FmtSize,
+    Error::UnexpectedFmtSize,
+    Error::ZeroChannels,
+    Error::BitsExceedWidth,
+    Error::Inconsistent,
+    Error::BitsNotWholeBytes,
+    Error::ZeroBits,
+    Error::BitsNot8Or16,
+    Error::ExSize,
+    Error::BitsNot32,
+    Error::ExtensibleSize,
+    Error::DataLength,
+    Error::FrameLength,
+];
+
+impl fmt::Display for Error {
+    fn fmt(&self, f: &mut fmt::Formatter<'_>) -> fmt::Result {
+        let mut first = true;
+        for letter in format!("{self:?}").chars() {
+            if letter.is_uppercase() && !first {
+                f.write_str(" ")?;
+            }
+            first = false;
+            write!(f, "{}", letter.to_lowercase())?;
+        }
+        Ok(())
+    }
+}
+
+impl error::Error for Error {}
+
+/// The result of a call.
+pub type Result<T> = std::result::Result<T, Error>;
+
+/// The format of samples.
+#[derive(Clone, Copy, Debug, Default, PartialEq, Eq)]
+pub enum Format {
+    /// Integers.
+    #[default]
+    Int,
+    /// Floats.
+    Float,
+}
+
+/// What a file says of its samples.
+#[derive(Clone, Copy, Debug, Default, PartialEq, Eq)]
+pub struct Spec {
+    /// The number of frames a second.
+    pub sample_rate: u32,
+    /// The number of channels.
+    pub channels: u16,
+    /// The number of used bits of a sample.
+    pub bits_per_sample: u16,
+    /// The number of bytes of a sample; 0 where a spec is passed: as many as the bits need.
+    pub bytes_per_sample: u16,
+    /// Whether samples are integers or floats.
+    pub format: Format,
+}
+
+/// What is before the data of a file.
+#[derive(Clone, Copy, Debug, PartialEq, Eq)]
+pub struct Info {
+    /// The spec.
+    pub spec: Spec,
+    /// How many samples the header counts, of all channels together.
+    pub samples: u32,
+    /// How many bytes are before the data.
+    pub data_start: u64,
+}
+
+/// How a file was found.
+#[derive(Clone, Copy, Debug, PartialEq, Eq)]
+pub enum State {
+    /// Both sizes were right.
+    Whole,
+    /// A size was wrong, as after a recording that was cut off.
+    CutOff,
+    /// Chunks or a tag follow the data, and nothing was written.
+    HasChunksAfterData,
+}
+
+/// What a file holds, and how it was found.
+#[derive(Clone, Copy, Debug, PartialEq, Eq)]
+pub struct Repair {
+    /// The spec.
+    pub spec: Spec,
+    /// How many whole frames the file holds.
+    pub frames: u32,
+    /// How many bytes of a torn frame follow them.
+    pub left_over: u32,
+    /// How the file was found.
+    pub state: State,
+    /// The length of the file now.
+    pub length: usize,
+}
+
+// The C interface, as hound.h has it.
+mod c {
+    #[repr(C)]
+    #[derive(Clone, Copy, Default)]
+    pub struct Spec {
+        pub sample_rate: u32,
+        pub channels: u16,
+        pub bits_per_sample: u16,
+        pub bytes_per_sample: u16,
+        pub sample_format: u16,
+    }
+
+    #[repr(C)]
+    #[derive(Default)]
+    pub struct Info {
+        pub spec: Spec,
+        pub samples: u32,
+        pub data_start: u64,
+    }
+
+    #[repr(C)]
+    #[derive(Default)]
+    pub struct Repair {
+        pub spec: Spec,
+        pub frames: u32,
+        pub left_over: u32,
+        pub state: u32,
+    }
+
+    extern "C" {
+        pub fn hound_info(file: *const u8, length: usize, info: *mut Info) -> i32;
+        pub fn hound_size(spec: *const Spec, samples: u64) -> i64;
+        pub fn hound_repair(file: *mut u8, capacity: usize, used: usize, found: *mut Repair) -> i64;
+    }
+
+    macro_rules! calls {
+        ($sample:ty, $read:ident, $write:ident, $append:ident, $decode:ident, $encode:ident) => {
+            extern "C" {
+                pub fn $read(file: *const u8, length: usize, first: u64, out: *mut $sample, count: usize) -> i64;
+                pub fn $write(spec: *const Spec, samples: *const $sample, count: usize, out: *mut u8, capacity: usize) -> i64;
+                pub fn $append(file: *mut u8, capacity: usize, used: usize, samples: *const $sample, count: usize) -> i64;
+                pub fn $decode(spec: *const Spec, bytes: *const u8, length: usize, out: *mut $sample, count: usize) -> i64;
+                pub fn $encode(spec: *const Spec, samples: *const $sample, count: usize, out: *mut u8, capacity: usize) -> i64;
+            }
+        };
+    }
+    calls!(i16, hound_read_i16, hound_write_i16, hound_append_i16, hound_decode_i16, hound_encode_i16);
+    calls!(i32, hound_read_i32, hound_write_i32, hound_append_i32, hound_decode_i32, hound_encode_i32);
+    calls!(f32, hound_read_f32, hound_write_f32, hound_append_f32, hound_decode_f32, hound_encode_f32);
+}
+
+impl Spec {
+    fn to_c(self) -> c::Spec {
+        c::Spec {
+            sample_rate: self.sample_rate,
+            channels: self.channels,
+            bits_per_sample: self.bits_per_sample,
+            bytes_per_sample: self.bytes_per_sample,
+            sample_format: matches!(self.format, Format::Float) as u16,
+        }
+    }
+
+    fn from_c(spec: c::Spec) -> Spec {
+        Spec {
+            sample_rate: spec.sample_rate,
+            channels: spec.channels,
+            bits_per_sample: spec.bits_per_sample,
+            bytes_per_sample: spec.bytes_per_sample,
+            format: if spec.sample_format == 0 { Format::Int } else { Format::Float },
+        }
+    }
+}
+
+fn checked(code: i64) -> Result<usize> {
+    usize::try_from(code).map_err(|_| ERRORS[code.unsigned_abs() as usize - 1])
+}
+
+mod private {
+    pub trait Calls: Sized {
+        fn read(file: &[u8], first: u64, out: &mut [Self]) -> i64;
+        fn write(spec: &super::c::Spec, samples: &[Self], out: &mut [u8]) -> i64;
+        fn append(file: &mut [u8], used: usize, samples: &[Self]) -> i64;
+        fn decode(spec: &super::c::Spec, bytes: &[u8], out: &mut [Self]) -> i64;
+        fn encode(spec: &super::c::Spec, samples: &[Self], out: &mut [u8]) -> i64;
+    }
+}
+
+/// The types of samples: `i16`, `i32` and `f32`.
+pub trait Sample: private::Calls {}
+
+// SAFETY of each call: the pointers are those of slices and references, which are aligned,
+// initialized and not null, and a mutable one overlaps no other; nothing is kept.
+macro_rules! sample {
+    ($sample:ty, $read:ident, $write:ident, $append:ident, $decode:ident, $encode:ident) => {
+        impl Sample for $sample {}
+        impl private::Calls for $sample {
+            fn read(file: &[u8], first: u64, out: &mut [Self]) -> i64 {
+                unsafe { c::$read(file.as_ptr(), file.len(), first, out.as_mut_ptr(), out.len()) }
+            }
+            fn write(spec: &c::Spec, samples: &[Self], out: &mut [u8]) -> i64 {
+                unsafe { c::$write(spec, samples.as_ptr(), samples.len(), out.as_mut_ptr(), out.len()) }
+            }
+            fn append(file: &mut [u8], used: usize, samples: &[Self]) -> i64 {
+                unsafe { c::$append(file.as_mut_ptr(), file.len(), used, samples.as_ptr(), samples.len()) }
+            }
+            fn decode(spec: &c::Spec, bytes: &[u8], out: &mut [Self]) -> i64 {
+                unsafe { c::$decode(spec, bytes.as_ptr(), bytes.len(), out.as_mut_ptr(), out.len()) }
+            }
+            fn encode(spec: &c::Spec, samples: &[Self], out: &mut [u8]) -> i64 {
+                unsafe { c::$encode(spec, samples.as_ptr(), samples.len(), out.as_mut_ptr(), out.len()) }
+            }
+        }
+    };
+}
+sample!(i16, hound_read_i16, hound_write_i16, hound_append_i16, hound_decode_i16, hound_encode_i16);
+sample!(i32, hound_read_i32, hound_write_i32, hound_append_i32, hound_decode_i32, hound_encode_i32);
+sample!(f32, hound_read_f32, hound_write_f32, hound_append_f32, hound_decode_f32, hound_encode_f32);
+
+/// What is before the data of a file. The data needn't all be there.
+pub fn info(file: &[u8]) -> Result<Info> {
+    let mut found = c::Info::default();
+    // SAFETY: as above.
+    checked(unsafe { c::hound_info(file.as_ptr(), file.len(), &mut found) } as i64)?;
+    Ok(Info {
+        spec: Spec::from_c(found.spec),
+        samples: found.samples,
+        data_start: found.data_start,
+    })
+}
+
+/// Reads samples from number `first` on into the front of `out`, and returns how many: as many as
+/// fit, as the header counts and as the bytes hold.
+pub fn read_into<S: Sample>(file: &[u8], first: u64, out: &mut [S]) -> Result<usize> {
+    checked(S::read(file, first, out))
+}
+
+/// Reads all samples of a file that are there.
+pub fn read<S: Sample + Clone + Default>(file: &[u8]) -> Result<Vec<S>> {
+    let info = info(file)?;
+    let held = (file.len() as u64 - info.data_start) / u64::from(info.spec.bytes_per_sample);
+    let mut samples = vec![S::default(); held.min(u64::from(info.samples)).max(1) as usize];
+    let count = read_into(file, 0, &mut samples)?;
+    samples.truncate(count);
+    Ok(samples)
+}
+
+/// How many bytes the file of so many samples has.
+pub fn size(spec: &Spec, samples: u64) -> Result<usize> {
+    // SAFETY: as above.
+    checked(unsafe { c::hound_size(&spec.to_c(), samples) })
+}
+
+/// Writes the file of these samples to the front of `out`, and returns its length.
+pub fn write_to<S: Sample>(spec: &Spec, samples: &[S], out: &mut [u8]) -> Result<usize> {
+    checked(S::write(&spec.to_c(), samples, out))
+}
+
+/// The file of these samples.
+pub fn write<S: Sample>(spec: &Spec, samples: &[S]) -> Result<Vec<u8>> {
+    let mut file = vec![0; size(spec, samples.len() as u64)?];
+    write_to(spec, samples, &mut file)?;
+    Ok(file)
+}
+
+/// Appends whole frames to the file in the first `used` bytes, and returns its new length.
+pub fn append_to<S: Sample>(file: &mut [u8], used: usize, samples: &[S]) -> Result<usize> {
+    checked(S::append(file, used, samples))
+}
+
+/// Repairs the file in the first `used` bytes, whose recording was cut off.
+pub fn repair(file: &mut [u8], used: usize) -> Result<Repair> {
+    let mut found = c::Repair::default();
+    // SAFETY: as above.
+    let length = checked(unsafe { c::hound_repair(file.as_mut_ptr(), file.len(), used, &mut found) })?;
+    Ok(Repair {
+        spec: Spec::from_c(found.spec),
+        frames: found.frames,
+        left_over: found.left_over,
+        state: match found.state {
+            0 => State::Whole,
+            1 => State::CutOff,
+            _ => State::HasChunksAfterData,
+        },
+        length,
+    })
+}
+
+/// Decodes samples without a file around them, and returns how many.
+pub fn decode<S: Sample>(spec: &Spec, bytes: &[u8], out: &mut [S]) -> Result<usize> {
+    checked(S::decode(&spec.to_c(), bytes, out))
+}
+
+/// Encodes samples without a file around them, and returns how many bytes they take.
+pub fn encode<S: Sample>(spec: &Spec, samples: &[S], out: &mut [u8]) -> Result<usize> {
+    checked(S::encode(&spec.to_c(), samples, out))
+}

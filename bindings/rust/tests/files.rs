@@ -1,0 +1,76 @@
+//! The calls over small files.
+use hound_bindings::{
+    append_to, decode, encode, info, read, read_into, repair, size, write, write_to, Error, Format, Spec, State, ERRORS,
+};
+
+const SPEC: Spec = Spec {
+    sample_rate: 44100,
+    channels: 1,
+    bits_per_sample: 16,
+    bytes_per_sample: 0,
+    format: Format::Int,
+};
+
+#[test]
+fn a_file_is_written_and_read() {
+    let file = write(&SPEC, &[2i16, -3, 5, -7]).unwrap();
+    assert_eq!(file.len(), 52);
+    assert_eq!(&file[44..], &[2, 0, 253, 255, 5, 0, 249, 255]);
+    let found = info(&file).unwrap();
+    assert_eq!((found.samples, found.data_start, found.spec.bytes_per_sample), (4, 44, 2));
+    assert_eq!(read::<i32>(&file).unwrap(), [2, -3, 5, -7]);
+    let mut two = [0i16; 2];
+    assert_eq!(read_into(&file, 1, &mut two), Ok(2));
+    assert_eq!(two, [-3, 5]);
+}
+
+#[test]
+fn samples_are_appended() {
+    let mut file = write(&SPEC, &[2i16]).unwrap();
+    assert_eq!(append_to(&mut file, 46, &[3i16]), Err(Error::NoRoom));
+    file.resize(48, 9);
+    assert_eq!(append_to(&mut file, 46, &[3i16]), Ok(48));
+    assert_eq!(read::<i16>(&file).unwrap(), [2, 3]);
+}
+
+#[test]
+fn a_cut_file_is_repaired() {
+    let mut file = write(&SPEC, &[2i16, 3, 5]).unwrap();
+    file[4..8].fill(0);
+    file[40..44].fill(0);
+    let found = repair(&mut file, 49).unwrap();
+    assert_eq!((found.state, found.frames, found.left_over, found.length), (State::CutOff, 2, 1, 49));
+    assert_eq!(read::<i16>(&file[..49]).unwrap(), [2, 3]);
+}
+
+#[test]
+fn floats_keep_their_bits() {
+    let spec = Spec { bits_per_sample: 32, format: Format::Float, ..SPEC };
+    let nan = f32::from_bits(0x7fc1_2345);
+    let file = write(&spec, &[-0.0, nan, 1.5]).unwrap();
+    let bits: Vec<u32> = read::<f32>(&file).unwrap().iter().map(|x| x.to_bits()).collect();
+    assert_eq!(bits, [0x8000_0000, 0x7fc1_2345, 0x3fc0_0000]);
+}
+
+#[test]
+fn samples_are_coded_without_a_file() {
+    let mut bytes = [9; 7];
+    assert_eq!(encode(&SPEC, &[1i32, -1, 300], &mut bytes), Ok(6));
+    assert_eq!(bytes, [1, 0, 255, 255, 44, 1, 9]);
+    let mut out = [0i16; 4];
+    assert_eq!(decode(&SPEC, &bytes, &mut out), Ok(3));
+    assert_eq!(out, [1, -1, 300, 0]);
+}
+
+#[test]
+fn an_error_leaves_all_as_it_was() {
+    assert_eq!(size(&SPEC, 4), Ok(52));
+    let mut out = [7; 48];
+    assert_eq!(write_to(&SPEC, &[1i32, 40000], &mut out), Err(Error::TooWide));
+    assert_eq!(out, [7; 48]);
+    assert_eq!(info(b"RIFX"), Err(Error::NoRiffTag));
+    assert_eq!(Error::NoRiffTag.to_string(), "no riff tag");
+    for (i, error) in ERRORS.iter().enumerate() {
+        assert_eq!(*error as i64, -1 - i as i64);
+    }
+}

@@ -1,0 +1,76 @@
+/* Hostile bytes, with a page that can't be touched right after the file and after the memory for samples.
+   What is returned is compared with what holds of every file.   hostile [COUNT] */
+#include "hound.h"
+#include <stdio.h>
+#include <stdlib.h>
+#include <string.h>
+#include <sys/mman.h>
+
+static uint32_t state = 1;
+static uint32_t some(uint32_t below) {
+    state = state * 1664525u + 1013904223u;
+    return (uint32_t)(((uint64_t)state * below) >> 32);
+}
+static uint8_t *guarded(void) { /* 64 KiB, and a page that can't be touched */
+    uint8_t *p = mmap(NULL, 65536 + 4096, PROT_READ | PROT_WRITE, MAP_PRIVATE | MAP_ANONYMOUS, -1, 0);
+    if (p == MAP_FAILED || mprotect(p + 65536, 4096, PROT_NONE)) exit(2);
+    return p + 65536;
+}
+static void must(int holds, const char *what) {
+    if (!holds) {
+        fprintf(stderr, "hostile: %s\n", what);
+        exit(1);
+    }
+}
+
+int main(int argc, char **argv) {
+    long count = argc > 1 ? atol(argv[1]) : 1000000, opened = 0;
+    uint8_t *end = guarded(), *out_end = guarded(), base[400], copy[400];
+    for (long i = 0; i < count; i++) {
+        const uint16_t bits[] = {8, 16, 24, 24, 32, 32};
+        const uint16_t bytes[] = {0, 2, 3, 4, 0, 0};
+        uint32_t k = some(6), channels = 1 + some(4);
+        int32_t samples[24];
+        for (int j = 0; j < 24; j++) samples[j] = (int32_t)some(256) - 128;
+        hound_spec spec = {44100, (uint16_t)channels, bits[k], bytes[k], k == 5};
+        int64_t n = k == 5 ? hound_write_f32(&spec, (const float *)samples, channels * some(6), base, sizeof base)
+                           : hound_write_i32(&spec, samples, channels * some(6), base, sizeof base);
+        must(n >= 44 && n <= (int64_t)sizeof base, "a file");
+        for (uint32_t j = some(4); j > 0; j--) base[some(some(3) ? 48 : (uint32_t)n)] = (uint8_t)(some(2) ? some(256) : some(5));
+        size_t length = some(3) ? (size_t)n : some((uint32_t)n + 1);
+        uint8_t *file = end - length;
+        memcpy(file, base, length);
+        hound_info_t info;
+        int32_t code = hound_info(file, length, &info);
+        must(code <= 0 && code >= HOUND_FRAME_LENGTH, "a code");
+        size_t room = some(40);
+        int16_t *shorts = (int16_t *)(void *)(out_end - 2 * room);
+        int32_t *ints = (int32_t *)(void *)(out_end - 4 * room);
+        uint64_t first = some(3) ? some(24) : ((uint64_t)state << some(33));
+        int64_t a = hound_read_i16(file, length, first, shorts, room);
+        int64_t b = hound_read_f32(file, length, first, (float *)(void *)ints, room);
+        int64_t c = hound_read_i32(file, length, first, ints, room);
+        must(a <= (int64_t)room && b <= (int64_t)room && c <= (int64_t)room, "no more than fits");
+        if (code < 0) {
+            must(a == code && b == code && c == code, "the same cause");
+        } else {
+            opened++;
+            must(info.data_start <= length && info.samples % info.spec.channels == 0, "whole frames");
+            must((b >= 0) + (c >= 0) <= 1 || room == 0 || first >= info.samples, "one format");
+            if (c > 0) {
+                int32_t again[40];
+                uint64_t at = info.data_start + first * info.spec.bytes_per_sample;
+                must(hound_decode_i32(&info.spec, file + at, length - at, again, (size_t)c) == c, "decoding");
+                must(!memcmp(again, ints, 4 * (size_t)c), "decoded as read");
+            }
+            if (a > 0) for (int64_t j = 0; j < a; j++) must(c == a || c == HOUND_TRUNCATED, "both widths");
+        }
+        memcpy(copy, file, length);
+        uint32_t more = some(8);
+        int64_t grown = hound_append_i32(file, length, length, samples, more); /* fits only with nothing to add, or into a pad */
+        if (grown < 0) must(!memcmp(copy, file, length), "an error changes nothing");
+        else must((size_t)grown <= length && hound_info(file, (size_t)grown, &info) == 0, "what was appended to");
+    }
+    printf("hostile: %ld files, %ld of them read\n", count, opened);
+    return 0;
+}

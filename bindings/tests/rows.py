@@ -1,0 +1,140 @@
+#!/usr/bin/env python3
+"""Files of hound_rows and further ones, read by the C interface, beside the model of these rows: the spec, each
+sample as 32 bits or the cause, and what is found where a file is cut at each byte. Each code is met.
+
+usage: rows.py     (with the package hound_bindings on the path)"""
+import array
+import ctypes
+import os
+import sys
+
+TOP = os.path.dirname(os.path.dirname(os.path.dirname(os.path.abspath(__file__))))
+sys.path.insert(0, os.path.join(TOP, "crates", "hound_rows"))
+import expected as model  # noqa: E402
+
+import hound_bindings as hound  # noqa: E402
+from hound_bindings import Cause, HoundError  # noqa: E402
+
+# The causes of a head, by the model's words.
+REASONS = {
+    "no RIFF tag found": Cause.NO_RIFF_TAG,
+    "no WAVE tag found": Cause.NO_WAVE_TAG,
+    "missing data chunk": Cause.NO_DATA_CHUNK,
+    "missing fmt chunk": Cause.NO_FMT_CHUNK,
+    "invalid fmt chunk size": Cause.FMT_SIZE,
+    "unexpected fmt chunk size": Cause.UNEXPECTED_FMT_SIZE,
+    "file contains zero channels": Cause.ZERO_CHANNELS,
+    "sample bits exceeds size of sample": Cause.BITS_EXCEED_WIDTH,
+    "inconsistent fmt chunk": Cause.INCONSISTENT,
+    "bits per sample is not a multiple of 8": Cause.BITS_NOT_WHOLE_BYTES,
+    "bits per sample is 0": Cause.ZERO_BITS,
+    "bits per sample is not 8 or 16": Cause.BITS_NOT_8_OR_16,
+    "unexpected WAVEFORMATEX size": Cause.EX_SIZE,
+    "bits per sample is not 32": Cause.BITS_NOT_32,
+    "unexpected WAVEFORMATEXTENSIBLE size": Cause.EXTENSIBLE_SIZE,
+    "data chunk length is not a multiple of sample size": Cause.DATA_LENGTH,
+    "invalid data chunk length": Cause.FRAME_LENGTH,
+}
+WORDS = {f"FormatError({text})": cause for text, cause in REASONS.items()}
+HEAD = {**WORDS, model.ENDED: Cause.ENDED, "Unsupported": Cause.UNSUPPORTED}
+ITEM = {"InvalidSampleFormat": Cause.OTHER_FORMAT, "TooWide": Cause.TOO_WIDE, "Unsupported": Cause.NOT_WRITABLE, model.ENDED: Cause.TRUNCATED}
+met = set()
+
+
+def modelled(data):
+    """The spec, where the data begin, the samples up to an error, and the code of the error; or only that."""
+    source = model.Fed(data)
+    try:
+        reader = model.Reader(source)
+    except model.Refused as error:
+        return None, HEAD[str(error)]
+    start, samples = source.took, []
+    if reader.len > 200000 and len(data) > 200000:
+        return None, None
+    try:
+        while (value := reader.next("i32")) is not None:
+            samples.append(value)
+    except model.Refused as error:
+        return (reader.spec, start, reader.len, samples), ITEM[str(error)]
+    return (reader.spec, start, reader.len, samples), None
+
+
+def found(data):
+    """The same by the C interface, in blocks of seven."""
+    try:
+        info = hound.info(data)
+    except HoundError as error:
+        met.add(error.cause)
+        return None, error.cause
+    spec = model.Spec(info.channels, info.sample_rate, info.bits_per_sample, info.bytes_per_sample, info.is_float)
+    samples, block = [], array.array("i", bytes(28))
+    with hound._file(data) as (address, length), hound._samples(block) as (_, out, count, _):
+        while True:
+            n = hound._read["i32"](address, length, len(samples), out, count)
+            if n <= 0:
+                break
+            samples.extend(block[:n])
+    if n < 0:
+        met.add(Cause(-n))
+    return (spec, info.data_start, info.frames * info.channels, samples), Cause(-n) if n else None
+
+
+def files():
+    """The bytes of each row that reads, and four files that are cut at each byte."""
+    seen = set()
+    with open(os.path.join(TOP, "crates", "hound_rows", "stdin")) as rows:
+        for line in rows:
+            words = line.rstrip("\n").split(" ")
+            if words[0] == "let":
+                model.answer(line.rstrip("\n"))
+            elif words[0] in ("read", "riff") and len(words) > 1:
+                data = model.bytes_of(words[1])
+                if data not in seen:
+                    seen.add(data)
+                    yield data
+    for bits, width in ((8, 0), (16, 0), (24, 4), (32, 0)):
+        data = bytes(hound.to_bytes(array.array("i", [1, -2, 100, -128]), 44100, 2, bits, width))
+        for length in range(len(data) + 1):
+            yield data[:length]
+
+
+def other_codes():
+    """The codes that no reading returns."""
+    for cause, call in (
+        (Cause.TOO_LONG, lambda: hound._checked(hound._size(ctypes.byref(hound._Spec(1, 1, 16, 0, 0)), 2**31))),
+        (Cause.UNFINISHED_FRAME, lambda: hound.to_bytes(array.array("h", [1]), 1, 2)),
+        (Cause.NOT_WRITABLE, lambda: hound.to_bytes(array.array("h", [1]), 1, 1, 12)),
+        (Cause.TOO_WIDE, lambda: hound.to_bytes(array.array("i", [128]), 1, 1, 8)),
+        (Cause.OTHER_FORMAT, lambda: hound.read(hound.to_bytes(array.array("f", [1]), 1), dtype="int32")),
+    ):
+        try:
+            call()
+        except HoundError as error:
+            assert error.cause == cause, error
+            met.add(cause)
+    file = hound.to_bytes(array.array("h", [1]), 1)
+    with hound._address(file) as (address, capacity), hound._samples(array.array("h", [1])) as (_, one, _, _):
+        assert hound._append["i16"](address, capacity, capacity, one, 1) == -Cause.NO_ROOM
+        met.add(Cause.NO_ROOM)
+
+
+def main():
+    count, passed_over = 0, 0
+    for data in files():
+        wanted = modelled(data)
+        if wanted == (None, None):
+            passed_over += 1
+            continue
+        got = found(data)
+        if got != wanted:
+            sys.exit(f"rows: of {data[:80].hex()} .. ({len(data)} bytes) there is {str(got)[:300]} and not {str(wanted)[:300]}")
+        count += 1
+    other_codes()
+    missing = [cause.name for cause in Cause if cause not in met]
+    if missing:
+        sys.exit(f"rows: these codes weren't met: {' '.join(missing)}")
+    print(f"rows: {count} files read as the model says, and each of {len(Cause)} codes met")
+
+
+if __name__ == "__main__":
+    main()
