@@ -138,8 +138,8 @@ int main(void) {
                 if (a < best[0]) best[0] = a;
                 if (b < best[1]) best[1] = b;
             }
-            printf("%s %s of %2d bits %-8s %8.3f %11.3f %7.2f\n", kind == 'h' ? "i16" : kind == 'i' ? "i32" : "f32",
-                   *how == 'r' || *how == 'd' ? "from" : "to  ", bits, *how == 'r' ? "read" : *how == 'd' ? "decoded" : *how == 'w' ? "written" : "appended", best[0], best[1], best[0] / best[1]);
+            printf("%s %s %2d bits, %-8s %9.3f %11.3f %7.2f\n", kind == 'h' ? "i16" : kind == 'i' ? "i32" : "f32",
+                   *how == 'r' || *how == 'd' ? "from" : "to", bits, *how == 'r' ? "read" : *how == 'd' ? "decoded" : *how == 'w' ? "written" : "appended", best[0], best[1], best[0] / best[1]);
         }
         ours(kind, bits, 'r', length);
         must(kind == 'h' ? !memcmp(shorts, shorts_back, sizeof shorts) : kind == 'i' ? !memcmp(ints, ints_back, sizeof ints) : !memcmp(floats, floats_back, sizeof floats), "what is read");

@@ -1,6 +1,7 @@
 #!/usr/bin/env python3
-"""Files of hound_rows and further ones, read by the C interface, beside the model of these rows: the spec, each
-sample as 32 bits or the cause, and what is found where a file is cut at each byte. Each code is met.
+"""Files of hound_rows and further ones, read and repaired by the C interface, beside the model of these rows: the
+spec, each sample as 32 bits or the cause, also where a file is cut at each byte; and what a repair finds and
+leaves. Each code is met.
 
 usage: rows.py     (with the package hound_bindings on the path)"""
 import array
@@ -49,8 +50,6 @@ def modelled(data):
     except model.Refused as error:
         return None, HEAD[str(error)]
     start, samples = source.took, []
-    if reader.len > 200000 and len(data) > 200000:
-        return None, None
     try:
         while (value := reader.next("i32")) is not None:
             samples.append(value)
@@ -98,6 +97,52 @@ def files():
             yield data[:length]
 
 
+STATES = ["whole", "cut_off", "followed"]
+
+
+def repaired_by_model(data):
+    """What a repair finds and leaves, or the codes that its error may have; then all stays."""
+    try:
+        damage = model.Damage(data, True)
+    except model.Refused as error:
+        text = str(error)
+        codes = {"Unsupported": {Cause.UNSUPPORTED, Cause.NOT_WRITABLE}, "TooLong": {Cause.TOO_LONG}}
+        return codes.get(text) or {HEAD[text]}, data
+    return damage.words(), damage.mend(data)
+
+
+def repaired(data):
+    """The same by the C interface, with room for a pad byte."""
+    memory, report = bytearray(data + b"U"), hound._Repair()
+    with hound._address(memory) as (address, capacity):
+        n = hound._repair(address, capacity, len(data), ctypes.byref(report))
+    if n < 0:
+        assert memory[len(data) :] == b"U"
+        return {Cause(-n)}, bytes(memory[: len(data)])
+    spec = report.spec
+    words = [STATES[report.state], "frames", str(report.frames), "left", str(report.left_over), ":"]
+    words += [str(spec.channels), str(spec.sample_rate), str(spec.bits_per_sample)]
+    return [*words, "float" if spec.sample_format else "int", str(spec.bytes_per_sample)], bytes(memory[:n])
+
+
+def check_repairs():
+    """Repairs the files of the rows that do, and each beginning where a row asks for them."""
+    count = 0
+    with open(os.path.join(TOP, "crates", "hound_rows", "stdin")) as rows:
+        for line in rows:
+            words = line.rstrip("\n").split(" ")
+            if words[:2] != ["repair", "mend"]:
+                continue
+            data = model.bytes_of(words[2])
+            for length in range(len(data) + 1) if "cuts" in words else [len(data)]:
+                (wanted, left), (got, memory) = repaired_by_model(data[:length]), repaired(data[:length])
+                same = got <= wanted if isinstance(wanted, set) and isinstance(got, set) else got == wanted
+                if not same or memory != left:
+                    sys.exit(f"rows: a repair of {data[:length].hex()} gives {got} and not {wanted}")
+                count += 1
+    return count
+
+
 def other_codes():
     """The codes that no reading returns."""
     for cause, call in (
@@ -119,21 +164,18 @@ def other_codes():
 
 
 def main():
-    count, passed_over = 0, 0
+    count = 0
     for data in files():
-        wanted = modelled(data)
-        if wanted == (None, None):
-            passed_over += 1
-            continue
-        got = found(data)
+        wanted, got = modelled(data), found(data)
         if got != wanted:
             sys.exit(f"rows: of {data[:80].hex()} .. ({len(data)} bytes) there is {str(got)[:300]} and not {str(wanted)[:300]}")
         count += 1
+    repairs = check_repairs()
     other_codes()
     missing = [cause.name for cause in Cause if cause not in met]
     if missing:
         sys.exit(f"rows: these codes weren't met: {' '.join(missing)}")
-    print(f"rows: {count} files read as the model says, and each of {len(Cause)} codes met")
+    print(f"rows: {count} files read and {repairs} repaired as the model says, and each of {len(Cause)} codes met")
 
 
 if __name__ == "__main__":
