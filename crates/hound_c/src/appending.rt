@@ -18,7 +18,6 @@ pub(crate) fn append_block<S: Sample + Copy>(
 ) -> Result<usize, Fault>
     ensures appends { Appends format S.container samples.now used file.old file.new result }
     ensures within { IfOk result (λ n. n ≤ length file.old) }
-    ensures size { length file.new ≡ length file.old }
 {
     if used > file.len() {
         return Err(Fault::NoRoom);

@@ -39,33 +39,6 @@ pub(crate) struct Found {
     pub(crate) data_start: usize,
 }
 
-// Checks that the data are whole frames.
-fn check_data(head: FileHead) -> Result<Found, Cause>
-    requires sound { IsSoundSpec head.spec_ex }
-    requires start { IsDataPlace head.data_start }
-    ensures whole { IfOk result (λ f. data_fault head.spec_ex head.data_length ≡ None) }
-    ensures kept { IfOk result (λ f. (f.spec_ex ≡ head.spec_ex)
-        × (f.data_length ≡ head.data_length) × (f.data_start ≡ head.data_start)) }
-    ensures count { IfOk result (λ f. f.samples ≡ head.data_length / head.spec_ex.bytes_per_sample) }
-    ensures torn { IfErr result (λ c. data_fault head.spec_ex head.data_length ≡ Some c) }
-{
-    let spec_ex = head.spec_ex;
-    let width = spec_ex.bytes_per_sample as u32;
-    if head.data_length % width != 0 {
-        return Err(Cause::Format(Reason::DataLength));
-    }
-    let samples = head.data_length / width;
-    if samples % spec_ex.spec.channels as u32 != 0 {
-        return Err(Cause::Format(Reason::FrameLength));
-    }
-    Ok(Found {
-        spec_ex,
-        samples,
-        data_length: head.data_length,
-        data_start: head.data_start as usize,
-    })
-}
-
 /// Walks over a file up to its data.
 pub(crate) fn find_head(file: &[u8]) -> Result<FileHead, Cause>
     ensures head { IfOk result (λ h. Head file.now h.spec_ex h.data_length h.data_start) }
@@ -94,8 +67,23 @@ pub(crate) fn find_data_in(file: &[u8]) -> Result<Found, Cause>
     ensures count { IfOk result (λ f. f.samples ≡ f.data_length / f.spec_ex.bytes_per_sample) }
     ensures unreadable { IfErr result (λ c. Unreadable file.now c) }
 {
-    match find_head(file) {
-        Ok(head) => check_data(head),
-        Err(cause) => Err(cause),
+    let head = match find_head(file) {
+        Ok(head) => head,
+        Err(cause) => return Err(cause),
+    };
+    let spec_ex = head.spec_ex;
+    let width = spec_ex.bytes_per_sample as u32;
+    if head.data_length % width != 0 {
+        return Err(Cause::Format(Reason::DataLength));
     }
+    let samples = head.data_length / width;
+    if samples % spec_ex.spec.channels as u32 != 0 {
+        return Err(Cause::Format(Reason::FrameLength));
+    }
+    Ok(Found {
+        spec_ex,
+        samples,
+        data_length: head.data_length,
+        data_start: head.data_start as usize,
+    })
 }

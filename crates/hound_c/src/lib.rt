@@ -54,8 +54,7 @@ pub extern "C" fn hound_info(file: &[u8], info: &mut HoundInfo) -> i32
 /// Reads integers into sixteen bits.
 #[unsafe(no_mangle)]
 pub extern "C" fn hound_read_i16(file: &[u8], first: u64, out: &mut [i16]) -> i64
-    ensures size { length out.new ≡ length out.old }
-    ensures reads { Returns result (Reads (int_refusal 2) (λ _. int_meaning) file.now first out.old out.new) }
+    ensures { Returns result (Reads (int_refusal 2) (λ _. int_meaning) file.now first out.old out.new) }
 {
     code_of(read_block::<i16>(file, first, out))
 }
@@ -63,8 +62,7 @@ pub extern "C" fn hound_read_i16(file: &[u8], first: u64, out: &mut [i16]) -> i6
 /// Reads integers.
 #[unsafe(no_mangle)]
 pub extern "C" fn hound_read_i32(file: &[u8], first: u64, out: &mut [i32]) -> i64
-    ensures size { length out.new ≡ length out.old }
-    ensures reads { Returns result (Reads (int_refusal 4) (λ _. int_meaning) file.now first out.old out.new) }
+    ensures { Returns result (Reads (int_refusal 4) (λ _. int_meaning) file.now first out.old out.new) }
 {
     code_of(read_block::<i32>(file, first, out))
 }
@@ -72,8 +70,7 @@ pub extern "C" fn hound_read_i32(file: &[u8], first: u64, out: &mut [i32]) -> i6
 /// Reads floats, as their bits.
 #[unsafe(no_mangle)]
 pub extern "C" fn hound_read_f32(file: &[u8], first: u64, out: &mut [FloatBits]) -> i64
-    ensures size { length out.new ≡ length out.old }
-    ensures reads { Returns result (Reads float_refusal (λ _ _ _ c. record { 0 = pattern c }) file.now first out.old out.new) }
+    ensures { Returns result (Reads float_refusal (λ _ _ _ c. record { 0 = pattern c }) file.now first out.old out.new) }
 {
     code_of(read_block::<FloatBits>(file, first, out))
 }
@@ -81,7 +78,7 @@ pub extern "C" fn hound_read_f32(file: &[u8], first: u64, out: &mut [FloatBits])
 /// How many bytes the file of so many samples has.
 #[unsafe(no_mangle)]
 pub extern "C" fn hound_size(spec: &HoundSpec, samples: u64) -> i64
-    ensures sizes { Returns result (Sizes (spec_of spec.now) samples) }
+    ensures { Returns result (Sizes (spec_of spec.now) samples) }
 {
     code_of(file_size(*spec, samples))
 }
@@ -89,8 +86,7 @@ pub extern "C" fn hound_size(spec: &HoundSpec, samples: u64) -> i64
 /// Writes the whole file of these samples.
 #[unsafe(no_mangle)]
 pub extern "C" fn hound_write_i16(spec: &HoundSpec, samples: &[i16], out: &mut [u8]) -> i64
-    ensures size { length out.new ≡ length out.old }
-    ensures writes { Returns result (Writes Int int_container (spec_of spec.now) samples.now out.old out.new) }
+    ensures { Returns result (Writes Int int_container (spec_of spec.now) samples.now out.old out.new) }
 {
     code_of(write_file::<i16>(*spec, SampleFormat::Int, samples, out))
 }
@@ -98,8 +94,7 @@ pub extern "C" fn hound_write_i16(spec: &HoundSpec, samples: &[i16], out: &mut [
 /// Writes the whole file of these samples.
 #[unsafe(no_mangle)]
 pub extern "C" fn hound_write_i32(spec: &HoundSpec, samples: &[i32], out: &mut [u8]) -> i64
-    ensures size { length out.new ≡ length out.old }
-    ensures writes { Returns result (Writes Int int_container (spec_of spec.now) samples.now out.old out.new) }
+    ensures { Returns result (Writes Int int_container (spec_of spec.now) samples.now out.old out.new) }
 {
     code_of(write_file::<i32>(*spec, SampleFormat::Int, samples, out))
 }
@@ -107,8 +102,7 @@ pub extern "C" fn hound_write_i32(spec: &HoundSpec, samples: &[i32], out: &mut [
 /// Writes the whole file of these floats, given as their bits.
 #[unsafe(no_mangle)]
 pub extern "C" fn hound_write_f32(spec: &HoundSpec, samples: &[FloatBits], out: &mut [u8]) -> i64
-    ensures size { length out.new ≡ length out.old }
-    ensures writes { Returns result (Writes Float (λ v. pattern_container v.0) (spec_of spec.now) samples.now out.old out.new) }
+    ensures { Returns result (Writes Float (λ v. pattern_container v.0) (spec_of spec.now) samples.now out.old out.new) }
 {
     code_of(write_file::<FloatBits>(*spec, SampleFormat::Float, samples, out))
 }
@@ -116,8 +110,7 @@ pub extern "C" fn hound_write_f32(spec: &HoundSpec, samples: &[FloatBits], out: 
 /// Puts samples behind those of the file in the first `used` bytes.
 #[unsafe(no_mangle)]
 pub extern "C" fn hound_append_i16(file: &mut [u8], used: usize, samples: &[i16]) -> i64
-    ensures size { length file.new ≡ length file.old }
-    ensures appends { Returns result (Appends Int int_container samples.now used file.old file.new) }
+    ensures { Returns result (Appends Int int_container samples.now used file.old file.new) }
 {
     code_of(append_block::<i16>(file, used, SampleFormat::Int, samples))
 }
@@ -125,8 +118,7 @@ pub extern "C" fn hound_append_i16(file: &mut [u8], used: usize, samples: &[i16]
 /// The same for integers of up to 32 bits.
 #[unsafe(no_mangle)]
 pub extern "C" fn hound_append_i32(file: &mut [u8], used: usize, samples: &[i32]) -> i64
-    ensures size { length file.new ≡ length file.old }
-    ensures appends { Returns result (Appends Int int_container samples.now used file.old file.new) }
+    ensures { Returns result (Appends Int int_container samples.now used file.old file.new) }
 {
     code_of(append_block::<i32>(file, used, SampleFormat::Int, samples))
 }
@@ -134,8 +126,7 @@ pub extern "C" fn hound_append_i32(file: &mut [u8], used: usize, samples: &[i32]
 /// The same for floats, given as their bits.
 #[unsafe(no_mangle)]
 pub extern "C" fn hound_append_f32(file: &mut [u8], used: usize, samples: &[FloatBits]) -> i64
-    ensures size { length file.new ≡ length file.old }
-    ensures appends { Returns result (Appends Float (λ v. pattern_container v.0) samples.now used file.old file.new) }
+    ensures { Returns result (Appends Float (λ v. pattern_container v.0) samples.now used file.old file.new) }
 {
     code_of(append_block::<FloatBits>(file, used, SampleFormat::Float, samples))
 }
@@ -143,8 +134,7 @@ pub extern "C" fn hound_append_f32(file: &mut [u8], used: usize, samples: &[Floa
 /// Repairs the file in the first `used` bytes.
 #[unsafe(no_mangle)]
 pub extern "C" fn hound_repair(file: &mut [u8], used: usize, found: &mut HoundRepair) -> i64
-    ensures size { length file.new ≡ length file.old }
-    ensures repairs { Returns result (RepairsFile used file.old file.new found.old found.new) }
+    ensures { Returns result (RepairsFile used file.old file.new found.old found.new) }
 {
     code_of(repair_file(file, used, found))
 }
@@ -152,8 +142,7 @@ pub extern "C" fn hound_repair(file: &mut [u8], used: usize, found: &mut HoundRe
 /// Decodes samples of a spec.
 #[unsafe(no_mangle)]
 pub extern "C" fn hound_decode_i16(spec: &HoundSpec, bytes: &[u8], out: &mut [i16]) -> i64
-    ensures size { length out.new ≡ length out.old }
-    ensures decodes { Returns result (Decodes (int_refusal 2) (λ _. int_meaning) (spec_of spec.now) bytes.now out.old out.new) }
+    ensures { Returns result (Decodes (int_refusal 2) (λ _. int_meaning) (spec_of spec.now) bytes.now out.old out.new) }
 {
     code_of(decode_block::<i16>(*spec, bytes, out))
 }
@@ -161,8 +150,7 @@ pub extern "C" fn hound_decode_i16(spec: &HoundSpec, bytes: &[u8], out: &mut [i1
 /// Encodes samples of a spec.
 #[unsafe(no_mangle)]
 pub extern "C" fn hound_encode_i16(spec: &HoundSpec, samples: &[i16], out: &mut [u8]) -> i64
-    ensures size { length out.new ≡ length out.old }
-    ensures encodes { Returns result (Encodes Int int_container (spec_of spec.now) samples.now out.old out.new) }
+    ensures { Returns result (Encodes Int int_container (spec_of spec.now) samples.now out.old out.new) }
 {
     code_of(encode_block::<i16>(*spec, SampleFormat::Int, samples, out))
 }
@@ -170,8 +158,7 @@ pub extern "C" fn hound_encode_i16(spec: &HoundSpec, samples: &[i16], out: &mut 
 /// Decodes samples of a spec.
 #[unsafe(no_mangle)]
 pub extern "C" fn hound_decode_i32(spec: &HoundSpec, bytes: &[u8], out: &mut [i32]) -> i64
-    ensures size { length out.new ≡ length out.old }
-    ensures decodes { Returns result (Decodes (int_refusal 4) (λ _. int_meaning) (spec_of spec.now) bytes.now out.old out.new) }
+    ensures { Returns result (Decodes (int_refusal 4) (λ _. int_meaning) (spec_of spec.now) bytes.now out.old out.new) }
 {
     code_of(decode_block::<i32>(*spec, bytes, out))
 }
@@ -179,8 +166,7 @@ pub extern "C" fn hound_decode_i32(spec: &HoundSpec, bytes: &[u8], out: &mut [i3
 /// Encodes samples of a spec.
 #[unsafe(no_mangle)]
 pub extern "C" fn hound_encode_i32(spec: &HoundSpec, samples: &[i32], out: &mut [u8]) -> i64
-    ensures size { length out.new ≡ length out.old }
-    ensures encodes { Returns result (Encodes Int int_container (spec_of spec.now) samples.now out.old out.new) }
+    ensures { Returns result (Encodes Int int_container (spec_of spec.now) samples.now out.old out.new) }
 {
     code_of(encode_block::<i32>(*spec, SampleFormat::Int, samples, out))
 }
@@ -188,8 +174,7 @@ pub extern "C" fn hound_encode_i32(spec: &HoundSpec, samples: &[i32], out: &mut 
 /// Decodes samples of a spec.
 #[unsafe(no_mangle)]
 pub extern "C" fn hound_decode_f32(spec: &HoundSpec, bytes: &[u8], out: &mut [FloatBits]) -> i64
-    ensures size { length out.new ≡ length out.old }
-    ensures decodes { Returns result (Decodes float_refusal (λ _ _ _ c. record { 0 = pattern c }) (spec_of spec.now) bytes.now out.old out.new) }
+    ensures { Returns result (Decodes float_refusal (λ _ _ _ c. record { 0 = pattern c }) (spec_of spec.now) bytes.now out.old out.new) }
 {
     code_of(decode_block::<FloatBits>(*spec, bytes, out))
 }
@@ -197,8 +182,7 @@ pub extern "C" fn hound_decode_f32(spec: &HoundSpec, bytes: &[u8], out: &mut [Fl
 /// Encodes samples of a spec.
 #[unsafe(no_mangle)]
 pub extern "C" fn hound_encode_f32(spec: &HoundSpec, samples: &[FloatBits], out: &mut [u8]) -> i64
-    ensures size { length out.new ≡ length out.old }
-    ensures encodes { Returns result (Encodes Float (λ v. pattern_container v.0) (spec_of spec.now) samples.now out.old out.new) }
+    ensures { Returns result (Encodes Float (λ v. pattern_container v.0) (spec_of spec.now) samples.now out.old out.new) }
 {
     code_of(encode_block::<FloatBits>(*spec, SampleFormat::Float, samples, out))
 }

@@ -39,7 +39,6 @@ pub(crate) fn repair_file(
 ) -> Result<usize, Fault>
     ensures repairs { RepairsFile used file.old file.new found.old found.new result }
     ensures within { IfOk result (λ n. n ≤ length file.old) }
-    ensures size { length file.new ≡ length file.old }
 {
     if used > file.len() {
         return Err(Fault::NoRoom);

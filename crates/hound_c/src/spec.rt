@@ -1,4 +1,4 @@
-// The structs that C has.
+// The structs that C has; hound.h says what their fields are.
 ghost use Rattle.std.specs.Prelude.{◌≡◌, ◌<◌};
 ghost use Rattle.hound_c.specs.Writing.{spec_of};
 
@@ -9,15 +9,10 @@ use hound_spec::{SampleFormat, WavSpec, WavSpecEx};
 #[repr(C)]
 #[derive(Clone, Copy)]
 pub struct HoundSpec {
-    /// The number of frames a second.
     pub sample_rate: u32,
-    /// The number of channels.
     pub channels: u16,
-    /// The number of bits of a sample that are used.
     pub bits_per_sample: u16,
-    /// The number of bytes that a sample takes; 0 in writing: as many as its bits need.
     pub bytes_per_sample: u16,
-    /// 0 for integers, else floats.
     pub sample_format: u16,
 }
 
@@ -25,11 +20,8 @@ pub struct HoundSpec {
 #[repr(C)]
 #[derive(Clone, Copy)]
 pub struct HoundInfo {
-    /// The spec.
     pub spec: HoundSpec,
-    /// How many samples the header counts, of all channels together.
     pub samples: u32,
-    /// How many bytes are before the data.
     pub data_start: u64,
 }
 
@@ -37,13 +29,9 @@ pub struct HoundInfo {
 #[repr(C)]
 #[derive(Clone, Copy)]
 pub struct HoundRepair {
-    /// The spec.
     pub spec: HoundSpec,
-    /// How many whole frames the file holds.
     pub frames: u32,
-    /// How many bytes of a torn frame follow them.
     pub left_over: u32,
-    /// 0 for a file that was whole, 1 for one that was cut off, 2 where chunks follow the data.
     pub state: u32,
 }
 

@@ -130,7 +130,6 @@ pub(crate) fn write_file<S: Sample + Copy>(
 ) -> Result<usize, Fault>
     ensures writes { Writes format S.container (spec_of spec) samples.now out.old out.new result }
     ensures within { IfOk result (λ n. n ≤ length out.old) }
-    ensures size { length out.new ≡ length out.old }
 {
     let spec_ex = spec_of(spec);
     if !spec_ex.is_writable() {

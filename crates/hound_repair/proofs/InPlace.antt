@@ -1,5 +1,5 @@
 -- Files in memory that are repaired where they are.
-use Rattle.std.proofs.Common.{◌≡◌, ℕ, ◌+◌, ◌-◌, ◌≤◌, Bool, true, false, cond, nat_lt, List, ◌++◌, length, take, drop, Option, Some, None, Err, refl, sym, ap, ◌∙◌, arith, append_assoc, length-append}
+use Rattle.std.proofs.Common.{◌≡◌, ℕ, ◌+◌, ◌-◌, ◌≤◌, Bool, true, false, cond, nat_lt, List, ◌++◌, length, take, drop, Some, None, Err, refl, sym, ap, ◌∙◌, arith, append_assoc, length-append}
 use Rattle.std.proofs.lemmas.List.{drop-drop, drop-take, length-take-le}
 use Rattle.std.proofs.lemmas.Slice.{drop-append-drop}
 use Rattle.std.proofs.Math.Seq.{take-append-add}
@@ -10,10 +10,17 @@ use Rattle.hound_spec.specs.FmtChunk.{greatest_u32}
 use Rattle.hound_spec.specs.Header.{riff_size}
 use Rattle.hound_spec.specs.declared.error.Error.{Error}
 use Rattle.hound_spec.specs.declared.spec.WavSpecEx.{WavSpecEx}
-use Rattle.hound_writer.specs.Appending.{AppendFault, FailsCheck, too_long}
+use Rattle.hound_writer.specs.Appending.{FailsCheck, too_long}
 use Rattle.hound_writer.specs.Sizes.{with_sizes}
+use Rattle.hound_medium.specs.State.{MediumState}
+use Rattle.hound_reader.specs.Fmt.{IsSoundSpec}
+use Rattle.hound_repair.specs.Damages.{IsDamage, repair_of}
 use Rattle.hound_repair.specs.Held.{right_length}
-use Rattle.hound_repair.specs.Repairing.{size_fault}
+use Rattle.hound_repair.specs.Repairing.{Repairs, size_fault}
+use Rattle.hound_repair.specs.declared.look.Damage.{Damage}
+use Rattle.hound_repair.specs.declared.sizes.RepairState.{RepairState}
+use Rattle.hound_repair.specs.declared.sizes.RepairState.TheVariants.{Whole, CutOff, HasChunksAfterData}
+use Rattle.hound_repair.proofs.Mending.{repairs_followed, repairs_whole}
 
 -- the check of the sizes fails for their length only
 pub only_too_long : (T : Type 0) (e : Error) (s : WavSpecEx) (len start n : ℕ)
@@ -52,3 +59,13 @@ two_put p riff len c x y behind inside x_is y_is =
     ∙ append_assoc front (drop 8 (take p c)) (bytes_of 4 len ++ drop (p + 4) c)
     ∙ append_assoc (take 4 c) x (drop 8 (take p c) ++ (bytes_of 4 len ++ drop (p + 4) c))
     ∙ ap (λ l. take 4 c ++ (l ++ (drop 8 (take p c) ++ (bytes_of 4 len ++ drop (p + 4) c)))) x_is
+
+-- a file that wasn't cut off is left as it is
+pub repairs_other : (looks : Bool) (old : MediumState) (d : Damage) → IsDamage looks old.contents d
+    → IsSoundSpec d.head.spec_ex → (d.was ≡ CutOff → ⊥) → Repairs looks old (repair_of d) old
+repairs_other looks old d at sound other = by d.was refl
+  where
+    by : (w : RepairState) → d.was ≡ w → Repairs looks old (repair_of d) old
+    by Whole is = repairs_whole looks old d at sound is
+    by CutOff is = absurd (other is)
+    by HasChunksAfterData is = repairs_followed looks old d at sound is

@@ -10,7 +10,6 @@ ghost use Rattle.hound_repair.specs.Held.{held, missing_pad};
 ghost use Rattle.hound_repair.specs.InMemory.{IsUnrepaired, RepairsBytes, bytes_fault};
 ghost use Rattle.hound_repair.specs.Repairing.{repair_fault, state_of};
 ghost use Rattle.hound_repair.specs.declared.bytes.Unrepaired.TheVariants.{NoRoom};
-ghost use Rattle.hound_repair.specs.declared.sizes.RepairState.{RepairState};
 
 use crate::look::{Damage, ID3_LENGTH, ID3_TAG, KNOWN_TAGS, content_of};
 use crate::sizes::{Repair, RepairState, Sizes, right_sizes};
@@ -181,37 +180,6 @@ fn set_sizes(bytes: &mut [u8], place: usize, riff_size: u32, data_length: u32)
     bytes[place..place + 4].copy_from_slice(&le_u32(data_length));
 }
 
-// Mends a file that was cut off.
-fn mend_bytes(
-    bytes: &mut [u8],
-    used: usize,
-    damage: Damage,
-) -> result::Result<(Repair, usize), Unrepaired>
-    requires used { used ≤ length bytes.old }
-    requires sound { IsSoundDamage damage.head damage }
-    requires cut { damage.was ≡ RepairState.CutOff }
-    requires found { IsDamage true (take used bytes.old) damage }
-    ensures size { length bytes.new ≡ length bytes.old }
-    ensures sound { IfOk result (λ done. IsSoundSpec done.0.spec_ex) }
-    ensures repairs { IfOk result (λ done. RepairsBytes used done.1 done.0 bytes.old bytes.new) }
-    ensures within { IfOk result (λ done. done.1 ≤ length bytes.old) }
-    ensures kept { IfErr result (λ why. (bytes.new ≡ bytes.old)
-        × IsUnrepaired damage.head used bytes.old why) }
-{
-    let length = damage.sizes.data_length;
-    let place = damage.head.data_start as usize - 4;
-    if lacks_pad(length, damage.held) {
-        if used == bytes.len() {
-            return Err(Unrepaired::NoRoom);
-        }
-        set_sizes(&mut bytes[..used], place, damage.sizes.riff_size, length);
-        bytes[used] = 0;
-        return Ok((damage.repair(), used + 1));
-    }
-    set_sizes(&mut bytes[..used], place, damage.sizes.riff_size, length);
-    Ok((damage.repair(), used))
-}
-
 /// Repairs the file with this head that is in the first `used` bytes as [`repair`](crate::repair)
 /// does one in a medium, and returns what was found and the new length of the file: one more where
 /// a pad byte was missing. At an error nothing is written.
@@ -224,7 +192,6 @@ pub fn repair_bytes(
     requires sound { IsSoundSpec head.spec_ex }
     requires start { IsDataPlace head.data_start }
     requires head { Head (take used bytes.old) head.spec_ex head.data_length head.data_start }
-    ensures size { length bytes.new ≡ length bytes.old }
     ensures sound { IfOk result (λ done. IsSoundSpec done.0.spec_ex) }
     ensures repairs { IfOk result (λ done. RepairsBytes used done.1 done.0 bytes.old bytes.new) }
     ensures within { IfOk result (λ done. done.1 ≤ length bytes.old) }
@@ -235,9 +202,19 @@ pub fn repair_bytes(
         Ok(damage) => damage,
         Err(why) => return Err(why),
     };
-    match damage.was {
-        RepairState::CutOff => mend_bytes(bytes, used, damage),
-        RepairState::Whole => Ok((damage.repair(), used)),
-        RepairState::HasChunksAfterData => Ok((damage.repair(), used)),
+    if damage.was != RepairState::CutOff {
+        return Ok((damage.repair(), used));
     }
+    let length = damage.sizes.data_length;
+    let place = head.data_start as usize - 4;
+    if !lacks_pad(length, damage.held) {
+        set_sizes(&mut bytes[..used], place, damage.sizes.riff_size, length);
+        return Ok((damage.repair(), used));
+    }
+    if used == bytes.len() {
+        return Err(Unrepaired::NoRoom);
+    }
+    set_sizes(&mut bytes[..used], place, damage.sizes.riff_size, length);
+    bytes[used] = 0;
+    Ok((damage.repair(), used + 1))
 }

@@ -1,5 +1,5 @@
 -- The containers of many samples.
-use Rattle.std.specs.Prelude.{◌≡◌, ℕ, List, [], ◌∷◌, Result, Ok, Err}
+use Rattle.std.specs.Prelude.{ℕ, List, [], ◌∷◌, Result, Ok, Err}
 use Rattle.std.specs.List.{flat_map}
 use Rattle.hound_spec.specs.declared.error.Error.{Error}
 use Rattle.hound_sample.specs.Container.{Refusal}

@@ -1,22 +1,20 @@
-use Rattle.std.proofs.Common.{◌≡◌, ◌+◌, ◌*◌, ◌≤◌, Ok, length, take, drop, refl, ◌∙◌, ap, subst, arith, rules}
+use Rattle.std.proofs.Common.{◌≡◌, ◌+◌, ◌*◌, ◌≤◌, Ok, length, take, drop, refl, ◌∙◌, ap, subst, arith, rules, inr}
 use Rattle.hound_sample.specs.Slices.{joined_containers}
 use Rattle.hound_writer.specs.Many.{containers_in}
 use Rattle.hound_sample.proofs.Joined.{joined}
 use Rattle.hound_c.specs.Writing.{Encodes, IsEncodeFault}
-use Rattle.hound_c.proofs.Checks.{encode_failed, passed}
+use Rattle.hound_c.proofs.Checks.{failed, passed}
 use Rattle.hound_c.proofs.Puts.{drop_put, take_put}
 use Rattle.hound_c.proofs.writing.encode_block.Goals as goal
 
 pub returns-in-Err-clause-encodes : goal.returns-in-Err-clause-encodes
-returns-in-Err-clause-encodes g c =
-    let values = c.args.samples.now in
-    let room = length c.args.out.now in (
-      refl,
-      subst (λ s. IsEncodeFault c.args.format g.S.Sample.container s values room c.in-Err.fault)
-          c.spec_of-spec_ex.ensures
-          (encode_failed c.args.format g.S.Sample.container c.spec_of-spec_ex.result values room
-          c.in-Err.fault c.in-Err.ensures),
-    )
+returns-in-Err-clause-encodes g c = (
+  refl,
+  subst (λ s. IsEncodeFault c.args.format g.S.Sample.container s c.args.samples.now (length c.args.out.now) c.in-Err.fault)
+      c.spec_of-spec_ex.ensures
+      (failed (IsEncodeFault c.args.format g.S.Sample.container c.spec_of-spec_ex.result c.args.samples.now (length c.args.out.now))
+      _ c.in-Err.fault c.in-Err.ensures (λ wide. wide) inr),
+)
 
 pub returns-clause-encodes : goal.returns-clause-encodes
 returns-clause-encodes g c =

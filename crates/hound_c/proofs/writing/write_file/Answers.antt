@@ -1,4 +1,4 @@
-use Rattle.std.proofs.Common.{◌≡◌, ◌+◌, ◌-◌, ◌*◌, ◌%◌, ◌++◌, Ok, length, take, refl, sym, ◌∙◌, ap, subst, arith, rules}
+use Rattle.std.proofs.Common.{◌≡◌, ◌+◌, ◌-◌, ◌*◌, ◌%◌, ◌++◌, Ok, length, take, refl, sym, ◌∙◌, ap, subst, arith, rules, inr}
 use Rattle.std.specs.List.{concat}
 use Rattle.hound_spec.specs.Header.{canonical, data_start, header, padding, riff_size}
 use Rattle.hound_spec.proofs.HeaderLemmas.{data_start_least, length-header, length-padding}
@@ -11,13 +11,13 @@ use Rattle.hound_c.proofs.Files.{all_written}
 use Rattle.hound_c.proofs.writing.write_file.Goals as goal
 
 pub returns-in-Err-clause-writes : goal.returns-in-Err-clause-writes
-returns-in-Err-clause-writes g c =
-    let values = c.args.samples.now in (
-      refl,
-      subst (λ s. IsWriteFault c.args.format g.S.Sample.container s values (length c.args.out.now) c.in-Err.fault)
-          c.spec_of-spec_ex.ensures
-          (failed c.args.format g.S.Sample.container c.spec_of-spec_ex.result values (length c.args.out.now) c.in-Err.fault c.in-Err.ensures),
-    )
+returns-in-Err-clause-writes g c = (
+  refl,
+  subst (λ s. IsWriteFault c.args.format g.S.Sample.container s c.args.samples.now (length c.args.out.now) c.in-Err.fault)
+      c.spec_of-spec_ex.ensures
+      (failed (IsWriteFault c.args.format g.S.Sample.container c.spec_of-spec_ex.result c.args.samples.now (length c.args.out.now))
+      _ c.in-Err.fault c.in-Err.ensures (λ wide. wide) inr),
+)
 
 pub write_bytes_at-requires : goal.write_bytes_at-requires
 write_bytes_at-requires g c =

@@ -1,4 +1,4 @@
-use Rattle.std.proofs.Common.{◌≡◌, ◌+◌, ◌-◌, ◌∙◌, ap, arith, rules, length}
+use Rattle.std.proofs.Common.{◌≡◌, ◌+◌, ◌-◌, ◌∙◌, ap, arith}
 use borrow.Rule.Slice.PartMut.{put_mid}
 use Rattle.hound_repair.proofs.InPlace.{two_put}
 use Rattle.hound_repair.proofs.bytes.set_sizes.Goals as goal
