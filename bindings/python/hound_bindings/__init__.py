@@ -132,38 +132,34 @@ def _checked(code: int) -> int:
 @contextlib.contextmanager
 def _address(buffer: Any) -> Iterator[Tuple[Any, int]]:
     """The address and the number of bytes of a buffer, which lives at least as long."""
-    view = memoryview(buffer)
-    if not view.c_contiguous:
-        raise TypeError("the buffer isn't contiguous")
-    if view.nbytes == 0:
-        yield ctypes.addressof(_SPARE), 0
-    elif isinstance(buffer, bytes):
-        yield ctypes.cast(ctypes.c_char_p(buffer), _POINTER), len(buffer)
-    elif view.readonly:
-        copy = bytes(view)
-        yield ctypes.cast(ctypes.c_char_p(copy), _POINTER), len(copy)
-    else:
-        start = ctypes.c_char.from_buffer(view.cast("B"))
-        try:
-            yield ctypes.addressof(start), view.nbytes
-        finally:
-            del start
-    view.release()
+    with memoryview(buffer) as view:
+        if not view.c_contiguous:
+            raise TypeError("the buffer isn't contiguous")
+        if view.nbytes == 0:
+            yield ctypes.addressof(_SPARE), 0
+        elif view.readonly:
+            same = buffer if isinstance(buffer, bytes) else bytes(view)
+            yield ctypes.cast(ctypes.c_char_p(same), _POINTER).value, len(same)
+        else:
+            start = ctypes.c_char.from_buffer(view.cast("B"))
+            try:
+                yield ctypes.addressof(start), view.nbytes
+            finally:
+                del start
 
 
 @contextlib.contextmanager
 def _samples(buffer: Any) -> Iterator[Tuple[str, Any, int, int]]:
     """The type, the address, the number and the channels of samples."""
-    view = memoryview(buffer)
-    kind = _TYPES.get(view.format.lstrip("@=<"))
-    if kind is None or view.itemsize != (2 if kind == "i16" else 4):
-        raise TypeError(f"samples are 16-bit or 32-bit integers or 32-bit floats, and not '{view.format}'")
-    channels = view.shape[1] if view.ndim == 2 else 1
-    with _address(buffer) as (start, length):
-        if (start if isinstance(start, int) else start.value or 0) % view.itemsize:
-            raise TypeError("the samples aren't aligned")
-        yield kind, start, length // view.itemsize, channels
-    view.release()
+    with memoryview(buffer) as view:
+        kind = _TYPES.get(view.format.lstrip("@=<"))
+        if kind is None or view.itemsize != (2 if kind == "i16" else 4):
+            raise TypeError(f"samples are 16-bit or 32-bit integers or 32-bit floats, and not '{view.format}'")
+        channels = view.shape[1] if view.ndim == 2 else 1
+        with _address(buffer) as (start, length):
+            if start % view.itemsize:
+                raise TypeError("the samples aren't aligned")
+            yield kind, start, length // view.itemsize, channels
 
 
 @contextlib.contextmanager
