@@ -2,3 +2,5 @@ pub mod Back
 pub mod Containers
 pub mod Many
 pub mod Reading
+pub mod Joined
+pub mod Stores

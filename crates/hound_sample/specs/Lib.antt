@@ -5,3 +5,4 @@ pub mod ItemReads
 pub mod ManyReads
 pub mod Meaning
 pub mod Reads
+pub mod Slices

@@ -11,6 +11,11 @@ error_of_read other_format = InvalidSampleFormat
 error_of_read wider = TooWide
 error_of_read other_pair = Unsupported
 
+-- Ok if a type reads samples, else the error
+abbrev pub read_error : Option ReadRefusal → Result (Unit {0}) Error
+read_error None = Ok tt
+read_error (Some refusal) = Err (error_of_read refusal)
+
 -- a whole container was taken, and this is its value
 abbrev pub TakesContainer : {A : Type 0} → (List ℕ → A) → ℕ → A → List ℕ → List ℕ → Type 0
 TakesContainer meaning width value old new = (width ≤ length old)

@@ -1,11 +1,12 @@
 // Containers that are read and decoded: one, or many in few reads, which fill pieces of whole
 // containers.
-ghost use Rattle.std.specs.Prelude.{◌≡◌, ◌≤◌, ◌<◌, ◌*◌, ℕ, List, length, map, take, None, Ok, Err, OnErr, OnOk};
+ghost use Rattle.std.specs.Prelude.{◌≡◌, ◌≤◌, ◌<◌, ◌*◌, ℕ, List, length, map, take, Option, None, Ok, Err, IsOk, OnErr, OnOk};
 ghost use Rattle.std.specs.Io.KnownBytes.{Consumes};
 ghost use Rattle.hound_sample.specs.Container.{containers};
 ghost use Rattle.hound_sample.specs.ItemReads.{ReadsItem};
 ghost use Rattle.hound_sample.specs.ManyReads.{FillsFront, ReadsEach, items_of};
-ghost use Rattle.hound_sample.specs.Reads.{ReadsContainer};
+ghost use Rattle.hound_sample.specs.Meaning.{ReadRefusal};
+ghost use Rattle.hound_sample.specs.Reads.{ReadsContainer, read_error};
 ghost use Rattle.hound_spec.specs.declared.spec.SampleFormat.{SampleFormat};
 
 use crate::item::{ContainerReader, ItemError};
@@ -19,20 +20,26 @@ const PIECE: usize = 1024;
 // The bytes of a piece for few samples, which are cleared at each call.
 const SMALL_PIECE: usize = 64;
 
-/// A type that has a value for every container.
+/// A type that has a value for every container of the pairs that it reads.
 ///
 /// It is no part of [`Sample`](crate::Sample), whose `read_many` is made of it: the checker
 /// allows no cycle between the methods of an `impl`.
-pub(crate) trait Decode: Sized + Drop {
-    /// Whether a container of a format, with these bytes and used bits, is decoded.
-    ghost Decodes: { SampleFormat → ℕ → ℕ → Type 0 };
+pub trait Decode: Sized + Drop {
+    /// Why containers of a format, with these bytes and used bits, aren't decoded, if they aren't.
+    ghost decode_refusal: { SampleFormat → ℕ → ℕ → Option ReadRefusal };
 
     /// The value of a container, in a file of this format, with these bytes and used bits.
     ghost value: { SampleFormat → ℕ → ℕ → List ℕ → Self };
 
+    /// Whether containers of a format, with these bytes and used bits, are decoded, or why not: the
+    /// errors of [`Sample::read`](crate::Sample::read).
+    fn check(fmt: SampleFormat, bytes: u16, bits: u16) -> Result<()>
+        ensures check { result ≡ read_error (decode_refusal fmt bytes bits) }
+        ensures some { IsOk result → 1 ≤ bytes };
+
     /// The value of a container of this many bytes.
     fn decode(container: &[u8], fmt: SampleFormat, bytes: u16, bits: u16) -> Self
-        requires decodes { Decodes fmt bytes bits }
+        requires decodes { decode_refusal fmt bytes bits ≡ None }
         requires width { length container.now ≡ bytes }
         ensures { result ≡ value fmt bytes bits container.now };
 }
@@ -46,7 +53,7 @@ pub(crate) fn read_container<S: Decode, R: io::Read>(
     bytes: u16,
     bits: u16,
 ) -> Result<S>
-    requires decodes { S.Decodes fmt bytes bits }
+    requires decodes { S.decode_refusal fmt bytes bits ≡ None }
     requires few { bytes ≤ 4 }
     ensures { ReadsContainer (S.value fmt bytes bits) bytes (R.remaining reader.old)
         (R.remaining reader.new) result }
@@ -68,7 +75,7 @@ pub(crate) fn decode_next<S: Decode, R: ContainerReader>(
     bytes: u16,
     bits: u16,
 ) -> result::Result<S, ItemError>
-    requires decodes { S.Decodes fmt bytes bits }
+    requires decodes { S.decode_refusal fmt bytes bits ≡ None }
     requires some { 1 ≤ bytes }
     requires few { bytes ≤ 4 }
     ensures { ReadsItem None (S.value fmt bytes bits) bytes (R.remaining reader.old)
@@ -100,10 +107,16 @@ fn read_piece<R: io::Read>(reader: &mut R, piece: &mut [u8]) -> (usize, io::Resu
     (at, Ok(()))
 }
 
-// Decodes containers, one after the other.
+/// Decodes containers, one after the other.
 #[inline(always)]
-fn decode_each<S: Decode>(from: &[u8], samples: &mut [S], fmt: SampleFormat, bytes: u16, bits: u16)
-    requires decodes { S.Decodes fmt bytes bits }
+pub(crate) fn decode_each<S: Decode>(
+    from: &[u8],
+    samples: &mut [S],
+    fmt: SampleFormat,
+    bytes: u16,
+    bits: u16,
+)
+    requires decodes { S.decode_refusal fmt bytes bits ≡ None }
     requires whole { length from.now ≡ length samples.old * bytes }
     ensures { samples.new ≡ map (S.value fmt bytes bits)
         (containers bytes (length samples.old) from.now) }
@@ -124,7 +137,7 @@ fn read_through<S: Decode, R: io::Read>(
     bytes: u16,
     bits: u16,
 ) -> (usize, Result<()>)
-    requires decodes { S.Decodes fmt bytes bits }
+    requires decodes { S.decode_refusal fmt bytes bits ≡ None }
     requires some { 1 ≤ bytes }
     requires few { bytes ≤ 4 }
     requires room { 4 ≤ length piece.old }
@@ -163,7 +176,7 @@ pub(crate) fn read_pieces<S: Decode, R: io::Read>(
     bytes: u16,
     bits: u16,
 ) -> (usize, Result<()>)
-    requires decodes { S.Decodes fmt bytes bits }
+    requires decodes { S.decode_refusal fmt bytes bits ≡ None }
     requires some { 1 ≤ bytes }
     requires few { bytes ≤ 4 }
     ensures each { ReadsEach None (S.value fmt bytes bits) bytes

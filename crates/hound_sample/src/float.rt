@@ -24,6 +24,7 @@ use std::{io, result};
 /// `sample.to_f32()` the number of a sample; every NaN has one pattern there. `==` compares
 /// patterns, so 0.0 and -0.0 differ. It can't be cast to sixteen bits: generic code can't do it,
 /// and `as_i16` of the type itself returns 0.
+#[repr(C)]
 #[derive(Clone, Copy, Debug, PartialEq, Eq)]
 pub struct FloatBits(pub u32);
 
@@ -66,9 +67,16 @@ fn pattern_refusal(fmt: SampleFormat, bytes: u16) -> Error
 }
 
 impl Decode for FloatBits {
-    ghost Decodes = { λ fmt bytes bits. float_refusal fmt bytes bits ≡ None };
+    ghost decode_refusal = { float_refusal };
 
     ghost value = { λ fmt bytes bits container. record { 0 = pattern container } };
+
+    fn check(fmt: SampleFormat, bytes: u16, bits: u16) -> Result<()> {
+        if matches!(fmt, SampleFormat::Float) && bytes == 4 && bits == 32 {
+            return Ok(());
+        }
+        Err(pattern_refusal(fmt, bytes))
+    }
 
     #[inline(always)]
     fn decode(container: &[u8], fmt: SampleFormat, bytes: u16, bits: u16) -> FloatBits {

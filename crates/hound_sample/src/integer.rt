@@ -1,10 +1,10 @@
 // The containers of integers.
-ghost use Rattle.std.specs.Prelude.{◌≡◌, ◌<◌, ◌≤◌, ◌++◌, ◌∷◌, [], take, None, Ok, Err, if◌then◌else◌};
+ghost use Rattle.std.specs.Prelude.{◌≡◌, ◌<◌, ◌≤◌, ◌++◌, ◌∷◌, [], take, None, Ok, Err, IsOk, if◌then◌else◌};
 ghost use Rattle.hound_number.specs.Number.{signed_bytes_of};
 ghost use Rattle.hound_sample.specs.Container.{fits, if_fits, offset_byte, int_container};
 ghost use Rattle.hound_sample.specs.Encoding.{IsEncoded};
 ghost use Rattle.hound_sample.specs.Meaning.{int_meaning, int_refusal, low_short};
-ghost use Rattle.hound_sample.specs.Reads.{ReadsContainer};
+ghost use Rattle.hound_sample.specs.Reads.{ReadsContainer, read_error};
 ghost use Rattle.hound_spec.specs.Writable.{IsPair};
 ghost use Rattle.hound_spec.specs.declared.error.Error.TheVariants.{InvalidSampleFormat, TooWide, Unsupported};
 ghost use Rattle.hound_spec.specs.declared.spec.SampleFormat.TheVariants.{Float, Int};
@@ -13,7 +13,7 @@ use crate::decode::Decode;
 use hound_number::{
     i16_from_le, i24_from_le, i32_from_le, le_i16, le_i32, signed_from_u8, u8_from_signed,
 };
-use hound_spec::{Error, Result, SampleFormat};
+use hound_spec::{Error, Result, SampleFormat, is_pair};
 
 // The number in eight bits.
 fn narrow_to_i8(x: i32) -> Result<i8>
@@ -122,10 +122,25 @@ pub(crate) fn integer_refusal(fmt: SampleFormat, bytes: u16, most: u16) -> Error
     }
 }
 
+// Whether integers of at most this many bytes read samples, or why not.
+fn check_integer(fmt: SampleFormat, bytes: u16, bits: u16, most: u16) -> Result<()>
+    ensures check { result ≡ read_error (int_refusal most fmt bytes bits) }
+    ensures some { IsOk result → 1 ≤ bytes }
+{
+    if matches!(fmt, SampleFormat::Int) && bytes <= most && is_pair(fmt, bits, bytes) {
+        return Ok(());
+    }
+    Err(integer_refusal(fmt, bytes, most))
+}
+
 impl Decode for i8 {
-    ghost Decodes = { λ fmt bytes bits. int_refusal 1 fmt bytes bits ≡ None };
+    ghost decode_refusal = { int_refusal 1 };
 
     ghost value = { λ fmt. int_meaning };
+
+    fn check(fmt: SampleFormat, bytes: u16, bits: u16) -> Result<()> {
+        check_integer(fmt, bytes, bits, 1)
+    }
 
     #[inline(always)]
     fn decode(container: &[u8], fmt: SampleFormat, bytes: u16, bits: u16) -> i8 {
@@ -134,9 +149,13 @@ impl Decode for i8 {
 }
 
 impl Decode for i16 {
-    ghost Decodes = { λ fmt bytes bits. int_refusal 2 fmt bytes bits ≡ None };
+    ghost decode_refusal = { int_refusal 2 };
 
     ghost value = { λ fmt. int_meaning };
+
+    fn check(fmt: SampleFormat, bytes: u16, bits: u16) -> Result<()> {
+        check_integer(fmt, bytes, bits, 2)
+    }
 
     #[inline(always)]
     fn decode(container: &[u8], fmt: SampleFormat, bytes: u16, bits: u16) -> i16 {
@@ -148,9 +167,13 @@ impl Decode for i16 {
 }
 
 impl Decode for i32 {
-    ghost Decodes = { λ fmt bytes bits. int_refusal 4 fmt bytes bits ≡ None };
+    ghost decode_refusal = { int_refusal 4 };
 
     ghost value = { λ fmt. int_meaning };
+
+    fn check(fmt: SampleFormat, bytes: u16, bits: u16) -> Result<()> {
+        check_integer(fmt, bytes, bits, 4)
+    }
 
     #[inline(always)]
     fn decode(container: &[u8], fmt: SampleFormat, bytes: u16, bits: u16) -> i32 {

@@ -7,8 +7,11 @@ mod integer;
 mod item;
 mod laws;
 mod sample;
+mod slices;
 
+pub use decode::Decode;
 pub use float::FloatBits;
 pub use item::{ContainerReader, ItemError, reason_of};
 pub use laws::{integers_come_back, short_integers_are_kept};
 pub use sample::Sample;
+pub use slices::{check_containers, decode_containers, have_containers, store_containers};

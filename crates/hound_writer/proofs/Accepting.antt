@@ -418,12 +418,6 @@ pub encoded : (sample : Result (List ℕ) Refusal) (array : List ℕ) → IsEnco
 encoded (Ok container) array e = record { container = container; is = refl; padded = cc }
 encoded (Err refusal) array e = cc
 
-pub cut : (width : ℕ) (container array : List ℕ)
-    → array ≡ container ++ replicate (4 - length container) 0 → length container ≡ width
-    → take width array ≡ container
-cut width container array padded size =
-    ap (take width) padded ∙ take_at container (replicate (4 - length container) 0) width size
-
 -- a call for bytes, for a writer as contracts see it
 pub accepts_seen : {W : Type 0} (tells keeps : Bool) (state : W → MediumState) (bytes : List ℕ)
     (answer : Result (Unit {0}) Error) (a b new seen : WriterState W) → a ≡ b → seen ≡ new

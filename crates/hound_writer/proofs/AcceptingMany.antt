@@ -20,7 +20,7 @@ use Rattle.hound_writer.specs.Writer.{WriterState, HasRoom, IsCounted, IsWhole, 
 use Rattle.hound_writer.specs.declared.outcome.Outcome.{Outcome}
 use Rattle.hound_writer.specs.declared.outcome.Outcome.TheVariants.{Accepted}
 use Rattle.hound_writer.proofs.Accepting.{accepts_refused}
-use Rattle.hound_writer.proofs.Joined.{joined, joined_size}
+use Rattle.hound_sample.proofs.Joined.{joined, joined_size}
 use Rattle.hound_writer.proofs.Keeping.{consistent_seen}
 use Rattle.hound_writer.proofs.Later.{accepts_later}
 use Rattle.hound_writer.proofs.Samples.{counts_at}

@@ -9,11 +9,12 @@ use Rattle.hound_medium.specs.State.{MediumState}
 use Rattle.hound_sample.specs.Container.{Refusal, containers, int_bytes, int_container, too_wide}
 use Rattle.hound_sample.specs.ContainerLaws.{contained, int_container-in_width}
 use Rattle.hound_writer.specs.Accepting.{Accepts}
-use Rattle.hound_writer.specs.Many.{AreShort, all_containers, bytes_in, containers_in, joined_containers, sample_bytes, short_bytes}
+use Rattle.hound_sample.specs.Slices.{all_containers, bytes_in, joined_containers}
+use Rattle.hound_writer.specs.Many.{AreShort, containers_in, sample_bytes, short_bytes}
 use Rattle.hound_writer.specs.Writer.{WriterState}
 use Rattle.hound_writer.proofs.Accepting.{accepts_beside}
 use Rattle.hound_writer.proofs.AcceptingMany.{asked_is}
-use Rattle.hound_writer.proofs.Joined.{head_ok, ok_append, tail_ok}
+use Rattle.hound_sample.proofs.Joined.{head_ok, ok_append, tail_ok}
 
 -- each takes two bytes
 pub length-short_bytes : (values : List ℤ) → length (short_bytes values) ≡ 2 * length values

@@ -3,14 +3,12 @@ pub mod Heads
 pub mod Counted
 pub mod Sizes
 pub mod Standing
-pub mod Stores
 pub mod Keeping
 pub mod Answers
 pub mod Samples
 pub mod PutsFrom
 pub mod Storing
 pub mod Accepting
-pub mod Joined
 pub mod PutsMany
 pub mod Blocks
 pub mod Padding

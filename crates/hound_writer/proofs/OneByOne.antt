@@ -6,7 +6,8 @@ use Rattle.hound_medium.specs.State.{MediumState}
 use Rattle.hound_sample.specs.Container.{Refusal}
 use Rattle.hound_writer.specs.Accepting.{Accepts}
 use Rattle.hound_writer.specs.Answers.{one}
-use Rattle.hound_writer.specs.Many.{AcceptsEach, and_more, containers_in}
+use Rattle.hound_sample.specs.Slices.{and_more}
+use Rattle.hound_writer.specs.Many.{AcceptsEach, containers_in}
 use Rattle.hound_writer.specs.Writer.{WriterState, IsWhole, accepted_samples, data_length}
 
 -- a writer that accepted these containers, over a medium that has the accepted samples

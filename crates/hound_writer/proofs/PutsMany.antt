@@ -7,8 +7,8 @@ use Rattle.hound_medium.specs.Bytes.{placed, overlay}
 use Rattle.hound_medium.specs.State.{MediumState, PutsAll, PutsFirst, one_more}
 use Rattle.hound_medium.proofs.Taking.{takes_more}
 use Rattle.hound_sample.specs.Container.{Refusal}
-use Rattle.hound_writer.specs.Many.{all_containers, bytes_in, joined_containers}
-use Rattle.hound_writer.proofs.Joined.{have_part, joined_rest, joined_size}
+use Rattle.hound_sample.specs.Slices.{all_containers, bytes_in, joined_containers}
+use Rattle.hound_sample.proofs.Joined.{have_part, joined_rest, joined_size}
 
 -- bytes that begin alike: the first n of the one are those of the other
 puts_front : (keeps : Bool) (a b : List ℕ) (n : ℕ) (old new : MediumState)

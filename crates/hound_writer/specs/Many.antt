@@ -4,35 +4,13 @@ use Rattle.std.specs.List.{flat_map}
 use Rattle.hound_number.specs.Number.{signed_bytes_of}
 use Rattle.hound_spec.specs.declared.spec.WavSpecEx.{WavSpecEx}
 use Rattle.hound_sample.specs.Container.{Refusal, int_container, too_wide, unsupported}
+use Rattle.hound_sample.specs.Slices.{all_containers, joined_containers}
 use Rattle.hound_medium.specs.State.{MediumState}
 use Rattle.hound_writer.specs.Accepting.{Accepts}
 use Rattle.hound_writer.specs.Answers.{one}
 use Rattle.hound_writer.specs.Writer.{WriterState}
 use Rattle.hound_writer.specs.declared.outcome.Outcome.{Outcome}
 use Rattle.hound_writer.specs.declared.outcome.Outcome.TheVariants.{Accepted, OutOfRange, WrongPair}
-
--- a container and those after it, or the first error among them
-abbrev pub and_more : Result (List ℕ) Refusal → Result (List (List ℕ)) Refusal →
-    Result (List (List ℕ)) Refusal
-and_more (Err refusal) more = Err refusal
-and_more (Ok container) (Err refusal) = Err refusal
-and_more (Ok container) (Ok list) = Ok (container ∷ list)
-
--- the containers of values, in their order, or the error of the first value that has none
-abbrev pub all_containers : {V : Type 0} → (V → Result (List ℕ) Refusal) → List V →
-    Result (List (List ℕ)) Refusal
-all_containers container [] = Ok []
-all_containers container (value ∷ values) =
-    and_more (container value) (all_containers container values)
-
--- the bytes of a container, if there is one
-abbrev pub bytes_in : Result (List ℕ) Refusal → List ℕ
-bytes_in (Ok container) = container
-bytes_in (Err refusal) = []
-
--- the containers of values, joined
-abbrev pub joined_containers : {V : Type 0} → (V → Result (List ℕ) Refusal) → List V → List ℕ
-joined_containers container values = flat_map (λ value. bytes_in (container value)) values
 
 -- the outcome of samples by their containers only
 abbrev pub outcome_of : {T : Type 0} → Result T Refusal → Outcome

@@ -1,9 +1,8 @@
 // A block of buffered samples.
 ghost use Rattle.std.specs.Prelude.{◌≡◌, ◌+◌, ◌*◌, ◌≤◌, ◌++◌, [], IsOk, length, take};
-ghost use Rattle.hound_writer.specs.Many.{all_containers, joined_containers};
+ghost use Rattle.hound_sample.specs.Slices.{all_containers, joined_containers};
 
-use crate::many::store_by_pair;
-use hound_sample::Sample;
+use hound_sample::{Sample, store_containers};
 use std::marker::Model;
 
 /// How many bytes a block holds.
@@ -92,8 +91,9 @@ impl Block {
             ++ joined_containers (λ s. S.container s bits width) samples.now }
     {
         let at = self.waiting;
-        store_by_pair(&mut self.bytes, at, samples, bits, width);
-        self.waiting = at + width as usize * samples.len();
+        let end = at + width as usize * samples.len();
+        store_containers(&mut self.bytes[at..end], samples, bits, width);
+        self.waiting = end;
     }
 
     /// Empties the block.

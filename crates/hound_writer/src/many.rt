@@ -1,69 +1,30 @@
 // Many samples that are accepted by one call.
-ghost use Rattle.std.specs.Prelude.{◌≡◌, ◌+◌, ◌*◌, ◌≤◌, ◌++◌, false, not, IsOk, is_ok, length, take};
+ghost use Rattle.std.specs.Prelude.{◌≡◌, ◌≤◌, false, not, IsOk};
 ghost use Rattle.hound_medium.specs.State.{PutsAll, WhereTells};
+ghost use Rattle.hound_sample.specs.Slices.{all_containers, joined_containers};
 ghost use Rattle.hound_writer.specs.Block.{all_out};
-ghost use Rattle.hound_writer.specs.Many.{all_containers, containers_in, joined_containers, outcome_of, sample_bytes};
+ghost use Rattle.hound_writer.specs.Many.{containers_in, outcome_of, sample_bytes};
 ghost use Rattle.hound_writer.specs.Parts.{PutsAt};
 
 use crate::block::{BLOCK_LENGTH, Block};
 use crate::outcome::Outcome;
 use crate::patch::put_at_end;
 use hound_medium::{Medium, put_all};
-use hound_sample::Sample;
+use hound_sample::{Sample, check_containers, have_containers};
 use hound_spec::{Error, WavSpecEx};
 use std::io;
-
-// Whether all samples have containers with these bits and bytes. It checks all of them, so that
-// LLVM makes a loop of vectors of it.
-#[inline(always)]
-fn have_containers<S: Sample + Copy>(samples: &[S], bits: u16, width: u16) -> bool
-    ensures { result ≡ is_ok (all_containers (λ s. S.container s bits width) samples.now) }
-{
-    let mut all = true;
-    for sample in samples {
-        all &= sample.encode(bits, width).is_ok();
-    }
-    all
-}
-
-// The same, by the pair, whose numbers are constants in each arm.
-#[inline(always)]
-fn have_containers_by_pair<S: Sample + Copy>(samples: &[S], bits: u16, width: u16) -> bool
-    ensures { result ≡ is_ok (all_containers (λ s. S.container s bits width) samples.now) }
-{
-    if bits == 16 && width == 2 {
-        return have_containers(samples, 16, 2);
-    }
-    if bits == 24 && width == 3 {
-        return have_containers(samples, 24, 3);
-    }
-    if bits == 24 && width == 4 {
-        return have_containers(samples, 24, 4);
-    }
-    if bits == 32 && width == 4 {
-        return have_containers(samples, 32, 4);
-    }
-    if bits == 8 && width == 1 {
-        return have_containers(samples, 8, 1);
-    }
-    have_containers(samples, bits, width)
-}
 
 // The outcome of samples by the first one that has no container, if there is one.
 #[cold]
 #[inline(never)]
-fn first_refusal<S: Sample + Copy>(samples: &[S], bits: u16, width: u16) -> Outcome
+fn first_outcome<S: Sample + Copy>(samples: &[S], bits: u16, width: u16) -> Outcome
     ensures { result ≡ outcome_of (all_containers (λ s. S.container s bits width) samples.now) }
 {
-    for sample in samples {
-        if let Err(refusal) = sample.encode(bits, width) {
-            return match refusal {
-                Error::TooWide => Outcome::OutOfRange,
-                _ => Outcome::WrongPair,
-            };
-        }
+    match check_containers(samples, bits, width) {
+        Ok(()) => Outcome::Accepted,
+        Err(Error::TooWide) => Outcome::OutOfRange,
+        Err(_) => Outcome::WrongPair,
     }
-    Outcome::Accepted
 }
 
 /// The outcome of samples, only by their containers with these bits and bytes.
@@ -71,93 +32,10 @@ fn first_refusal<S: Sample + Copy>(samples: &[S], bits: u16, width: u16) -> Outc
 pub(crate) fn look_at<S: Sample + Copy>(samples: &[S], bits: u16, width: u16) -> Outcome
     ensures { result ≡ outcome_of (all_containers (λ s. S.container s bits width) samples.now) }
 {
-    if have_containers_by_pair(samples, bits, width) {
+    if have_containers(samples, bits, width) {
         return Outcome::Accepted;
     }
-    first_refusal(samples, bits, width)
-}
-
-// Stores a container of this many bytes. If the width is a constant, LLVM makes one
-// store of it, or a vector of many.
-#[inline(always)]
-fn store_container(bytes: &mut [u8; 4096], at: usize, container: [u8; 4], width: usize)
-    requires width { width ≤ 4 }
-    requires room { at + width ≤ 4096 }
-    ensures { take (at + width) bytes.new ≡ take at bytes.old ++ take width container }
-{
-    let [a, b, c, d] = container;
-    if width == 0 {
-        return;
-    }
-    bytes[at] = a;
-    if width == 1 {
-        return;
-    }
-    bytes[at + 1] = b;
-    if width == 2 {
-        return;
-    }
-    bytes[at + 2] = c;
-    if width == 3 {
-        return;
-    }
-    bytes[at + 3] = d;
-}
-
-// Stores the containers of samples one after the other.
-#[inline(always)]
-fn store_all<S: Sample + Copy>(
-    bytes: &mut [u8; 4096],
-    at: usize,
-    samples: &[S],
-    bits: u16,
-    width: u16,
-)
-    requires have { IsOk (all_containers (λ s. S.container s bits width) samples.now) }
-    requires width { width ≤ 4 }
-    requires room { at + width * length samples.now ≤ 4096 }
-    ensures { take (at + width * length samples.now) bytes.new ≡ take at bytes.old
-        ++ joined_containers (λ s. S.container s bits width) samples.now }
-{
-    let mut end = at;
-    for sample in samples {
-        let container = match sample.encode(bits, width) {
-            Ok(container) => container,
-            Err(_) => [0; 4],
-        };
-        store_container(bytes, end, container, width as usize);
-        end += width as usize;
-    }
-}
-
-/// The same, by the pair, whose numbers are constants in each arm.
-#[inline(always)]
-pub(crate) fn store_by_pair<S: Sample + Copy>(
-    bytes: &mut [u8; 4096],
-    at: usize,
-    samples: &[S],
-    bits: u16,
-    width: u16,
-)
-    requires have { IsOk (all_containers (λ s. S.container s bits width) samples.now) }
-    requires width { width ≤ 4 }
-    requires room { at + width * length samples.now ≤ 4096 }
-    ensures { take (at + width * length samples.now) bytes.new ≡ take at bytes.old
-        ++ joined_containers (λ s. S.container s bits width) samples.now }
-{
-    if bits == 16 && width == 2 {
-        store_all(bytes, at, samples, 16, 2);
-    } else if bits == 24 && width == 3 {
-        store_all(bytes, at, samples, 24, 3);
-    } else if bits == 24 && width == 4 {
-        store_all(bytes, at, samples, 24, 4);
-    } else if bits == 32 && width == 4 {
-        store_all(bytes, at, samples, 32, 4);
-    } else if bits == 8 && width == 1 {
-        store_all(bytes, at, samples, 8, 1);
-    } else {
-        store_all(bytes, at, samples, bits, width);
-    }
+    first_outcome(samples, bits, width)
 }
 
 // Writes the containers of samples, a block at a time, or stops at the first `put` that fails.

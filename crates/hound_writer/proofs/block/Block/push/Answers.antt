@@ -1,5 +1,5 @@
 use Rattle.std.proofs.Common.{ap, ◌∙◌, ◌++◌, take, rules}
-use Rattle.hound_writer.proofs.Stores.{four_stored}
+use Rattle.hound_sample.proofs.Stores.{four_stored}
 use Rattle.hound_writer.proofs.block.Block.push.Goals as goal
 
 pub returns : goal.returns

@@ -3,7 +3,8 @@ use Rattle.hound_writer.specs.Accepting.{Accepts}
 use Rattle.hound_writer.specs.Answers.{one}
 use Rattle.hound_writer.specs.Block.{answer_of}
 use Rattle.hound_writer.specs.Fields.{bytes_kept, of_fields}
-use Rattle.hound_writer.proofs.Accepting.{accepts_seen, encoded, cut}
+use Rattle.hound_sample.proofs.Joined.{cut}
+use Rattle.hound_writer.proofs.Accepting.{accepts_seen, encoded}
 use Rattle.hound_writer.proofs.Blocks.{accepts_waiting}
 use Rattle.hound_writer.proofs.Containers.{one_whole}
 use Rattle.hound_writer.proofs.Writing.{else_unsupported, sample_refused, sample_accepts}

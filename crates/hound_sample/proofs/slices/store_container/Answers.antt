@@ -1,9 +1,9 @@
 use Rattle.std.proofs.Common.{rules, ◌≡◌, arith}
-use Rattle.hound_writer.proofs.Stores.{four_stored}
-use Rattle.hound_writer.proofs.many.store_container.Goals as goal
+use Rattle.hound_sample.proofs.Stores.{four_stored}
+use Rattle.hound_sample.proofs.slices.store_container.Goals as goal
 
-pub returns : goal.returns
-returns c =
+pub returns-clause-stored : goal.returns-clause-stored
+returns-clause-stored c =
     let a = c.args in
     let four : a.width ≡ 4 = omega (
       arith,
@@ -14,4 +14,4 @@ returns c =
       c.if-width-eq3.false,
     ) in
     four_stored a.bytes.now a.at a.width a.container (search rules)
-    (omega (arith, four, c.requires.room, c.told-bytes)) c.requires.width
+    (omega (arith, four, c.requires.room)) c.requires.width

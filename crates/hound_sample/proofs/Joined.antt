@@ -5,12 +5,9 @@ use Rattle.std.proofs.lemmas.Grind.{flat_map-append}
 use Rattle.std.proofs.Math.Bool.{and_assoc}
 use Rattle.std.specs.List.{concat}
 use Rattle.hound_spec.specs.declared.error.Error.{Error}
-use Rattle.hound_spec.specs.declared.error.Error.TheVariants.{TooWide, Unsupported}
-use Rattle.hound_sample.specs.Container.{Refusal, too_wide, unsupported, containers}
-use Rattle.hound_sample.specs.Encoding.{IsEncoded}
-use Rattle.hound_writer.specs.Many.{all_containers, and_more, bytes_in, joined_containers, outcome_of}
-use Rattle.hound_writer.specs.declared.outcome.Outcome.TheVariants.{OutOfRange, WrongPair}
-use Rattle.hound_writer.proofs.Accepting.{cut}
+use Rattle.hound_sample.specs.Container.{Refusal, containers}
+use Rattle.hound_sample.specs.Encoding.{IsEncoded, error_of}
+use Rattle.hound_sample.specs.Slices.{all_containers, and_more, bytes_in, first_error, joined_containers}
 
 -- there is a list if both results are Ok
 and_more-ok : (first : Result (List ℕ) Refusal) (more : Result (List (List ℕ)) Refusal)
@@ -228,20 +225,20 @@ pub encoded_ok : (asked : Result (List ℕ) Refusal) (answer : Result (List ℕ)
 encoded_ok (Ok container) answer is = ap is_ok is
 encoded_ok (Err refusal) answer is = ap is_ok is
 
--- the outcome of samples whose first error `encode` returns
-pub refused_as : (asked : Result (List ℕ) Refusal) (all : Result (List (List ℕ)) Refusal) (e : Error)
+-- an error that `encode` returns is that of all, if the refusal is
+pub refused_as : {T : Type 0} (asked : Result (List ℕ) Refusal) (all : Result T Refusal) (e : Error)
     → IsEncoded asked (Err e) → ((refusal : Refusal) → asked ≡ Err refusal → all ≡ Err refusal)
-    → (e ≡ TooWide → outcome_of all ≡ OutOfRange)
-    × ((e ≡ TooWide → ⊥) → outcome_of all ≡ WrongPair)
+    → first_error all ≡ Err e
 refused_as (Ok container) all e is first = cc
-refused_as (Err too_wide) all e is first =
-    let e_is : e ≡ TooWide = cc in
-    ((λ _. ap outcome_of (first too_wide refl)), (λ other. absurd (other e_is)))
-refused_as (Err unsupported) all e is first =
-    let e_is : e ≡ Unsupported = cc in (
-      (λ wide. let no : Unsupported ≡ TooWide = sym e_is ∙ wide in cc),
-      (λ _. ap outcome_of (first unsupported refl)),
-    )
+refused_as (Err refusal) all e is first =
+    let same : error_of refusal ≡ e = cc in ap first_error (first refusal refl) ∙ ap Err same
+
+-- a container is what is before the zeros
+pub cut : (width : ℕ) (container array : List ℕ)
+    → array ≡ container ++ replicate (4 - length container) 0 → length container ≡ width
+    → take width array ≡ container
+cut width container array padded size =
+    ap (take width) padded ∙ take_at container (replicate (4 - length container) 0) width size
 
 -- the first bytes of what `encode` makes are the container
 pub encoded_bytes : (asked : Result (List ℕ) Refusal) (array : List ℕ) (width : ℕ)

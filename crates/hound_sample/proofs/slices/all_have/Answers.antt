@@ -1,6 +1,6 @@
 use Rattle.std.proofs.Common.{◌&&◌, sym, ◌∙◌}
-use Rattle.hound_writer.proofs.Joined.{encoded_ok, ok_more}
-use Rattle.hound_writer.proofs.many.have_containers.Goals as goal
+use Rattle.hound_sample.proofs.Joined.{encoded_ok, ok_more}
+use Rattle.hound_sample.proofs.slices.all_have.Goals as goal
 
 pub loop-sample-preserved : goal.loop-sample-preserved
 loop-sample-preserved g c =

@@ -1,6 +1,6 @@
 use Rattle.std.proofs.Common.{IsOk, take}
-use Rattle.hound_writer.specs.Many.{all_containers}
-use Rattle.hound_writer.proofs.many.first_refusal.Given as goal
+use Rattle.hound_sample.specs.Slices.{all_containers}
+use Rattle.hound_sample.proofs.slices.check_containers.Given as goal
 
 abbrev pub invariant-loop-sample : goal.invariant-loop-sample
 invariant-loop-sample g l =

@@ -1,0 +1,20 @@
+use Rattle.std.proofs.Common.{◌&&◌, sym, ◌∙◌}
+use Rattle.hound_sample.proofs.Joined.{encoded_ok, first_refused, ok_more, refused_as}
+use Rattle.hound_sample.proofs.slices.check_containers.Goals as goal
+
+pub returns-in-Err : goal.returns-in-Err
+returns-in-Err g c =
+    let a = c.args in
+    let container = λ (s : g.row.S.Denot). g.S.Sample.container s a.bits a.width in
+    sym (refused_as _ _ c.in-Err.error c.in-Err.ensures
+    (λ refusal. first_refused container a.samples.now c.loop-sample.sample-index
+    c.sample-item.result refusal c.loop-sample-test.true c.sample-item.is
+    c.loop-sample.invariant))
+
+pub loop-sample-preserved : goal.loop-sample-preserved
+loop-sample-preserved g c =
+    let a = c.args in
+    let container = λ (s : g.row.S.Denot). g.S.Sample.container s a.bits a.width in
+    ok_more container a.samples.now c.loop-sample.sample-index c.sample-item.result
+    c.loop-sample-test.true c.sample-item.is
+    ∙ (λ i. c.loop-sample.invariant i && (sym (encoded_ok _ _ c.in_default.ensures)) i)

@@ -1,0 +1,152 @@
+// The containers of many samples, one after the other: checked, stored and decoded at once.
+//
+// Each loop is written once and called for each pair of bits and bytes, whose numbers are constants
+// there, so that LLVM makes vectors of it.
+ghost use Rattle.std.specs.Prelude.{◌≡◌, ◌+◌, ◌*◌, ◌≤◌, ◌++◌, None, IsOk, is_ok, length, map, take};
+ghost use Rattle.hound_sample.specs.Container.{containers};
+ghost use Rattle.hound_sample.specs.Slices.{all_containers, first_error, joined_containers};
+
+use crate::Sample;
+use crate::decode::{Decode, decode_each};
+use hound_spec::{Result, SampleFormat};
+
+// Whether all samples have containers. It looks at each of them, whatever came before.
+#[inline(always)]
+fn all_have<S: Sample + Copy>(samples: &[S], bits: u16, width: u16) -> bool
+    ensures { result ≡ is_ok (all_containers (λ s. S.container s bits width) samples.now) }
+{
+    let mut all = true;
+    for sample in samples {
+        all &= sample.encode(bits, width).is_ok();
+    }
+    all
+}
+
+/// Whether all samples have containers with these used bits and bytes.
+#[inline(always)]
+pub fn have_containers<S: Sample + Copy>(samples: &[S], bits: u16, width: u16) -> bool
+    ensures { result ≡ is_ok (all_containers (λ s. S.container s bits width) samples.now) }
+{
+    if bits == 16 && width == 2 {
+        return all_have(samples, 16, 2);
+    }
+    if bits == 24 && width == 3 {
+        return all_have(samples, 24, 3);
+    }
+    if bits == 24 && width == 4 {
+        return all_have(samples, 24, 4);
+    }
+    if bits == 32 && width == 4 {
+        return all_have(samples, 32, 4);
+    }
+    if bits == 8 && width == 1 {
+        return all_have(samples, 8, 1);
+    }
+    all_have(samples, bits, width)
+}
+
+/// The error of the first sample that has no container, if there is one.
+#[cold]
+#[inline(never)]
+pub fn check_containers<S: Sample + Copy>(samples: &[S], bits: u16, width: u16) -> Result<()>
+    ensures { result ≡ first_error (all_containers (λ s. S.container s bits width) samples.now) }
+{
+    for sample in samples {
+        if let Err(error) = sample.encode(bits, width) {
+            return Err(error);
+        }
+    }
+    Ok(())
+}
+
+// Stores a container of this many bytes.
+#[inline(always)]
+fn store_container(bytes: &mut [u8], at: usize, container: [u8; 4], width: usize)
+    requires width { width ≤ 4 }
+    requires room { at + width ≤ length bytes.old }
+    ensures stored { take (at + width) bytes.new ≡ take at bytes.old ++ take width container }
+    ensures size { length bytes.new ≡ length bytes.old }
+{
+    let [a, b, c, d] = container;
+    if width == 0 {
+        return;
+    }
+    bytes[at] = a;
+    if width == 1 {
+        return;
+    }
+    bytes[at + 1] = b;
+    if width == 2 {
+        return;
+    }
+    bytes[at + 2] = c;
+    if width == 3 {
+        return;
+    }
+    bytes[at + 3] = d;
+}
+
+// Stores the containers of samples one after the other.
+#[inline(always)]
+fn store_each<S: Sample + Copy>(bytes: &mut [u8], samples: &[S], bits: u16, width: u16)
+    requires have { IsOk (all_containers (λ s. S.container s bits width) samples.now) }
+    requires width { width ≤ 4 }
+    requires room { length bytes.old ≡ width * length samples.now }
+    ensures { bytes.new ≡ joined_containers (λ s. S.container s bits width) samples.now }
+{
+    let mut end = 0;
+    for sample in samples {
+        let container = match sample.encode(bits, width) {
+            Ok(container) => container,
+            Err(_) => [0; 4],
+        };
+        store_container(bytes, end, container, width as usize);
+        end += width as usize;
+    }
+}
+
+/// Stores the containers of samples, each of which has one, into bytes of their length.
+#[inline(always)]
+pub fn store_containers<S: Sample + Copy>(bytes: &mut [u8], samples: &[S], bits: u16, width: u16)
+    requires have { IsOk (all_containers (λ s. S.container s bits width) samples.now) }
+    requires width { width ≤ 4 }
+    requires room { length bytes.old ≡ width * length samples.now }
+    ensures { bytes.new ≡ joined_containers (λ s. S.container s bits width) samples.now }
+{
+    if bits == 16 && width == 2 {
+        store_each(bytes, samples, 16, 2);
+    } else if bits == 24 && width == 3 {
+        store_each(bytes, samples, 24, 3);
+    } else if bits == 24 && width == 4 {
+        store_each(bytes, samples, 24, 4);
+    } else if bits == 32 && width == 4 {
+        store_each(bytes, samples, 32, 4);
+    } else if bits == 8 && width == 1 {
+        store_each(bytes, samples, 8, 1);
+    } else {
+        store_each(bytes, samples, bits, width);
+    }
+}
+
+/// Decodes containers, as many as the samples, into these.
+pub fn decode_containers<S: Decode>(
+    from: &[u8],
+    samples: &mut [S],
+    fmt: SampleFormat,
+    bytes: u16,
+    bits: u16,
+)
+    requires decodes { S.decode_refusal fmt bytes bits ≡ None }
+    requires whole { length from.now ≡ length samples.old * bytes }
+    ensures { samples.new ≡ map (S.value fmt bytes bits)
+        (containers bytes (length samples.old) from.now) }
+{
+    match (bytes, bits) {
+        (1, 8) => decode_each(from, samples, fmt, 1, 8),
+        (2, 16) => decode_each(from, samples, fmt, 2, 16),
+        (3, 24) => decode_each(from, samples, fmt, 3, 24),
+        (4, 24) => decode_each(from, samples, fmt, 4, 24),
+        (4, 32) => decode_each(from, samples, fmt, 4, 32),
+        _ => decode_each(from, samples, fmt, bytes, bits),
+    }
+}
