@@ -24,10 +24,6 @@ extensible_at len found size rest big two more is =
     let back = drop_at size rest 2 two in
     rw (long, all, front, back, is) refl
 
--- the fields of a content are those of its front
-pub fmt_front : (len n : ℕ) (xs : List ℕ) → fmt_len len ≤ n → fmt_of len (take n xs) ≡ fmt_of len xs
-fmt_front len n xs l = ap (fmt_said len) (take-take (fmt_len len) n xs l)
-
 -- what was read of a content, and the rest of it
 pub fmt_and_rest : (len : ℕ) (xs rest : List ℕ) → fmt_len len ≤ length xs
     → fmt_of len (take (fmt_len len) xs ++ rest) ≡ fmt_of len xs

@@ -40,9 +40,6 @@ pub sizes_then : (start : ℕ) (a b c : List ℕ) → ChangesSizesOnly start a b
 sizes_then start a b c first then =
     record { front = then.front ∙ first.front; middle = then.middle ∙ first.middle }
 
-pub same_reflexive : (p : ℕ) (c : List ℕ) → SameButSizes p c c
-same_reflexive p c = record { front = refl; middle = refl; behind = refl; long = refl }
-
 pub same_transitive : (p : ℕ) (a b c : List ℕ) → SameButSizes p a b → SameButSizes p b c
     → SameButSizes p a c
 same_transitive p a b c ab bc = record {

@@ -2,7 +2,7 @@
 use Rattle.std.specs.Prelude.{◌≡◌, ℕ, ℤ, ◌+◌, ◌%◌, ◌≤◌, List, [], length, Bool, false, Option, None, Some}
 use Rattle.hound_spec.specs.declared.spec.WavSpecEx.{WavSpecEx}
 use Rattle.hound_medium.specs.State.{MediumState, WhereTells}
-use Rattle.hound_writer.specs.Block.{IsLimit}
+use Rattle.hound_writer.specs.Block.{IsLimit, block_length}
 use Rattle.hound_writer.specs.Many.{short_bytes}
 use Rattle.hound_writer.specs.Parts.{IsStanding}
 use Rattle.hound_writer.specs.Writer.{WriterState, IsSound}
@@ -27,7 +27,7 @@ pub record IsConsistent {W : Type 0} (tells : Bool) (state : W → MediumState) 
   pub sound : IsSound w
   pub whole_out : w.out % w.spec_ex.bytes_per_sample ≡ 0
   pub whole_waiting : length w.waiting % w.spec_ex.bytes_per_sample ≡ 0
-  pub block : length w.waiting ≤ 4096
+  pub block : length w.waiting ≤ block_length
   pub room : IsLimit w.data_start w.out limit
   pub stands : WhereTells tells (IsStanding w.spec_ex w.data_start w.out (state w.medium).contents)
   pub place : WhereTells tells

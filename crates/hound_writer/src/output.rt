@@ -99,7 +99,7 @@ impl<W: Medium> Output<W> {
     ghost use Rattle.hound_medium.specs.State.{Goes, WhereTells, WhereKeeps};
     ghost use Rattle.hound_writer.specs.Accepting.{Accepts};
     ghost use Rattle.hound_writer.specs.Answers.{IsIoError, one};
-    ghost use Rattle.hound_writer.specs.Block.{GoesOut, answer_of, or_fault};
+    ghost use Rattle.hound_writer.specs.Block.{GoesOut, answer_of, block_length, or_fault};
     ghost use Rattle.hound_writer.specs.Fields.{of_fields};
     ghost use Rattle.hound_writer.specs.Many.{containers_in, sample_bytes};
     ghost use Rattle.hound_writer.specs.Parts.{IsStanding, Patches, PatchesAtEach};
@@ -198,7 +198,7 @@ impl<W: Medium> Output<W> {
     fn accept_in_block(&mut self, bytes: &[u8])
         requires room { HasRoom self.old (length bytes.now) }
         requires whole { length bytes.now % self.old.spec_ex.bytes_per_sample ≡ 0 }
-        requires few { length self.old.waiting + length bytes.now ≤ 4096 }
+        requires few { length self.old.waiting + length bytes.now ≤ block_length }
         ensures accepts { Accepts W.tells W.keeps W.state false
             (Ok (containers self.old.spec_ex.bytes_per_sample (length bytes.now / self.old.spec_ex.bytes_per_sample) bytes.now)) (Ok tt) self.old self.new }
         ensures buffer { self.new.buffer ≡ self.old.buffer }
@@ -211,7 +211,7 @@ impl<W: Medium> Output<W> {
     fn accept(&mut self, bytes: &[u8], fault: &mut io::Error) -> bool
         requires room { HasRoom self.old (length bytes.now) }
         requires whole { length bytes.now % self.old.spec_ex.bytes_per_sample ≡ 0 }
-        requires few { length bytes.now ≤ 4096 }
+        requires few { length bytes.now ≤ block_length }
         ensures accepts { Accepts W.tells W.keeps W.state false
             (Ok (containers self.old.spec_ex.bytes_per_sample (length bytes.now / self.old.spec_ex.bytes_per_sample) bytes.now)) (or_fault result fault.new) self.old self.new }
         ensures buffer { self.new.buffer ≡ self.old.buffer }
@@ -275,7 +275,7 @@ impl<W: Medium> Output<W> {
         requires room { HasRoom self.old
             (self.old.spec_ex.bytes_per_sample * length samples.now) }
         requires few { length self.old.waiting
-            + self.old.spec_ex.bytes_per_sample * length samples.now ≤ 4096 }
+            + self.old.spec_ex.bytes_per_sample * length samples.now ≤ block_length }
         ensures accepts { let bytes = sample_bytes S.container self.old.spec_ex samples.now in
             Accepts W.tells W.keeps W.state false
             (Ok (containers self.old.spec_ex.bytes_per_sample (length bytes / self.old.spec_ex.bytes_per_sample) bytes)) (Ok tt) self.old self.new }
