@@ -1,5 +1,5 @@
 -- The definitions of a fmt chunk at bytes in pieces.
-use Rattle.std.proofs.Common.{◌≡◌, ℕ, ◌-◌, ◌≤◌, true, ◌||◌, List, ◌++◌, length, take, refl, ap, ◌∙◌, arith, take_at, take-take, length-take-le, drop_at, length-append, le-ltb, Ok}
+use Rattle.std.proofs.Common.{◌≡◌, ℕ, ◌-◌, ◌≤◌, true, ◌||◌, List, ◌++◌, length, take, refl, ap, ◌∙◌, arith, take_at, length-take-le, drop_at, length-append, le-ltb, Ok}
 use Rattle.std.proofs.Common.{◌==◌}
 use Rattle.hound_spec.specs.declared.spec.WavSpecEx.{WavSpecEx}
 use Rattle.hound_number.specs.Number.{number}

@@ -1,5 +1,5 @@
 -- What a head is found as, by what the file holds.
-use Rattle.std.proofs.Common.{◌≡◌, ℕ, ◌+◌, ◌*◌, ◌/◌, ◌≤◌, ◌<◌, ◌^◌, Bool, true, false, cond, min, nat_lt, drop, Option, Some, None, inl, inr, Err, refl, sym, ap, ◌∙◌, subst, arith}
+use Rattle.std.proofs.Common.{◌≡◌, ℕ, ◌+◌, ◌*◌, ◌/◌, ◌≤◌, ◌<◌, ◌^◌, Bool, true, false, cond, min, nat_lt, Option, Some, None, inl, inr, Err, refl, sym, ap, ◌∙◌, arith}
 use Rattle.std.proofs.lemmas.Bool.Decides.{nat_tests}
 use Rattle.std.proofs.lemmas.Bool.{cases_lt}
 use Rattle.std.proofs.Math.Nat.{lt-div-mul-add, le-mul_of_pos_right}
@@ -8,17 +8,15 @@ use Rattle.hound_spec.specs.declared.spec.WavSpecEx.{WavSpecEx}
 use Rattle.hound_spec.specs.FmtChunk.{greatest_u32}
 use Rattle.hound_spec.specs.Header.{riff_size}
 use Rattle.hound_spec.specs.Writable.{is_pair}
-use Rattle.hound_medium.specs.State.{MediumState, one_more}
-use Rattle.hound_reader.specs.declared.chunks.FileHead.{FileHead}
+use Rattle.hound_medium.specs.State.{MediumState}
 use Rattle.hound_reader.specs.declared.cause.HeadError.{HeadError}
 use Rattle.hound_reader.specs.declared.cause.Cause.TheVariants.{Unsupported}
 use Rattle.hound_reader.specs.Fmt.{IsSoundSpec}
 use Rattle.hound_reader.specs.Refusals.{ReportsError}
 use Rattle.hound_reader.specs.Sources.{FindsData}
-use Rattle.hound_writer.specs.Answers.{IsIoError}
-use Rattle.hound_writer.specs.Appending.{AppendFault, by_bytes, too_long, FailsCheck, NamesFault, PutsNothing}
+use Rattle.hound_writer.specs.Appending.{AppendFault, by_bytes, too_long, FailsCheck, NamesFault}
 use Rattle.hound_writer.proofs.Appending.{no_head, walk_puts_nothing}
-use Rattle.hound_repair.specs.Held.{data_held, ends_with_pad, frame_length, held, right_length}
+use Rattle.hound_repair.specs.Held.{data_held, ends_with_pad, frame_length, right_length}
 use Rattle.hound_repair.specs.Repairing.{IsNotFound, IsRepairFault, repair_fault, size_fault}
 
 -- where two bytes and more follow the data length all that is held is data

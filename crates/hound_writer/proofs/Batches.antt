@@ -1,10 +1,8 @@
 -- Batches of samples of sixteen bits.
-use Rattle.std.proofs.Common.{◌≡◌, ℕ, ℤ, pos, negsuc, ◌+◌, ◌*◌, ◌/◌, ◌^◌, ◌&&◌, ◌≤◌, Bool, cond, false, List, [], ◌∷◌, ◌++◌, length, Result, Ok, Err, IsOk, is_ok, FitsSigned, w16, refl, sym, ◌∙◌, ap, subst, arith, length-append, lt-ltb}
+use Rattle.std.proofs.Common.{◌≡◌, ℕ, ℤ, pos, negsuc, ◌*◌, ◌/◌, ◌^◌, ◌&&◌, ◌≤◌, Bool, cond, false, List, [], ◌∷◌, ◌++◌, length, Result, Ok, Err, IsOk, is_ok, FitsSigned, w16, refl, sym, ◌∙◌, ap, subst, arith, length-append, lt-ltb}
 use Rattle.std.proofs.lemmas.List.{append-nil}
-use Rattle.std.proofs.lemmas.Grind.{flat_map-append}
 use Rattle.hound_number.specs.Number.{signed_bytes_of}
 use Rattle.hound_spec.specs.declared.error.Error.{Error}
-use Rattle.hound_spec.specs.declared.spec.WavSpecEx.{WavSpecEx}
 use Rattle.hound_medium.specs.State.{MediumState}
 use Rattle.hound_sample.specs.Container.{Refusal, containers, int_bytes, int_container, too_wide}
 use Rattle.hound_sample.specs.ContainerLaws.{contained, int_container-in_width}

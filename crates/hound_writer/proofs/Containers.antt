@@ -1,13 +1,12 @@
 -- Data as containers.
 use Rattle.std.proofs.Common.{◌≡◌, ℕ, zero, suc, ◌+◌, ◌*◌, ◌/◌, ◌%◌, ◌≤◌, List, [], ◌∷◌, ◌++◌, length, take, drop, refl, sym, ◌∙◌, ap, arith}
-use Rattle.std.proofs.lemmas.List.{take-take, drop-take, drop-drop, take_all, take-append-le, drop_at}
+use Rattle.std.proofs.lemmas.List.{take-take, take_all, take-append-le, drop_at}
 use Rattle.std.proofs.lemmas.Nat.{div-add-mod'}
 use Rattle.std.proofs.Math.Nat.{add-mod, add-div_right, mul-add-div_right}
 use Rattle.std.proofs.Math.Seq.{take-add}
 use Rattle.std.specs.List.{concat}
 use Rattle.hound_sample.specs.Container.{containers}
 use Rattle.hound_sample.proofs.Containers.{containers_append, containers_front}
-use Rattle.hound_writer.proofs.Sizes.{take_front}
 
 -- the containers joined are the bytes
 pub concat-containers : (width count : ℕ) (bytes : List ℕ)
