@@ -649,15 +649,16 @@ class Writer:
         self.block += data
         self.accepted += data
 
-    def accept(self, data, piece):
+    def accept(self, data):
         """Accepts samples, or none where they are too many or don't go out. Those that a block has no
-        room for go out in pieces of so many bytes."""
+        room for go out in pieces, each as many samples as a block holds."""
         self.look_at_room(len(data))
         if len(self.block) + len(data) > 4096:
             self.put_block()
         if len(data) <= 4096:
             self.block += data
         else:
+            piece = 4096 // self.spec.width * self.spec.width
             self.put(*(data[at : at + piece] for at in range(0, len(data), piece)))
             self.out += len(data)
         self.accepted += data
@@ -666,12 +667,12 @@ class Writer:
         # Of a batch that is too long no bytes are made.
         self.look_at_room(2 * len(values))
         data = b"".join(struct.pack("<H", value % 65536) for value in values)
-        self.accept(data, len(data))
+        self.accept(data)
 
     def write_many(self, kind, values):
         bits, width = self.spec.bits, self.spec.width
         data = b"".join(container(kind, value, bits, width) for value in values)
-        self.accept(data, 4096 // width * width)
+        self.accept(data)
 
     def publish(self):
         self.put_block()

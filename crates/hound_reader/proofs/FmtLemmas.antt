@@ -1,5 +1,5 @@
 -- The definitions of a fmt chunk at bytes in pieces.
-use Rattle.std.proofs.Common.{◌≡◌, ℕ, ◌-◌, ◌≤◌, true, ◌||◌, List, ◌++◌, length, take, refl, ap, ◌∙◌, arith, take_at, take-take, length-take-le, drop_at, length-append, le-ltb, Ok}
+use Rattle.std.proofs.Common.{◌≡◌, ℕ, ◌-◌, ◌≤◌, true, ◌||◌, List, ◌++◌, length, take, refl, ap, ◌∙◌, arith, take_at, length-take-le, drop_at, length-append, le-ltb, Ok}
 use Rattle.std.proofs.Common.{◌==◌}
 use Rattle.hound_spec.specs.declared.spec.WavSpecEx.{WavSpecEx}
 use Rattle.hound_number.specs.Number.{number}
@@ -23,10 +23,6 @@ extensible_at len found size rest big two more is =
     let front = take_at size rest 2 two in
     let back = drop_at size rest 2 two in
     rw (long, all, front, back, is) refl
-
--- the fields of a content are those of its front
-pub fmt_front : (len n : ℕ) (xs : List ℕ) → fmt_len len ≤ n → fmt_of len (take n xs) ≡ fmt_of len xs
-fmt_front len n xs l = ap (fmt_said len) (take-take (fmt_len len) n xs l)
 
 -- what was read of a content, and the rest of it
 pub fmt_and_rest : (len : ℕ) (xs rest : List ℕ) → fmt_len len ≤ length xs

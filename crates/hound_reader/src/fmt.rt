@@ -9,14 +9,10 @@ use crate::cause::{Cause, HeadError, Reason};
 use crate::input::fill;
 use hound_number::{Input, u16_at, u32_at};
 use hound_spec::{
-    KSDATAFORMAT_SUBTYPE_IEEE_FLOAT, KSDATAFORMAT_SUBTYPE_PCM, SampleFormat, WavSpec, WavSpecEx,
+    EXTENSION_LENGTH, KSDATAFORMAT_SUBTYPE_IEEE_FLOAT, KSDATAFORMAT_SUBTYPE_PCM,
+    PCMWAVEFORMAT_LENGTH, SampleFormat, WAVE_FORMAT_EXTENSIBLE, WAVE_FORMAT_IEEE_FLOAT,
+    WAVE_FORMAT_PCM, WAVEFORMATEX_LENGTH, WAVEFORMATEXTENSIBLE_LENGTH, WavSpec, WavSpecEx,
 };
-
-const PCM: u16 = 0x0001;
-
-const IEEE_FLOAT: u16 = 0x0003;
-
-const EXTENSIBLE: u16 = 0xfffe;
 
 // The fields of the first sixteen bytes, and the checks of every format tag, in order.
 #[tactic(auto, unfolding(crate::specs::Fmt::wave_format))]
@@ -30,21 +26,26 @@ fn check_wave_format(head: &[u8]) -> Result<WavSpecEx, Cause>
     let bytes_per_second = u32_at(head, 8);
     let block_align = u16_at(head, 12);
     let bits_per_sample = u16_at(head, 14);
+    // The block align is divided by the channels, and a frame needs one at least.
     if channels == 0 {
         return Err(Cause::Format(Reason::ZeroChannels));
     }
     let bytes_per_sample = block_align / channels;
     let width_in_bits = 8 * bytes_per_sample as u32;
+    // Fewer bits than the container are fine, as 24 in four bytes; more have no place in it.
     if bits_per_sample as u32 > width_in_bits || width_in_bits > 65535 {
         return Err(Cause::Format(Reason::BitsExceedWidth));
     }
     let product = block_align as u64 * sample_rate as u64;
+    // The field says nothing new, so one that contradicts the others shows a damaged header early.
     if bytes_per_second as u64 != product || product > 4_294_967_295 {
         return Err(Cause::Format(Reason::Inconsistent));
     }
+    // In a WAVEFORMAT the bits are those that store a sample: whole bytes.
     if bits_per_sample % 8 != 0 {
         return Err(Cause::Format(Reason::BitsNotWholeBytes));
     }
+    // Without bits a sample would take no byte, and data would have no end of them.
     if bits_per_sample == 0 {
         return Err(Cause::Format(Reason::ZeroBits));
     }
@@ -79,19 +80,22 @@ fn read_wave_format_pcm<R: Input>(
     ensures late { IfErr result (λ e. Refuses e (λ c. (n : ℕ) →
         16 ≤ content_taken pcm chunk_len c (16 + n))) }
 {
-    if chunk_len == 16 {
+    if chunk_len == PCMWAVEFORMAT_LENGTH {
         return Ok(found);
     }
-    if chunk_len != 18 && chunk_len != 40 {
+    // Some programs write integers into a chunk of forty bytes, without the tag for it.
+    if chunk_len != WAVEFORMATEX_LENGTH && chunk_len != WAVEFORMATEXTENSIBLE_LENGTH {
         return Err(HeadError::Refused(Cause::Format(Reason::UnexpectedFmtSize)));
     }
+    // The size of more means nothing for integers, and some files have one.
     fill(reader, &mut [0; 2])?;
     let bits = found.spec.bits_per_sample;
+    // A WAVEFORMATEX of integers may have 8 or 16 bits; files with 24 are there all the same.
     if bits != 8 && bits != 16 && bits != 24 {
         return Err(HeadError::Refused(Cause::Format(Reason::BitsNot8Or16)));
     }
-    if chunk_len == 40 {
-        fill(reader, &mut [0; 22])?;
+    if chunk_len == WAVEFORMATEXTENSIBLE_LENGTH {
+        fill(reader, &mut [0; EXTENSION_LENGTH as usize])?;
     }
     Ok(found)
 }
@@ -115,16 +119,19 @@ fn read_wave_format_ieee_float<R: Input>(
     ensures late { IfErr result (λ e. Refuses e (λ c. (n : ℕ) →
         16 ≤ content_taken ieee_float chunk_len c (16 + n))) }
 {
-    if chunk_len != 16 && chunk_len != 18 {
+    // A float has no extension that could follow here.
+    if chunk_len != PCMWAVEFORMAT_LENGTH && chunk_len != WAVEFORMATEX_LENGTH {
         return Err(HeadError::Refused(Cause::Format(Reason::UnexpectedFmtSize)));
     }
-    if chunk_len == 18 {
+    if chunk_len == WAVEFORMATEX_LENGTH {
         let mut size = [0; 2];
         fill(reader, &mut size)?;
+        // The chunk ends here, so no more can follow.
         if u16_at(&size, 0) != 0 {
             return Err(HeadError::Refused(Cause::Format(Reason::ExSize)));
         }
     }
+    // The tag is for floats of 32 bits; those of 64 that some programs write aren't read.
     if found.spec.bits_per_sample != 32 {
         return Err(HeadError::Refused(Cause::Format(Reason::BitsNot32)));
     }
@@ -143,6 +150,7 @@ fn choose_subformat(found: WavSpecEx, rest: &[u8]) -> Result<WavSpecEx, Cause>
     ensures sound { IfOk result IsSoundSpec }
 {
     let valid_bits_per_sample = u16_at(rest, 0);
+    // Of the GUIDs only those of the samples that are read here.
     let subformat = &rest[6..22];
     let sample_format = if subformat == KSDATAFORMAT_SUBTYPE_PCM.as_slice() {
         SampleFormat::Int
@@ -151,6 +159,7 @@ fn choose_subformat(found: WavSpecEx, rest: &[u8]) -> Result<WavSpecEx, Cause>
     } else {
         return Err(Cause::Unsupported);
     };
+    // Headers without valid bits occur; then the bits of the container are meant.
     let bits_per_sample = if valid_bits_per_sample == 0 {
         found.spec.bits_per_sample
     } else {
@@ -183,15 +192,17 @@ fn read_wave_format_extensible<R: Input>(
     ensures late { IfErr result (λ e. Refuses e (λ c. (n : ℕ) →
         16 ≤ content_taken extensible chunk_len c (16 + n))) }
 {
-    if chunk_len < 40 {
+    // Its size and the extension follow the first sixteen bytes.
+    if chunk_len < WAVEFORMATEXTENSIBLE_LENGTH {
         return Err(HeadError::Refused(Cause::Format(Reason::UnexpectedFmtSize)));
     }
     let mut size = [0; 2];
     fill(reader, &mut size)?;
-    if u16_at(&size, 0) != 22 {
+    // A larger extension would have fields that nothing here knows.
+    if u16_at(&size, 0) != EXTENSION_LENGTH {
         return Err(HeadError::Refused(Cause::Format(Reason::ExtensibleSize)));
     }
-    let mut rest = [0; 22];
+    let mut rest = [0; EXTENSION_LENGTH as usize];
     fill(reader, &mut rest)?;
     let found = choose_subformat(found, &rest)?;
     Ok(found)
@@ -217,9 +228,9 @@ fn read_by_tag<R: Input>(
         16 ≤ content_taken tag chunk_len c (16 + n))) }
 {
     match tag {
-        PCM => read_wave_format_pcm(reader, chunk_len, found),
-        IEEE_FLOAT => read_wave_format_ieee_float(reader, chunk_len, found),
-        EXTENSIBLE => read_wave_format_extensible(reader, chunk_len, found),
+        WAVE_FORMAT_PCM => read_wave_format_pcm(reader, chunk_len, found),
+        WAVE_FORMAT_IEEE_FLOAT => read_wave_format_ieee_float(reader, chunk_len, found),
+        WAVE_FORMAT_EXTENSIBLE => read_wave_format_extensible(reader, chunk_len, found),
         _ => Err(HeadError::Refused(Cause::Unsupported)),
     }
 }
@@ -238,7 +249,8 @@ pub(crate) fn read_fmt_chunk<R: Input>(
     ensures taken { IfErr result (TakesFor (R.left reader.old) (R.left reader.new)
         (λ c xs. content_taken (fmt_fields xs).tag chunk_len c (length xs))) }
 {
-    if chunk_len < 16 {
+    // Fourteen bytes would say all but the bits; no program is known to write so short a chunk.
+    if chunk_len < PCMWAVEFORMAT_LENGTH {
         return Err(HeadError::Refused(Cause::Format(Reason::FmtSize)));
     }
     let mut head = [0; 16];

@@ -20,14 +20,14 @@ ghost use Rattle.hound_reader.specs.Samples.{lent_reader, lender, taken_reader};
 
 use crate::cause::{Cause, HeadError, Reason, error_of};
 use crate::chunks::{read_riff_header, read_until_data};
-use crate::item::{KeepingReader, error_of_item, read_counted, read_many_counted, taken_without};
+use crate::item::{KeepingReader, error_of_item, read_item_since, read_many_since, taken_without};
 use crate::samples::{WavIntoSamples, WavSamples};
 use hound_medium::{Placed, Source};
 use hound_number::Input;
 use hound_sample::{ItemError, Sample};
 use hound_spec::{Error, Result, WavSpec, WavSpecEx};
 use std::io::ErrorKind;
-use std::marker::Model;
+use std::marker::{Brand, Model};
 use std::{io, result};
 
 // Takes what is before the data, which must be whole frames: the spec, and how many samples
@@ -139,10 +139,10 @@ impl<R: io::Read + Drop> WavReader<R> {
     {
         // No item returns this one: an `IoError` comes after a read that failed or ended.
         let fault = io::Error::from(ErrorKind::Other);
-        let mut reader = KeepingReader { reader, fault };
+        let mut reader = reader;
         match read_until_samples(&mut reader) {
             Ok((spec_ex, num_samples)) => Ok(WavReader {
-                reader,
+                reader: KeepingReader { reader, fault },
                 spec_ex,
                 num_samples,
                 samples_read: 0,
@@ -227,11 +227,14 @@ impl<R: io::Read + Drop> WavReader<R> {
             samples.new self.old self.new }
     {
         let wanted = samples.len().min(self.samples_left() as usize);
-        let (count, answer, given) = read_many_counted::<R, S>(
+        let mut answer = (0, Err(ItemError::Failed));
+        let (_, given) = read_many_since::<R, S, Brand>(
             &mut self.reader,
             self.spec_ex,
             &mut samples[..wanted],
+            &mut answer,
         );
+        let (count, answer) = answer;
         let width = self.spec_ex.bytes_per_sample;
         let bytes = count as u64 * width as u64;
         self.samples_read += count as u64;
@@ -300,7 +303,8 @@ impl<R: io::Read + Drop> WavReader<R> {
         if self.samples_read >= self.num_samples as u64 {
             return None;
         }
-        let (sample, given) = read_counted::<R, S>(&mut self.reader, spec_ex);
+        let mut sample = Err(ItemError::Failed);
+        let (_, given) = read_item_since::<R, S, Brand>(&mut self.reader, spec_ex, &mut sample);
         let width = spec_ex.bytes_per_sample;
         self.samples_read += 1;
         match sample {

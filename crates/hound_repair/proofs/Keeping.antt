@@ -14,7 +14,7 @@ use Rattle.hound_reader.specs.Chunks.{Head}
 use Rattle.hound_reader.specs.Fmt.{IsSoundSpec}
 use Rattle.hound_reader.proofs.Unique.{head_no_fault, heads_agree}
 use Rattle.hound_reader.proofs.WrittenLemmas.{length-concat, containers-concat}
-use Rattle.hound_writer.proofs.Containers.{containers_front}
+use Rattle.hound_sample.proofs.Containers.{containers_front}
 use Rattle.hound_writer.proofs.Heads.{head_behind, head_inside}
 use Rattle.hound_writer.specs.Sizes.{with_sizes}
 use Rattle.hound_writer.specs.Storing.{IsStored}

@@ -1,5 +1,5 @@
 -- What a head is found as, by what the file holds.
-use Rattle.std.proofs.Common.{◌≡◌, ℕ, ◌+◌, ◌*◌, ◌/◌, ◌≤◌, ◌<◌, ◌^◌, Bool, true, false, cond, min, nat_lt, drop, Option, Some, None, inl, inr, Err, refl, sym, ap, ◌∙◌, subst, arith}
+use Rattle.std.proofs.Common.{◌≡◌, ℕ, ◌+◌, ◌*◌, ◌/◌, ◌≤◌, ◌<◌, ◌^◌, Bool, true, false, cond, min, nat_lt, Option, Some, None, inl, inr, Err, refl, sym, ap, ◌∙◌, arith}
 use Rattle.std.proofs.lemmas.Bool.Decides.{nat_tests}
 use Rattle.std.proofs.lemmas.Bool.{cases_lt}
 use Rattle.std.proofs.Math.Nat.{lt-div-mul-add, le-mul_of_pos_right}
@@ -8,21 +8,16 @@ use Rattle.hound_spec.specs.declared.spec.WavSpecEx.{WavSpecEx}
 use Rattle.hound_spec.specs.FmtChunk.{greatest_u32}
 use Rattle.hound_spec.specs.Header.{riff_size}
 use Rattle.hound_spec.specs.Writable.{is_pair}
-use Rattle.hound_medium.specs.State.{MediumState, one_more}
-use Rattle.hound_reader.specs.declared.chunks.FileHead.{FileHead}
+use Rattle.hound_medium.specs.State.{MediumState}
 use Rattle.hound_reader.specs.declared.cause.HeadError.{HeadError}
-use Rattle.hound_reader.specs.declared.cause.HeadError.TheVariants.{Failed, Refused}
 use Rattle.hound_reader.specs.declared.cause.Cause.TheVariants.{Unsupported}
-use Rattle.hound_reader.specs.Chunks.{Head, Refused as RefusedFor}
 use Rattle.hound_reader.specs.Fmt.{IsSoundSpec}
 use Rattle.hound_reader.specs.Refusals.{ReportsError}
 use Rattle.hound_reader.specs.Sources.{FindsData}
-use Rattle.hound_writer.specs.Answers.{IsIoError}
-use Rattle.hound_writer.specs.Appending.{AppendFault, by_bytes, too_long, FailsCheck, NamesFault, PutsNothing}
-use Rattle.hound_writer.proofs.Appending.{walk_puts_nothing}
-use Rattle.hound_repair.specs.Damages.{IsNotMeasured}
-use Rattle.hound_repair.specs.Held.{data_held, ends_with_pad, frame_length, held, right_length}
-use Rattle.hound_repair.specs.Repairing.{IsNotFound, repair_fault, size_fault}
+use Rattle.hound_writer.specs.Appending.{AppendFault, by_bytes, too_long, FailsCheck, NamesFault}
+use Rattle.hound_writer.proofs.Appending.{no_head, walk_puts_nothing}
+use Rattle.hound_repair.specs.Held.{data_held, ends_with_pad, frame_length, right_length}
+use Rattle.hound_repair.specs.Repairing.{IsNotFound, IsRepairFault, repair_fault, size_fault}
 
 -- where two bytes and more follow the data length all that is held is data
 pub no_pad : (f len n : ℕ) → len + 1 < n → data_held f len n ≡ n
@@ -93,53 +88,8 @@ fails_for T e (Some fault) fails = (fault, refl, fails)
 -- a walk that found no head
 pub walk_fails : (error : HeadError) (e : Error) (old new : MediumState) → old.place ≡ 0
     → ReportsError error e → FindsData (Err error) old new → IsNotFound old new e
-walk_fails (Failed x) e old new begins told finds = record {
-  puts = walk_puts_nothing (Err (Failed x)) old new finds;
-  why = inr (subst IsIoError (sym told) tt, finds.faults);
-}
-walk_fails (Refused cause) e old new begins told finds = record {
-  puts = walk_puts_nothing (Err (Refused cause)) old new finds;
-  why = inl (
-    by_bytes cause,
-    inl (cause, refl, subst (λ n. RefusedFor (drop n old.contents) cause) begins finds.answer),
-    told,
-    finds.faults,
-  );
-}
-
--- two calls that put nothing, one after the other
-pub puts_then : (a b c : MediumState) → PutsNothing a b → PutsNothing b c → PutsNothing a c
-puts_then a b c first then = record {
-  stays = record {
-    contents = then.stays.contents ∙ first.stays.contents;
-    start = then.stays.start ∙ first.stays.start;
-    past = then.stays.past ∙ first.stays.past;
-  };
-  flushed = then.flushed ∙ first.flushed;
-}
-
--- a head that fails a check is a fault of the bytes
-pub not_found : (head : FileHead) (first old new : MediumState) (e : Error)
-    → PutsNothing first old → old.faults ≡ first.faults
-    → Head first.contents head.spec_ex head.data_length head.data_start
-    → IsNotMeasured head old new e → IsNotFound first new e
-not_found head first old new e walked faults at measured = record {
-  puts = puts_then first old new walked measured.puts;
-  why = elim measured.why [
-    | inl (fault, is, names, same) ↦
-        inl (
-          fault,
-          inr (
-            head.spec_ex,
-            head.data_length,
-            head.data_start,
-            at,
-            ap (λ l. repair_fault head.spec_ex head.data_length head.data_start (held head.data_start l))
-                (sym walked.stays.contents) ∙ is,
-          ),
-          names,
-          same ∙ faults,
-        )
-    | inr (is, more) ↦ inr (is, more ∙ ap one_more faults)
-  ];
+walk_fails error e old new begins told finds = record {
+  puts = walk_puts_nothing (Err error) old new finds;
+  why = no_head (IsRepairFault old.contents) error e old new (λ cause is. inl (cause, refl, is))
+      begins told finds;
 }

@@ -1,9 +1,10 @@
 -- What putting the right sizes leaves.
-use Rattle.std.proofs.Common.{◌≡◌, ℕ, ◌-◌, ◌*◌, ◌%◌, ◌≤◌, ◌<◌, ◌^◌, Bool, true, false, cond, ◌&&◌, List, [], ◌∷◌, ◌++◌, length, take, inl, inr, Result, Ok, Err, IsErr, OnOk, MatchResult, refl, sym, ap, ◌∙◌, subst, arith, eqb-true, eq-eqb, length-take}
+use Rattle.std.proofs.Common.{◌≡◌, ℕ, ◌-◌, ◌*◌, ◌%◌, ◌≤◌, ◌<◌, ◌^◌, Bool, true, false, cond, List, [], ◌∷◌, ◌++◌, length, take, inl, inr, Result, Ok, Err, IsErr, OnOk, MatchResult, refl, sym, ap, ◌∙◌, subst, arith, eqb-true, eq-eqb, length-take}
 use Rattle.std.specs.Prelude.{◌==◌, replicate}
 use Rattle.std.proofs.lemmas.Bool.{false≢true}
 use Rattle.std.proofs.lemmas.List.{append-nil}
 use Rattle.std.specs.declared.io.Error.{Error as IoFault}
+use Rattle.std.proofs.lemmas.Bool.{and_parts}
 use Rattle.hound_spec.specs.declared.error.Error.{Error}
 use Rattle.hound_spec.specs.Header.{riff_size}
 use Rattle.hound_medium.specs.State.{MediumState, faults_after, one_more}
@@ -23,7 +24,7 @@ use Rattle.hound_repair.specs.declared.look.Damage.{Damage}
 use Rattle.hound_repair.specs.declared.sizes.Repair.{Repair}
 use Rattle.hound_repair.specs.declared.sizes.RepairState.{RepairState}
 use Rattle.hound_repair.specs.declared.sizes.RepairState.TheVariants.{Whole, CutOff, HasChunksAfterData}
-use Rattle.hound_repair.proofs.Measuring.{puts_then}
+use Rattle.hound_writer.proofs.Appending.{puts_nothing_then}
 
 -- no pad byte is missing after data of an even length, nor where more is held
 pub missing_none : (len n : ℕ) → (n ≡ len → len % 2 ≡ 0) → missing_pad len n ≡ []
@@ -227,11 +228,6 @@ whole_right true f is = refl
 whole_right false true is = cc
 whole_right false false is = cc
 
-both : (a b : Bool) → (a && b) ≡ true → (a ≡ true) × (b ≡ true)
-both true true is = (refl, refl)
-both true false is = cc
-both false b is = cc
-
 nothing_put : (s : MediumState) → PutsNothing s s
 nothing_put s = record {
   stays = record { contents = refl; start = refl; past = refl };
@@ -244,7 +240,7 @@ module _ (looks : Bool) (old : MediumState) (d : Damage) (at : IsDamage looks ol
   repairs_whole whole =
       let frames : d.sizes.frames ≡ frames_told d.was d = ap (λ w. frames_told w d) (sym whole) in
       let right = whole_right _ _ (sym at.was ∙ whole) in
-      let sizes = both _ _ right in
+      let sizes = and_parts _ _ right in
       let n = held d.head.data_start old.contents in
       let same : right_length d.head.spec_ex d.head.data_length n ≡ found_length (repair_of d) =
       right_is looks old.contents d at sound (frames_told d.was d) frames in
@@ -316,10 +312,10 @@ repairs_after looks old mid new found puts faults repairs = record {
   where
     leaves : (w : RepairState) → LeavesFor w found repairs.start mid new
         → LeavesFor w found repairs.start old new
-    leaves Whole nothing = puts_then old mid new puts nothing
+    leaves Whole nothing = puts_nothing_then old mid new puts nothing
     leaves CutOff (is, flushed) =
         (is ∙ ap (mended repairs.start (found_length found)) puts.stays.contents, flushed)
-    leaves HasChunksAfterData nothing = puts_then old mid new puts nothing
+    leaves HasChunksAfterData nothing = puts_nothing_then old mid new puts nothing
 
 refused_after : (looks : Bool) (old mid new : MediumState) (e : Error) → PutsNothing old mid
     → mid.faults ≡ old.faults → IsNotRepaired looks mid new e → IsNotRepaired looks old new e
@@ -330,7 +326,7 @@ refused_after looks old mid new e puts faults refused = record {
           fault,
           subst (λ l. IsRepairFault l fault) puts.stays.contents is,
           names,
-          puts_then old mid new puts nothing,
+          puts_nothing_then old mid new puts nothing,
           same ∙ faults,
         )
     | inr (is, half, more) ↦ inr (is, halves half, more ∙ ap one_more faults)
@@ -338,7 +334,7 @@ refused_after looks old mid new e puts faults refused = record {
 }
   where
     halves : LeavesHalf looks mid new → LeavesHalf looks old new
-    halves (inl nothing) = inl (puts_then old mid new puts nothing)
+    halves (inl nothing) = inl (puts_nothing_then old mid new puts nothing)
     halves (inr (found, len, start, is, cut, half)) = inr (
       found,
       len,

@@ -20,12 +20,12 @@ and-true : (b : Bool) → (b && true) ≡ b
 and-true true = refl
 and-true false = refl
 
-head_ok : (first : Result (List ℕ) Refusal) (more : Result (List (List ℕ)) Refusal)
+pub head_ok : (first : Result (List ℕ) Refusal) (more : Result (List (List ℕ)) Refusal)
     → IsOk (and_more first more) → IsOk first
 head_ok (Err refusal) more have = cc
 head_ok (Ok container) more have = refl
 
-tail_ok : (first : Result (List ℕ) Refusal) (more : Result (List (List ℕ)) Refusal)
+pub tail_ok : (first : Result (List ℕ) Refusal) (more : Result (List (List ℕ)) Refusal)
     → IsOk (and_more first more) → IsOk more
 tail_ok (Err refusal) more have = cc
 tail_ok (Ok container) (Err refusal) have = cc
@@ -39,7 +39,7 @@ both_ok (Ok container) (Ok list) one rest = refl
 
 module _ {V : Type 0} (container : V → Result (List ℕ) Refusal) where
   -- whether values have containers, and one after them
-  ok_append : (values : List V) (value : V)
+  pub ok_append : (values : List V) (value : V)
       → is_ok (all_containers container (values ++ value ∷ []))
       ≡ (is_ok (all_containers container values) && is_ok (container value))
   ok_append [] value = and_more-ok (container value) (Ok []) ∙ and-true (is_ok (container value))

@@ -10,6 +10,27 @@ use hound_number::{le_u16, le_u32};
 use std::alloc::Global;
 use std::marker::Model;
 
+/// The format tag of integers (mmreg.h, WAVE_FORMAT_PCM).
+pub const WAVE_FORMAT_PCM: u16 = 0x0001;
+
+/// The format tag of floats (mmreg.h, WAVE_FORMAT_IEEE_FLOAT).
+pub const WAVE_FORMAT_IEEE_FLOAT: u16 = 0x0003;
+
+/// The format tag of a WAVEFORMATEXTENSIBLE, whose subformat says what its samples are.
+pub const WAVE_FORMAT_EXTENSIBLE: u16 = 0xfffe;
+
+/// The bytes of a WAVEFORMATEX without an extension: a PCMWAVEFORMAT, and the size of more.
+pub const WAVEFORMATEX_LENGTH: u32 = 18;
+
+/// The bytes of a WAVEFORMATEXTENSIBLE.
+pub const WAVEFORMATEXTENSIBLE_LENGTH: u32 = 40;
+
+/// The size that a WAVEFORMATEXTENSIBLE gives for its extension.
+pub const EXTENSION_LENGTH: u16 = 22;
+
+/// The bytes of a PCMWAVEFORMAT.
+pub const PCMWAVEFORMAT_LENGTH: u32 = 16;
+
 /// The subformat of integers in a WAVEFORMATEXTENSIBLE: a GUID of mmreg.h, whose first three groups
 /// are little-endian numbers.
 pub const KSDATAFORMAT_SUBTYPE_PCM: [u8; 16] = [
@@ -117,8 +138,13 @@ fn write_pcmwaveformat(header: &mut Header, spec_ex: WavSpecEx)
     requires room { length header.old + 20 ≤ 68 }
     ensures { header.new ≡ header.old ++ bytes_of 4 16 ++ short_fmt spec_ex }
 {
-    header.write_le_u32(16);
-    write_waveformat(header, 1, spec_ex.spec.bits_per_sample, spec_ex);
+    header.write_le_u32(PCMWAVEFORMAT_LENGTH);
+    write_waveformat(
+        header,
+        WAVE_FORMAT_PCM,
+        spec_ex.spec.bits_per_sample,
+        spec_ex,
+    );
 }
 
 // The fmt chunk's length, and a WAVEFORMATEXTENSIBLE.
@@ -128,9 +154,14 @@ fn write_waveformatextensible(header: &mut Header, spec_ex: WavSpecEx)
     ensures { header.new ≡ header.old ++ bytes_of 4 40 ++ long_fmt spec_ex }
 {
     let spec = spec_ex.spec;
-    header.write_le_u32(40);
-    write_waveformat(header, 0xfffe, 8 * spec_ex.bytes_per_sample, spec_ex);
-    header.write_le_u16(22);
+    header.write_le_u32(WAVEFORMATEXTENSIBLE_LENGTH);
+    write_waveformat(
+        header,
+        WAVE_FORMAT_EXTENSIBLE,
+        8 * spec_ex.bytes_per_sample,
+        spec_ex,
+    );
+    header.write_le_u16(EXTENSION_LENGTH);
     header.write_le_u16(spec.bits_per_sample);
     header.write_le_u32(channel_mask(spec.channels));
     write_subformat(header, spec.sample_format);

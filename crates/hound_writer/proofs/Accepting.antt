@@ -21,7 +21,8 @@ use Rattle.hound_writer.specs.Counts.{Counts}
 use Rattle.hound_writer.specs.Parts.{PutsAt, IsStanding}
 use Rattle.hound_writer.specs.Writer.{WriterState, HasRoom, IsCounted, IsSound, IsWhole, accepted_samples, data_length}
 use Rattle.hound_writer.proofs.Answers.{accept_as, on_refused, refused_then, unless_failed}
-use Rattle.hound_writer.proofs.Containers.{containers_append, containers_front, count_append, count_bytes, joined_bytes, whole_more}
+use Rattle.hound_sample.proofs.Containers.{containers_append, containers_front}
+use Rattle.hound_writer.proofs.Containers.{count_append, count_bytes, joined_bytes, whole_more}
 use Rattle.hound_writer.proofs.Storing.{stored_same, stored_still}
 use Rattle.hound_writer.proofs.Samples.{concat-samples, counts_at, samples_out, samples_same, whole_out}
 use Rattle.hound_writer.proofs.Standing.{inside, stands_front, stands_more}

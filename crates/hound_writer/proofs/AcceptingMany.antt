@@ -84,7 +84,7 @@ module _ {V : Type 0} (container : V → ℕ → ℕ → Result (List ℕ) Refus
       (sample_bytes container s values))) answer b c) (ap (λ w. w.spec_ex) out.value) accepts)
 
   -- these containers are those of the samples
-  asked_is : (s : WavSpecEx) → 1 ≤ s.bytes_per_sample → IsOk (containers_in container s values)
+  pub asked_is : (s : WavSpecEx) → 1 ≤ s.bytes_per_sample → IsOk (containers_in container s values)
       → Ok (containers s.bytes_per_sample
       (length (sample_bytes container s values) / s.bytes_per_sample)
       (sample_bytes container s values)) ≡ containers_in container s values

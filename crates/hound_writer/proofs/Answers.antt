@@ -40,10 +40,6 @@ on_published_then (Ok x) then here = then here
 on_published_then (Err UnfinishedSample) then here = then here
 on_published_then (Err e) then here = tt
 
-pub on_ok_then : {T E P Q : Type 0} (result : Result T E) → (P → Q) → OnOk result P → OnOk result Q
-on_ok_then (Ok x) then here = then here
-on_ok_then (Err e) then here = tt
-
 -- what holds after an Ok patch holds if its caller returns that all was published
 pub published : (P : Type 0) (patched : Result (Unit {0}) IoFault) (are_frames : Bool)
     (told : Result (Unit {0}) Error) → IsPublishResult patched are_frames told → OnOk patched P

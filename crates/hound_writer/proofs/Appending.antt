@@ -1,24 +1,26 @@
 -- Appending to an existing file.
-use Rattle.std.proofs.Common.{◌≡◌, ℕ, ◌+◌, ◌-◌, ◌%◌, ◌≤◌, Bool, true, false, not, cond, nat_lt, List, [], drop, Option, Some, None, inl, inr, Result, Ok, Err, MatchResult, refl, sym, ◌∙◌, ap, subst, arith, eqb-true}
+use Rattle.std.proofs.Common.{◌≡◌, ℕ, ◌+◌, ◌-◌, ◌%◌, ◌≤◌, Bool, true, false, cond, nat_lt, List, [], drop, Option, Some, None, inl, inr, ◌⊎◌, Result, Ok, Err, MatchResult, refl, sym, ◌∙◌, ap, subst, arith, eqb-true}
 use Rattle.std.proofs.lemmas.Bool.Decides.{nat_tests}
 use Rattle.hound_spec.specs.declared.error.Error.{Error}
 use Rattle.hound_spec.specs.declared.spec.WavSpecEx.{WavSpecEx}
 use Rattle.hound_spec.specs.Header.{riff_size}
 use Rattle.hound_medium.specs.State.{MediumState, Goes, WhereTells, one_more}
 use Rattle.hound_reader.specs.declared.chunks.FileHead.{FileHead}
+use Rattle.hound_reader.specs.declared.cause.Cause.{Cause}
 use Rattle.hound_reader.specs.declared.cause.HeadError.{HeadError}
 use Rattle.hound_reader.specs.declared.cause.HeadError.TheVariants.{Failed, Refused}
 use Rattle.hound_reader.specs.Fmt.{IsSoundSpec as IsSoundHead}
 use Rattle.hound_reader.specs.Chunks.{Head, Refused as RefusedFor}
 use Rattle.hound_reader.specs.Refusals.{ReportsError}
 use Rattle.hound_reader.specs.Sources.{FindsData}
+use Rattle.std.proofs.lemmas.Bool.{not-false}
 use Rattle.std.specs.declared.io.Error.{Error as IoFault}
 use Rattle.hound_writer.specs.Answers.{IsIoError}
 use Rattle.hound_writer.specs.Fields.{of_fields}
 use Rattle.hound_writer.specs.Parts.{IsStanding}
 use Rattle.hound_writer.specs.Sizes.{field}
 use Rattle.hound_writer.specs.Writer.{WriterState, IsSound, data_length}
-use Rattle.hound_writer.specs.Appending.{Appends, FollowsData, IsAppendFault, by_bytes, head_fault, IsNotAppended, PutsNothing}
+use Rattle.hound_writer.specs.Appending.{AppendFault, Appends, FollowsData, IsAppendFault, NamesFault, by_bytes, head_fault, IsNotAppended, PutsNothing}
 use Rattle.hound_writer.proofs.Heads.{head_field}
 use Rattle.hound_writer.proofs.Samples.{counts_at, whole_out}
 use Rattle.hound_spec.specs.FmtChunk.{greatest_u32}
@@ -28,10 +30,6 @@ none_behind : {A : Type 0} (b : Bool) (x : A) (rest : Option A) → cond b (Some
     → (b ≡ false) × (rest ≡ None)
 none_behind true x rest e = cc
 none_behind false x rest e = (refl, e)
-
-holds : (b : Bool) → not b ≡ false → b ≡ true
-holds true e = refl
-holds false e = cc
 
 -- a head with no fault
 pub sound_head : {W : Type 0} (medium : W) (s : WavSpecEx) (len h : ℕ) → IsSoundHead s → 20 ≤ h
@@ -44,11 +42,11 @@ sound_head medium s len h sound after none =
     let fits = none_behind _ _ _ frames.1 in
     let le : riff_size h len ≤ greatest_u32 = lt_false _ _ fits.0 in
     record {
-      pair = holds _ pair.0;
+      pair = not-false _ pair.0;
       channels = omega (arith, sound.0);
       width = omega (arith, sound.1);
       whole = ap (λ n. n % s.bytes_per_sample) (let e : len + 0 ≡ len = omega arith in e)
-          ∙ eqb-true _ _ (holds _ samples.0);
+          ∙ eqb-true _ _ (not-false _ samples.0);
       after_head = after;
       fits = omega (arith, le);
     }
@@ -96,7 +94,8 @@ walk_puts_nothing result old new finds = record {
   flushed = finds.flushed;
 }
 
-puts_nothing_then : (a b c : MediumState) → PutsNothing a b → PutsNothing b c → PutsNothing a c
+-- two calls that put nothing, one after the other
+pub puts_nothing_then : (a b c : MediumState) → PutsNothing a b → PutsNothing b c → PutsNothing a c
 puts_nothing_then a b c first then = record {
   stays = record {
     contents = then.stays.contents ∙ first.stays.contents;
@@ -157,19 +156,27 @@ answer_after tells state head old mid (Ok w) finds on =
 answer_after tells state head old mid (Err refused) finds on =
     λ told. refused_after head old mid (state refused.0) refused.1 (finds told) (on told)
 
--- a walk that found none
+-- A walk that found no head: a fault of the bytes, as each cause of a walk is one, or of the medium.
+pub no_head : (IsFault : AppendFault → Type 0) (error : HeadError) (e : Error) (old new : MediumState)
+    → ((cause : Cause) → RefusedFor old.contents cause → IsFault (by_bytes cause)) → old.place ≡ 0
+    → ReportsError error e → FindsData (Err error) old new
+    → ((fault : AppendFault) × IsFault fault × NamesFault e fault × (new.faults ≡ old.faults))
+    ⊎ (IsIoError e × (new.faults ≡ one_more old.faults))
+no_head IsFault (Failed x) e old new by_cause begins told finds =
+    inr (subst IsIoError (sym told) tt, finds.faults)
+no_head IsFault (Refused cause) e old new by_cause begins told finds =
+    inl (
+      by_bytes cause,
+      by_cause cause (subst (λ n. RefusedFor (drop n old.contents) cause) begins finds.answer),
+      told,
+      finds.faults,
+    )
+
+-- so there is nothing to append to
 pub walk_fails : (error : HeadError) (e : Error) (old new : MediumState) → old.place ≡ 0
     → ReportsError error e → FindsData (Err error) old new → IsNotAppended old new e
-walk_fails (Failed x) e old new begins told finds = record {
-  puts = walk_puts_nothing (Err (Failed x)) old new finds;
-  why = inr (subst IsIoError (sym told) tt, finds.faults);
-}
-walk_fails (Refused cause) e old new begins told finds = record {
-  puts = walk_puts_nothing (Err (Refused cause)) old new finds;
-  why = inl (
-    by_bytes cause,
-    inl (cause, refl, subst (λ n. RefusedFor (drop n old.contents) cause) begins finds.answer),
-    told,
-    finds.faults,
-  );
+walk_fails error e old new begins told finds = record {
+  puts = walk_puts_nothing (Err error) old new finds;
+  why = no_head (IsAppendFault old.contents) error e old new (λ cause is. inl (cause, refl, is))
+      begins told finds;
 }

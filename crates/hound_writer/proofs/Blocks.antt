@@ -9,7 +9,7 @@ use Rattle.hound_medium.proofs.Spans.{span_still, span_weaker}
 use Rattle.hound_sample.specs.Container.{containers}
 use Rattle.hound_writer.specs.Accepting.{Accepts, AddsAtEach}
 use Rattle.hound_writer.specs.Answers.{FitAnswer}
-use Rattle.hound_writer.specs.Block.{GoesAtEach, GoesOut, IsLimit, StaysAround, after_out, all_out}
+use Rattle.hound_writer.specs.Block.{GoesAtEach, GoesOut, IsLimit, StaysAround, after_out, all_out, block_length}
 use Rattle.hound_writer.specs.Counts.{Counts}
 use Rattle.hound_writer.specs.Fields.{IsConsistent}
 use Rattle.hound_writer.specs.Parts.{IsStanding, PutsAt}
@@ -52,7 +52,7 @@ module _ {W : Type 0} (tells keeps : Bool) (state : W → MediumState) (w : Writ
     fits = omega (arith, room, more);
   }
 
-  pub consistent_longer : length w.waiting + length bytes ≤ 4096
+  pub consistent_longer : length w.waiting + length bytes ≤ block_length
       → IsConsistent tells state (record w { waiting = w.waiting ++ bytes }) moved limit
   consistent_longer few =
       record {

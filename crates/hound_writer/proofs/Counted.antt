@@ -10,7 +10,8 @@ use Rattle.hound_reader.specs.declared.cause.Cause.{Cause}
 use Rattle.hound_reader.specs.Chunks.{Head, data_fault}
 use Rattle.hound_writer.specs.Sizes.{field}
 use Rattle.hound_writer.specs.Counts.{Counts, ReadsFirst}
-use Rattle.hound_writer.proofs.Containers.{concat-containers, count_bytes, containers_first, length-containers}
+use Rattle.hound_sample.proofs.Containers.{length-containers}
+use Rattle.hound_writer.proofs.Containers.{concat-containers, count_bytes, containers_first}
 
 -- no more whole samples than there are in more bytes
 pub samples_le : (m n width : ℕ) → 0 < width → m ≤ n → m / width ≤ n / width

@@ -17,6 +17,7 @@ pub mod PatchMoments
 pub mod Publishing
 pub mod Later
 pub mod PublishLater
+mod Batches
 pub mod Beginning
 pub mod Appending
 pub mod AppendAnswers

@@ -6,8 +6,10 @@ use Rattle.std.proofs.lemmas.Slice.{between_is}
 use Rattle.std.proofs.Math.Seq.{take-append-add}
 use Rattle.hound_number.specs.Number.{number, bytes_of, mix, AreBytes}
 use Rattle.hound_number.proofs.Mixing.{mix_all, mix_none}
+use Rattle.hound_spec.proofs.FmtLemmas.{number-bytes_of}
 use Rattle.hound_medium.specs.Bytes.{placed, overlay}
 use Rattle.hound_medium.specs.State.{MediumState, Flushes, faults_after, one_more}
+use Rattle.hound_medium.proofs.Outcomes.{on_ok}
 use Rattle.hound_medium.proofs.Overlays.{overlay_is}
 use Rattle.hound_medium.proofs.Inside.{drop_behind, same_size}
 use Rattle.hound_medium.proofs.Torn.{number_at_small, number_at_mix}
@@ -109,10 +111,6 @@ module _ {T E : Type 0} (keeps : Bool) (p size new : ℕ) (r : Result T E) (a b 
         (patched_field p size new a.contents has b.contents small first_half
         (riff_put all fits) second.count second.within)
 
-on_ok : {T E : Type 0} {P : Type 0} (result : Result T E) → P → OnOk result P
-on_ok (Ok x) here = here
-on_ok (Err e) here = tt
-
 -- a patch that a fault ended
 cut : {V F : Type 0} (p size data_length k : ℕ) (answer : Result V F) (a d : MediumState)
     → IsErr answer → k ≤ 4 → IsPatched p size a.contents data_length k d.contents
@@ -180,9 +178,6 @@ patched keeps p size data_length r s flush a b c d has small first second all_fi
     is_flushed P Q (Ok x) here = here
     is_flushed P Q (Err e) there = tt
 
-number-bytes_of : (n : ℕ) → n < 2 ^ 32 → number (bytes_of 4 n) ≡ n
-number-bytes_of n small = omega (arith, small)
-
 -- the contents with two sizes, part by part
 module _ (p size data_length : ℕ) (c : List ℕ) (behind : 8 ≤ p) (inside : p + 4 ≤ length c) where
   abbrev front : List ℕ
@@ -222,7 +217,7 @@ module _ (p size data_length : ℕ) (c : List ℕ) (behind : 8 ≤ p) (inside : 
       (drop_at (take 4 c)
       (bytes_of 4 size ++ (drop 8 (take p c) ++ (bytes_of 4 data_length ++ drop (p + 4) c))) 4
       length-front)
-      ∙ number-bytes_of size small
+      ∙ number-bytes_of 4 size small
 
   at_data : drop p (with_sizes p size data_length c) ≡ bytes_of 4 data_length ++ drop (p + 4) c
   at_data =
@@ -233,4 +228,4 @@ module _ (p size data_length : ℕ) (c : List ℕ) (behind : 8 ≤ p) (inside : 
   pub data_length_of_sizes : data_length < 2 ^ 32
       → field p (with_sizes p size data_length c) ≡ data_length
   data_length_of_sizes small =
-      ap (λ l. number (take 4 l)) at_data ∙ number-bytes_of data_length small
+      ap (λ l. number (take 4 l)) at_data ∙ number-bytes_of 4 data_length small

@@ -6,6 +6,7 @@ use Rattle.std.specs.Io.{StartsWith}
 use Rattle.std.specs.List.{concat}
 use Rattle.hound_number.specs.Number.{bytes_of, AreBytes}
 use Rattle.hound_medium.specs.State.{MediumState, WhereTells}
+use Rattle.std.proofs.lemmas.Result.{on_ok_weaker}
 use Rattle.hound_medium.proofs.Outcomes.{on_ok}
 use Rattle.hound_medium.proofs.Torn.{bytes_at}
 use Rattle.hound_spec.specs.declared.error.Error.{Error}
@@ -19,7 +20,7 @@ use Rattle.hound_writer.specs.Sizes.{SameButSizes, with_sizes, field}
 use Rattle.hound_writer.specs.Counts.{Counts, ReadsFirst}
 use Rattle.hound_writer.specs.Publishing.{Publishes, ReadsAs}
 use Rattle.hound_writer.specs.Writer.{WriterState, AreFrames, IsPadded, IsSound, IsWhole, IsBegun, HasHeader, accepted_samples, data_length, data_end, padded_end}
-use Rattle.hound_writer.proofs.Answers.{on_ok_then, published, told_faults, told_ok}
+use Rattle.hound_writer.proofs.Answers.{published, told_faults, told_ok}
 use Rattle.hound_writer.proofs.Keeping.{consistent_moved}
 use Rattle.hound_writer.proofs.Later.{drop_later}
 use Rattle.hound_writer.proofs.Samples.{concat-samples, counts_at, length-samples, length_out, whole_out}
@@ -253,16 +254,16 @@ module _ {W : Type 0} (state : W → MediumState) (w : WriterState W) (none : w.
             published
             (field 4 (state end).contents ≡ riff_size w.data_start
             (data_length w)) patched are_frames told is
-            (on_ok_then patched riff_says patches.contents);
+            (on_ok_weaker patched riff_says patches.contents);
         length_says =
             published
             (field (w.data_start - 4)
             (state end).contents ≡ data_length w) patched are_frames told is
-            (on_ok_then patched (λ put. length_says put ∙ all) patches.contents);
+            (on_ok_weaker patched (λ put. length_says put ∙ all) patches.contents);
         stand = λ whole. published
             (take (data_length w) (drop w.data_start (state end).contents) ≡ concat
             (accepted_samples state w)) patched are_frames told is
-            (on_ok_then patched
+            (on_ok_weaker patched
             (λ _. (λ i. take (sym all i) (samples i))
             ∙ sym (concat-samples state w none sound)) patches.contents);
         padded =
@@ -272,7 +273,7 @@ module _ {W : Type 0} (state : W → MediumState) (w : WriterState W) (none : w.
         read = λ whole. told_ok
             (ReadsAs w.spec_ex w.data_start (accepted_samples state w)
             (state end).contents) patched are_frames told is
-            (λ yes. on_ok_then patched
+            (λ yes. on_ok_weaker patched
             (λ put. reads_all w.spec_ex w.data_start w.out (accepted_samples state w)
             (state end).contents (whole_out state w none sound)
             (ap (λ n. n / w.spec_ex.bytes_per_sample % w.spec_ex.spec.channels) all ∙ frames yes)
@@ -282,7 +283,7 @@ module _ {W : Type 0} (state : W → MediumState) (w : WriterState W) (none : w.
             λ whole begun. published
             (StartsWith (state end).contents
             (canonical w.spec_ex (accepted_samples state w))) patched are_frames told is
-            (on_ok_then patched (λ put. is_canonical put whole begun) patches.contents);
+            (on_ok_weaker patched (λ put. is_canonical put whole begun) patches.contents);
       }
 
 -- what a writer keeps true after a patch, which a fault may have cut

@@ -7,7 +7,8 @@ use Rattle.hound_sample.specs.Container.{containers}
 use Rattle.hound_writer.specs.Counts.{Counts}
 use Rattle.hound_writer.specs.Parts.{IsStanding}
 use Rattle.hound_writer.specs.Writer.{WriterState, IsSound, IsWhole, accepted_bytes, accepted_samples, data_length}
-use Rattle.hound_writer.proofs.Containers.{concat-containers, containers_cut, containers_front, containers_join, count_bytes, length-containers}
+use Rattle.hound_sample.proofs.Containers.{containers_front, length-containers}
+use Rattle.hound_writer.proofs.Containers.{concat-containers, containers_cut, containers_join, count_bytes}
 use Rattle.hound_writer.proofs.Counted.{counts_standing, counts_more}
 
 -- this many of the bytes are there

@@ -1,5 +1,5 @@
 -- What stays if the two sizes change, and if all before a place stays.
-use Rattle.std.proofs.Common.{◌≡◌, ℕ, ◌+◌, ◌-◌, ◌≤◌, List, length, take, drop, refl, sym, ◌∙◌, ap, arith}
+use Rattle.std.proofs.Common.{◌≡◌, ℕ, ◌+◌, ◌-◌, ◌≤◌, List, length, take, drop, sym, ◌∙◌, ap, arith}
 use Rattle.std.proofs.lemmas.List.{take-take}
 use Rattle.std.proofs.lemmas.Slice.{between_is}
 use Rattle.hound_number.specs.Number.{number}
@@ -39,9 +39,6 @@ pub sizes_then : (start : ℕ) (a b c : List ℕ) → ChangesSizesOnly start a b
     → ChangesSizesOnly start b c → ChangesSizesOnly start a c
 sizes_then start a b c first then =
     record { front = then.front ∙ first.front; middle = then.middle ∙ first.middle }
-
-pub same_reflexive : (p : ℕ) (c : List ℕ) → SameButSizes p c c
-same_reflexive p c = record { front = refl; middle = refl; behind = refl; long = refl }
 
 pub same_transitive : (p : ℕ) (a b c : List ℕ) → SameButSizes p a b → SameButSizes p b c
     → SameButSizes p a c

@@ -3,6 +3,7 @@ use Rattle.std.specs.Prelude.{◌≡◌, ℕ, List, take}
 use Rattle.std.specs.Borrow.{GName}
 use Rattle.hound_medium.specs.declared.medium.Placed.{Ghosts}
 use Rattle.hound_writer.specs.declared.memory.BatchMemory.{Ghosts as MemoryGhosts}
+use Rattle.hound_writer.specs.Many.{short_bytes}
 use Rattle.hound_writer.specs.Writer.{WriterState}
 use Rattle.hound_writer.specs.declared.batch.SampleWriter16.{SampleWriter16}
 
@@ -17,7 +18,9 @@ pub record IsSameFile {W : Type 0} (old new : WriterState W) : Type 0 where
 module _ {W B : Type 0} {medium : Ghosts W} {memory : MemoryGhosts B} where
   -- the writer that a batch goes to, as it is now, with the memory that it has lent to the batch
   abbrev pub batch_writer : SampleWriter16 W B medium memory → WriterState W
-  batch_writer batch = record batch.parent.now { buffer = memory.bytes batch.memory }
+  batch_writer batch = record batch.parent.now {
+    buffer = short_bytes (memory.samples batch.memory);
+  }
 
   -- the ghost name of the reference to it
   abbrev pub batch_lender : SampleWriter16 W B medium memory → GName
@@ -25,7 +28,7 @@ module _ {W B : Type 0} {medium : Ghosts W} {memory : MemoryGhosts B} where
 
   -- the bytes of the samples that were written to a batch
   abbrev pub batch_bytes : SampleWriter16 W B medium memory → List ℕ
-  batch_bytes batch = take batch.written (batch_writer batch).buffer
+  batch_bytes batch = short_bytes (take batch.written (memory.samples batch.memory))
 
   -- how many samples are still to be written
   abbrev pub remaining : SampleWriter16 W B medium memory → ℕ

@@ -14,6 +14,10 @@ use Rattle.hound_writer.specs.declared.outcome.Outcome.TheVariants.{Accepted, Ou
 use Rattle.hound_writer.specs.Writer.{WriterState, IsSound, IsWhole, IsCounted, accepted_samples, data_length}
 use Rattle.hound_spec.specs.FmtChunk.{greatest_u32}
 
+-- how many bytes a block holds
+abbrev pub block_length : ℕ
+block_length = 4096
+
 -- Ok if all were written, else an Err
 abbrev pub all_out : Bool → Result (Unit {0}) (Unit {0})
 all_out true = Ok tt
@@ -80,5 +84,5 @@ pub record GoesOut {W : Type 0} (tells keeps : Bool) (state : W → MediumState)
 -- Below this many buffered bytes there is room for a sample of any width: in the block, and in the
 -- file for a whole block.
 pub record IsLimit (start out limit : ℕ) : Type 0 where
-  pub block : limit ≤ 4093
-  pub file : 1 ≤ limit → riff_size start (out + 4096) ≤ greatest_u32
+  pub block : limit + 3 ≤ block_length
+  pub file : 1 ≤ limit → riff_size start (out + block_length) ≤ greatest_u32

@@ -1,8 +1,9 @@
 -- What a writer's fields keep true.
-use Rattle.std.specs.Prelude.{◌≡◌, ℕ, ◌+◌, ◌%◌, ◌≤◌, List, [], length, Bool, false, Option, None, Some}
+use Rattle.std.specs.Prelude.{◌≡◌, ℕ, ℤ, ◌+◌, ◌%◌, ◌≤◌, List, [], length, Bool, false, Option, None, Some}
 use Rattle.hound_spec.specs.declared.spec.WavSpecEx.{WavSpecEx}
 use Rattle.hound_medium.specs.State.{MediumState, WhereTells}
-use Rattle.hound_writer.specs.Block.{IsLimit}
+use Rattle.hound_writer.specs.Block.{IsLimit, block_length}
+use Rattle.hound_writer.specs.Many.{short_bytes}
 use Rattle.hound_writer.specs.Parts.{IsStanding}
 use Rattle.hound_writer.specs.Writer.{WriterState, IsSound}
 
@@ -26,13 +27,13 @@ pub record IsConsistent {W : Type 0} (tells : Bool) (state : W → MediumState) 
   pub sound : IsSound w
   pub whole_out : w.out % w.spec_ex.bytes_per_sample ≡ 0
   pub whole_waiting : length w.waiting % w.spec_ex.bytes_per_sample ≡ 0
-  pub block : length w.waiting ≤ 4096
+  pub block : length w.waiting ≤ block_length
   pub room : IsLimit w.data_start w.out limit
   pub stands : WhereTells tells (IsStanding w.spec_ex w.data_start w.out (state w.medium).contents)
   pub place : WhereTells tells
       (may_have_moved ≡ false → (state w.medium).place ≡ w.data_start + w.out)
 
 -- the bytes of the memory that a writer holds for its batches, if it has some
-abbrev pub bytes_kept : {V : Type 0} → (V → List ℕ) → Option V → List ℕ
+abbrev pub bytes_kept : {V : Type 0} → (V → List ℤ) → Option V → List ℕ
 bytes_kept items None = []
-bytes_kept items (Some buffer) = items buffer
+bytes_kept items (Some buffer) = short_bytes (items buffer)

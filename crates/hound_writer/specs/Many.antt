@@ -1,7 +1,9 @@
 -- The containers of many samples, for one call.
-use Rattle.std.specs.Prelude.{◌≡◌, ℕ, Bool, false, List, [], ◌∷◌, Result, Ok, Err}
+use Rattle.std.specs.Prelude.{◌≡◌, ℕ, ℤ, Bool, false, List, [], ◌∷◌, Result, Ok, Err, IsOk}
+use Rattle.std.specs.List.{flat_map}
+use Rattle.hound_number.specs.Number.{signed_bytes_of}
 use Rattle.hound_spec.specs.declared.spec.WavSpecEx.{WavSpecEx}
-use Rattle.hound_sample.specs.Container.{Refusal, too_wide, unsupported}
+use Rattle.hound_sample.specs.Container.{Refusal, int_container, too_wide, unsupported}
 use Rattle.hound_sample.specs.Slices.{all_containers, joined_containers}
 use Rattle.hound_medium.specs.State.{MediumState}
 use Rattle.hound_writer.specs.Accepting.{Accepts}
@@ -27,6 +29,14 @@ abbrev pub sample_bytes : {V : Type 0} → (V → ℕ → ℕ → Result (List �
     List ℕ
 sample_bytes container s values =
     joined_containers (λ v. container v s.spec.bits_per_sample s.bytes_per_sample) values
+
+-- these integers have sixteen bits each
+abbrev pub AreShort : List ℤ → Type 0
+AreShort values = IsOk (all_containers (λ v. int_container v 16 2) values)
+
+-- the bytes of integers of sixteen bits
+abbrev pub short_bytes : List ℤ → List ℕ
+short_bytes values = flat_map (signed_bytes_of 2) values
 
 -- Samples that were written one by one, each where the one before ended, and all accepted.
 abbrev pub AcceptsEach : {V W : Type 0} → Bool → Bool → (W → MediumState) →

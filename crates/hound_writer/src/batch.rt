@@ -1,11 +1,13 @@
 // Batches of samples of sixteen bits.
-ghost use Rattle.std.specs.Prelude.{◌≡◌, ◌+◌, ◌*◌, ◌%◌, ◌^◌, ◌≤◌, ◌<◌, length, ◌/◌, ◌++◌, max, [], take, IfOk, IfErr, OnOk, Ok, Err, false};
+ghost use Rattle.std.specs.Prelude.{◌≡◌, ◌+◌, ◌*◌, ◌^◌, ◌≤◌, ◌<◌, length, ◌/◌, ◌++◌, max, [], take, IfOk, IfErr, OnOk, Ok, Err, false};
 ghost use Rattle.std.specs.Borrow.{sem, RestsIfErr};
 ghost use Rattle.hound_number.specs.Number.{signed_bytes_of};
 ghost use Rattle.hound_spec.specs.declared.error.Error.TheVariants.{OutOfMemory, TooLong};
 ghost use Rattle.hound_sample.specs.Container.{containers};
 ghost use Rattle.hound_writer.specs.contracts.write.WavWriter.{the_row};
 ghost use Rattle.hound_writer.specs.Accepting.{Accepts};
+ghost use Rattle.hound_writer.specs.Fields.{bytes_kept};
+ghost use Rattle.hound_writer.specs.Many.{AreShort, short_bytes};
 ghost use Rattle.hound_writer.specs.Room.{IsSixteen};
 ghost use Rattle.hound_writer.specs.Writer.{HasRoom};
 
@@ -13,32 +15,31 @@ use crate::WavWriter;
 use crate::memory::BatchMemory;
 use crate::output::Output;
 use hound_medium::Medium;
-use hound_number::le_i16;
 use hound_sample::Sample;
 use hound_spec::{Error, Result};
 use std::alloc::Global;
-use std::io;
 
 /// A batch of samples of sixteen bits for a writer, all of which are accepted by one call.
 ///
 /// [`WavWriter::get_i16_writer`] makes it, for a number of samples; write each, and then end it
 /// with [`SampleWriter16::flush`]. If it is dropped without that nothing is accepted.
-pub struct SampleWriter16<'parent, W: Medium, B: BatchMemory = Vec<u8>> {
+pub struct SampleWriter16<'parent, W: Medium, B: BatchMemory = Vec<i16>> {
     // The writer that the batch goes to.
     pub(crate) parent: &'parent mut WavWriter<W>,
 
     // The writer's memory for batches, which is returned to it at the end of the batch.
     pub(crate) memory: B,
 
-    // The bytes of the samples that were written.
+    // How many samples were written.
     pub(crate) written: usize,
 
     // How many samples are still to be written.
     pub(crate) left: usize,
 
-    ghost long: { written + 2 * left ≤ length (B.bytes memory) },
-    ghost few: { written + 2 * left < 2 ^ 33 },
-    ghost whole: { written % 2 ≡ 0 },
+    ghost long: { written + left ≤ length (B.samples memory) },
+    ghost few: { written + left < 2 ^ 32 },
+    ghost short: { AreShort (take written (B.samples memory)) },
+    ghost bits: { parent.now.spec_ex.spec.bits_per_sample ≡ 16 },
     ghost width: { parent.now.spec_ex.bytes_per_sample ≡ 2 },
 }
 
@@ -85,21 +86,46 @@ impl<W: Medium, B: BatchMemory> Drop for SampleWriter16<'_, W, B> {
     }
 }
 
+// The memory that is kept for batches, or an empty one.
+fn memory_in(kept: Option<Vec<i16>>, alloc: Global) -> Vec<i16>
+    ensures { short_bytes result.items ≡ bytes_kept (λ memory. memory.items) kept }
+{
+    match kept {
+        Some(memory) => memory,
+        None => Vec::new(alloc),
+    }
+}
+
+// Fills up with zeros, if memory is shorter.
+fn grow(memory: &mut Vec<i16>, num_samples: usize) -> Result<()>
+    ensures long { OnOk result (num_samples ≤ length memory.new.items) }
+    ensures kept { OnOk result (length (short_bytes memory.new.items)
+        ≡ max (length (short_bytes memory.old.items)) (2 * num_samples)) }
+    ensures refused { IfErr result (λ e. (e ≡ OutOfMemory) × (memory.new.items ≡ memory.old.items)
+        × (length (short_bytes memory.old.items) < 2 * num_samples)) }
+{
+    if memory.len() >= num_samples {
+        return Ok(());
+    }
+    match memory.resize(num_samples, 0) {
+        Ok(()) => Ok(()),
+        Err(_) => Err(Error::OutOfMemory),
+    }
+}
+
 impl<W: Medium> Output<W> {
-    // Lends the memory for batches, with at least this many bytes.
-    fn lend_memory(&mut self, alloc: Global, num_bytes: usize) -> Result<Vec<u8>>
+    // Lends the memory for batches, with at least this many samples.
+    fn lend_memory(&mut self, alloc: Global, num_samples: usize) -> Result<Vec<i16>>
         ensures stays { self.new ≡ record self.old { buffer = self.new.buffer } }
         ensures lent { OnOk result (self.new.buffer ≡ []) }
-        ensures length { IfOk result (λ memory. length memory.items
-            ≡ max (length self.old.buffer) num_bytes) }
+        ensures long { IfOk result (λ memory. num_samples ≤ length memory.items) }
+        ensures length { IfOk result (λ memory. length (short_bytes memory.items)
+            ≡ max (length self.old.buffer) (2 * num_samples)) }
         ensures refused { IfErr result (λ e. (e ≡ OutOfMemory) × (self.new ≡ self.old)
-            × (length self.old.buffer < num_bytes)) }
+            × (length self.old.buffer < 2 * num_samples)) }
     {
-        let mut memory = match self.buffer.take() {
-            Some(memory) => memory,
-            None => Vec::new(alloc),
-        };
-        match grow(&mut memory, num_bytes) {
+        let mut memory = memory_in(self.buffer.take(), alloc);
+        match grow(&mut memory, num_samples) {
             Ok(()) => Ok(memory),
             Err(error) => {
                 self.buffer = Some(memory);
@@ -108,63 +134,32 @@ impl<W: Medium> Output<W> {
         }
     }
 
-    /// Takes memory back for later batches.
-    pub(crate) fn take_back_memory(&mut self, memory: Vec<u8>)
-        ensures { self.new ≡ record self.old { buffer = memory.items } }
+    // Takes memory back for later batches.
+    fn take_back_memory(&mut self, memory: Vec<i16>)
+        ensures { self.new ≡ record self.old { buffer = short_bytes memory.items } }
     {
         self.buffer = Some(memory);
-    }
-
-    // Accepts whole containers, all of them or none.
-    fn accept_batch(&mut self, bytes: &[u8], fault: &mut io::Error) -> Result<()>
-        requires few { length bytes.now ≤ 2 ^ 33 }
-        requires whole { length bytes.now % self.old.spec_ex.bytes_per_sample ≡ 0 }
-        ensures accepts { Accepts W.tells W.keeps W.state false
-            (Ok (containers self.old.spec_ex.bytes_per_sample (length bytes.now / self.old.spec_ex.bytes_per_sample) bytes.now))
-            result self.old self.new }
-        ensures buffer { self.new.buffer ≡ self.old.buffer }
-    {
-        if !self.has_room(bytes.len() as u64) {
-            return Err(Error::TooLong);
-        }
-        self.accept_all(bytes, fault)
-    }
-}
-
-// Fills up with zeros, if a buffer is shorter.
-fn grow(buffer: &mut Vec<u8>, num_bytes: usize) -> Result<()>
-    ensures kept { OnOk result (length buffer.new.items ≡ max (length buffer.old.items) num_bytes) }
-    ensures refused { IfErr result (λ e. (e ≡ OutOfMemory) × (buffer.new.items ≡ buffer.old.items)
-        × (length buffer.old.items < num_bytes)) }
-{
-    if buffer.len() >= num_bytes {
-        return Ok(());
-    }
-    match buffer.resize(num_bytes, 0) {
-        Ok(()) => Ok(()),
-        Err(_) => Err(Error::OutOfMemory),
     }
 }
 
 impl<W: Medium> WavWriter<W> {
     ghost use Rattle.hound_writer.specs.Batch.{IsSameFile, batch_bytes, batch_lender, batch_writer, remaining};
 
-    /// Accepts the samples in the first bytes of the memory of a batch, or none of them, and takes
-    /// the memory back.
-    pub(crate) fn accept_batch(&mut self, memory: Vec<u8>, num_bytes: usize) -> Result<()>
-        requires long { num_bytes ≤ length memory.items }
-        requires few { num_bytes ≤ 2 ^ 33 }
-        requires whole { num_bytes % self.old.spec_ex.bytes_per_sample ≡ 0 }
-        ensures accepts { let bytes = take num_bytes memory.items in
-            let old = record self.old { buffer = memory.items } in
+    // Accepts the first samples in the memory of a batch, or none of them, and takes the memory
+    // back.
+    fn accept_batch(&mut self, memory: Vec<i16>, count: usize) -> Result<()>
+        requires short { AreShort (take count memory.items) }
+        requires bits { self.old.spec_ex.spec.bits_per_sample ≡ 16 }
+        requires width { self.old.spec_ex.bytes_per_sample ≡ 2 }
+        requires long { count ≤ length memory.items }
+        ensures accepts { let bytes = short_bytes (take count memory.items) in
+            let old = record self.old { buffer = short_bytes memory.items } in
             Accepts W.tells W.keeps W.state false
             (Ok (containers old.spec_ex.bytes_per_sample (length bytes / old.spec_ex.bytes_per_sample) bytes))
             result old self.new }
-        ensures buffer { self.new.buffer ≡ memory.items }
+        ensures buffer { self.new.buffer ≡ short_bytes memory.items }
     {
-        let accepted = self
-            .output
-            .accept_batch(&memory[..num_bytes], &mut self.fault);
+        let accepted = self.write_samples(&memory[..count]);
         self.output.take_back_memory(memory);
         accepted
     }
@@ -197,11 +192,10 @@ impl<W: Medium> WavWriter<W> {
         ensures kept { IfOk result (λ batch. length (batch_writer batch).buffer
             ≡ max (length self.old.buffer) (2 * num_samples)) }
     {
-        let num_bytes = num_samples as u64 * 2;
-        if !self.output.has_room(num_bytes) {
+        if !self.output.has_room(num_samples as u64 * 2) {
             return Err(Error::TooLong);
         }
-        let memory = self.output.lend_memory(alloc, num_bytes as usize)?;
+        let memory = self.output.lend_memory(alloc, num_samples as usize)?;
         Ok(SampleWriter16 {
             parent: self,
             memory,
@@ -233,9 +227,9 @@ impl<'parent, W: Medium, B: BatchMemory> SampleWriter16<'parent, W, B> {
             ≡ length (batch_writer self.old).buffer }
     {
         let index = self.written;
-        self.written = index + 2;
+        self.written = index + 1;
         self.left -= 1;
-        self.memory.store(index, le_i16(sample.as_i16()));
+        self.memory.store(index, sample.as_i16());
     }
 
     /// Does what [`SampleWriter16::write_sample`] does, which is safe and checks nothing, under the

@@ -1,6 +1,7 @@
 // A block of buffered samples.
 ghost use Rattle.std.specs.Prelude.{◌≡◌, ◌+◌, ◌*◌, ◌≤◌, ◌++◌, [], IsOk, length, take};
 ghost use Rattle.hound_sample.specs.Slices.{all_containers, joined_containers};
+ghost use Rattle.hound_writer.specs.Block.{block_length};
 
 use hound_sample::{Sample, store_containers};
 use std::marker::Model;
@@ -12,7 +13,7 @@ pub(crate) const BLOCK_LENGTH: usize = 4096;
 #[derive(Drop)]
 pub(crate) struct Block {
     // Their bytes; those after these mean nothing.
-    bytes: [u8; 4096],
+    bytes: [u8; BLOCK_LENGTH],
 
     // How many bytes they have.
     waiting: usize,
@@ -20,12 +21,13 @@ pub(crate) struct Block {
 
 impl Model for Block {
     ghost use Rattle.std.specs.Prelude.{ℕ, ◌≤◌, List, take};
+    ghost use Rattle.hound_writer.specs.Block.{block_length};
 
     ghost Value = { List ℕ };
 
     ghost view = { λ block. take block.waiting block.bytes };
 
-    ghost invariant = { λ block. block.waiting ≤ 4096 };
+    ghost invariant = { λ block. block.waiting ≤ block_length };
 }
 
 impl Block {
@@ -34,7 +36,7 @@ impl Block {
         ensures { result ≡ [] }
     {
         Block {
-            bytes: [0; 4096],
+            bytes: [0; BLOCK_LENGTH],
             waiting: 0,
         }
     }
@@ -43,7 +45,7 @@ impl Block {
     #[inline(always)]
     pub(crate) fn len(&self) -> usize
         ensures length { result ≡ length self.now }
-        ensures within { result ≤ 4096 }
+        ensures within { result ≤ block_length }
     {
         self.waiting
     }
@@ -58,7 +60,7 @@ impl Block {
     /// Appends a container of this many bytes, if there is room for four.
     #[inline(always)]
     pub(crate) fn push(&mut self, container: [u8; 4], width: usize)
-        requires room { length self.old ≤ 4092 }
+        requires room { length self.old + 4 ≤ block_length }
         requires width { width ≤ 4 }
         ensures { self.new ≡ self.old ++ take width container }
     {
@@ -73,7 +75,7 @@ impl Block {
 
     /// Appends containers, if there is room.
     pub(crate) fn extend(&mut self, containers: &[u8])
-        requires { length self.old + length containers.now ≤ 4096 }
+        requires { length self.old + length containers.now ≤ block_length }
         ensures { self.new ≡ self.old ++ containers.now }
     {
         let at = self.waiting;
@@ -86,7 +88,7 @@ impl Block {
     pub(crate) fn extend_by<S: Sample + Copy>(&mut self, samples: &[S], bits: u16, width: u16)
         requires have { IsOk (all_containers (λ s. S.container s bits width) samples.now) }
         requires width { width ≤ 4 }
-        requires room { length self.old + width * length samples.now ≤ 4096 }
+        requires room { length self.old + width * length samples.now ≤ block_length }
         ensures { self.new ≡ self.old
             ++ joined_containers (λ s. S.container s bits width) samples.now }
     {

@@ -1,36 +1,37 @@
 // The memory that a batch is collected in.
-ghost use Rattle.std.specs.Prelude.{◌≡◌, ◌+◌, ◌≤◌, ◌++◌, List, ℕ, length, take};
+ghost use Rattle.std.specs.Prelude.{◌≡◌, ◌+◌, ◌<◌, ◌∷◌, ◌++◌, List, ℤ, [], length, take};
 
-/// Memory of a fixed length that a batch is collected in: a `Vec<u8>`, the only type with this
+/// Memory of a fixed length that a batch is collected in: a `Vec<i16>`, the only type with this
 /// trait.
 ///
 /// A batch has a type parameter for it since contracts follow a `&mut` through a struct that owns
 /// memory only where the memory's type is a parameter.
 pub trait BatchMemory: Drop {
-    /// Its bytes.
-    ghost bytes: { Self → List ℕ };
+    /// Its samples.
+    ghost samples: { Self → List ℤ };
 
-    /// Stores two bytes.
-    fn store(&mut self, index: usize, pair: [u8; 2])
-        requires { index + 2 ≤ length (bytes self.old) }
-        ensures written { take (index + 2) (bytes self.new) ≡ take index (bytes self.old) ++ pair }
-        ensures kept { length (bytes self.new) ≡ length (bytes self.old) };
+    /// Stores a sample.
+    fn store(&mut self, index: usize, sample: i16)
+        requires { index < length (samples self.old) }
+        ensures written { take (index + 1) (samples self.new)
+            ≡ take index (samples self.old) ++ sample ∷ [] }
+        ensures kept { length (samples self.new) ≡ length (samples self.old) };
 
-    /// The same bytes as a `Vec`.
-    fn into_vec(self) -> Vec<u8>
-        ensures { result.items ≡ bytes self };
+    /// The same samples as a `Vec`.
+    fn into_vec(self) -> Vec<i16>
+        ensures { result.items ≡ samples self };
 }
 
-impl BatchMemory for Vec<u8> {
-    ghost bytes = { λ memory. memory.items };
+impl BatchMemory for Vec<i16> {
+    ghost samples = { λ memory. memory.items };
 
     #[inline(always)]
-    fn store(&mut self, index: usize, pair: [u8; 2]) {
-        self[index..index + 2].copy_from_slice(&pair);
+    fn store(&mut self, index: usize, sample: i16) {
+        self[index] = sample;
     }
 
     #[inline(always)]
-    fn into_vec(self) -> Vec<u8> {
+    fn into_vec(self) -> Vec<i16> {
         self
     }
 }

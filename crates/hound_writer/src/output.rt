@@ -39,7 +39,7 @@ pub(crate) struct Output<W: Medium> {
     fast_path_limit: usize,
 
     // The memory that batches use, which later ones reuse.
-    pub(crate) buffer: Option<Vec<u8>>,
+    pub(crate) buffer: Option<Vec<i16>>,
 }
 
 impl<W: Medium> Model for Output<W> {
@@ -99,7 +99,7 @@ impl<W: Medium> Output<W> {
     ghost use Rattle.hound_medium.specs.State.{Goes, WhereTells, WhereKeeps};
     ghost use Rattle.hound_writer.specs.Accepting.{Accepts};
     ghost use Rattle.hound_writer.specs.Answers.{IsIoError, one};
-    ghost use Rattle.hound_writer.specs.Block.{GoesOut, answer_of, or_fault};
+    ghost use Rattle.hound_writer.specs.Block.{GoesOut, answer_of, block_length, or_fault};
     ghost use Rattle.hound_writer.specs.Fields.{of_fields};
     ghost use Rattle.hound_writer.specs.Many.{containers_in, sample_bytes};
     ghost use Rattle.hound_writer.specs.Parts.{IsStanding, Patches, PatchesAtEach};
@@ -194,35 +194,11 @@ impl<W: Medium> Output<W> {
         is_put
     }
 
-    // Writes whole containers, with nothing buffered before them, and then accepts them.
-    fn accept_at_once(&mut self, bytes: &[u8], fault: &mut io::Error) -> bool
-        requires room { HasRoom self.old (length bytes.now) }
-        requires whole { length bytes.now % self.old.spec_ex.bytes_per_sample ≡ 0 }
-        requires none_waits { self.old.waiting ≡ [] }
-        ensures accepts { Accepts W.tells W.keeps W.state false
-            (Ok (containers self.old.spec_ex.bytes_per_sample (length bytes.now / self.old.spec_ex.bytes_per_sample) bytes.now)) (or_fault result fault.new) self.old self.new }
-        ensures buffer { self.new.buffer ≡ self.old.buffer }
-    {
-        let end = self.data_start + self.data_bytes_written as u64;
-        if !put_at_end(
-            &mut self.writer,
-            &mut self.may_have_moved,
-            fault,
-            end,
-            bytes,
-        ) {
-            return false;
-        }
-        self.data_bytes_written += bytes.len() as u32;
-        self.fast_path_limit = fast_path_limit_of(self.data_start, self.data_bytes_written);
-        true
-    }
-
     // Accepts whole containers that the block has room for.
     fn accept_in_block(&mut self, bytes: &[u8])
         requires room { HasRoom self.old (length bytes.now) }
         requires whole { length bytes.now % self.old.spec_ex.bytes_per_sample ≡ 0 }
-        requires few { length self.old.waiting + length bytes.now ≤ 4096 }
+        requires few { length self.old.waiting + length bytes.now ≤ block_length }
         ensures accepts { Accepts W.tells W.keeps W.state false
             (Ok (containers self.old.spec_ex.bytes_per_sample (length bytes.now / self.old.spec_ex.bytes_per_sample) bytes.now)) (Ok tt) self.old self.new }
         ensures buffer { self.new.buffer ≡ self.old.buffer }
@@ -230,11 +206,12 @@ impl<W: Medium> Output<W> {
         self.block.extend(bytes);
     }
 
-    // Accepts whole containers: in the block, which is written first if it has no room for them. A
-    // fault is saved, and none of them is accepted.
+    // Accepts a container in the block, which is written first if it has no room for it. A fault is
+    // saved, and the container isn't accepted.
     fn accept(&mut self, bytes: &[u8], fault: &mut io::Error) -> bool
         requires room { HasRoom self.old (length bytes.now) }
         requires whole { length bytes.now % self.old.spec_ex.bytes_per_sample ≡ 0 }
+        requires few { length bytes.now ≤ block_length }
         ensures accepts { Accepts W.tells W.keeps W.state false
             (Ok (containers self.old.spec_ex.bytes_per_sample (length bytes.now / self.old.spec_ex.bytes_per_sample) bytes.now)) (or_fault result fault.new) self.old self.new }
         ensures buffer { self.new.buffer ≡ self.old.buffer }
@@ -246,26 +223,8 @@ impl<W: Medium> Output<W> {
         if !self.put_block(fault) {
             return false;
         }
-        if bytes.len() > BLOCK_LENGTH {
-            return self.accept_at_once(bytes, fault);
-        }
         self.accept_in_block(bytes);
         true
-    }
-
-    /// Accepts whole containers, all of them or none.
-    pub(crate) fn accept_all(&mut self, bytes: &[u8], fault: &mut io::Error) -> Result<()>
-        requires room { HasRoom self.old (length bytes.now) }
-        requires whole { length bytes.now % self.old.spec_ex.bytes_per_sample ≡ 0 }
-        ensures accepts { Accepts W.tells W.keeps W.state false
-            (Ok (containers self.old.spec_ex.bytes_per_sample (length bytes.now / self.old.spec_ex.bytes_per_sample) bytes.now)) result self.old self.new }
-        ensures failed { IfErr result IsIoError }
-        ensures buffer { self.new.buffer ≡ self.old.buffer }
-    {
-        if self.accept(bytes, fault) {
-            return Ok(());
-        }
-        Err(Error::IoError(*fault))
     }
 
     // Accepts a container if the block, or the file, may have no room for it.
@@ -316,7 +275,7 @@ impl<W: Medium> Output<W> {
         requires room { HasRoom self.old
             (self.old.spec_ex.bytes_per_sample * length samples.now) }
         requires few { length self.old.waiting
-            + self.old.spec_ex.bytes_per_sample * length samples.now ≤ 4096 }
+            + self.old.spec_ex.bytes_per_sample * length samples.now ≤ block_length }
         ensures accepts { let bytes = sample_bytes S.container self.old.spec_ex samples.now in
             Accepts W.tells W.keeps W.state false
             (Ok (containers self.old.spec_ex.bytes_per_sample (length bytes / self.old.spec_ex.bytes_per_sample) bytes)) (Ok tt) self.old self.new }

@@ -19,7 +19,7 @@ returns-in_err-found-clause-gives g c =
     let at =
     extensible_at c.args.chunk_len c.args.found a b (omega arith) (omega arith) (omega arith)
     (ap number (sym (take_all 2 a (omega arith))) ∙ sym c.u16_at.ensures
-    ∙ c.if-u16_at-ne22.false) in
+    ∙ c.if-u16_at-ne-EXTENSION_LENGTH.false) in
     rw (p.1, p.2)
     (err_from_taken _ (a ++ b) _ _
     (wave_format_extensible c.args.chunk_len c.args.found) c.in_err-found.field-0.0
@@ -34,7 +34,7 @@ returns-clause-gives g c =
     let at =
     extensible_at c.args.chunk_len c.args.found a b (omega arith) (omega arith) (omega arith)
     (ap number (sym (take_all 2 a (omega arith))) ∙ sym c.u16_at.ensures
-    ∙ c.if-u16_at-ne22.false) in
+    ∙ c.if-u16_at-ne-EXTENSION_LENGTH.false) in
     ok_from_taken _ (a ++ b) _ _
     (wave_format_extensible c.args.chunk_len c.args.found) c.in_ok-found.found
     (Consumes-trans _ _ _ _ _ c.in_ok-fill.ensures.ok c.in_ok-fill-2.ensures.ok)

@@ -12,7 +12,7 @@ pub returns-in_ok-fill-2-clause-gives : goal.returns-in_ok-fill-2-clause-gives
 returns-in_ok-fill-2-clause-gives g c =
     let bits = c.args.found.spec.bits_per_sample in
     let a = c.fill.new.buf in
-    let b = c.fill-then-chunk_len-eq40.new.buf in
+    let b = c.fill-then-chunk_len-eq-WAVEFORMATEXTENSIBLE_LENGTH.new.buf in
     let good : (bits == 8 || bits == 16 || bits == 24) ≡ true = elim c.else-bits-ne8.branch [
       | else-bits-ne8-via-then-bits-ne8+then-bits-ne16+else-bits-ne24 w ↦ grind (arith, nat_tests)
       | else-bits-ne8-via-then-bits-ne8+else-bits-ne16 w ↦ grind (arith, nat_tests)
@@ -21,7 +21,7 @@ returns-in_ok-fill-2-clause-gives g c =
     ok_from_taken _ (a ++ b) _ _ (wave_format_pcm c.args.chunk_len c.args.found) c.args.found
     (Consumes-trans _ _ _ _ _ c.in_ok-fill.ensures.ok c.in_ok-fill-2.ensures.ok)
     (omega (arith, length-append a b))
-    (pcm_forty c.args.chunk_len c.args.found (a ++ b) c.if-chunk_len-eq40.true
+    (pcm_forty c.args.chunk_len c.args.found (a ++ b) c.if-chunk_len-eq-WAVEFORMATEXTENSIBLE_LENGTH.true
     (omega (arith, length-append a b)) good)
 
 pub returns-then-bits-ne24-clause-taken : goal.returns-then-bits-ne24-clause-taken

@@ -8,7 +8,8 @@ use Rattle.hound_repair.specs.Following.{is_followed}
 use Rattle.hound_repair.specs.Held.{frames_held, held, right_length, torn_bytes}
 use Rattle.hound_repair.specs.Repairing.{state_of}
 use Rattle.hound_repair.specs.declared.sizes.Sizes.{Sizes}
-use Rattle.hound_repair.proofs.Measuring.{fails_for, is_all, not_written, puts_then, same_fault, written}
+use Rattle.hound_repair.proofs.Measuring.{fails_for, is_all, not_written, same_fault, written}
+use Rattle.hound_writer.proofs.Appending.{puts_nothing_then}
 use Rattle.hound_repair.proofs.look.measure.Goals as goal
 
 pub returns-then-not-is_pair-clause-measures : goal.returns-then-not-is_pair-clause-measures
@@ -79,7 +80,7 @@ returns-clause-measures g c told =
     ∙ ap (λ k. riff_size head.data_start (right_length s head.data_length k)) all in
     let data_length = c.in-Ok.ensures.data ∙ ap (right_length s head.data_length) all in
     let stays = first.puts.stays.contents in (
-      puts_then _ _ _ first.puts then.puts,
+      puts_nothing_then _ _ _ first.puts then.puts,
       then.faults ∙ first.faults,
       record {
         head = c.requires.head told;

@@ -15,24 +15,24 @@ returns-in-Ok-clause-answers g c =
     let left = g.R.Read.remaining in
     let refusal = g.S.Sample.refusal in
     let meaning = g.S.Sample.meaning in
-    let read = c.read_counted-sample in
+    let read = c.read_item_since-given in
     let same : c.args.spec_ex ≡ r.spec_ex =
     c.requires ∙ sym (ap (λ (v : ReaderState _). v.spec_ex) c.self.view_is) in
     let new : ℕ → ReaderState _ =
     λ taken. record {
-      reader = read.new.reader.reader;
+      reader = read.result.0.now.reader;
       spec_ex = r.spec_ex;
       num_samples = r.num_samples;
       samples_read = r.samples_read + 1;
       bytes_read = r.bytes_read + taken;
     } in
     let given = subst (λ s. ReadsItem (refusal_at refusal s) (meaning_at meaning s) s.bytes_per_sample
-    (left r.reader.reader) (left read.new.reader.reader) read.result.0) same read.ensures.item in
+    (left r.reader.reader) (left read.result.0.now.reader) read.new.answer) same read.ensures.answers in
     subst (λ old. AnswersNext left refusal meaning (Some (Ok c.in-Ok.sample)) old
     (new c.args.spec_ex.bytes_per_sample)) c.self.view_is
-    (a_sample_is_given left refusal meaning _ (new c.args.spec_ex.bytes_per_sample) read.result.0
-    read.new.reader.fault c.in-Ok.sample (omega (arith, c.if-self.false))
-    (ap new (ap (λ (s : WavSpecEx). s.bytes_per_sample) same)) (given read.new.reader.fault)
+    (a_sample_is_given left refusal meaning _ (new c.args.spec_ex.bytes_per_sample) read.new.answer
+    read.result.0.now.fault c.in-Ok.sample (omega (arith, c.if-self.false))
+    (ap new (ap (λ (s : WavSpecEx). s.bytes_per_sample) same)) (given read.result.0.now.fault)
     (λ some. ap (λ (k : KeepingReader _). k.reader)
     (read.ensures.untouched (subst (λ s. IsSome (refusal_at refusal s)) (sym same) some)))
     c.in-Ok.is)
@@ -43,22 +43,22 @@ returns-in-Err-clause-answers g c =
     let left = g.R.Read.remaining in
     let refusal = g.S.Sample.refusal in
     let meaning = g.S.Sample.meaning in
-    let read = c.read_counted-sample in
+    let read = c.read_item_since-given in
     let reason = c.in-Err.no_sample in
     let same : c.args.spec_ex ≡ r.spec_ex =
     c.requires ∙ sym (ap (λ (v : ReaderState _). v.spec_ex) c.self.view_is) in
     let new : ℕ → ReaderState _ =
     λ taken. record {
-      reader = read.new.reader.reader;
+      reader = read.result.0.now.reader;
       spec_ex = r.spec_ex;
       num_samples = r.num_samples;
       samples_read = r.samples_read + 1;
       bytes_read = r.bytes_read + taken;
     } in
     let given = subst (λ a. ReadsItem (refusal_at refusal r.spec_ex) (meaning_at meaning r.spec_ex)
-    r.spec_ex.bytes_per_sample (left r.reader.reader) (left read.new.reader.reader) a) c.in-Err.is
+    r.spec_ex.bytes_per_sample (left r.reader.reader) (left read.result.0.now.reader) a) c.in-Err.is
     (subst (λ s. ReadsItem (refusal_at refusal s) (meaning_at meaning s) s.bytes_per_sample
-    (left r.reader.reader) (left read.new.reader.reader) read.result.0) same read.ensures.item) in
+    (left r.reader.reader) (left read.result.0.now.reader) read.new.answer) same read.ensures.answers) in
     let small : r.spec_ex.bytes_per_sample < 2 ^ 64 =
     omega (arith, c.self.invariant.sound.2, c.self.invariant.sound.0) in
     subst (λ old. AnswersNext left refusal meaning (Some (Err reason)) old (new c.taken_without.result))

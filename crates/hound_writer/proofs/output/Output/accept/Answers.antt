@@ -1,5 +1,5 @@
 use Rattle.std.proofs.Common.{Ok}
-use Rattle.hound_writer.proofs.Later.{accepts_cut, accepts_later, kept_fails}
+use Rattle.hound_writer.proofs.Later.{accepts_cut, accepts_later}
 use Rattle.hound_writer.proofs.output.Output.accept.Goals as goal
 
 pub returns-then-not-put_block-clause-accepts : goal.returns-then-not-put_block-clause-accepts
@@ -7,14 +7,6 @@ returns-then-not-put_block-clause-accepts g c =
     let W = g.W.Placed in
     accepts_cut W.tells W.keeps W.state _ c.args.self.now _ c.args.bytes.now c.put_block.new.fault
     c.if-not-put_block.ensures c.requires.room c.requires.whole
-
-pub returns-then-bytes-gt-BLOCK_LENGTH-clause-accepts :
-    goal.returns-then-bytes-gt-BLOCK_LENGTH-clause-accepts
-returns-then-bytes-gt-BLOCK_LENGTH-clause-accepts g c =
-    let W = g.W.Placed in
-    accepts_later W.tells W.keeps W.state c.args.self.now _ _ c.args.bytes.now _
-    c.if-not-put_block.ensures
-    (kept_fails c.accept_at_once.result _) c.accept_at_once.ensures.accepts
 
 pub returns-clause-accepts : goal.returns-clause-accepts
 returns-clause-accepts g c =

@@ -1,4 +1,5 @@
 use Rattle.std.proofs.Common.{◌+◌, ◌*◌, ◌≤◌, Ok, arith, length, refl, subst, sym}
+use Rattle.hound_writer.specs.Block.{block_length}
 use Rattle.hound_writer.specs.Fields.{bytes_kept, of_fields}
 use Rattle.hound_writer.specs.Many.{sample_bytes}
 use Rattle.hound_writer.proofs.AcceptingMany.{fit, many_seen}
@@ -13,8 +14,8 @@ invariant_of-self g c =
     let values = c.args.samples.now in
     let fits = fit g.S.Sample.container g.met.S.Sample.in_width values _ _ c.self.view_is
     c.requires.have c.requires.room in
-    let few : length i.block + i.spec_ex.bytes_per_sample * length values ≤ 4096 =
-    subst (λ w. length w.waiting + w.spec_ex.bytes_per_sample * length values ≤ 4096)
+    let few : length i.block + i.spec_ex.bytes_per_sample * length values ≤ block_length =
+    subst (λ w. length w.waiting + w.spec_ex.bytes_per_sample * length values ≤ block_length)
     (sym c.self.view_is) c.requires.few in
     consistent_seen W.tells W.state _ _ _ _ _
     (sym (λ j. of_fields i.writer i.spec_ex i.data_start i.data_bytes_written

@@ -1,7 +1,9 @@
-use Rattle.std.proofs.Common.{◌/◌, List, ℕ, Result, Ok, false, ap, length, refl, subst, sym, take}
-use Rattle.hound_sample.specs.Container.{Refusal, containers}
+use Rattle.std.proofs.Common.{◌/◌, ◌∙◌, Ok, false, ap, length, subst, sym, take}
+use Rattle.hound_sample.specs.Container.{containers, int_container}
 use Rattle.hound_writer.specs.Accepting.{Accepts}
-use Rattle.hound_writer.proofs.Accepting.{accepts_beside, accepts_seen}
+use Rattle.hound_writer.specs.Many.{containers_in, short_bytes}
+use Rattle.hound_writer.specs.Writer.{WriterState}
+use Rattle.hound_writer.proofs.Batches.{batch_accepted}
 use Rattle.hound_writer.proofs.write.WavWriter.accept_batch.Goals as goal
 
 pub returns-clause-accepts : goal.returns-clause-accepts
@@ -9,16 +11,16 @@ returns-clause-accepts g c =
     let W = g.W.Placed in
     let w = c.args.self.now in
     let items = c.args.memory.items in
-    let accept = c.accept_batch-accepted in
-    let asked : List ℕ → Result (List (List ℕ)) Refusal = λ bytes. Ok
-    (containers w.spec_ex.bytes_per_sample (length bytes / w.spec_ex.bytes_per_sample) bytes) in
-    let old = record w { buffer = items } in
-    let bytes = take c.args.num_bytes c.deref.result.now in
-    subst (λ bytes. Accepts W.tells W.keeps W.state false (asked bytes) accept.result old
-    c.take_back_memory.new.self) (ap (take c.args.num_bytes) c.deref.ensures.value)
-    (subst (Accepts W.tells W.keeps W.state false (asked bytes) accept.result old)
-    (sym c.take_back_memory.ensures)
-    (accepts_beside W.tells W.keeps W.state (asked bytes) accept.result w
-    accept.new.self items
-    (accepts_seen W.tells W.keeps W.state bytes accept.result _ _ _ _ c.self.view_is refl
-    accept.ensures.accepts)))
+    let write = c.write_samples-accepted in
+    let bytes = short_bytes (take c.args.count items) in
+    subst (Accepts W.tells W.keeps W.state false
+    (Ok (containers w.spec_ex.bytes_per_sample (length bytes / w.spec_ex.bytes_per_sample) bytes))
+    write.result (record w { buffer = short_bytes items }))
+    (ap (λ (w : WriterState _). record w { buffer = short_bytes items }) (sym c.self.view_is)
+    ∙ sym c.take_back_memory.ensures)
+    (batch_accepted W.tells W.keeps W.state write.result w write.new.self
+    (take c.args.count items) (short_bytes items) c.requires.short c.requires.bits
+    c.requires.width
+    (subst (λ values. Accepts W.tells W.keeps W.state false
+    (containers_in int_container w.spec_ex (take c.args.count values)) write.result w
+    write.new.self) c.deref.ensures.value write.ensures.accepts))

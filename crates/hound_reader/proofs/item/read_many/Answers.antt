@@ -2,7 +2,7 @@ use Rattle.std.proofs.Common.{take, subst}
 use Rattle.hound_sample.specs.ManyReads.{ReadsEach, items_of}
 use Rattle.hound_reader.specs.Reader.{refusal_at, meaning_at}
 use Rattle.hound_reader.proofs.BlockLemmas.{each_by_reason}
-use Rattle.hound_reader.proofs.item.AnyTypedRead.read_many_typed.Goals as goal
+use Rattle.hound_reader.proofs.item.read_many.Goals as goal
 
 pub returns-in-Err-clause-answers : goal.returns-in-Err-clause-answers
 returns-in-Err-clause-answers g c fault =

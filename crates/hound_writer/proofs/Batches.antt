@@ -1,0 +1,78 @@
+-- Batches of samples of sixteen bits.
+use Rattle.std.proofs.Common.{◌≡◌, ℕ, ℤ, pos, negsuc, ◌*◌, ◌/◌, ◌^◌, ◌&&◌, ◌≤◌, Bool, cond, false, List, [], ◌∷◌, ◌++◌, length, Result, Ok, Err, IsOk, is_ok, FitsSigned, w16, refl, sym, ◌∙◌, ap, subst, arith, length-append, lt-ltb}
+use Rattle.std.proofs.lemmas.List.{append-nil}
+use Rattle.hound_number.specs.Number.{signed_bytes_of}
+use Rattle.hound_spec.specs.declared.error.Error.{Error}
+use Rattle.hound_medium.specs.State.{MediumState}
+use Rattle.hound_sample.specs.Container.{Refusal, containers, int_bytes, int_container, too_wide}
+use Rattle.hound_sample.specs.ContainerLaws.{contained, int_container-in_width}
+use Rattle.hound_writer.specs.Accepting.{Accepts}
+use Rattle.hound_sample.specs.Slices.{all_containers, bytes_in, joined_containers}
+use Rattle.hound_writer.specs.Many.{AreShort, containers_in, sample_bytes, short_bytes}
+use Rattle.hound_writer.specs.Writer.{WriterState}
+use Rattle.hound_writer.proofs.Accepting.{accepts_beside}
+use Rattle.hound_writer.proofs.AcceptingMany.{asked_is}
+use Rattle.hound_sample.proofs.Joined.{head_ok, ok_append, tail_ok}
+
+-- each takes two bytes
+pub length-short_bytes : (values : List ℤ) → length (short_bytes values) ≡ 2 * length values
+length-short_bytes [] = refl
+length-short_bytes (v ∷ values) =
+    length-append (signed_bytes_of 2 v) (short_bytes values)
+    ∙ omega (arith, length-short_bytes values)
+
+-- a number of sixteen bits has a container of them
+short_ok : (v : ℤ) → FitsSigned w16 v → IsOk (int_container v 16 2)
+unfolding int_container
+short_ok (pos n) fit =
+    ap (λ b. is_ok (cond b (Ok (int_bytes (pos n) 16 2)) (Err too_wide)))
+    (lt-ltb n (2 ^ 15) fit.sfits)
+short_ok (negsuc n) fit =
+    ap (λ b. is_ok (cond b (Ok (int_bytes (negsuc n) 16 2)) (Err too_wide)))
+    (lt-ltb n (2 ^ 15) fit.sfits)
+
+-- and so have those after which it comes
+pub short_more : (values : List ℤ) (v : ℤ) → AreShort values → FitsSigned w16 v
+    → AreShort (values ++ v ∷ [])
+short_more values v short fit =
+    ok_append (λ v. int_container v 16 2) values v ∙ (λ i. short i && short_ok v fit i)
+
+bytes_of_short : (v : ℤ) (asked : Result (List ℕ) Refusal) → int_container v 16 2 ≡ asked
+    → IsOk asked → bytes_in asked ≡ signed_bytes_of 2 v
+bytes_of_short v (Err refusal) is have = cc
+bytes_of_short v (Ok c) is have =
+    let (_, _, same) = contained v 16 2 c is in same ∙ append-nil (signed_bytes_of 2 v)
+
+-- their containers, joined
+pub joined_short : (values : List ℤ) → AreShort values
+    → joined_containers (λ v. int_container v 16 2) values ≡ short_bytes values
+joined_short [] short = refl
+joined_short (v ∷ values) short =
+    let container : ℤ → Result (List ℕ) Refusal = λ v. int_container v 16 2 in
+    λ i. bytes_of_short v (container v) refl
+    (head_ok (container v) (all_containers container values) short) i
+    ++ joined_short values (tail_ok (container v) (all_containers container values) short) i
+
+-- a batch whose samples were accepted as those of a slice, beside the writer's memory
+pub batch_accepted : {W : Type 0} (tells keeps : Bool) (state : W → MediumState)
+    (answer : Result (Unit {0}) Error) (a b : WriterState W) (values : List ℤ) (memory : List ℕ)
+    → AreShort values → a.spec_ex.spec.bits_per_sample ≡ 16 → a.spec_ex.bytes_per_sample ≡ 2
+    → Accepts tells keeps state false (containers_in int_container a.spec_ex values) answer a b
+    → Accepts tells keeps state false
+    (Ok (containers a.spec_ex.bytes_per_sample
+    (length (short_bytes values) / a.spec_ex.bytes_per_sample) (short_bytes values))) answer
+    (record a { buffer = memory }) (record b { buffer = memory })
+batch_accepted tells keeps state answer a b values memory short bits width accepts =
+    let s = a.spec_ex in
+    let have : IsOk (containers_in int_container s values) =
+    subst (λ n. IsOk (all_containers (λ v. int_container v n s.bytes_per_sample) values)) (sym bits)
+    (subst (λ n. IsOk (all_containers (λ v. int_container v 16 n) values)) (sym width) short) in
+    let bytes : sample_bytes int_container s values ≡ short_bytes values =
+    (λ i. joined_containers (λ v. int_container v (bits i) (width i)) values)
+    ∙ joined_short values short in
+    let some : 1 ≤ s.bytes_per_sample = omega (arith, width) in
+    accepts_beside tells keeps state _ answer a b memory
+    (subst (λ bytes. Accepts tells keeps state false
+    (Ok (containers s.bytes_per_sample (length bytes / s.bytes_per_sample) bytes)) answer a b) bytes
+    (subst (λ asked. Accepts tells keeps state false asked answer a b)
+    (sym (asked_is int_container int_container-in_width values s some have)) accepts))
