@@ -31,20 +31,20 @@ wide_containers w (suc n) bytes le = (
 )
 
 -- the bytes of whole containers that cover this many
-abbrev cover : ℕ → ℕ → ℕ
+abbrev pub cover : ℕ → ℕ → ℕ
 cover w v = (v + (w - 1)) / w * w
 
-cover_count : (w v n : ℕ) → 1 ≤ w → v ≤ n * w → (v + (w - 1)) / w ≤ n
+pub cover_count : (w v n : ℕ) → 1 ≤ w → v ≤ n * w → (v + (w - 1)) / w ≤ n
 cover_count w v n some le =
     let below = div_below (v + (w - 1)) w (suc n) (omega (arith, some)) (omega (arith, le, some)) in
     omega (arith, below)
 
-le_cover : (w v : ℕ) → 1 ≤ w → v ≤ cover w v
+pub le_cover : (w v : ℕ) → 1 ≤ w → v ≤ cover w v
 le_cover w v some =
     omega (arith, div-add-mod' (v + (w - 1)) w, mod_below (v + (w - 1)) w (omega (arith, some)), some)
 
 -- if the head is there and this many containers are stored, the first of them are counted
-counts_stored : (s : WavSpecEx) (h q : ℕ) (list : List (List ℕ)) (c : List ℕ)
+pub counts_stored : (s : WavSpecEx) (h q : ℕ) (list : List (List ℕ)) (c : List ℕ)
     → 1 ≤ s.bytes_per_sample → AreWide s.bytes_per_sample list
     → Head c s (field (h - 4) c) h → field (h - 4) c ≤ q * s.bytes_per_sample
     → q ≤ length list

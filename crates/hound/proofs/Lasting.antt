@@ -21,7 +21,8 @@ use Rattle.hound.specs.Headline.{CountedAfterLoss, FlushedByFlushes, IsUncut, Ke
 use Rattle.hound.specs.Run.{Takes, Runs}
 use Rattle.hound.specs.Steps.{accepted_by, accepted_by_all}
 use Rattle.hound.proofs.Leading.{length-concat-append}
-use Rattle.hound.proofs.Moments.{Later, first_cut, later_still, later_then, run_later, same_moment, says, span_later, writes}
+use Rattle.hound.proofs.Later.{Later, later_still, later_then, same_moment, span_later}
+use Rattle.hound.proofs.Moments.{first_cut, run_later, says, writes}
 use Rattle.hound.proofs.Stepping.{did, step_span}
 
 -- a byte that was written has the same place in a later past

@@ -2,10 +2,15 @@ pub mod Stepping
 pub mod Running
 pub mod Leading
 pub mod Losing
+pub mod Later
+pub mod Calling
+pub mod NeverLess
 pub mod Moments
 pub mod AfterLoss
+pub mod PowerLoss
 pub mod Lasting
 pub mod Whole
+pub mod Keeping
 pub mod Answering
 pub mod Batching
 pub mod Chaining

@@ -30,7 +30,8 @@ use Rattle.hound.specs.Steps.{accepted_by_all}
 use Rattle.hound.proofs.AfterLoss.{accepted_all, step_of}
 use Rattle.hound.proofs.Losing.{stored_survives}
 use Rattle.hound.proofs.Lasting.{later_cut}
-use Rattle.hound.proofs.Moments.{first_cut, last_cut, span_later}
+use Rattle.hound.proofs.Later.{span_later}
+use Rattle.hound.proofs.Moments.{first_cut, last_cut}
 use Rattle.hound.proofs.Stepping.{did, step_span}
 use Rattle.hound.proofs.Whole.{none_accepted, wide_run}
 

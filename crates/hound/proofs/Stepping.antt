@@ -27,7 +27,7 @@ pub sizes_still : (start : ℕ) (c : List ℕ) → ChangesSizesOnly start c c
 sizes_still start c = record { front = refl; middle = refl }
 
 -- what is before the data stays, so the header does
-begun_front : {M : Type 0} (state : M → MediumState) (old new : WriterState M)
+pub begun_front : {M : Type 0} (state : M → MediumState) (old new : WriterState M)
     → new.spec_ex ≡ old.spec_ex → new.data_start ≡ old.data_start
     → take old.data_start (state new.medium).contents ≡ take old.data_start
     (state old.medium).contents

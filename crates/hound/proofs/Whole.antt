@@ -45,7 +45,8 @@ use Rattle.hound.proofs.Lasting.{kept_after_loss, later_cut, never_less, stays_f
 use Rattle.hound.proofs.Leading.{Leads, leads, grows_told, no_fault_parts, length-concat-append}
 use Rattle.hound.proofs.AfterLoss.{counted_after_loss, wide_containers}
 use Rattle.hound.proofs.Losing.{moments_grow}
-use Rattle.hound.proofs.Moments.{counted, end_cut, first_cut, last_cut, later_then, published, run_later, same_moment, sizes_at_each, span_later, stored}
+use Rattle.hound.proofs.Later.{later_then, same_moment, span_later}
+use Rattle.hound.proofs.Moments.{counted, end_cut, first_cut, last_cut, published, run_later, sizes_at_each, stored}
 
 -- the writer that a run begins with
 first_sound : {M : Type 0} (tells keeps : Bool) (state : M → MediumState) (begin : Begin) (old : M)
@@ -67,7 +68,7 @@ none_accepted state w sound none empty =
     (ap (λ n. n / w.spec_ex.bytes_per_sample) empty ∙ zero_div w.spec_ex.bytes_per_sample)
 
 -- no data are whole frames
-none_fault : (s : WavSpecEx) → data_fault s 0 ≡ None
+pub none_fault : (s : WavSpecEx) → data_fault s 0 ≡ None
 none_fault s =
     let w = s.bytes_per_sample in
     let n = s.spec.channels in
@@ -78,7 +79,7 @@ none_fault s =
     let frames : (0 / w) % n ≡ 0 = ap (λ m. m % n) (zero_div w) ∙ none_whole n in
     λ i. pick (none_whole w i) (frames i)
 
-read_head : (s : WavSpecEx) (h n : ℕ) (accepted : List (List ℕ)) (contents : List ℕ) → n ≡ 0
+pub read_head : (s : WavSpecEx) (h n : ℕ) (accepted : List (List ℕ)) (contents : List ℕ) → n ≡ 0
     → ReadsFirst (data_fault s n) s h n accepted contents → (len : ℕ) × Head contents s len h
 read_head s h n accepted contents none reads =
     let r : ReadsFirst None s h n accepted contents =

@@ -51,6 +51,7 @@ pub use Rattle.hound_writer.specs.Appending
 pub use Rattle.hound_writer.specs.Batch
 pub use Rattle.hound_writer.specs.Beginning
 pub use Rattle.hound_writer.specs.Block
+pub use Rattle.hound_writer.specs.Calls
 pub use Rattle.hound_writer.specs.Counts
 pub use Rattle.hound_writer.specs.Fields
 pub use Rattle.hound_writer.specs.Many
@@ -66,6 +67,7 @@ pub use Rattle.hound_repair.specs.Repairing
 pub use Rattle.hound_repair.specs.Damages
 pub mod FirstError
 pub mod Headline
+pub mod Kept
 pub mod Run
 pub mod Sessions
 pub mod Steps

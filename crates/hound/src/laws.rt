@@ -5,6 +5,7 @@ ghost use Rattle.hound_spec.specs.declared.spec.WavSpecEx.{WavSpecEx};
 ghost use Rattle.hound_spec.specs.Header.{canonical, data_start};
 ghost use Rattle.hound_medium.specs.State.{MediumState, WhereKeeps, WhereTells};
 ghost use Rattle.hound_writer.specs.Answers.{mark_of};
+ghost use Rattle.hound_writer.specs.Calls.{Asked, Begun, Left};
 ghost use Rattle.hound_writer.specs.Writer.{WriterState, IsWhole, accepted_samples, data_length};
 ghost use Rattle.hound_writer.specs.Sizes.{field};
 ghost use Rattle.hound_repair.specs.Held.{held};
@@ -17,6 +18,7 @@ ghost use Rattle.hound.specs.Headline.{IsLeftAfter, accepted_after, cut_point};
 ghost use Rattle.hound.specs.declared.session.Begin.{Begin};
 ghost use Rattle.hound.specs.declared.session.End.{End};
 ghost use Rattle.hound.specs.Run.{Begins, Ends, Ran, Runs, Takes};
+ghost use Rattle.hound.specs.Kept.{Holds, Kept};
 ghost use Rattle.hound.specs.Sessions.{AreSessions, RunsOk, all_steps};
 ghost use Rattle.hound.specs.Steps.{containers_of};
 
@@ -83,4 +85,16 @@ pub fn a_repair_loses_no_published_sample<M: Medium>(steps: &[Step])
         (held (data_start spec_ex) cut.contents) published →
         (found.spec_ex ≡ spec_ex)
         × ReadsFrames found (data_start spec_ex) published mended.contents) }
+{}
+
+/// What a writer leaves at its end counts what its calls accepted, and over a medium that keeps its
+/// past each of its states holds all that they promise: whoever made the calls, with whatever
+/// results.
+pub fn what_is_kept<M: Medium>()
+    ensures at_end { WhereTells M.tells ((s : WavSpecEx) (file : Begun) (asked : List Asked)
+        (medium : M) → Left M.tells M.keeps M.state s file asked medium
+        → Holds s file asked (M.state medium)) }
+    ensures kept { WhereKeeps M.tells M.keeps ((s : WavSpecEx) (file : Begun) (asked : List Asked)
+        (medium : M) → Left M.tells M.keeps M.state s file asked medium
+        → Kept s file asked (M.state medium)) }
 {}

@@ -61,7 +61,7 @@ module _ {W : Type 0} (tells keeps : Bool) (state : W → MediumState) where
       lead_spec calls mid b rest
       ∙ call_spec call.asked call.answer (with_memory a memory) mid does
 
-  opens_spec : (s : WavSpecEx) (file : Begun) (first : WriterState W)
+  pub opens_spec : (s : WavSpecEx) (file : Begun) (first : WriterState W)
       → Opens tells keeps state s file first → first.spec_ex ≡ s
   opens_spec s new_file first opens = opens.1.begun.spec
   opens_spec s (appended start found) first opens = opens.spec_is

@@ -29,4 +29,4 @@ pub returns-in-Flush : goal.returns-in-Flush
 returns-in-Flush g c =
     subst (λ step.
     Takes g.M.Placed.tells g.M.Placed.keeps g.M.Placed.state step c.flush.result
-    c.args.writer.now c.flush.new.self) (sym c.in-Flush.is) c.flush.ensures
+    c.args.writer.now c.flush.new.self) (sym c.in-Flush.is) c.flush.ensures.checkpoints

@@ -1,0 +1,224 @@
+-- What a list of calls of a writer promises, whatever failed: counted in each state, published at a
+-- flush, canonical at the end.
+use Rattle.std.specs.Prelude.{◌≡◌, ℕ, ◌+◌, ◌-◌, ◌/◌, ◌<◌, ◌≤◌, ◌⊎◌, ⊤, Bool, true, List, [], ◌∷◌, ◌++◌, length, Result}
+use Rattle.std.specs.List.{concat, AllByRecursion}
+use Rattle.std.specs.Io.{StartsWith}
+use Rattle.hound_spec.specs.declared.spec.WavSpecEx.{WavSpecEx}
+use Rattle.hound_spec.specs.Header.{canonical, data_start}
+use Rattle.hound_spec.specs.Writable.{IsWritable}
+use Rattle.hound_medium.specs.Bytes.{moment}
+use Rattle.hound_medium.specs.State.{MediumState}
+use Rattle.hound_durable.specs.Losses.{Ascends, SurvivesLoss, place_of}
+use Rattle.hound_reader.specs.Chunks.{Head}
+use Rattle.hound_writer.specs.Answers.{if_marked, mark_of}
+use Rattle.hound_writer.specs.Calls.{Asked, Begun, Call, appended, asked_by_all, found_in, new_file, publish, start_of, write}
+use Rattle.hound_writer.specs.Counts.{Counts}
+use Rattle.hound_writer.specs.Sizes.{field}
+use Rattle.hound_writer.specs.Storing.{IsStored}
+use Rattle.hound_writer.specs.Writer.{HasHeader}
+
+-- what a call accepted, by what it asked and its mark
+abbrev pub accepted_of : Asked → Bool → List (List ℕ)
+accepted_of (write containers) mark = if_marked mark containers
+accepted_of publish mark = []
+
+-- what calls accepted, in their order
+abbrev pub accepted_by_all : List Call → List (List ℕ)
+accepted_by_all [] = []
+accepted_by_all (call ∷ calls) =
+    accepted_of call.asked (mark_of call.answer) ++ accepted_by_all calls
+
+-- where the first of these calls began; without one, the end of the past
+abbrev pub begins_at : List Call → MediumState → ℕ
+begins_at [] medium = length medium.past
+begins_at (call ∷ calls) medium = call.began
+
+-- a call that published all
+abbrev pub HasPublished : Call → Type 0
+HasPublished call = (call.asked ≡ publish) × (mark_of call.answer ≡ true)
+
+-- calls that write samples only
+abbrev pub AsksToWrite : Asked → Type 0
+AsksToWrite (write containers) = ⊤
+AsksToWrite publish = ⊥
+
+abbrev pub WriteOnly : List Call → Type 0
+WriteOnly [] = ⊤
+WriteOnly (call ∷ calls) = AsksToWrite call.asked × WriteOnly calls
+
+-- No write of the field at p is cut in the state after k bytes: each byte that one of these calls
+-- wrote at p before k was followed by three more, within the same call and before k.
+abbrev pub IsUncut : ℕ → List Call → MediumState → ℕ → Type 0
+IsUncut p calls medium k = (before after : List Call) (call : Call) (i : ℕ) →
+    calls ≡ before ++ (call ∷ after) → call.began ≤ i → i < begins_at after medium → i < k →
+    place_of medium.past i ≡ p → (i + 4 ≤ begins_at after medium) × (i + 4 ≤ k)
+
+-- Calls with the writer of a file of this spec, whose data begin at `start` and which had these
+-- samples; and the medium as it is after them.
+module _ (s : WavSpecEx) (start : ℕ) (found : List (List ℕ)) (calls : List Call)
+    (medium : MediumState) where
+  -- the samples that the file has once these of the calls have returned
+  abbrev pub accepted : List Call → List (List ℕ)
+  accepted before = found ++ accepted_by_all before
+
+  -- the contents after so many bytes were written
+  abbrev pub contents_at : ℕ → List ℕ
+  contents_at k = moment medium.start medium.past k
+
+  -- After each byte written, the length field counts no more than the accepted samples that the
+  -- medium holds, and reading then gives exactly the first ones it counts or rejects a length of no
+  -- whole frames: in each state from where a call began to where it returned, these are the samples
+  -- that were accepted before it.
+  abbrev pub CountedAtEach : Type 0
+  CountedAtEach = (before after : List Call) (call : Call) (k : ℕ) →
+      calls ≡ before ++ (call ∷ after) → call.began ≤ k → k ≤ begins_at after medium →
+      Counts s start (accepted before) (contents_at k)
+
+  -- In each state the file has the head of its spec, with the length that its field says.
+  abbrev pub HeadAtEach : Type 0
+  HeadAtEach = (k : ℕ) → begins_at calls medium ≤ k → k ≤ length medium.past →
+      Head (contents_at k) s (field (start - 4) (contents_at k)) start
+
+  -- An Ok `flush` counts them all: from its return, over further calls that write samples only, to
+  -- where the next one begins, the length field is that of all samples accepted before it.
+  abbrev pub PublishedByFlushes : Type 0
+  PublishedByFlushes = (before later after : List Call) (flush : Call) (k : ℕ) →
+      calls ≡ before ++ (flush ∷ (later ++ after)) → HasPublished flush → WriteOnly later →
+      begins_at (later ++ after) medium ≤ k → k ≤ begins_at after medium →
+      field (start - 4) (contents_at k) ≡ length (concat (accepted before))
+
+  -- What a flush has published is never undercut: from its return on the length field counts at
+  -- least the samples accepted before it, in each state in which no write of it since then is cut.
+  abbrev pub NeverLess : Type 0
+  NeverLess = (before after : List Call) (flush : Call) (k : ℕ) →
+      calls ≡ before ++ (flush ∷ after) → HasPublished flush → begins_at after medium ≤ k →
+      k ≤ length medium.past → IsUncut (start - 4) after medium k →
+      length (concat (accepted before)) ≤ field (start - 4) (contents_at k)
+
+  -- What a flush has flushed stays so: the medium was flushed at its return or later.
+  abbrev pub FlushedByFlushes : Type 0
+  FlushedByFlushes = (before after : List Call) (flush : Call) →
+      calls ≡ before ++ (flush ∷ after) → HasPublished flush → begins_at after medium ≤ medium.flushed
+
+  -- What is stored of the accepted samples stays stored.
+  abbrev pub StoredAtEach : Type 0
+  StoredAtEach = (before after : List Call) (a len k m : ℕ) →
+      calls ≡ before ++ after → begins_at after medium ≤ k → k ≤ m → m ≤ length medium.past →
+      a + len ≤ length (concat (accepted before)) →
+      IsStored start (concat (accepted before)) a len (contents_at k) →
+      IsStored start (concat (accepted before)) a len (contents_at m)
+
+  -- each call began after those before it, within the past
+  abbrev pub BeginInOrder : Type 0
+  BeginInOrder = (before after : List Call) → calls ≡ before ++ after →
+      (begins_at calls medium ≤ begins_at after medium) × (begins_at after medium ≤ length medium.past)
+
+  -- A loss of power leaves a file that counts. If a medium was flushed when f bytes had been
+  -- written, the header among them, and then wrote bytes only at ascending places, a loss after k
+  -- bytes may leave any mixture of sectors (`SurvivesLoss`). If the length field is within one
+  -- sector, it counts no more than the samples accepted by then that these contents hold, and
+  -- reading gives exactly the first ones it counts or rejects a length of no whole frames; and it is
+  -- the length field of a state from f to k.
+  abbrev pub CountedAfterLoss : Type 0
+  CountedAfterLoss = (before after : List Call) (call : Call) (f k sector : ℕ) (contents : List ℕ) →
+      calls ≡ before ++ (call ∷ after) → begins_at calls medium ≤ f → f ≤ k → call.began ≤ k →
+      k ≤ begins_at after medium → Ascends medium.past f k → 1 ≤ sector →
+      (start - 4) / sector ≡ (start - 1) / sector →
+      SurvivesLoss sector medium.start medium.past f k contents →
+      Counts s start (accepted before) contents
+      × ((j : ℕ) × (f ≤ j) × (j ≤ k)
+      × (field (start - 4) contents ≡ field (start - 4) (contents_at j)))
+      × Head contents s (field (start - 4) contents) start
+
+  -- The length field is that of a state since the medium was last flushed in which no write of it by
+  -- these calls is cut.
+  abbrev pub HasWholeLength : List Call → List ℕ → Type 0
+  HasWholeLength after contents =
+      (k : ℕ) × (medium.flushed ≤ k) × (k ≤ length medium.past)
+      × (field (start - 4) contents ≡ field (start - 4) (contents_at k))
+      × IsUncut (start - 4) after medium k
+
+  -- These contents, which a loss of power left, have lost no published sample: their length field is
+  -- that of a state since the medium was last flushed, and it counts at least the samples that were
+  -- accepted before each flush, unless a write of it is cut in every such state.
+  abbrev pub LosesNothing : List ℕ → Type 0
+  LosesNothing contents =
+      ((k : ℕ) × (medium.flushed ≤ k) × (k ≤ length medium.past)
+      × (field (start - 4) contents ≡ field (start - 4) (contents_at k)))
+      × ((before after : List Call) (flush : Call) → calls ≡ before ++ (flush ∷ after) →
+      HasPublished flush → HasWholeLength after contents →
+      length (concat (accepted before)) ≤ field (start - 4) contents)
+
+  -- The same for a medium that has written bytes only at ascending places since it was last flushed,
+  -- the header before that, if the power is lost at the end. Calls that all fail from some point on
+  -- are those of a machine that lost its power there.
+  abbrev pub KeptAfterLoss : Type 0
+  KeptAfterLoss = (sector : ℕ) (contents : List ℕ) → begins_at calls medium ≤ medium.flushed →
+      medium.flushed ≤ length medium.past →
+      Ascends medium.past medium.flushed (length medium.past) → 1 ≤ sector →
+      (start - 4) / sector ≡ (start - 1) / sector →
+      SurvivesLoss sector medium.start medium.past medium.flushed (length medium.past) contents →
+      LosesNothing contents
+
+  -- An end that published leaves the canonical file of all accepted samples.
+  abbrev pub CanonicalAtEnd : Type 0
+  CanonicalAtEnd = (before : List Call) (end : Call) → calls ≡ before ++ (end ∷ []) →
+      HasPublished end → StartsWith medium.contents (canonical s (accepted before))
+
+-- What calls promise of a medium that keeps its past, in each of its states since the first of them.
+pub record Promises (s : WavSpecEx) (start : ℕ) (found : List (List ℕ)) (calls : List Call)
+    (medium : MediumState) : Type 0 where
+  pub counted : CountedAtEach s start found calls medium
+  pub head : HeadAtEach s start found calls medium
+  pub published : PublishedByFlushes s start found calls medium
+  pub never_less : NeverLess s start found calls medium
+  pub flushed : FlushedByFlushes s start found calls medium
+  pub stored : StoredAtEach s start found calls medium
+  pub in_order : BeginInOrder s start found calls medium
+  pub after_loss : CountedAfterLoss s start found calls medium
+  pub kept_after_loss : KeptAfterLoss s start found calls medium
+  pub canonical : start ≡ data_start s →
+      HasHeader s (contents_at s start found calls medium (begins_at calls medium)) →
+      CanonicalAtEnd s start found calls medium
+
+-- P for a new file
+abbrev pub IfNew : Begun → Type 0 → Type 0
+IfNew new_file P = P
+IfNew (appended start found) P = ⊤
+
+-- What calls leave in a medium whose bytes are known: it counts what they accepted, each sample as
+-- wide as its spec says, and a new file is the canonical one at an end that published.
+pub record HoldsAtEnd (s : WavSpecEx) (file : Begun) (calls : List Call) (medium : MediumState) :
+    Type 0 where
+  pub writable : IfNew file (IsWritable s)
+  pub wide : AllByRecursion (λ c. length c ≡ s.bytes_per_sample)
+      (found_in file ++ accepted_by_all calls)
+  pub counts : Counts s (start_of s file) (found_in file ++ accepted_by_all calls) medium.contents
+  pub canonical : IfNew file (CanonicalAtEnd s (start_of s file) (found_in file) calls medium)
+
+-- What a writer has left that was asked these, over a medium whose bytes are known.
+pub record Holds (s : WavSpecEx) (file : Begun) (asked : List Asked) (medium : MediumState) :
+    Type 0 where
+  pub calls : List Call
+  pub asked_is : asked_by_all calls ≡ asked
+  pub at_end : HoldsAtEnd s file calls medium
+
+-- What a writer has left that was asked these, over a medium that keeps its past: the calls that were
+-- made, and all that they promise.
+pub record Kept (s : WavSpecEx) (file : Begun) (asked : List Asked) (medium : MediumState) :
+    Type 0 where
+  pub calls : List Call
+  pub asked_is : asked_by_all calls ≡ asked
+  pub at_end : HoldsAtEnd s file calls medium
+  pub promises : Promises s (start_of s file) (found_in file) calls medium
+
+-- What is left at some point after so many bytes were written: the contents of a state, or what a
+-- loss of power leaves of a medium that has written bytes at ascending places only since it was
+-- flushed, if the length field lies within one sector.
+abbrev pub IsLeftAfter : ℕ → ℕ → MediumState → List ℕ → Type 0
+IsLeftAfter start from medium contents =
+    ((k : ℕ) × (from ≤ k) × (k ≤ length medium.past)
+    × (contents ≡ moment medium.start medium.past k))
+    ⊎ ((f : ℕ) × (k : ℕ) × (sector : ℕ) × (from ≤ f) × (f ≤ k) × (k ≤ length medium.past)
+    × Ascends medium.past f k × (1 ≤ sector) × ((start - 4) / sector ≡ (start - 1) / sector)
+    × SurvivesLoss sector medium.start medium.past f k contents)
