@@ -1,5 +1,5 @@
 -- What calls lead to, in each state.
-use Rattle.std.proofs.Common.{◌≡◌, ℕ, ◌+◌, ◌-◌, ◌≤◌, Bool, true, List, [], ◌∷◌, ◌++◌, length, take, Result, Ok, Err, IsTrue, refl, sym, ◌∙◌, ap, subst, arith, inl, inr, append_assoc, length-append}
+use Rattle.std.proofs.Common.{◌≡◌, ℕ, ◌+◌, ◌-◌, ◌%◌, ◌≤◌, max, Bool, true, List, [], ◌∷◌, ◌++◌, length, take, Result, Ok, Err, IsTrue, refl, sym, ◌∙◌, ap, subst, arith, inl, inr, append_assoc, length-append}
 use Rattle.std.proofs.lemmas.Bool.{cases_lt, false≢true}
 use Rattle.std.proofs.lemmas.List.{append-nil}
 use Rattle.std.specs.List.{concat}
@@ -12,19 +12,41 @@ use Rattle.hound_medium.specs.State.{MediumState}
 use Rattle.hound_medium.specs.Spans.{Span}
 use Rattle.hound_medium.proofs.Overlays.{front_part}
 use Rattle.hound_medium.proofs.Spans.{moment_last}
-use Rattle.hound_writer.specs.Answers.{OnPublished, mark_of}
+use Rattle.hound_writer.specs.Answers.{OnPublished, UnlessFailed, faults_told, mark_of}
 use Rattle.hound_writer.specs.Calls.{Asked, Call, Does, Lead, publish, with_memory, write}
 use Rattle.hound_writer.specs.Counts.{Counts}
 use Rattle.hound_writer.specs.Sizes.{ChangesSizesOnly, field}
 use Rattle.hound_writer.specs.Storing.{IsStored, KeepsStored}
-use Rattle.hound_writer.specs.Writer.{WriterState, HasHeader, IsBegun, IsCounted, IsWhole, accepted_samples, data_length}
-use Rattle.hound_writer.proofs.Sizes.{sizes_front, sizes_then, take_front}
+use Rattle.hound_writer.specs.Writer.{WriterState, HasHeader, IsBegun, IsCounted, IsWhole, accepted_samples, data_length, padded_end}
+use Rattle.hound_writer.proofs.Answers.{unless_failed, unless_then}
+use Rattle.hound_writer.proofs.Sizes.{header_front, sizes_front, sizes_then, take_front}
 use Rattle.hound_writer.proofs.Storing.{stored_fewer, stored_join}
-use Rattle.hound.specs.Kept.{AsksToWrite, BeginInOrder, CountedAtEach, FlushedByFlushes, HasPublished, PublishedByFlushes, StoredAtEach, WriteOnly, accepted_by_all, accepted_of, begins_at}
+use Rattle.hound.specs.Headline.{AsksToWrite, BeginInOrder, CountedAtEach, FlushedByFlushes, PublishedByFlushes, StoredAtEach, WriteOnly, accepted_by_all, accepted_of, begins_at}
 use Rattle.hound_repair.proofs.Joining.{concat-append}
+use Rattle.hound.specs.Run.{NoFault}
+use Rattle.hound.proofs.Faults.{FaultsGrow, grow_then, grows_told, no_fault_parts, unless_told}
 use Rattle.hound.proofs.Later.{Later, later_still, later_then, same_moment, span_later}
-use Rattle.hound.proofs.Leading.{length-concat-append}
-use Rattle.hound.proofs.Stepping.{begun_front, sizes_still}
+
+pub length-concat-append : (xs ys : List (List ℕ))
+    → length (concat (xs ++ ys)) ≡ length (concat xs) + length (concat ys)
+length-concat-append xs ys = ap length (concat-append xs ys) ∙ length-append (concat xs) (concat ys)
+
+-- before the data only the two sizes changed
+sizes_still : (start : ℕ) (c : List ℕ) → ChangesSizesOnly start c c
+sizes_still start c = record { front = refl; middle = refl }
+
+-- what is before the data stays, so the header does
+begun_front : {M : Type 0} (state : M → MediumState) (old new : WriterState M)
+    → new.spec_ex ≡ old.spec_ex → new.data_start ≡ old.data_start
+    → take old.data_start (state new.medium).contents ≡ take old.data_start
+    (state old.medium).contents
+    → IsBegun state old → IsBegun state new
+begun_front state old new spec start front (has, at) = (
+  subst (λ s. HasHeader s (state new.medium).contents) (sym spec)
+      (header_front old.spec_ex old.data_start (state old.medium).contents
+      (state new.medium).contents at front has),
+  start ∙ at ∙ ap data_start (sym spec),
+)
 
 -- P, if a call with this mark published all
 pub has : {P : Type 0} (answer : Result (Unit {0}) Error) → mark_of answer ≡ true
@@ -46,8 +68,12 @@ module _ {W : Type 0} (tells keeps : Bool) (state : W → MediumState) (told : I
     pub accepted : IsWhole state old
         → accepted_samples state new ≡ accepted_samples state old ++ list
     pub counts : IsWhole state old → IsCounted state old → IsCounted state new
+    pub faults : FaultsGrow (state old.medium) (state new.medium)
+    pub reach : NoFault (state old.medium) (state new.medium)
+        → length (state new.medium).contents ≤ max (length (state old.medium).contents)
+        (padded_end new)
 
-  went_still : (w : WriterState W) (memory : List ℕ) → Went [] w (with_memory w memory)
+  pub went_still : (w : WriterState W) (memory : List ℕ) → Went [] w (with_memory w memory)
   went_still w memory = record {
     spec_ex = refl;
     data_start = refl;
@@ -57,9 +83,11 @@ module _ {W : Type 0} (tells keeps : Bool) (state : W → MediumState) (told : I
     whole = λ whole. whole;
     accepted = λ _. sym (append-nil (accepted_samples state w));
     counts = λ _ counts. counts;
+    faults = λ small. (omega arith, small);
+    reach = λ _. omega arith;
   }
 
-  went_then : (l m : List (List ℕ)) (a b c : WriterState W) → Went l a b → Went m b c
+  pub went_then : (l m : List (List ℕ)) (a b c : WriterState W) → Went l a b → Went m b c
       → Went (l ++ m) a c
   went_then l m a b c first then = record {
     spec_ex = then.spec_ex ∙ first.spec_ex;
@@ -76,7 +104,46 @@ module _ {W : Type 0} (tells keeps : Bool) (state : W → MediumState) (told : I
         ∙ ap (λ (x : List (List ℕ)). x ++ m) (first.accepted whole)
         ∙ append_assoc (accepted_samples state a) l m;
     counts = λ whole counts. then.counts (first.whole whole) (first.counts whole counts);
+    faults = grow_then (state a.medium) (state b.medium) (state c.medium) first.faults then.faults;
+    reach = λ none.
+        let parts = no_fault_parts (state a.medium) (state b.medium) (state c.medium) first.faults
+        then.faults none in
+        omega (arith, first.reach parts.0, then.reach parts.1, then.data_start, then.size);
   }
+
+  -- the faults of a call are counted
+  pub call_faults : (asked : Asked) (answer : Result (Unit {0}) Error) (memory : List ℕ)
+      (old new : WriterState W) → Does tells keeps state asked answer (with_memory old memory) new
+      → (state new.medium).faults ≡ faults_told answer (state old.medium).faults
+  call_faults (write containers) answer memory old new (m, a) = (a.file told).faults
+  call_faults publish answer memory old new c = (c.publishes told).faults
+
+  -- and unless it met one, the contents end no later than before, or at the end of the data
+  pub call_reach : (asked : Asked) (answer : Result (Unit {0}) Error) (memory : List ℕ)
+      (old new : WriterState W) → Does tells keeps state asked answer (with_memory old memory) new
+      → UnlessFailed answer (length (state new.medium).contents
+      ≤ max (length (state old.medium).contents) (padded_end new))
+  call_reach (write containers) answer memory old new (m, a) =
+      unless_then answer (λ le. omega (arith, le)) (a.file told).reach
+  call_reach publish answer memory old new c =
+      unless_failed answer
+      (omega (
+        arith,
+        (c.publishes told).reach,
+        c.samples.data_start,
+        c.samples.data_length,
+        ap (λ n. n % 2) c.samples.data_length,
+      ))
+
+  call_reached : (asked : Asked) (answer : Result (Unit {0}) Error) (memory : List ℕ)
+      (old new : WriterState W) → Does tells keeps state asked answer (with_memory old memory) new
+      → NoFault (state old.medium) (state new.medium)
+      → length (state new.medium).contents ≤ max (length (state old.medium).contents)
+      (padded_end new)
+  call_reached asked answer memory old new does (same, small) =
+      unless_told answer (state old.medium).faults small
+      (sym (call_faults asked answer memory old new does) ∙ same)
+      (call_reach asked answer memory old new does)
 
   pub call_went : (asked : Asked) (answer : Result (Unit {0}) Error) (memory : List ℕ)
       (old new : WriterState W) → Does tells keeps state asked answer (with_memory old memory) new
@@ -91,6 +158,8 @@ module _ {W : Type 0} (tells keeps : Bool) (state : W → MediumState) (told : I
     whole = (a.file told).whole;
     accepted = (a.file told).accepted;
     counts = λ whole _. (a.file told).counts whole;
+    faults = grows_told answer (state old.medium) (state new.medium) (a.file told).faults;
+    reach = call_reached (write containers) answer memory old new (m, a);
   }
   call_went publish answer memory old new c = record {
     spec_ex = c.samples.spec_ex;
@@ -110,6 +179,8 @@ module _ {W : Type 0} (tells keeps : Bool) (state : W → MediumState) (told : I
           sym c.samples.spec_ex i,
           (sym c.samples.data_start i, sym (c.accepted told whole) i),
         )) ((c.publishes told).counts whole);
+    faults = grows_told answer (state old.medium) (state new.medium) (c.publishes told).faults;
+    reach = call_reached publish answer memory old new c;
   }
 
   pub went : (calls : List Call) (old new : WriterState W) → Lead tells keeps state calls old new
@@ -155,7 +226,7 @@ module _ {W : Type 0} (tells keeps : Bool) (state : W → MediumState) (told : I
       }
 
   pub begin : (calls : List Call) (old new : WriterState W) → Lead tells keeps state calls old new
-      → begins_at calls (state new.medium) ≡ length (state old.medium).past
+      → begins_at calls (state new.medium).past ≡ length (state old.medium).past
   begin [] old new (memory, same) = ap (λ (w : WriterState W). length (state w.medium).past) same
   begin (call ∷ calls) old new (memory, mid, at, does, rest) = at
 
@@ -198,14 +269,16 @@ module _ {W : Type 0} (tells keeps : Bool) (state : W → MediumState) (told : I
         → Lead tells keeps state calls old new → IsWhole state old
         → BeginInOrder old.spec_ex old.data_start (accepted_samples state old) calls
         (state new.medium)
-    in_order calls old new lead whole before after same =
-        let (mid, first, rest) = lead_parts before after old new
+    in_order calls old new lead whole before then after same =
+        let (mid, first, rest) = lead_parts before (then ++ after) old new
         (subst (λ l. Lead tells keeps state l old new) same lead) in
-        let up = longer (state old.medium) (state mid.medium) (later before old mid first whole) in
-        let on = longer (state mid.medium) (state new.medium)
-        (later after mid new rest ((went before old mid first).whole whole)) in
-        let at = begin after mid new rest in
-        (omega (arith, begin calls old new lead, at, up), omega (arith, at, on))
+        let (far, second, last) = lead_parts then after mid new rest in
+        let kept_on = (went before old mid first).whole whole in
+        let up = longer (state mid.medium) (state far.medium) (later then mid far second kept_on) in
+        let on = longer (state far.medium) (state new.medium)
+        (later after far new last ((went then mid far second).whole kept_on)) in
+        let at = begin after far new last in
+        (omega (arith, begin (then ++ after) mid new rest, at, up), omega (arith, at, on))
 
     -- what was accepted before a call counts in each of its states
     pub counted : (calls : List Call) (old new : WriterState W)

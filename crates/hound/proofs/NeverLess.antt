@@ -1,5 +1,5 @@
 -- What a flush has published is never undercut.
-use Rattle.std.proofs.Common.{◌≡◌, ℕ, ◌+◌, ◌-◌, ◌<◌, ◌≤◌, Bool, ◌⊎◌, List, [], ◌∷◌, ◌++◌, length, Result, IsTrue, refl, sym, ◌∙◌, ap, subst, arith, inl, inr, length-append}
+use Rattle.std.proofs.Common.{◌≡◌, ℕ, ◌+◌, ◌-◌, ◌<◌, ◌≤◌, Bool, ◌⊎◌, List, [], ◌∷◌, length, Result, IsTrue, refl, sym, ◌∙◌, ap, subst, arith, inl, inr}
 use Rattle.std.proofs.lemmas.Bool.{cases_lt}
 use Rattle.std.specs.List.{concat}
 use Rattle.hound_spec.specs.declared.error.Error.{Error}
@@ -12,10 +12,9 @@ use Rattle.hound_writer.specs.Calls.{Asked, Call, Does, Lead, publish, with_memo
 use Rattle.hound_writer.specs.Publishing.{IsOldOrNew, IsOutside}
 use Rattle.hound_writer.specs.Sizes.{field}
 use Rattle.hound_writer.specs.Writer.{WriterState, IsWhole, accepted_samples, data_length}
-use Rattle.hound.specs.Kept.{IsUncut, NeverLess, accepted_by_all, begins_at}
-use Rattle.hound.proofs.Calling.{begin, call_later, call_went, has, later, longer, made, went, wrote}
+use Rattle.hound.specs.Headline.{IsUncut, NeverLess, accepted_by_all, begins_at}
+use Rattle.hound.proofs.Calling.{begin, call_later, call_went, has, later, length-concat-append, longer, made, went, wrote}
 use Rattle.hound.proofs.Later.{Later, same_moment}
-use Rattle.hound.proofs.Leading.{length-concat-append}
 
 -- a byte that was written has the same place in a later past
 same_place : (a b : MediumState) (i : ℕ) → Later a b → i < length a.past
@@ -70,7 +69,7 @@ module _ {W : Type 0} (tells keeps : Bool) (state : W → MediumState) (told : I
       → p ≡ old.data_start - 4 → 4 ≤ old.data_start → IsWhole state old
       → v ≤ field p (state old.medium).contents → v ≤ data_length old
       → (k : ℕ) → length (state old.medium).past ≤ k → k ≤ length (state new.medium).past
-      → IsUncut p calls (state new.medium) k
+      → IsUncut p calls (state new.medium).past k
       → v ≤ field p (moment (state new.medium).start (state new.medium).past k)
   never_below p v [] old new (memory, same) at behind whole says all k from to uncut =
       let last = state new.medium in
@@ -95,14 +94,14 @@ module _ {W : Type 0} (tells keeps : Bool) (state : W → MediumState) (told : I
         | inr within ↦
             subst (λ c. v ≤ field p c) (same_moment (state mid.medium) end k then within)
             (during k from within
-            (outside_within p (begins_at calls end) (state old.medium) (state mid.medium) end k then
+            (outside_within p (begins_at calls end.past) (state old.medium) (state mid.medium) end k then
             ends
             (λ i since less before is.
             uncut [] calls call i refl (omega (arith, since, begins)) less before is)))
         | inl after ↦
             let whole_last =
             during last up (omega arith)
-            (outside_within p (begins_at calls end) (state old.medium) (state mid.medium) end last
+            (outside_within p (begins_at calls end.past) (state old.medium) (state mid.medium) end last
             then ends
             (λ i since less before is.
             let four = uncut [] calls call i refl (omega (arith, since, begins)) less

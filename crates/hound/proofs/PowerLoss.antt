@@ -1,23 +1,72 @@
 -- What a loss of power leaves of a writer's file.
-use Rattle.std.proofs.Common.{◌≡◌, ℕ, suc, ◌+◌, ◌-◌, ◌*◌, ◌/◌, ◌≤◌, inl, inr, List, [], ◌∷◌, ◌++◌, length, take, drop, refl, sym, ◌∙◌, ap, subst, arith, append_assoc, length-append}
+use Rattle.std.proofs.Common.{◌≡◌, ℕ, zero, suc, ◌+◌, ◌-◌, ◌*◌, ◌/◌, ◌%◌, ◌≤◌, inl, inr, List, [], ◌∷◌, ◌++◌, length, take, drop, refl, sym, ◌∙◌, ap, subst, arith, append_assoc, length-append, length-drop, take-append-drop}
 use Rattle.std.proofs.lemmas.Bool.{cases_lt}
 use Rattle.std.proofs.lemmas.List.{length-take-le, take-take, take-append-le}
-use Rattle.std.proofs.lemmas.Nat.{mul-le}
+use Rattle.std.proofs.lemmas.Nat.{div-add-mod', div_below, div-mul-add, mod-mul-add, mod_below, mul-le}
 use Rattle.std.specs.List.{concat, AllByRecursion}
 use Rattle.hound_spec.specs.declared.spec.WavSpecEx.{WavSpecEx}
+use Rattle.hound_sample.specs.Container.{containers}
 use Rattle.hound_medium.specs.Bytes.{moment}
 use Rattle.hound_medium.specs.State.{MediumState}
-use Rattle.hound_durable.specs.Losses.{Ascends, SurvivesLoss}
 use Rattle.hound_reader.specs.Chunks.{Head}
-use Rattle.hound_reader.proofs.WrittenLemmas.{length-concat}
+use Rattle.hound_reader.proofs.WrittenLemmas.{containers-concat, length-concat}
 use Rattle.hound_writer.specs.Answers.{mark_of}
 use Rattle.hound_writer.specs.Calls.{Call}
+use Rattle.hound_writer.specs.Counts.{Counts}
 use Rattle.hound_writer.specs.Sizes.{ChangesSizesOnly, field}
+use Rattle.hound_writer.proofs.Containers.{containers_front}
+use Rattle.hound_writer.proofs.Counted.{counts_more, counts_standing}
 use Rattle.hound_writer.proofs.Heads.{head_behind}
-use Rattle.hound.specs.Kept.{BeginInOrder, CountedAfterLoss, CountedAtEach, FlushedByFlushes, KeptAfterLoss, NeverLess, StoredAtEach, accepted_by_all, accepted_of, begins_at}
+use Rattle.hound.specs.Headline.{BeginInOrder, CountedAfterLoss, CountedAtEach, FlushedByFlushes, KeptAfterLoss, NeverLess, StoredAtEach, accepted_by_all, accepted_of, begins_at}
 use Rattle.hound_repair.proofs.Joining.{AreWide, concat-append, concat_front, wide_front, wide_take}
-use Rattle.hound.proofs.AfterLoss.{counts_stored, cover, cover_count, le_cover}
 use Rattle.hound.proofs.Losing.{few_after, head_after, says_chosen, stored_after}
+
+-- those of whole bytes are of their width
+pub wide_containers : (w n : ℕ) (bytes : List ℕ) → n * w ≤ length bytes
+    → AllByRecursion (λ c. length c ≡ w) (containers w n bytes)
+wide_containers w zero bytes le = tt
+wide_containers w (suc n) bytes le = (
+  length-take-le w bytes (omega (arith, le)),
+  wide_containers w n (drop w bytes) (omega (arith, le, length-drop w bytes)),
+)
+
+-- the bytes of whole containers that cover this many
+abbrev cover : ℕ → ℕ → ℕ
+cover w v = (v + (w - 1)) / w * w
+
+cover_count : (w v n : ℕ) → 1 ≤ w → v ≤ n * w → (v + (w - 1)) / w ≤ n
+cover_count w v n some le =
+    let below = div_below (v + (w - 1)) w (suc n) (omega (arith, some)) (omega (arith, le, some)) in
+    omega (arith, below)
+
+le_cover : (w v : ℕ) → 1 ≤ w → v ≤ cover w v
+le_cover w v some =
+    omega (arith, div-add-mod' (v + (w - 1)) w, mod_below (v + (w - 1)) w (omega (arith, some)), some)
+
+-- if the head is there and this many containers are stored, the first of them are counted
+counts_stored : (s : WavSpecEx) (h q : ℕ) (list : List (List ℕ)) (c : List ℕ)
+    → 1 ≤ s.bytes_per_sample → AreWide s.bytes_per_sample list
+    → Head c s (field (h - 4) c) h → field (h - 4) c ≤ q * s.bytes_per_sample
+    → q ≤ length list
+    → take (q * s.bytes_per_sample) (drop h c) ≡ take (q * s.bytes_per_sample) (concat list)
+    → Counts s h list c
+counts_stored s h q list c some wide head few among stored =
+    let w = s.bytes_per_sample in
+    let first = take q list in
+    let size : length first ≡ q = length-take-le q list among in
+    let found : containers w q (drop h c) ≡ first =
+    containers_front w q (drop h c) (concat list) stored
+    ∙ (λ i. containers w (sym size i) (concat_front q list i))
+    ∙ containers-concat w first (concat (drop q list)) (wide_take w q list wide) in
+    let back : (q * w + 0) / w ≡ q = div-mul-add q w 0 (omega (arith, some)) in
+    let whole : (q * w + 0) % w ≡ 0 = mod-mul-add q w 0 (omega (arith, some)) in
+    let e : q * w + 0 ≡ q * w = omega arith in
+    let counted : Counts s h (containers w q (drop h c)) c =
+    subst (λ n. Counts s h (containers w n (drop h c)) c) back
+    (counts_standing s h (q * w + 0) c some whole head (omega (arith, few))) in
+    subst (λ l. Counts s h l c)
+    (ap (λ l. l ++ drop q list) found ∙ take-append-drop q list)
+    (counts_more s h (containers w q (drop h c)) (drop q list) c some counted)
 
 -- what a list of calls accepted is what its first ones did, and what the others did
 pub accepted_parts : (before after : List Call)
@@ -36,11 +85,11 @@ pub record During (calls before : List Call) (medium : MediumState) (j : ℕ) : 
   pub others : List Call
   pub parts : calls ≡ first ++ (call ∷ rest)
   pub from : call.began ≤ j
-  pub to : j ≤ begins_at rest medium
+  pub to : j ≤ begins_at rest medium.past
   pub earlier : before ≡ first ++ others
 
 pub during : (before after : List Call) (call : Call) (medium : MediumState) (j : ℕ)
-    → begins_at (before ++ (call ∷ after)) medium ≤ j → j ≤ begins_at after medium
+    → begins_at (before ++ (call ∷ after)) medium.past ≤ j → j ≤ begins_at after medium.past
     → During (before ++ (call ∷ after)) before medium j
 during [] after call medium j from to = record {
   first = [];
@@ -53,7 +102,7 @@ during [] after call medium j from to = record {
   earlier = refl;
 }
 during (one ∷ before) after call medium j from to =
-    let next = begins_at (before ++ (call ∷ after)) medium in
+    let next = begins_at (before ++ (call ∷ after)) medium.past in
     elim (cases_lt next j) [
       | inr here ↦ record {
         first = [];
@@ -83,9 +132,9 @@ module _ (s : WavSpecEx) (h len : ℕ) (found : List (List ℕ)) (calls : List C
     (end : MediumState) (base : List ℕ) (some : 1 ≤ s.bytes_per_sample)
     (counted : CountedAtEach s h found calls end) (stored : StoredAtEach s h found calls end)
     (in_order : BeginInOrder s h found calls end)
-    (sizes : (k : ℕ) → begins_at calls end ≤ k → k ≤ length end.past
+    (sizes : (k : ℕ) → begins_at calls end.past ≤ k → k ≤ length end.past
     → ChangesSizesOnly h base (moment end.start end.past k))
-    (long : (k : ℕ) → begins_at calls end ≤ k → k ≤ length end.past
+    (long : (k : ℕ) → begins_at calls end.past ≤ k → k ≤ length end.past
     → h ≤ length (moment end.start end.past k))
     (head : Head base s len h) (whole : h ≤ length base)
     (wide : AreWide s.bytes_per_sample (found ++ accepted_by_all calls)) where
@@ -115,7 +164,7 @@ module _ (s : WavSpecEx) (h len : ℕ) (found : List (List ℕ)) (calls : List C
 
   -- what a state counts is among the bytes accepted before its call, and is stored
   covered : (before after : List Call) (call : Call) (j : ℕ)
-      → calls ≡ before ++ (call ∷ after) → call.began ≤ j → j ≤ begins_at after end
+      → calls ≡ before ++ (call ∷ after) → call.began ≤ j → j ≤ begins_at after end.past
       → (cover w (says j) ≤ length (concat (list before)))
       × (take (cover w (says j)) (drop h (at j))
       ≡ take (cover w (says j)) (concat (list before)))
@@ -143,15 +192,11 @@ module _ (s : WavSpecEx) (h len : ℕ) (found : List (List ℕ)) (calls : List C
       let bytes = concat all in
       let wide_all = wide_before before (call ∷ after) same in
       let behind : 20 ≤ h = head_behind base s len h head in
-      let within : k ≤ length end.past = omega (
-        arith,
-        to,
-        (in_order (before ++ (call ∷ [])) after
-            (same ∙ sym (append_assoc before (call ∷ []) after))).1,
-      ) in
+      let within : k ≤ length end.past =
+      omega (arith, to, (in_order before (call ∷ []) after same).1) in
       let at_call = λ (j : ℕ) (since : f ≤ j) (until : j ≤ k).
       during before after call end j
-      (omega (arith, begun, since, ap (λ l. begins_at l end) same)) (omega (arith, until, to)) in
+      (omega (arith, begun, since, ap (λ l. begins_at l end.past) same)) (omega (arith, until, to)) in
       let more = λ (j : ℕ) (since : f ≤ j) (until : j ≤ k).
       let d = at_call j since until in
       (let e : all ≡ list d.first ++ accepted_by_all d.others =

@@ -67,7 +67,6 @@ pub use Rattle.hound_repair.specs.Repairing
 pub use Rattle.hound_repair.specs.Damages
 pub mod FirstError
 pub mod Headline
-pub mod Kept
 pub mod Run
 pub mod Sessions
 pub mod Steps

@@ -41,7 +41,7 @@ module _ {W : Type 0} (tells keeps : Bool) (state : W → MediumState) where
   lead_same (call ∷ calls) a b memory (first, mid, at, does, rest) =
       (first, mid, at, does, lead_same calls mid b memory rest)
 
-  asked_more : (calls : List Call) (asked : Asked) (answer : Result (Unit {0}) Error)
+  pub asked_more : (calls : List Call) (asked : Asked) (answer : Result (Unit {0}) Error)
       (b : WriterState W)
       → asked_by_all (calls ++ call_at asked answer b ∷ []) ≡ asked_by_all calls ++ asked ∷ []
   asked_more [] asked answer b = refl

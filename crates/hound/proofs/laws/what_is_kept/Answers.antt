@@ -9,4 +9,4 @@ returns-clause-at_end g c told s file asked medium left =
 pub returns-clause-kept : goal.returns-clause-kept
 returns-clause-kept g c told keeps s file asked medium left =
     let M = g.M.Placed in
-    left_kept M.tells M.keeps M.state s file asked medium (g.met.M.Medium.replays) left told keeps
+    left_kept M.tells M.keeps M.state (g.met.M.Medium.replays) s file asked medium left told keeps
