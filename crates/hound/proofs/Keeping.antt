@@ -7,7 +7,6 @@ use Rattle.std.specs.List.{concat, AllByRecursion}
 use Rattle.std.specs.Io.{StartsWith}
 use Rattle.hound_spec.specs.declared.spec.WavSpecEx.{WavSpecEx}
 use Rattle.hound_spec.specs.Header.{canonical, data_start}
-use Rattle.hound_spec.specs.Writable.{IsWritable}
 use Rattle.hound_sample.specs.Container.{containers}
 use Rattle.hound_medium.specs.Bytes.{moment, overlay}
 use Rattle.hound_medium.specs.State.{MediumState, WhereKeeps, WhereTells}
@@ -17,6 +16,7 @@ use Rattle.hound_reader.specs.declared.cause.Cause.{Cause}
 use Rattle.hound_reader.specs.declared.cause.Cause.TheVariants.{Format}
 use Rattle.hound_reader.specs.declared.cause.Reason.TheVariants.{DataLength, FrameLength}
 use Rattle.hound_reader.specs.Chunks.{Head, data_fault}
+use Rattle.hound_reader.specs.Fmt.{IsSoundSpec}
 use Rattle.hound_writer.specs.Answers.{mark_of}
 use Rattle.hound_writer.specs.Appending.{Appends}
 use Rattle.hound_writer.specs.Beginning.{Begins}
@@ -287,13 +287,17 @@ module _ {W : Type 0} (tells keeps : Bool) (state : W → MediumState) where
       none_accepted state first b.sound b.none_waits b.none_out
   opens_found s (appended start found) first opens told = opens.found_is told
 
-  -- a new file was begun with the header of its spec, which can be written
+  -- a new file was begun with the header of its spec
   if_new : (s : WavSpecEx) (f : Begun) (first : WriterState W) (P : Type 0)
       → Opens tells keeps state s f first → IsTrue tells
-      → (IsWritable s → IsBegun state first → P) → IfNew f P
+      → (IsSoundSpec s → IsBegun state first → P) → IfNew f P
   if_new s new_file first P (old, begins) told on =
-      on begins.begun.writable
-      ((begins.file told).header, begins.begun.start ∙ ap data_start (sym begins.begun.spec))
+      let b = begins.begun in
+      on (
+        omega (arith, b.sound.channels, ap (λ (x : WavSpecEx). x.spec.channels) b.spec),
+        omega (arith, b.sound.width, ap (λ (x : WavSpecEx). x.bytes_per_sample) b.spec),
+        b.writable.align,
+      ) ((begins.file told).header, b.start ∙ ap data_start (sym b.spec))
   if_new s (appended start found) first P opens told on = tt
 
   -- what calls leave that were made on a file
@@ -319,7 +323,7 @@ module _ {W : Type 0} (tells keeps : Bool) (state : W → MediumState) where
 
     holds_at_end : HoldsAtEnd s file calls (state last.medium)
     holds_at_end = record {
-      writable = if_new s file first (IsWritable s) opens told (λ writable begun. writable);
+      sound = if_new s file first (IsSoundSpec s) opens told (λ sound begun. sound);
       wide = of_file (λ s start found. AllByRecursion (λ c. length c ≡ s.bytes_per_sample)
           (found ++ accepted_by_all calls)) (all_wide calls first last is_first lead told is_whole);
       counts = of_file (λ s start found. Counts s start (found ++ accepted_by_all calls)
@@ -327,7 +331,7 @@ module _ {W : Type 0} (tells keeps : Bool) (state : W → MediumState) where
           (counts_at_end calls first last is_first lead told is_whole);
       canonical = if_new s file first (CanonicalAtEnd s (start_of s file) (found_in file) calls
           (state last.medium)) opens told
-          (λ writable begun. of_file (λ s start found. CanonicalAtEnd s start found calls
+          (λ sound begun. of_file (λ s start found. CanonicalAtEnd s start found calls
           (state last.medium))
           (canonical_at_end calls first last is_first lead told is_whole begun));
     }

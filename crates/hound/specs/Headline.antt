@@ -5,11 +5,11 @@ use Rattle.std.specs.List.{concat, AllByRecursion}
 use Rattle.std.specs.Io.{StartsWith}
 use Rattle.hound_spec.specs.declared.spec.WavSpecEx.{WavSpecEx}
 use Rattle.hound_spec.specs.Header.{canonical, data_start}
-use Rattle.hound_spec.specs.Writable.{IsWritable}
 use Rattle.hound_medium.specs.Bytes.{moment}
 use Rattle.hound_medium.specs.State.{MediumState}
 use Rattle.hound_durable.specs.Losses.{Ascends, SurvivesLoss, place_of}
 use Rattle.hound_reader.specs.Chunks.{Head}
+use Rattle.hound_reader.specs.Fmt.{IsSoundSpec}
 use Rattle.hound_writer.specs.Answers.{if_marked, mark_of}
 use Rattle.hound_writer.specs.Calls.{Asked, Begun, Call, appended, asked_by_all, found_in, new_file, publish, start_of, write}
 use Rattle.hound_writer.specs.Counts.{Counts}
@@ -191,7 +191,7 @@ IfNew (appended start found) P = ⊤
 -- wide as its spec says, and a new file is the canonical one at an end that published.
 pub record HoldsAtEnd (s : WavSpecEx) (file : Begun) (calls : List Call) (medium : MediumState) :
     Type 0 where
-  pub writable : IfNew file (IsWritable s)
+  pub sound : IfNew file (IsSoundSpec s)
   pub wide : AllByRecursion (λ c. length c ≡ s.bytes_per_sample)
       (found_in file ++ accepted_by_all calls)
   pub counts : Counts s (start_of s file) (found_in file ++ accepted_by_all calls) medium.contents

@@ -14,7 +14,7 @@ use Rattle.hound.specs.declared.WavSpecEx.{WavSpecEx}
 use Rattle.hound.specs.declared.session.Begin.TheVariants.{New}
 use Rattle.hound.specs.declared.session.End.{End}
 use Rattle.hound.specs.declared.session.Step.{Step}
-use Rattle.hound.specs.declared.session.Step.TheVariants.{Whole, Bits, Batch, Flush}
+use Rattle.hound.specs.declared.session.Step.TheVariants.{Flush}
 
 -- a fault that was counted stays counted
 stays : (answer : Result (Unit {0}) Error) (f n : ℕ) → n ≡ faults_told answer f → 1 ≤ f → 1 ≤ n

@@ -1,5 +1,4 @@
 use Rattle.std.proofs.Common.{◌≡◌, ℕ, ◌-◌, ◌/◌, ◌≤◌, List, [], length, Option, None, Some, IfSome, refl, subst, arith}
-use Rattle.std.specs.List.{concat}
 use Rattle.hound.specs.Durables.{Around}
 use Rattle.hound.specs.Counts.{Counts}
 use Rattle.hound.specs.Headline.{LosesNothing}
@@ -7,7 +6,6 @@ use Rattle.hound.specs.Header.{data_start}
 use Rattle.hound.specs.Losses.{SurvivesLoss}
 use Rattle.hound.specs.Own.{own}
 use Rattle.hound.specs.Run.{Ran, all_calls}
-use Rattle.hound.specs.Sizes.{field}
 use Rattle.hound.specs.Steps.{accepted_by_steps}
 use Rattle.hound.specs.declared.Durable.{Durable}
 use Rattle.hound.specs.declared.session.Begin.TheVariants.{New}
