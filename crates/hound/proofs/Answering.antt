@@ -12,8 +12,7 @@ use Rattle.hound_writer.proofs.Answers.{accept_as, publishing_as}
 use Rattle.hound.specs.declared.session.Step.{Step}
 use Rattle.hound.specs.declared.session.Step.TheVariants.{Whole, Bits, Batch, Flush}
 use Rattle.hound.specs.FirstError.{AnswersStep, longest_with, writer_after}
-use Rattle.hound.specs.Run.{Takes}
-use Rattle.hound.specs.Steps.{step_containers, wants_memory}
+use Rattle.hound.specs.Steps.{Takes, step_containers, wants_memory}
 
 -- a writer that returns what one of a file of this spec does which has accepted these samples
 pub record IsAfter {W : Type 0} (s : WavSpecEx) (list : List (List ℕ))
@@ -45,27 +44,27 @@ pub step_answers : {M : Type 0} (tells keeps : Bool) (state : M → MediumState)
     → Takes tells keeps state step answer old new → AnswersStep s list longest step answer
 step_answers tells keeps state s list longest (Whole value) answer old new after room t =
     accept_after false false (λ x. step_containers x (Whole value)) s list old answer
-    (λ wants. wants) after t.adds.answers
+    (λ wants. wants) after t.returns
 step_answers tells keeps state s list longest (Bits bits) answer old new after room t =
     accept_after false false (λ x. step_containers x (Bits bits)) s list old answer
-    (λ wants. wants) after t.adds.answers
+    (λ wants. wants) after t.returns
 step_answers tells keeps state s list longest (Batch values) answer old new after room t =
     accept_after (wants_memory values.now old) (nat_lt longest (length values.now))
     (λ x. step_containers x (Batch values)) s list old answer
     (λ wants. lt-ltb longest (length values.now)
     (omega (arith, room, ltb-true (length old.buffer) (2 * length values.now) wants))) after
-    t.0.adds.answers
+    t.returns.0
 step_answers tells keeps state s list longest Flush answer old new after room t =
-    publishing_after s list old answer after t.answers
+    publishing_after s list old answer after t.returns
 
 -- the memory of a batch that was accepted is reused
 pub room_with : {M : Type 0} (tells keeps : Bool) (state : M → MediumState) (longest : ℕ)
     (step : Step) (old new : WriterState M) → 2 * longest ≤ length old.buffer
     → Takes tells keeps state step (Ok tt) old new
     → 2 * longest_with longest step ≤ length new.buffer
-room_with tells keeps state longest (Whole value) old new room t = omega (arith, room, t.adds.kept)
-room_with tells keeps state longest (Bits bits) old new room t = omega (arith, room, t.adds.kept)
+room_with tells keeps state longest (Whole value) old new room t = omega (arith, room, (t.does).1.adds.kept)
+room_with tells keeps state longest (Bits bits) old new room t = omega (arith, room, (t.does).1.adds.kept)
 room_with tells keeps state longest (Batch values) old new room t =
-    omega (arith, room, t.0.adds.kept, t.1)
+    omega (arith, room, (t.does).1.adds.kept, t.returns.1)
 room_with tells keeps state longest Flush old new room t =
-    omega (arith, room, ap length t.samples.buffer)
+    omega (arith, room, ap length (t.does).samples.buffer)

@@ -1,5 +1,5 @@
 -- The values of a batch, written one by one.
-use Rattle.std.proofs.Common.{◌≡◌, ℕ, ℤ, eqb, Bool, true, false, cond, List, [], ◌∷◌, ◌++◌, length, map, replicate, Result, Ok, Err, Bor, IsTrue, ◌≤◌, refl, sym, ◌∙◌, ap, subst, arith}
+use Rattle.std.proofs.Common.{◌≡◌, ℕ, ℤ, eqb, Bool, true, false, cond, List, [], ◌∷◌, ◌++◌, length, map, Result, Ok, Err, Bor, IsTrue, refl, sym, ◌∙◌, ap, subst, arith}
 use Rattle.std.proofs.lemmas.Bool.{and_parts, eqb-true}
 use Rattle.std.proofs.lemmas.Bool.Decides.{nat_tests}
 use Rattle.hound_number.specs.Number.{signed_bytes_of}
@@ -7,16 +7,14 @@ use Rattle.hound_spec.specs.declared.spec.WavSpecEx.{WavSpecEx}
 use Rattle.hound_sample.specs.Container.{Refusal, unsupported, int_bytes, int_container}
 use Rattle.hound_sample.specs.ContainerLaws.{contained}
 use Rattle.hound_medium.specs.State.{MediumState}
-use Rattle.hound_writer.specs.Answers.{AcceptAnswer, if_marked, mark_of, one}
+use Rattle.hound_writer.specs.Answers.{AcceptAnswer, if_marked, one}
 use Rattle.hound_writer.specs.Writer.{WriterState, IsWhole, accepted_samples, data_length}
 use Rattle.hound.specs.declared.session.Step.{Step}
 use Rattle.hound.specs.declared.session.Step.TheVariants.{Whole, Batch}
 use Rattle.std.specs.List.{concat}
-use Rattle.hound.specs.Steps.{is_int, is_sixteen, batch_containers, step_containers, accepted_by_all}
-use Rattle.hound.specs.Run.{Runs, Takes}
+use Rattle.hound.specs.Steps.{is_int, is_sixteen, batch_containers, containers_of, step_containers, Takes}
 use Rattle.hound.specs.Sessions.{RunsOk}
-use Rattle.hound.proofs.Leading.{leads}
-use Rattle.hound.proofs.Stepping.{did}
+use Rattle.hound.proofs.Running.{runs_went, step_went}
 
 -- what an Ok accepts of these containers
 taken_whole : {M : Type 0} (memory : Bool) (w : WriterState M)
@@ -56,22 +54,17 @@ short_taken w s v sixteen answers =
 
 -- values that were all Ok one by one were accepted as the containers of their batch
 one_by_one : {M : Type 0} (tells keeps : Bool) (state : M → MediumState) (values : List ℤ)
-    (cuts : List ℕ) (s : WavSpecEx) (old new : WriterState M) → is_sixteen s.spec ≡ true
-    → old.spec_ex ≡ s
-    → Runs tells keeps state (map (λ v. Whole v) values)
-    (replicate (length (map {B = Step} (λ v. Whole v) values)) (Ok tt)) cuts old new
-    → accepted_by_all s (map (λ v. Whole v) values)
-    (map mark_of (replicate (length (map {B = Step} (λ v. Whole v) values)) (Ok (tt {0}))))
-    ≡ map (signed_bytes_of 2) values
-one_by_one tells keeps state [] cuts s old new sixteen same runs = refl
-one_by_one tells keeps state (v ∷ values) [] s old new sixteen same runs = absurd runs
-one_by_one tells keeps state (v ∷ values) (cut ∷ cuts) s old new sixteen same (mid, at, t, runs) =
+    (s : WavSpecEx) (old new : WriterState M) → is_sixteen s.spec ≡ true → old.spec_ex ≡ s
+    → RunsOk tells keeps state (map (λ v. Whole v) values) old new
+    → containers_of s (map (λ v. Whole v) values) ≡ map (signed_bytes_of 2) values
+one_by_one tells keeps state [] s old new sixteen same runs = refl
+one_by_one tells keeps state (v ∷ values) s old new sixteen same (mid, t, runs) =
     let here : if_marked true (step_containers s (Whole v)) ≡ signed_bytes_of 2 v ∷ [] =
     short_taken old s v sixteen
     (subst (λ x. AcceptAnswer false (step_containers x (Whole v)) old
-    (Ok (tt {0}))) same t.adds.answers) in
-    λ i. here i ++ one_by_one tells keeps state values cuts s mid new sixteen
-    (t.adds.spec_ex ∙ same) runs i
+    (Ok (tt {0}))) same t.returns) in
+    λ i. here i ++ one_by_one tells keeps state values s mid new sixteen
+    ((t.does).1.adds.spec_ex ∙ same) runs i
 
 -- an Ok batch is of sixteen bits
 pub batch_is_sixteen : {M : Type 0} (memory : Bool) (w : WriterState M) (s : WavSpecEx)
@@ -87,22 +80,21 @@ batch_is_sixteen memory w s values answers = go (is_sixteen s.spec) answers
 
 -- a batch, and its values one by one, from the same writer
 pub same_samples : {M : Type 0} (tells keeps : Bool) (state : M → MediumState) (told : IsTrue tells)
-    (values : Bor (List ℤ)) (a b c : WriterState M) → IsWhole state a → 4 ≤ a.data_start
+    (values : Bor (List ℤ)) (a b c : WriterState M) → IsWhole state a
     → Takes tells keeps state (Batch values) (Ok tt) a b
     → RunsOk tells keeps state (map (λ v. Whole v) values.now) a c
     → (accepted_samples state b ≡ accepted_samples state c) × (data_length b ≡ data_length c)
-same_samples tells keeps state told values a b c whole behind batch (cuts, runs) =
+same_samples tells keeps state told values a b c whole batch runs =
     let s = a.spec_ex in
-    let t = did tells keeps state told (Batch values) (Ok tt) a b batch in
+    let t = step_went tells keeps state told (Batch values) (Ok tt) a b batch in
     let steps : List Step = map (λ v. Whole v) values.now in
-    let l = leads tells keeps state told steps
-    (replicate (length steps) (Ok tt)) cuts a c behind runs in
-    let sixteen = batch_is_sixteen _ a s values.now batch.0.adds.answers in
+    let l = runs_went tells keeps state told steps a c runs in
+    let sixteen = batch_is_sixteen _ a s values.now batch.returns.0 in
     let taken : if_marked true (batch_containers s values.now) ≡ map
     (signed_bytes_of 2) values.now =
     ap (λ x. if_marked true
     (cond x (Ok (map (signed_bytes_of 2) values.now)) (Err unsupported))) sixteen in
-    let ones = one_by_one tells keeps state values.now cuts s a c sixteen refl runs in
+    let ones = one_by_one tells keeps state values.now s a c sixteen refl runs in
     let all = taken ∙ sym ones in (
       t.accepted whole ∙ ap (λ l. accepted_samples state a ++ l) all
           ∙ sym (l.accepted whole),

@@ -1,14 +1,19 @@
 -- A run continues by one step.
-use Rattle.std.proofs.Common.{◌≡◌, ℕ, ℤ, zero, suc, ◌+◌, ◌<◌, List, [], ◌∷◌, ◌++◌, length, get_or, set, take, drop, replicate, map, Bool, Result, Ok, Err, refl, sym, ◌∙◌, ap, subst, arith, append_assoc, length-append, take-append-drop}
+use Rattle.std.proofs.Common.{◌≡◌, ℕ, ℤ, ◌+◌, ◌<◌, List, [], ◌∷◌, ◌++◌, length, get_or, set, take, drop, map, Bool, true, false, IsTrue, Result, Ok, Err, refl, sym, ◌∙◌, ap, subst, append_assoc, take-append-drop}
 use Rattle.std.proofs.lemmas.List.{take_more, take_more_set}
 use Rattle.hound_spec.specs.declared.error.Error.{Error}
+use Rattle.hound_spec.specs.declared.spec.WavSpecEx.{WavSpecEx}
 use Rattle.hound_medium.specs.State.{MediumState}
 use Rattle.hound_writer.specs.Answers.{mark_of}
+use Rattle.hound_writer.specs.Calls.{Call, Lead, asked_by_all}
 use Rattle.hound_writer.specs.Writer.{WriterState}
+use Rattle.hound_writer.proofs.Recording.{asked_more, call_at, lead_more, lead_spec}
 use Rattle.hound.specs.declared.session.Step.{Step}
-use Rattle.hound.specs.declared.session.Step.TheVariants.{Whole}
-use Rattle.hound.specs.Run.{Takes, Runs}
+use Rattle.hound.specs.declared.session.Step.TheVariants.{Whole, Bits, Batch, Flush}
 use Rattle.hound.specs.Sessions.{RunsOk, StopsIn}
+use Rattle.hound.specs.Headline.{accepted_of}
+use Rattle.hound.specs.Steps.{Takes, accepted_by, asked_by, containers_of}
+use Rattle.hound.proofs.Calling.{Went, call_went, went_still, went_then}
 
 -- the front of a list, an element, and the rest
 pub parted : {X : Type 0} (xs : List X) (i : ℕ) (d : X) → i < length xs
@@ -22,34 +27,13 @@ map_more : {A B : Type 0} (f : A → B) (xs : List A) (x : A)
 map_more f [] x = refl
 map_more f (y ∷ xs) x = ap (λ l. f y ∷ l) (map_more f xs x)
 
-replicate_more : {A : Type 0} (n : ℕ) (x : A) → replicate n x ++ x ∷ [] ≡ replicate (suc n) x
-replicate_more zero x = refl
-replicate_more (suc n) x = ap (λ l. x ∷ l) (replicate_more n x)
-
 module _ {M : Type 0} (tells keeps : Bool) (state : M → MediumState) where
-  abbrev Answer : Type 0
-  Answer = Result (Unit {0}) Error
-
-  runs_more : (steps : List Step) (answers : List (Result (Unit {0}) Error)) (cuts : List ℕ)
-      (step : Step) (answer : Result (Unit {0}) Error) (a b c : WriterState M)
-      → Runs tells keeps state steps answers cuts a b → Takes tells keeps state step answer b c
-      → Runs tells keeps state (steps ++ step ∷ []) (answers ++ answer ∷ [])
-      (cuts ++ length (state c.medium).past ∷ []) a c
-  runs_more [] [] cuts step answer a b c (same, cut) one =
-      subst (λ l. Runs tells keeps state (step ∷ []) (answer ∷ [])
-      (l ++ length (state c.medium).past ∷ []) a c) (sym cut)
-      (c, refl, subst (λ w. Takes tells keeps state step answer w c) same one, (refl, refl))
-  runs_more [] (x ∷ answers) cuts step answer a b c runs one = absurd runs
-  runs_more (s ∷ steps) [] cuts step answer a b c runs one = absurd runs
-  runs_more (s ∷ steps) (x ∷ answers) [] step answer a b c runs one = absurd runs
-  runs_more (s ∷ steps) (x ∷ answers) (cut ∷ cuts) step answer a b c (mid, at, first, runs) one =
-      (mid, at, first, runs_more steps answers cuts step answer mid b c runs one)
-
-  -- steps with these marks
+  -- the calls of these steps were made, with these marks
   abbrev pub MarkedRun : List Step → List Bool → WriterState M → WriterState M → Type 0
   MarkedRun steps marks old new =
-      (answers : List (Result (Unit {0}) Error)) × (cuts : List ℕ) × (marks ≡ map mark_of answers)
-      × Runs tells keeps state steps answers cuts old new
+      (calls : List Call) × (asked_by_all calls ≡ map (asked_by old.spec_ex) steps)
+      × (marks ≡ map (λ (call : Call). mark_of call.answer) calls)
+      × Lead tells keeps state calls old new
 
   -- one step more, and its mark
   pub marked_more : (steps : List Step) (marks : List Bool) (i : ℕ) (d : Step)
@@ -58,18 +42,26 @@ module _ {M : Type 0} (tells keeps : Bool) (state : M → MediumState) where
       → MarkedRun (take i steps) (take i marks) a b
       → Takes tells keeps state (get_or steps i d) answer b c
       → MarkedRun (take (i + 1) steps) (take (i + 1) (set marks i is)) a c
-  marked_more steps marks i d answer is a b c inside within same
-      (answers, cuts, marked, runs) takes =
-      let all : take (i + 1) (set marks i is) ≡ map mark_of (answers ++ answer ∷ []) =
-      take_more_set marks i is within ∙ (λ j. marked j ++ same j ∷ [])
-      ∙ sym (map_more mark_of answers answer) in (
-        answers ++ answer ∷ [],
-        cuts ++ length (state c.medium).past ∷ [],
-        all,
-        subst (λ l. Runs tells keeps state l (answers ++ answer ∷ [])
-            (cuts ++ length (state c.medium).past ∷ []) a c) (sym (take_more steps i d inside))
-            (runs_more (take i steps) answers cuts (get_or steps i d) answer a b c runs takes),
+  marked_more steps marks i d answer is a b c inside within same (calls, asked, marked, lead) takes =
+      let step = get_or steps i d in
+      let call = call_at tells keeps state (asked_by b.spec_ex step) answer b in (
+        calls ++ call ∷ [],
+        asked_more tells keeps state calls (asked_by b.spec_ex step) answer b
+            ∙ (λ j. asked j ++ asked_by (lead_spec tells keeps state calls a b lead j) step ∷ [])
+            ∙ sym (map_more (asked_by a.spec_ex) (take i steps) step)
+            ∙ ap (map (asked_by a.spec_ex)) (sym (take_more steps i d inside)),
+        take_more_set marks i is within ∙ (λ j. marked j ++ same j ∷ [])
+            ∙ sym (map_more (λ (one : Call). mark_of one.answer) calls call),
+        lead_more tells keeps state calls (asked_by b.spec_ex step) answer a b c lead takes.does,
       )
+
+  runs_more : (steps : List Step) (step : Step) (a b c : WriterState M)
+      → RunsOk tells keeps state steps a b → Takes tells keeps state step (Ok tt) b c
+      → RunsOk tells keeps state (steps ++ step ∷ []) a c
+  runs_more [] step a b c same takes =
+      (c, subst (λ w. Takes tells keeps state step (Ok tt) w c) same takes, refl)
+  runs_more (first ∷ steps) step a b c (mid, one, runs) takes =
+      (mid, one, runs_more steps step mid b c runs takes)
 
   -- one step more that was Ok
   pub ok_more : (steps : List Step) (i : ℕ) (d : Step) (answer : Result (Unit {0}) Error)
@@ -77,23 +69,10 @@ module _ {M : Type 0} (tells keeps : Bool) (state : M → MediumState) where
       → RunsOk tells keeps state (take i steps) a b
       → Takes tells keeps state (get_or steps i d) answer b c
       → RunsOk tells keeps state (take (i + 1) steps) a c
-  ok_more steps i d answer a b c inside is (cuts, runs) takes =
-      let front = take i steps in
-      let step = get_or steps i d in
-      let ok : Result (Unit {0}) Error = Ok tt in
-      let size : replicate (length front) ok ++ ok ∷ [] ≡ replicate
-      (length (front ++ step ∷ [])) ok =
-      replicate_more (length front) ok
-      ∙ ap (λ n. replicate n ok)
-      (let e : suc (length front) ≡ length (front ++ step ∷ []) = omega
-      (arith, length-append front (step ∷ [])) in e) in
-      subst (λ l. RunsOk tells keeps state l a c) (sym (take_more steps i d inside)) (
-        cuts ++ length (state c.medium).past ∷ [],
-        subst (λ l. Runs tells keeps state (front ++ step ∷ []) l
-            (cuts ++ length (state c.medium).past ∷ []) a c) size
-            (runs_more front (replicate (length front) (Ok tt)) cuts step (Ok tt) a b c runs
-            (subst (λ r. Takes tells keeps state (get_or steps i d) r b c) is takes)),
-      )
+  ok_more steps i d answer a b c inside is runs takes =
+      subst (λ l. RunsOk tells keeps state l a c) (sym (take_more steps i d inside))
+      (runs_more (take i steps) (get_or steps i d) a b c runs
+      (subst (λ r. Takes tells keeps state (get_or steps i d) r b c) is takes))
 
   -- a step that was an error, after steps that were Ok
   pub stops_in : (steps : List Step) (i : ℕ) (d : Step) (answer : Result (Unit {0}) Error)
@@ -110,6 +89,38 @@ module _ {M : Type 0} (tells keeps : Bool) (state : M → MediumState) where
     runs = runs;
     takes = subst (λ r. Takes tells keeps state (get_or steps i d) r b c) is takes;
   }
+
+-- what a step with this mark accepts is what its call does
+pub call_accepts : (s : WavSpecEx) (step : Step) (mark : Bool)
+    → accepted_of (asked_by s step) mark ≡ accepted_by s step mark
+call_accepts s (Whole value) mark = refl
+call_accepts s (Bits bits) mark = refl
+call_accepts s (Batch values) mark = refl
+call_accepts s Flush true = refl
+call_accepts s Flush false = refl
+
+module _ {M : Type 0} (tells keeps : Bool) (state : M → MediumState) (told : IsTrue tells) where
+  pub step_went : (step : Step) (answer : Result (Unit {0}) Error) (old new : WriterState M)
+      → Takes tells keeps state step answer old new
+      → Went tells keeps state told (accepted_by old.spec_ex step (mark_of answer)) old new
+  step_went step answer old new takes =
+      subst (λ l. Went tells keeps state told l old new)
+      (call_accepts old.spec_ex step (mark_of answer))
+      (call_went tells keeps state told (asked_by old.spec_ex step) answer old.buffer old new
+      takes.does)
+
+  pub runs_went : (steps : List Step) (old new : WriterState M)
+      → RunsOk tells keeps state steps old new
+      → Went tells keeps state told (containers_of old.spec_ex steps) old new
+  runs_went [] old new same =
+      subst (Went tells keeps state told [] old) (sym same)
+      (went_still tells keeps state told old old.buffer)
+  runs_went (step ∷ steps) old new (mid, takes, runs) =
+      let first = step_went step (Ok tt) old mid takes in
+      went_then tells keeps state told (accepted_by old.spec_ex step true)
+      (containers_of old.spec_ex steps) old mid new first
+      (subst (λ s. Went tells keeps state told (containers_of s steps) mid new) first.spec_ex
+      (runs_went steps mid new runs))
 
 -- an integer that was written is its step taken
 pub whole_taken : {M : Type 0} (tells keeps : Bool) (state : M → MediumState) (step : Step)

@@ -1,5 +1,5 @@
 -- Sessions one after the other: the file that they leave, and what they return.
-use Rattle.std.proofs.Common.{◌≡◌, ℕ, ◌+◌, ◌-◌, ◌/◌, ◌%◌, ◌<◌, ◌≤◌, max, Bool, true, false, IsTrue, Bor, List, [], ◌∷◌, ◌*◌, ◌⊎◌, ◌++◌, length, take, drop, replicate, Some, None, Result, Ok, Err, OnOk, IfErr, refl, sym, ◌∙◌, ap, subst, arith, inl, inr, length-drop, length-take, append_assoc, le-ltb, eqb, not, cond, nat_le}
+use Rattle.std.proofs.Common.{◌≡◌, ℕ, ◌+◌, ◌-◌, ◌/◌, ◌%◌, ◌<◌, ◌≤◌, max, Bool, true, false, IsTrue, Bor, List, [], ◌∷◌, ◌*◌, ◌⊎◌, ◌++◌, length, take, drop, Some, None, Result, Ok, Err, OnOk, IfErr, refl, sym, ◌∙◌, ap, subst, arith, inl, inr, length-drop, length-take, append_assoc, le-ltb, eqb, not, cond, nat_le}
 use Rattle.std.proofs.lemmas.List.{append-nil, take_all}
 use Rattle.std.specs.List.{concat}
 use Rattle.std.specs.Io.{StartsWith}
@@ -32,13 +32,14 @@ use Rattle.hound.specs.declared.session.Step.TheVariants.{Whole, Bits, Batch, Fl
 use Rattle.hound.specs.declared.session.Begin.{Begin}
 use Rattle.hound.specs.declared.session.Begin.TheVariants.{New, Append}
 use Rattle.hound.specs.FirstError.{AnswersAll, AnswersSession, AnswersStep, IsAnswered, longest_with}
-use Rattle.hound.specs.Run.{Begins, IsNotBegun, NoFault, Runs, Takes}
-use Rattle.hound.specs.Sessions.{AreSessions, IsStopped, RunsAgain, RunsOn, RunsOnce, StopsShort, all_steps}
-use Rattle.hound.specs.Steps.{accepted_by, containers_of, step_containers}
+use Rattle.hound.specs.Run.{Begins, IsNotBegun, NoFault}
+use Rattle.hound.specs.Sessions.{AreSessions, IsStopped, RunsAgain, RunsOk, RunsOn, RunsOnce, StopsShort, all_steps}
+use Rattle.hound.specs.Steps.{Returns, Takes, accepted_by, asked_by, containers_of, step_containers}
 use Rattle.hound.proofs.Answering.{IsAfter, publishing_after, room_with, step_answers}
-use Rattle.hound.proofs.Leading.{grows_told, length-concat-append, no_fault_parts}
-use Rattle.hound.proofs.Stepping.{did}
-use Rattle.hound.proofs.Whole.{all_published, none_accepted}
+use Rattle.hound.proofs.Calling.{call_faults, call_reach, length-concat-append}
+use Rattle.hound.proofs.Faults.{all_published, grows_told, no_fault_parts}
+use Rattle.hound.proofs.Keeping.{none_accepted}
+use Rattle.hound.proofs.Running.{step_went}
 use Rattle.hound_spec.specs.FmtChunk.{greatest_u32}
 
 containers_of-append : (s : WavSpecEx) (xs ys : List Step)
@@ -69,16 +70,15 @@ accepts_none memory (Ok asked) w UnfinishedSample answers =
     go false here = cc
 accepts_none memory asked w e answers = refl
 
-error_accepts_none : {M : Type 0} (tells keeps : Bool) (state : M → MediumState) (step : Step)
-    (e : Error) (old new : WriterState M) → Takes tells keeps state step (Err e) old new
-    → accepted_by old.spec_ex step (mark_of {T = Unit {0}} (Err e)) ≡ []
-error_accepts_none tells keeps state (Whole value) e old new t =
-    accepts_none false (step_containers old.spec_ex (Whole value)) old e t.adds.answers
-error_accepts_none tells keeps state (Bits bits) e old new t =
-    accepts_none false (step_containers old.spec_ex (Bits bits)) old e t.adds.answers
-error_accepts_none tells keeps state (Batch values) e old new t =
-    accepts_none _ (step_containers old.spec_ex (Batch values)) old e t.0.adds.answers
-error_accepts_none tells keeps state Flush e old new t = nothing (mark_of {T = Unit {0}} (Err e))
+error_accepts_none : {M : Type 0} (step : Step) (e : Error) (old new : WriterState M)
+    → Returns step (Err e) old new → accepted_by old.spec_ex step (mark_of {T = Unit {0}} (Err e)) ≡ []
+error_accepts_none (Whole value) e old new t =
+    accepts_none false (step_containers old.spec_ex (Whole value)) old e t
+error_accepts_none (Bits bits) e old new t =
+    accepts_none false (step_containers old.spec_ex (Bits bits)) old e t
+error_accepts_none (Batch values) e old new t =
+    accepts_none _ (step_containers old.spec_ex (Batch values)) old e t.0
+error_accepts_none Flush e old new t = nothing (mark_of {T = Unit {0}} (Err e))
   where
     nothing : (mark : Bool) → if_marked mark (Ok []) ≡ []
     nothing true = refl
@@ -223,7 +223,12 @@ module _ {M : Type 0} (tells keeps : Bool) (state : M → MediumState) (told : I
       → Takes tells keeps state step (Ok tt) old new
       → OnFile s (list ++ accepted_by s step true) start new
   on_step s list start step old new on takes =
-      let t = did tells keeps state told step (Ok tt) old new takes in
+      let t = step_went tells keeps state told step (Ok tt) old new takes in
+      let faults : (state new.medium).faults ≡ (state old.medium).faults =
+      call_faults tells keeps state told (asked_by old.spec_ex step) (Ok tt) old.buffer old new
+      takes.does in
+      let reach = call_reach tells keeps state told (asked_by old.spec_ex step) (Ok tt) old.buffer old
+      new takes.does in
       let more = accepted_by s step true in
       let added : accepted_by old.spec_ex step true ≡ more =
       ap (λ x. accepted_by x step true) on.after.spec in
@@ -242,10 +247,10 @@ module _ {M : Type 0} (tells keeps : Bool) (state : M → MediumState) (told : I
         whole = t.whole on.whole;
         begun = t.begun on.begun;
         holds = t.accepted on.whole ∙ (λ i. on.holds i ++ added i);
-        none = t.faults ∙ on.none;
+        none = faults ∙ on.none;
         reach = omega (
           arith,
-          t.reach,
+          reach,
           on.reach,
           start_is,
           size,
@@ -258,26 +263,24 @@ module _ {M : Type 0} (tells keeps : Bool) (state : M → MediumState) (told : I
   -- What steps lead to that were all Ok, as P, and what is returned then: both hold if they do
   -- for the writer after the last of them.
   ok_then : (P : Type 0) (s : WavSpecEx) (list all : List (List ℕ)) (start : MediumState)
-      (longest : ℕ) (steps then : List Step) (answer : Result (Unit {0}) Error) (cuts : List ℕ)
+      (longest : ℕ) (steps then : List Step) (answer : Result (Unit {0}) Error)
       (first last : WriterState M) → all ≡ list ++ containers_of s steps
       → OnFile s list start first → 2 * longest ≤ length first.buffer
-      → Runs tells keeps state steps (replicate (length steps) (Ok tt)) cuts first last
+      → RunsOk tells keeps state steps first last
       → ((most : ℕ) → OnFile s all start last → 2 * most ≤ length last.buffer
       → P × AnswersSession s all most then answer)
       → P × AnswersSession s list longest (steps ++ then) answer
-  ok_then P s list all start longest [] then answer cuts first last is on room (same, at) last_one =
+  ok_then P s list all start longest [] then answer first last is on room same last_one =
       let here : all ≡ list = is ∙ append-nil list in
       subst (λ l. P × AnswersSession s l longest then answer) here
       (last_one longest
       (subst (λ (x : List (List ℕ) × WriterState M). OnFile s x.0 start x.1)
       (λ i. (sym here i, sym same i)) on) (omega (arith, room, ap (λ w. length w.buffer) same)))
-  ok_then P s list all start longest (step ∷ steps) then answer [] first last is on room runs
-      last_one = absurd runs
-  ok_then P s list all start longest (step ∷ steps) then answer (cut ∷ cuts) first last is on room
-      (mid, at, takes, runs) last_one =
+  ok_then P s list all start longest (step ∷ steps) then answer first last is on room
+      (mid, takes, runs) last_one =
       let more = accepted_by s step true in
       let rest =
-      ok_then P s (list ++ more) all start (longest_with longest step) steps then answer cuts mid
+      ok_then P s (list ++ more) all start (longest_with longest step) steps then answer mid
       last (is ∙ sym (append_assoc list more (containers_of s steps)))
       (on_step s list start step first mid on takes)
       (room_with tells keeps state longest step first mid room takes) runs last_one in (
@@ -418,8 +421,8 @@ module _ {M : Type 0} (tells keeps : Bool) (state : M → MediumState) (told : I
       let ends = ok_then
       (Led s (behind ++ steps) (behind ++ (steps ++ rest)) start (state medium) (Err st.error))
       s list (list ++ containers_of s stops.before) start 0 stops.before then (Err st.error)
-      stops.runs.0 st.first stops.last refl (ready.begun st.first st.begins) (omega arith)
-      stops.runs.1 (λ most on room. (
+      st.first stops.last refl (ready.begun st.first st.begins) (omega arith)
+      stops.runs (λ most on room. (
         record { done = tt; stopped = λ clean. stop st on most room clean },
         inl (
           st.error,
@@ -441,17 +444,19 @@ module _ {M : Type 0} (tells keeps : Bool) (state : M → MediumState) (told : I
           let stops = st.stops in
           let list = containers_of s behind ++ containers_of s stops.before in
           let then = stops.step ∷ stops.after in
-          let t = did tells keeps state told stops.step (Err st.error) stops.last st.last
+          let t = step_went tells keeps state told stops.step (Err st.error) stops.last st.last
           stops.takes in
-          let none = error_accepts_none tells keeps state stops.step st.error stops.last st.last
-          stops.takes in
+          let faults = call_faults tells keeps state told (asked_by stops.last.spec_ex stops.step)
+          (Err st.error) stops.last.buffer stops.last st.last (stops.takes).does in
+          let none = error_accepts_none stops.step st.error stops.last st.last
+          (stops.takes).returns in
           let last = state stops.last.medium in
           let parts = no_fault_parts last (state st.last.medium) (state medium)
-          (grows_told (Err st.error) last (state st.last.medium) t.faults)
+          t.faults
           (grows_told st.dropped (state st.last.medium) (state medium)
           (st.ends.publishes told).faults) (clean ∙ sym on.none, omega (arith, on.none, few)) in
           record {
-            no_fault = no_io st.error last.faults parts.0.1 (sym t.faults ∙ parts.0.0);
+            no_fault = no_io st.error last.faults parts.0.1 (sym faults ∙ parts.0.0);
             before = behind ++ stops.before;
             after = then ++ rest;
             whole = ap (λ l. behind ++ l) (ap (λ l. l ++ rest) stops.whole
@@ -479,8 +484,8 @@ module _ {M : Type 0} (tells keeps : Bool) (state : M → MediumState) (told : I
       let ends = ok_then
       (Led s (behind ++ steps) (behind ++ (steps ++ rest)) start (state medium) answer)
       s list (containers_of s (behind ++ steps)) start 0 steps [] answer
-      f.runs.0 f.first f.last (containers_of-append s behind steps) (ready.begun f.first f.begins)
-      (omega arith) f.runs.1 (λ most on room. (
+      f.first f.last (containers_of-append s behind steps) (ready.begun f.first f.begins)
+      (omega arith) f.runs (λ most on room. (
         finish f.last answer on f.ends,
         publishing_after s (containers_of s (behind ++ steps)) f.last answer on.after
             f.ends.answers,

@@ -1,188 +1,241 @@
--- What a run of a writer promises, whatever failed: counted in each state, published at a flush,
--- canonical at the end.
-use Rattle.std.specs.Prelude.{◌≡◌, ◌⊎◌, ℕ, suc, ◌+◌, ◌-◌, ◌/◌, ◌<◌, ◌≤◌, ⊤, Bool, true, false, List, ◌++◌, length, take, drop, slice_index_or, Result}
-use Rattle.std.specs.List.{concat}
+-- What a list of calls of a writer promises, whatever failed: counted in each state, published at a
+-- flush, canonical at the end.
+use Rattle.std.specs.Prelude.{◌≡◌, ℕ, ◌+◌, ◌-◌, ◌/◌, ◌<◌, ◌≤◌, ◌⊎◌, ⊤, Bool, true, List, [], ◌∷◌, ◌++◌, length}
+use Rattle.std.specs.List.{concat, AllByRecursion}
 use Rattle.std.specs.Io.{StartsWith}
-use Rattle.hound_spec.specs.declared.error.Error.{Error}
 use Rattle.hound_spec.specs.declared.spec.WavSpecEx.{WavSpecEx}
-use Rattle.hound_spec.specs.Header.{canonical}
+use Rattle.hound_spec.specs.Header.{canonical, data_start}
 use Rattle.hound_medium.specs.Bytes.{moment}
 use Rattle.hound_medium.specs.State.{MediumState}
-use Rattle.hound_sample.specs.Container.{containers}
+use Rattle.hound_durable.specs.Losses.{Ascends, SurvivesLoss, place_of}
 use Rattle.hound_reader.specs.Chunks.{Head}
-use Rattle.hound_writer.specs.Answers.{OnPublished}
+use Rattle.hound_reader.specs.Fmt.{IsSoundSpec}
+use Rattle.hound_writer.specs.Answers.{if_marked, mark_of}
+use Rattle.hound_writer.specs.Calls.{Asked, Begun, Call, appended, asked_by_all, found_in, new_file, publish, start_of, write}
 use Rattle.hound_writer.specs.Counts.{Counts}
 use Rattle.hound_writer.specs.Sizes.{field}
 use Rattle.hound_writer.specs.Storing.{IsStored}
-use Rattle.hound.specs.declared.session.Step.{Step}
-use Rattle.hound.specs.declared.session.Step.TheVariants.{Flush}
-use Rattle.hound.specs.declared.session.End.{End}
-use Rattle.hound.specs.declared.session.End.TheVariants.{Finalize, Drop}
-use Rattle.hound_durable.specs.Losses.{Ascends, SurvivesLoss, place_of}
-use Rattle.hound.specs.Steps.{accepted_by_all, HoldsNoFlush}
+use Rattle.hound_writer.specs.Writer.{HasHeader}
 
--- the accepted samples once i steps have returned: those that were found, and those of the steps
--- with these marks
-abbrev pub accepted_after : WavSpecEx → List (List ℕ) → List Step → List Bool → ℕ → List (List ℕ)
-accepted_after s found steps marks i = found ++ accepted_by_all s (take i steps) (take i marks)
+-- what a call accepted, by what it asked and its mark
+abbrev pub accepted_of : Asked → Bool → List (List ℕ)
+accepted_of (write containers) mark = if_marked mark containers
+accepted_of publish mark = []
 
--- the length of the past when i steps had returned; after the last of these cut points its end
-abbrev pub cut_point : List ℕ → MediumState → ℕ → ℕ
-cut_point cuts medium i = slice_index_or cuts i (length medium.past)
+-- what calls accepted, in their order
+abbrev pub accepted_by_all : List Call → List (List ℕ)
+accepted_by_all [] = []
+accepted_by_all (call ∷ calls) =
+    accepted_of call.asked (mark_of call.answer) ++ accepted_by_all calls
 
--- After each byte written, the length field counts no more than the accepted samples that the
--- medium holds, and reading then gives exactly the first ones it counts or rejects a length of no
--- whole frames: in each state from the return of the first i steps to that of the next one, or to
--- the end, these are the samples that were accepted by then.
-abbrev pub CountedAtEach : WavSpecEx → ℕ → List (List ℕ) → List Step → List Bool → List ℕ →
-    MediumState → Type 0
-CountedAtEach s start found steps marks cuts medium = (i k : ℕ) → i ≤ length steps →
-    cut_point cuts medium i ≤ k → k ≤ cut_point cuts medium (suc i) →
-    Counts s start (accepted_after s found steps marks i) (moment medium.start medium.past k)
+-- where the first of these calls began; without one, the end of this past
+abbrev pub begins_at : List Call → List (ℕ × ℕ) → ℕ
+begins_at [] past = length past
+begins_at (call ∷ calls) past = call.began
 
--- In each intermediate state the file has the head of its spec, with the length that its field says.
-abbrev pub HeadAtEach : WavSpecEx → ℕ → List ℕ → MediumState → Type 0
-HeadAtEach s start cuts medium = (k : ℕ) → cut_point cuts medium 0 ≤ k → k ≤ length medium.past →
-    let contents = moment medium.start medium.past k in
-    Head contents s (field (start - 4) contents) start
+-- a call that published all
+abbrev pub HasPublished : Call → Type 0
+HasPublished call = (call.asked ≡ publish) × (mark_of call.answer ≡ true)
 
--- An Ok `flush` counts them all: from the return of a flush with a mark, over m further steps that
--- are no flushes, to where the next call begins, the length field is that of all samples that were
--- accepted before it.
-abbrev pub PublishedByFlushes : WavSpecEx → ℕ → List (List ℕ) → List Step → List Bool → List ℕ →
-    MediumState → Type 0
-PublishedByFlushes s start found steps marks cuts medium = (i m k : ℕ) → i < length steps →
-    slice_index_or steps i Flush ≡ Flush → slice_index_or marks i false ≡ true →
-    m ≤ length (drop (suc i) steps) → HoldsNoFlush (take m (drop (suc i) steps)) →
-    cut_point (drop (suc i) cuts) medium 0 ≤ k → k ≤ cut_point (drop (suc i) cuts) medium m →
-    field (start - 4) (moment medium.start medium.past k)
-    ≡ length (concat (accepted_after s found steps marks i))
+-- calls that write samples only
+abbrev pub AsksToWrite : Asked → Type 0
+AsksToWrite (write containers) = ⊤
+AsksToWrite publish = ⊥
 
--- No write of the field at p is cut in the state after k bytes: in n calls that begin at these cut
--- points and in the one after them, each byte written at p before k was followed by three more,
--- within the same call and before k.
-abbrev pub IsUncut : ℕ → ℕ → List ℕ → MediumState → ℕ → Type 0
-IsUncut p n cuts medium k = (j i : ℕ) → j ≤ n → cut_point cuts medium j ≤ i →
-    i < cut_point cuts medium (suc j) → i < k → place_of medium.past i ≡ p →
-    (i + 4 ≤ cut_point cuts medium (suc j)) × (i + 4 ≤ k)
+abbrev pub WriteOnly : List Call → Type 0
+WriteOnly [] = ⊤
+WriteOnly (call ∷ calls) = AsksToWrite call.asked × WriteOnly calls
 
--- What a flush has published is never undercut: from the return of a flush with a mark to the end of
--- the run, the length field counts at least the samples accepted before the flush, in each
--- state in which no write of it since then is cut.
-abbrev pub NeverLess : WavSpecEx → ℕ → List (List ℕ) → List Step → List Bool → List ℕ →
-    MediumState → Type 0
-NeverLess s start found steps marks cuts medium = (i k : ℕ) → i < length steps →
-    slice_index_or steps i Flush ≡ Flush → slice_index_or marks i false ≡ true →
-    cut_point (drop (suc i) cuts) medium 0 ≤ k → k ≤ length medium.past →
-    IsUncut (start - 4) (length (drop (suc i) steps)) (drop (suc i) cuts) medium k →
-    length (concat (accepted_after s found steps marks i))
-    ≤ field (start - 4) (moment medium.start medium.past k)
+-- No write of the field at p is cut in the state after k bytes: each byte that one of these calls
+-- wrote at p before k was followed by three more, within the same call and before k.
+abbrev pub IsUncut : ℕ → List Call → List (ℕ × ℕ) → ℕ → Type 0
+IsUncut p calls past k = (before after : List Call) (call : Call) (i : ℕ) →
+    calls ≡ before ++ (call ∷ after) → call.began ≤ i → i < begins_at after past → i < k →
+    place_of past i ≡ p → (i + 4 ≤ begins_at after past) × (i + 4 ≤ k)
 
--- What a flush with a mark has flushed stays so: the medium was flushed at its return or later.
-abbrev pub FlushedByFlushes : List Step → List Bool → List ℕ → MediumState → Type 0
-FlushedByFlushes steps marks cuts medium = (i : ℕ) → i < length steps →
-    slice_index_or steps i Flush ≡ Flush → slice_index_or marks i false ≡ true →
-    cut_point (drop (suc i) cuts) medium 0 ≤ medium.flushed
+-- Calls with the writer of a file of this spec, whose data begin at `start` and which had these
+-- samples; and the medium as it is after them.
+module _ (s : WavSpecEx) (start : ℕ) (found : List (List ℕ)) (calls : List Call)
+    (medium : MediumState) where
+  -- the samples that the file has once these of the calls have returned
+  abbrev pub accepted : List Call → List (List ℕ)
+  accepted before = found ++ accepted_by_all before
 
--- What is stored of the accepted samples stays stored: from the return of the first i steps on,
--- each part of the samples accepted by then that is stored at its place in a state is stored there
--- in each later one, to the end.
-abbrev pub StoredAtEach : WavSpecEx → ℕ → List (List ℕ) → List Step → List Bool → List ℕ →
-    MediumState → Type 0
-StoredAtEach s start found steps marks cuts medium = (i a len k m : ℕ) → i ≤ length steps →
-    cut_point cuts medium i ≤ k → k ≤ m → m ≤ length medium.past →
-    a + len ≤ length (concat (accepted_after s found steps marks i)) →
-    IsStored start (concat (accepted_after s found steps marks i)) a len
-    (moment medium.start medium.past k) →
-    IsStored start (concat (accepted_after s found steps marks i)) a len
-    (moment medium.start medium.past m)
+  -- the contents after so many bytes were written
+  abbrev pub contents_at : ℕ → List ℕ
+  contents_at k = moment medium.start medium.past k
 
--- A loss of power leaves a file that counts. If a medium was flushed when f bytes had been written,
--- the header among them, and then wrote bytes only at ascending places, a loss after k bytes may
--- leave any mixture of sectors (`SurvivesLoss`). If the length field is within one sector, it
--- counts no more than the samples accepted by then that these contents hold, and reading gives
--- exactly the first ones it counts or rejects a length of no whole frames; and it is the length
--- field of a state from f to k.
-abbrev pub CountedAfterLoss : WavSpecEx → ℕ → List (List ℕ) → List Step → List Bool → List ℕ →
-    MediumState → Type 0
-CountedAfterLoss s start found steps marks cuts medium =
-    (i f k sector : ℕ) (contents : List ℕ) → i ≤ length steps → cut_point cuts medium 0 ≤ f →
-    f ≤ k → k ≤ length medium.past → cut_point cuts medium i ≤ k →
-    k ≤ cut_point cuts medium (suc i) → Ascends medium.past f k → 1 ≤ sector →
-    (start - 4) / sector ≡ (start - 1) / sector →
-    SurvivesLoss sector medium.start medium.past f k contents →
-    Counts s start (accepted_after s found steps marks i) contents
-    × ((j : ℕ) × (f ≤ j) × (j ≤ k)
-    × (field (start - 4) contents
-    ≡ field (start - 4) (moment medium.start medium.past j)))
-    × Head contents s (field (start - 4) contents) start
+  -- After each byte written, the length field counts no more than the accepted samples that the
+  -- medium holds, and reading then gives exactly the first ones it counts or rejects a length of no
+  -- whole frames: in each state from where a call began to where it returned, these are the samples
+  -- that were accepted before it.
+  abbrev pub CountedAtEach : Type 0
+  CountedAtEach = (before after : List Call) (call : Call) (k : ℕ) →
+      calls ≡ before ++ (call ∷ after) → call.began ≤ k → k ≤ begins_at after medium.past →
+      Counts s start (accepted before) (contents_at k)
 
--- The length field at p is that of a state since the medium was last flushed in which no write of it
--- is cut, by the calls after the step with number i.
-abbrev pub HasWholeLength : ℕ → List Step → List ℕ → ℕ → MediumState → List ℕ → Type 0
-HasWholeLength p steps cuts i medium contents =
-    (k : ℕ) × (medium.flushed ≤ k) × (k ≤ length medium.past)
-    × (field p contents ≡ field p (moment medium.start medium.past k))
-    × IsUncut p (length (drop (suc i) steps)) (drop (suc i) cuts) medium k
+  -- In each state the file has the head of its spec, with the length that its field says.
+  abbrev pub HeadAtEach : Type 0
+  HeadAtEach = (k : ℕ) → begins_at calls medium.past ≤ k → k ≤ length medium.past →
+      Head (contents_at k) s (field (start - 4) (contents_at k)) start
 
--- These contents, which a loss of power left, have lost no published sample: their length field is
--- that of a state since the medium was last flushed, and it counts at least the samples that were
--- accepted before each flush with a mark, unless a write of it is cut in every such state.
-abbrev pub LosesNothing : WavSpecEx → ℕ → List (List ℕ) → List Step → List Bool → List ℕ →
-    MediumState → List ℕ → Type 0
-LosesNothing s start found steps marks cuts medium contents =
-    ((k : ℕ) × (medium.flushed ≤ k) × (k ≤ length medium.past)
-    × (field (start - 4) contents ≡ field (start - 4) (moment medium.start medium.past k)))
-    × ((i : ℕ) → i < length steps → slice_index_or steps i Flush ≡ Flush →
-    slice_index_or marks i false ≡ true →
-    HasWholeLength (start - 4) steps cuts i medium contents →
-    length (concat (accepted_after s found steps marks i)) ≤ field (start - 4) contents)
+  -- An Ok `flush` counts them all: from its return, over further calls that write samples only, to
+  -- where the next one begins, the length field is that of all samples accepted before it.
+  abbrev pub PublishedByFlushes : Type 0
+  PublishedByFlushes = (before later after : List Call) (flush : Call) (k : ℕ) →
+      calls ≡ before ++ (flush ∷ (later ++ after)) → HasPublished flush → WriteOnly later →
+      begins_at (later ++ after) medium.past ≤ k → k ≤ begins_at after medium.past →
+      field (start - 4) (contents_at k) ≡ length (concat (accepted before))
 
--- The same for a medium that has written bytes only at ascending places since it was last flushed,
--- the header before that, if the power is lost at the end of the run. A run that ends in calls that
--- all fail is one that lost its power there.
-abbrev pub KeptAfterLoss : WavSpecEx → ℕ → List (List ℕ) → List Step → List Bool → List ℕ →
-    MediumState → Type 0
-KeptAfterLoss s start found steps marks cuts medium =
-    (sector : ℕ) (contents : List ℕ) → cut_point cuts medium 0 ≤ medium.flushed →
-    medium.flushed ≤ length medium.past →
-    Ascends medium.past medium.flushed (length medium.past) → 1 ≤ sector →
-    (start - 4) / sector ≡ (start - 1) / sector →
-    SurvivesLoss sector medium.start medium.past medium.flushed (length medium.past) contents →
-    LosesNothing s start found steps marks cuts medium contents
+  -- What a flush has published is never undercut: from its return on the length field counts at
+  -- least the samples accepted before it, in each state in which no write of it since then is cut.
+  abbrev pub NeverLess : Type 0
+  NeverLess = (before after : List Call) (flush : Call) (k : ℕ) →
+      calls ≡ before ++ (flush ∷ after) → HasPublished flush → begins_at after medium.past ≤ k →
+      k ≤ length medium.past → IsUncut (start - 4) after medium.past k →
+      length (concat (accepted before)) ≤ field (start - 4) (contents_at k)
 
--- What a loss of power at the end of a run with these cut points leaves of a file that it appended
--- to, whose data were complete, counts, and has lost no published sample.
-pub record AppendedSurvives (steps : List Step) (marks : List Bool) (cuts before : List ℕ)
-    (medium : MediumState) : Type 0 where
-  pub spec_ex : WavSpecEx
-  pub data_length : ℕ
-  pub start : ℕ
-  pub head : Head before spec_ex data_length start
-  pub after_loss : start + data_length ≤ length before →
-      (sector : ℕ) (contents : List ℕ) → 1 ≤ sector →
+  -- What a flush has flushed stays so: the medium was flushed at its return or later.
+  abbrev pub FlushedByFlushes : Type 0
+  FlushedByFlushes = (before after : List Call) (flush : Call) →
+      calls ≡ before ++ (flush ∷ after) → HasPublished flush → begins_at after medium.past ≤ medium.flushed
+
+  -- What is stored of the accepted samples stays stored.
+  abbrev pub StoredAtEach : Type 0
+  StoredAtEach = (before after : List Call) (a len k m : ℕ) →
+      calls ≡ before ++ after → begins_at after medium.past ≤ k → k ≤ m → m ≤ length medium.past →
+      a + len ≤ length (concat (accepted before)) →
+      IsStored start (concat (accepted before)) a len (contents_at k) →
+      IsStored start (concat (accepted before)) a len (contents_at m)
+
+  -- Each call began after those before it, within the past.
+  abbrev pub BeginInOrder : Type 0
+  BeginInOrder = (before later after : List Call) → calls ≡ before ++ (later ++ after) →
+      (begins_at (later ++ after) medium.past ≤ begins_at after medium.past)
+      × (begins_at after medium.past ≤ length medium.past)
+
+  -- A loss of power leaves a file that counts. If a medium was flushed when f bytes had been
+  -- written, the header among them, and then wrote bytes only at ascending places, a loss after k
+  -- bytes may leave any mixture of sectors (`SurvivesLoss`). If the length field is within one
+  -- sector, it counts no more than the samples accepted by then that these contents hold, and
+  -- reading gives exactly the first ones it counts or rejects a length of no whole frames; and it is
+  -- the length field of a state from f to k.
+  abbrev pub CountedAfterLoss : Type 0
+  CountedAfterLoss = (before after : List Call) (call : Call) (f k sector : ℕ) (contents : List ℕ) →
+      calls ≡ before ++ (call ∷ after) → begins_at calls medium.past ≤ f → f ≤ k → call.began ≤ k →
+      k ≤ begins_at after medium.past → Ascends medium.past f k → 1 ≤ sector →
+      (start - 4) / sector ≡ (start - 1) / sector →
+      SurvivesLoss sector medium.start medium.past f k contents →
+      Counts s start (accepted before) contents
+      × ((j : ℕ) × (f ≤ j) × (j ≤ k)
+      × (field (start - 4) contents ≡ field (start - 4) (contents_at j)))
+      × Head contents s (field (start - 4) contents) start
+
+  -- The length field is that of a state since the medium was last flushed in which no write of it by
+  -- these calls is cut.
+  abbrev pub HasWholeLength : List Call → List ℕ → Type 0
+  HasWholeLength after contents =
+      (k : ℕ) × (medium.flushed ≤ k) × (k ≤ length medium.past)
+      × (field (start - 4) contents ≡ field (start - 4) (contents_at k))
+      × IsUncut (start - 4) after medium.past k
+
+  -- These contents, which a loss of power left, have lost no published sample: their length field is
+  -- that of a state since the medium was last flushed, and it counts at least the samples that were
+  -- accepted before each flush, unless a write of it is cut in every such state.
+  abbrev pub LosesNothing : List ℕ → Type 0
+  LosesNothing contents =
+      ((k : ℕ) × (medium.flushed ≤ k) × (k ≤ length medium.past)
+      × (field (start - 4) contents ≡ field (start - 4) (contents_at k)))
+      × ((before after : List Call) (flush : Call) → calls ≡ before ++ (flush ∷ after) →
+      HasPublished flush → HasWholeLength after contents →
+      length (concat (accepted before)) ≤ field (start - 4) contents)
+
+  -- The same for a medium that has written bytes only at ascending places since it was last flushed,
+  -- the header before that, if the power is lost at the end. Calls that all fail from some point on
+  -- are those of a machine that lost its power there.
+  abbrev pub KeptAfterLoss : Type 0
+  KeptAfterLoss = (sector : ℕ) (contents : List ℕ) → begins_at calls medium.past ≤ medium.flushed →
+      medium.flushed ≤ length medium.past →
+      Ascends medium.past medium.flushed (length medium.past) → 1 ≤ sector →
       (start - 4) / sector ≡ (start - 1) / sector →
       SurvivesLoss sector medium.start medium.past medium.flushed (length medium.past) contents →
-      let width = spec_ex.bytes_per_sample in
-      let found = containers width (data_length / width) (drop start before) in
-      Counts spec_ex start (found ++ accepted_by_all spec_ex steps marks) contents
-      × LosesNothing spec_ex start found steps marks cuts medium contents
+      LosesNothing contents
 
--- P, if all was published at the end of a run, by its result
-abbrev pub OnFinalized : End → Result (Unit {0}) Error → Type 0 → Type 0
-OnFinalized Finalize answer P = OnPublished answer P
-OnFinalized Drop answer P = ⊤
+  -- An end that published leaves the canonical file of all accepted samples.
+  abbrev pub CanonicalAtEnd : Type 0
+  CanonicalAtEnd = (before : List Call) (end : Call) → calls ≡ before ++ (end ∷ []) →
+      HasPublished end → StartsWith medium.contents (canonical s (accepted before))
 
--- An Ok `finalize` leaves the canonical file of all accepted samples.
-abbrev pub CanonicalAtEnd : WavSpecEx → List (List ℕ) → List Step → List Bool → End →
-    Result (Unit {0}) Error → MediumState → Type 0
-CanonicalAtEnd s found steps marks end answer medium =
-    OnFinalized end answer
-    (StartsWith medium.contents (canonical s (found ++ accepted_by_all s steps marks)))
+-- What calls promise of a medium that keeps its past, in each of its states since the first of them.
+pub record Promises (s : WavSpecEx) (start : ℕ) (found : List (List ℕ)) (calls : List Call)
+    (medium : MediumState) : Type 0 where
+  pub counted : CountedAtEach s start found calls medium
+  pub head : HeadAtEach s start found calls medium
+  pub published : PublishedByFlushes s start found calls medium
+  pub never_less : NeverLess s start found calls medium
+  pub flushed : FlushedByFlushes s start found calls medium
+  pub stored : StoredAtEach s start found calls medium
+  pub in_order : BeginInOrder s start found calls medium
+  pub after_loss : CountedAfterLoss s start found calls medium
+  pub kept_after_loss : KeptAfterLoss s start found calls medium
+  pub canonical : start ≡ data_start s →
+      HasHeader s (contents_at s start found calls medium (begins_at calls medium.past)) →
+      CanonicalAtEnd s start found calls medium
 
--- What a run leaves at some point after so many bytes were written: the contents of an intermediate
--- state, or what a loss of power leaves of a medium that has written bytes at ascending places only
--- since it was flushed, if the length field lies within one sector.
+-- P for a new file
+abbrev pub IfNew : Begun → Type 0 → Type 0
+IfNew new_file P = P
+IfNew (appended start found) P = ⊤
+
+-- What calls leave in a medium whose bytes are known: it counts what they accepted, each sample as
+-- wide as its spec says, and a new file is the canonical one at an end that published.
+pub record HoldsAtEnd (s : WavSpecEx) (file : Begun) (calls : List Call) (medium : MediumState) :
+    Type 0 where
+  pub sound : IfNew file (IsSoundSpec s)
+  pub wide : AllByRecursion (λ c. length c ≡ s.bytes_per_sample)
+      (found_in file ++ accepted_by_all calls)
+  pub counts : Counts s (start_of s file) (found_in file ++ accepted_by_all calls) medium.contents
+  pub canonical : IfNew file (CanonicalAtEnd s (start_of s file) (found_in file) calls medium)
+
+-- What a writer has left that was asked these, over a medium whose bytes are known.
+pub record Holds (s : WavSpecEx) (file : Begun) (asked : List Asked) (medium : MediumState) :
+    Type 0 where
+  pub calls : List Call
+  pub asked_is : asked_by_all calls ≡ asked
+  pub at_end : HoldsAtEnd s file calls medium
+
+-- What a writer has left that was asked these, over a medium that keeps its past: the calls that were
+-- made, and all that they promise.
+pub record Kept (s : WavSpecEx) (file : Begun) (asked : List Asked) (medium : MediumState) :
+    Type 0 where
+  pub calls : List Call
+  pub asked_is : asked_by_all calls ≡ asked
+  pub at_end : HoldsAtEnd s file calls medium
+  pub promises : Promises s (start_of s file) (found_in file) calls medium
+
+-- What a loss of power at the end leaves of a medium that wrote bytes at ascending places only since
+-- it was flushed, the header before that, as the medium within a `Durable` does: it counts, and has
+-- lost no published sample. A flush that published has flushed the header.
+pub record SurvivesAtEnd (s : WavSpecEx) (start : ℕ) (found : List (List ℕ)) (calls : List Call)
+    (medium : MediumState) : Type 0 where
+  pub header : (before after : List Call) (flush : Call) → calls ≡ before ++ (flush ∷ after) →
+      HasPublished flush → begins_at calls medium.past ≤ medium.flushed
+  pub after_loss : begins_at calls medium.past ≤ medium.flushed → (sector : ℕ) (contents : List ℕ) →
+      1 ≤ sector → (start - 4) / sector ≡ (start - 1) / sector →
+      SurvivesLoss sector medium.start medium.past medium.flushed (length medium.past) contents →
+      Counts s start (found ++ accepted_by_all calls) contents
+      × LosesNothing s start found calls medium contents
+
+-- What a writer has left that was asked these, in a medium within a `Durable` that keeps its past.
+pub record KeptWithin (s : WavSpecEx) (file : Begun) (asked : List Asked) (medium : MediumState) :
+    Type 0 where
+  pub calls : List Call
+  pub asked_is : asked_by_all calls ≡ asked
+  pub survives : SurvivesAtEnd s (start_of s file) (found_in file) calls medium
+
+-- What is left at some point after so many bytes were written: the contents of a state, or what a
+-- loss of power leaves of a medium that has written bytes at ascending places only since it was
+-- flushed, if the length field lies within one sector.
 abbrev pub IsLeftAfter : ℕ → ℕ → MediumState → List ℕ → Type 0
 IsLeftAfter start from medium contents =
     ((k : ℕ) × (from ≤ k) × (k ≤ length medium.past)

@@ -52,6 +52,7 @@ pub use Rattle.hound_writer.specs.Appending
 pub use Rattle.hound_writer.specs.Batch
 pub use Rattle.hound_writer.specs.Beginning
 pub use Rattle.hound_writer.specs.Block
+pub use Rattle.hound_writer.specs.Calls
 pub use Rattle.hound_writer.specs.Counts
 pub use Rattle.hound_writer.specs.Fields
 pub use Rattle.hound_writer.specs.Many

@@ -1,5 +1,5 @@
 -- Sessions one after the other over one medium, up to the first error.
-use Rattle.std.specs.Prelude.{◌≡◌, ℕ, ◌⊎◌, Bool, List, [], ◌∷◌, ◌++◌, length, replicate, Result, Ok, Err}
+use Rattle.std.specs.Prelude.{◌≡◌, ℕ, ◌⊎◌, Bool, List, [], ◌∷◌, ◌++◌, Result, Ok, Err}
 use Rattle.std.specs.Borrow.{Bor}
 use Rattle.std.specs.List.{flat_map}
 use Rattle.std.specs.Io.{StartsWith}
@@ -16,14 +16,16 @@ use Rattle.hound.specs.declared.session.Step.{Step}
 use Rattle.hound.specs.declared.session.Begin.{Begin}
 use Rattle.hound.specs.declared.session.Begin.TheVariants.{New, Append}
 use Rattle.hound.specs.FirstError.{AnswersStep, writer_after}
-use Rattle.hound.specs.Run.{Begins, IsNotBegun, Runs, Takes}
-use Rattle.hound.specs.Steps.{containers_of}
+use Rattle.hound.specs.Run.{Begins, IsNotBegun}
+use Rattle.hound.specs.Steps.{Takes, containers_of}
 
--- steps that were all Ok
+-- Steps that were all Ok, each from where the one before it ended.
 abbrev pub RunsOk : {M : Type 0} → Bool → Bool → (M → MediumState) → List Step → WriterState M →
     WriterState M → Type 0
-RunsOk tells keeps state steps old new =
-    (cuts : List ℕ) × Runs tells keeps state steps (replicate (length steps) (Ok tt)) cuts old new
+RunsOk tells keeps state [] old new = new ≡ old
+RunsOk {M} tells keeps state (step ∷ steps) old new =
+    (mid : WriterState M) × Takes tells keeps state step (Ok tt) old mid
+    × RunsOk tells keeps state steps mid new
 
 -- the first steps were Ok, and then one was this error
 pub record StopsIn {M : Type 0} (tells keeps : Bool) (state : M → MediumState) (steps : List Step)

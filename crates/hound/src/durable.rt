@@ -9,9 +9,9 @@ ghost use Rattle.hound_writer.specs.Counts.{Counts};
 ghost use Rattle.hound.specs.declared.session.Begin.TheVariants.{New, Append};
 ghost use Rattle.hound.specs.declared.session.End.TheVariants.{Finalize};
 ghost use Rattle.hound.specs.declared.session.Step.TheVariants.{Flush};
-ghost use Rattle.hound.specs.Headline.{AppendedSurvives, LosesNothing};
-ghost use Rattle.hound.specs.Run.{IsSession, Ran};
-ghost use Rattle.hound.specs.Steps.{accepted_by_all};
+ghost use Rattle.hound.specs.Headline.{LosesNothing};
+ghost use Rattle.hound.specs.Run.{AppendedSurvives, IsSession, Ran, all_calls};
+ghost use Rattle.hound.specs.Steps.{accepted_by_steps};
 ghost use Rattle.hound_durable.specs.Durables.{Around};
 
 use crate::runs::run_session;
@@ -56,7 +56,7 @@ pub fn run_durable_session<M: Source + Medium>(
     // A new file that was finalized is the canonical one of what was accepted.
     ensures canonical { WhereTells M.tells ((spec_ex : WavSpecEx) → begin ≡ New spec_ex
         → end ≡ Finalize →
-        OnOk result.1 (StartsWith (M.state result.0).contents (canonical spec_ex (accepted_by_all spec_ex steps.now marks.new)))) }
+        OnOk result.1 (StartsWith (M.state result.0).contents (canonical spec_ex (accepted_by_steps spec_ex steps.now marks.new)))) }
 
     // For a new file whose header was flushed, whatever a loss of power leaves counts.
     ensures after_loss { WhereKeeps M.tells M.keeps ((spec_ex : WavSpecEx) → begin ≡ New spec_ex
@@ -65,7 +65,7 @@ pub fn run_durable_session<M: Source + Medium>(
         → (data_start spec_ex - 4) / sector ≡ (data_start spec_ex - 1) / sector
         → (contents : List ℕ) → (let s = M.state result.0 in
         SurvivesLoss sector s.start s.past s.flushed (length s.past) contents) →
-        Counts spec_ex (data_start spec_ex) (accepted_by_all spec_ex steps.now marks.new) contents) }
+        Counts spec_ex (data_start spec_ex) (accepted_by_steps spec_ex steps.now marks.new) contents) }
 
     // A flush with a mark has flushed the header.
     ensures header { WhereKeeps M.tells M.keeps ((spec_ex : WavSpecEx) → begin ≡ New spec_ex
@@ -84,7 +84,7 @@ pub fn run_durable_session<M: Source + Medium>(
         → (data_start spec_ex - 4) / sector ≡ (data_start spec_ex - 1) / sector
         → (let s = M.state result.0 in
         SurvivesLoss sector s.start s.past s.flushed (length s.past) contents) →
-        LosesNothing spec_ex (data_start spec_ex) [] steps.now marks.new run.cuts (M.state result.0) contents))) }
+        LosesNothing spec_ex (data_start spec_ex) [] (all_calls run) (M.state result.0) contents))) }
 
     // The same for a file that was appended to, if a byte was written at all.
     ensures appended { WhereKeeps M.tells M.keeps (begin ≡ Append
@@ -92,7 +92,7 @@ pub fn run_durable_session<M: Source + Medium>(
         ⊎ (let state = ⟦<Durable<M> as Placed>⟧.state in
         Around (M.state medium) (M.state result.0) (λ old new.
         (run : Ran M.tells M.keeps state Append steps.now marks.new end old result.1 new)
-        × AppendedSurvives steps.now marks.new run.cuts (M.state medium).contents (M.state result.0)))) }
+        × AppendedSurvives (M.state medium).contents (all_calls run) (M.state result.0)))) }
 {
     let (durable, answer) = run_session(alloc, Durable::new(medium), begin, steps, marks, end);
     (durable.into_inner(), answer)

@@ -1,27 +1,32 @@
 // What holds for every run.
-ghost use Rattle.std.specs.Prelude.{◌≡◌, ◌<◌, ◌≤◌, ◌-◌, ℕ, suc, Bool, true, false, IsTrue, List, [], Ok, Result, length, drop, map, slice_index_or};
+ghost use Rattle.std.specs.Prelude.{◌≡◌, ◌<◌, ◌≤◌, ◌-◌, ℕ, Bool, IsTrue, List, [], ◌∷◌, ◌++◌, Ok, Result, length, map};
 ghost use Rattle.hound_spec.specs.declared.error.Error.{Error};
 ghost use Rattle.hound_spec.specs.declared.spec.WavSpecEx.{WavSpecEx};
-ghost use Rattle.hound_spec.specs.Header.{canonical, data_start};
+ghost use Rattle.hound_spec.specs.Header.{canonical};
 ghost use Rattle.hound_medium.specs.State.{MediumState, WhereKeeps, WhereTells};
+ghost use Rattle.hound_durable.specs.Durables.{within};
+ghost use Rattle.hound_reader.specs.Fmt.{IsSoundSpec};
 ghost use Rattle.hound_writer.specs.Answers.{mark_of};
+ghost use Rattle.hound_writer.specs.Calls.{Asked, Begun, Call, Lead, Left, asked_by_all, found_in, new_file, publish, start_of};
+ghost use Rattle.hound_writer.specs.Publishing.{Finishes};
 ghost use Rattle.hound_writer.specs.Writer.{WriterState, IsWhole, accepted_samples, data_length};
 ghost use Rattle.hound_writer.specs.Sizes.{field};
 ghost use Rattle.hound_repair.specs.Held.{held};
 ghost use Rattle.hound_repair.specs.Repairing.{IsNoPad, ReadsFrames, Repairs};
 ghost use Rattle.hound_repair.specs.declared.sizes.Repair.{Repair};
 ghost use Rattle.hound_repair.specs.declared.sizes.RepairState.TheVariants.{HasChunksAfterData};
-ghost use Rattle.hound.specs.declared.session.Step.TheVariants.{Whole, Batch, Flush};
+ghost use Rattle.hound.specs.declared.session.Step.TheVariants.{Whole, Batch};
 ghost use Rattle.hound.specs.declared.session.Begin.TheVariants.{New};
-ghost use Rattle.hound.specs.Headline.{IsLeftAfter, accepted_after, cut_point};
 ghost use Rattle.hound.specs.declared.session.Begin.{Begin};
 ghost use Rattle.hound.specs.declared.session.End.{End};
-ghost use Rattle.hound.specs.Run.{Begins, Ends, Ran, Runs, Takes};
+ghost use Rattle.hound.specs.Headline.{HasPublished, Holds, IsLeftAfter, Kept, KeptWithin, accepted_by_all, begins_at};
+ghost use Rattle.hound.specs.Run.{Begins, EndsAs, Ran};
 ghost use Rattle.hound.specs.Sessions.{AreSessions, RunsOk, all_steps};
-ghost use Rattle.hound.specs.Steps.{containers_of};
+ghost use Rattle.hound.specs.Steps.{Takes, asked_by, containers_of};
 
 use crate::session::Step;
-use hound_medium::Medium;
+use hound_durable::Durable;
+use hound_medium::{Medium, Placed};
 use hound_spec::WavSpecEx;
 
 /// A batch accepts what its values do one by one: the same samples, and the same count of them.
@@ -41,11 +46,21 @@ pub fn a_batch_is_its_values<M: Medium>(values: &[i16])
 /// and of a loss of power holds for these calls too, over every medium.
 pub fn calls_are_a_run<M: Medium>(steps: &[Step])
     ensures { (begin : Begin) (end : End) (old medium : M) (first last : WriterState M)
-        (answers : List (Result Unit Error)) (cuts : List ℕ) (answer : Result Unit Error)
+        (calls : List Call) (answer finished : Result Unit Error)
         → Begins M.tells M.keeps M.state begin old first
-        → Runs M.tells M.keeps M.state steps.now answers cuts first last
-        → Ends M.tells M.keeps M.state end last answer medium →
-        Ran M.tells M.keeps M.state begin steps.now (map mark_of answers) end old answer medium }
+        → Lead M.tells M.keeps M.state calls first last
+        → asked_by_all calls ≡ map (asked_by first.spec_ex) steps.now
+        → Finishes M.tells M.keeps M.state last finished medium → EndsAs end answer finished →
+        Ran M.tells M.keeps M.state begin steps.now (map (λ (call : Call). mark_of call.answer) calls) end old answer medium }
+{}
+
+/// A run over a new file leaves what its calls leave, so what [`what_is_kept`] says of every
+/// caller's calls holds for it too.
+pub fn a_run_leaves_its_calls<M: Medium>(steps: &[Step])
+    ensures { (spec_ex : WavSpecEx) (marks : List Bool) (end : End) (old medium : M)
+        (answer : Result Unit Error)
+        → Ran M.tells M.keeps M.state (New spec_ex) steps.now marks end old answer medium →
+        Left M.tells M.keeps M.state spec_ex new_file (map (asked_by spec_ex) steps.now ++ publish ∷ []) medium }
 {}
 
 /// Sessions that were all Ok leave the file of one session of all their steps.
@@ -61,26 +76,42 @@ pub fn sessions_leave_one_file<'a, M: Medium>(spec_ex: WavSpecEx, sessions: &'a 
 
 /// A repair loses no sample that a flush has published, whatever became of the recorder after it.
 ///
-/// It holds of a new file over a medium whose bytes are known and that records every byte written:
-/// from the return of a marked `Flush` on, in each intermediate state, and in what a loss of power
-/// leaves of a medium that wrote bytes at ascending places only since it was flushed, as a `Durable`
-/// does. Frames of the samples accepted before that flush are read first once the contents are
-/// repaired, unless chunks follow the data, or, with frames of one byte and a data length that is one
-/// less than what is held, the last one is taken for a pad byte.
-pub fn a_repair_loses_no_published_sample<M: Medium>(steps: &[Step])
-    ensures { WhereKeeps M.tells M.keeps ((spec_ex : WavSpecEx) (marks : List Bool) (end : End)
-        (old medium : M) (answer : Result Unit Error)
-        (run : Ran M.tells M.keeps M.state (New spec_ex) steps.now marks end old answer medium)
-        (i : ℕ) (looks : Bool) (cut mended : MediumState) (found : Repair)
-        → i < length steps.now → slice_index_or steps.now i Flush ≡ Flush
-        → slice_index_or marks i false ≡ true
-        → IsLeftAfter (data_start spec_ex) (cut_point (drop (suc i) run.cuts) (M.state medium) 0)
-        (M.state medium) cut.contents
+/// It holds of what any calls of a writer have left in a medium that records every byte written:
+/// from the return of a flush that published on, in each intermediate state, and in what a loss of
+/// power leaves of a medium that wrote bytes at ascending places only since it was flushed, as a
+/// `Durable` does. Frames of the samples accepted before that flush are read first once the contents
+/// are repaired, unless chunks follow the data, or, with frames of one byte and a data length that
+/// is one less than what is held, the last one is taken for a pad byte.
+pub fn a_repair_loses_no_published_sample()
+    ensures { (s : WavSpecEx) (file : Begun) (asked : List Asked) (left : MediumState)
+        (kept : Kept s file asked left) (before after : List Call) (flush : Call) (looks : Bool)
+        (cut mended : MediumState) (found : Repair) → IsSoundSpec s
+        → kept.calls ≡ before ++ (flush ∷ after) → HasPublished flush
+        → IsLeftAfter (start_of s file) (begins_at after left.past) left cut.contents
         → Repairs looks cut found mended
         → (IsTrue looks → found.was ≡ HasChunksAfterData → ⊥) →
-        let published = accepted_after spec_ex [] steps.now marks i in
-        IsNoPad spec_ex (field (data_start spec_ex - 4) cut.contents)
-        (held (data_start spec_ex) cut.contents) published →
-        (found.spec_ex ≡ spec_ex)
-        × ReadsFrames found (data_start spec_ex) published mended.contents) }
+        let published = found_in file ++ accepted_by_all before in
+        IsNoPad s (field (start_of s file - 4) cut.contents) (held (start_of s file) cut.contents)
+        published →
+        (found.spec_ex ≡ s) × ReadsFrames found (start_of s file) published mended.contents }
+{}
+
+/// What a writer leaves at its end counts what its calls accepted, and over a medium that keeps its
+/// past each of its states holds all that they promise: whoever made the calls, with whatever
+/// results.
+pub fn what_is_kept<M: Medium>()
+    ensures at_end { WhereTells M.tells ((s : WavSpecEx) (file : Begun) (asked : List Asked)
+        (medium : M) → Left M.tells M.keeps M.state s file asked medium
+        → Holds s file asked (M.state medium)) }
+    ensures kept { WhereKeeps M.tells M.keeps ((s : WavSpecEx) (file : Begun) (asked : List Asked)
+        (medium : M) → Left M.tells M.keeps M.state s file asked medium
+        → Kept s file asked (M.state medium)) }
+{}
+
+/// What a loss of power leaves of the medium within a `Durable` over which a writer was ended: it
+/// counts, and has lost no sample that a flush has published.
+pub fn what_a_loss_leaves<M: Medium>(durable: &Durable<M>)
+    ensures { WhereKeeps M.tells M.keeps ((s : WavSpecEx) (file : Begun) (asked : List Asked)
+        → Left M.tells M.keeps (⟦<Durable<M> as Placed>⟧.state) s file (asked ++ publish ∷ []) durable.now
+        → KeptWithin s file (asked ++ publish ∷ []) (within durable.now)) }
 {}

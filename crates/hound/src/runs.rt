@@ -1,5 +1,5 @@
 // Whole runs.
-ghost use Rattle.std.specs.Prelude.{◌≡◌, ◌≤◌, ℕ, Ok, OnOk, List, Result, [], length, map, MatchResult};
+ghost use Rattle.std.specs.Prelude.{◌≡◌, ◌≤◌, Ok, OnOk, List, Result, [], length, map, MatchResult};
 ghost use Rattle.std.specs.Io.{StartsWith};
 ghost use Rattle.hound_spec.specs.declared.error.Error.{Error};
 ghost use Rattle.hound_spec.specs.declared.spec.WavSpecEx.{WavSpecEx};
@@ -7,10 +7,12 @@ ghost use Rattle.hound_spec.specs.Writable.{IsWritable};
 ghost use Rattle.hound_spec.specs.Header.{canonical, data_start};
 ghost use Rattle.hound_medium.specs.State.{WhereTells};
 ghost use Rattle.hound_writer.specs.Answers.{mark_of};
+ghost use Rattle.hound_writer.specs.Calls.{Call, Lead, asked_by_all};
+ghost use Rattle.hound_writer.specs.Publishing.{Finishes};
 ghost use Rattle.hound.specs.declared.session.Begin.TheVariants.{New};
 ghost use Rattle.hound.specs.declared.session.End.TheVariants.{Finalize};
-ghost use Rattle.hound.specs.Run.{Begins, IsNotBegun, Runs, Ran, Ends, IsSession, NoFault};
-ghost use Rattle.hound.specs.Steps.{accepted_by_all};
+ghost use Rattle.hound.specs.Run.{Begins, EndsAs, IsNotBegun, IsSession, NoFault, Ran};
+ghost use Rattle.hound.specs.Steps.{accepted_by_steps, asked_by};
 
 use crate::session::{Begin, End, Step};
 use crate::steps::{take_step, write_whole};
@@ -55,9 +57,10 @@ fn take_steps<M: Medium>(
 )
     requires { length steps.now ≡ length marks.old }
     ensures size { length marks.new ≡ length marks.old }
-    ensures runs { (answers : List (Result Unit Error)) × (cuts : List ℕ)
-        × (marks.new ≡ map mark_of answers)
-        × Runs M.tells M.keeps M.state steps.now answers cuts writer.old writer.new }
+    ensures runs { (calls : List Call)
+        × (asked_by_all calls ≡ map (asked_by writer.old.spec_ex) steps.now)
+        × (marks.new ≡ map (λ (call : Call). mark_of call.answer) calls)
+        × Lead M.tells M.keeps M.state calls writer.old writer.new }
 {
     for i in 0..steps.len() {
         if let Step::Whole(value) = steps[i] {
@@ -71,7 +74,8 @@ fn take_steps<M: Medium>(
 
 // Ends a run, and returns the medium.
 fn end_writer<M: Medium>(writer: WavWriter<M>, end: End) -> (M, Result<()>)
-    ensures { Ends M.tells M.keeps M.state end writer result.1 result.0 }
+    ensures { (finished : Result Unit Error)
+        × Finishes M.tells M.keeps M.state writer finished result.0 × EndsAs end result.1 finished }
 {
     match end {
         End::Finalize => writer.finalize_into(),
@@ -111,13 +115,13 @@ pub fn run_session<M: Source + Medium>(
     // A new file that was finalized is the canonical one of what was accepted.
     ensures canonical { WhereTells M.tells ((spec_ex : WavSpecEx) → begin ≡ New spec_ex
         → end ≡ Finalize →
-        OnOk result.1 (StartsWith (M.state result.0).contents (canonical spec_ex (accepted_by_all spec_ex steps.now marks.new)))) }
+        OnOk result.1 (StartsWith (M.state result.0).contents (canonical spec_ex (accepted_by_steps spec_ex steps.now marks.new)))) }
 
     // If the medium was empty and no call of it failed, it is exactly that, also at a drop.
     ensures exact { WhereTells M.tells ((spec_ex : WavSpecEx) → begin ≡ New spec_ex
         → IsWritable spec_ex → (M.state medium).contents ≡ [] → NoFault (M.state medium) (M.state
         result.0) →
-        (M.state result.0).contents ≡ canonical spec_ex (accepted_by_all spec_ex steps.now marks.new)) }
+        (M.state result.0).contents ≡ canonical spec_ex (accepted_by_steps spec_ex steps.now marks.new)) }
 {
     marks.fill(false);
     let mut writer = match begin_writer(medium, begin) {

@@ -2,8 +2,7 @@
 ghost use Rattle.std.specs.Prelude.{◌≡◌, ◌*◌, ◌≤◌, length};
 ghost use Rattle.hound_writer.specs.Accepting.{Accepts};
 ghost use Rattle.hound.specs.declared.session.Step.TheVariants.{Whole};
-ghost use Rattle.hound.specs.Run.{Takes};
-ghost use Rattle.hound.specs.Steps.{OnBatched, is_sixteen, batch_containers, wants_memory};
+ghost use Rattle.hound.specs.Steps.{OnBatched, Takes, is_sixteen, batch_containers, wants_memory};
 
 use crate::session::Step;
 use hound_medium::Medium;

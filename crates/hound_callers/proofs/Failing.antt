@@ -2,7 +2,9 @@
 use Rattle.std.proofs.Common.{◌≡◌, ℕ, zero, suc, ◌<◌, ◌≤◌, Bool, true, false, IsTrue, List, [], ◌∷◌, length, map, slice_index_or, Result, Ok, Err, inl, inr, refl, sym, ◌∙◌, ap, subst, arith}
 use Rattle.std.proofs.lemmas.Bool.{false≢true}
 use Rattle.hound.specs.Answers.{IsPublishing, faults_told, mark_of}
-use Rattle.hound.specs.Run.{Ends, IsSession, Runs, Takes}
+use Rattle.hound.specs.Calls.{Asked, Call, Does, Lead, asked_by_all, publish, with_memory, write}
+use Rattle.hound.specs.Run.{IsSession}
+use Rattle.hound.specs.Steps.{asked_by}
 use Rattle.hound.specs.State.{MediumState}
 use Rattle.hound.specs.Writable.{IsWritable}
 use Rattle.hound.specs.Writer.{WriterState}
@@ -11,9 +13,8 @@ use Rattle.hound.specs.declared.Error.TheVariants.{IoError, UnfinishedSample}
 use Rattle.hound.specs.declared.WavSpecEx.{WavSpecEx}
 use Rattle.hound.specs.declared.session.Begin.TheVariants.{New}
 use Rattle.hound.specs.declared.session.End.{End}
-use Rattle.hound.specs.declared.session.End.TheVariants.{Finalize, Drop}
 use Rattle.hound.specs.declared.session.Step.{Step}
-use Rattle.hound.specs.declared.session.Step.TheVariants.{Whole, Bits, Batch, Flush}
+use Rattle.hound.specs.declared.session.Step.TheVariants.{Flush}
 
 -- a fault that was counted stays counted
 stays : (answer : Result (Unit {0}) Error) (f n : ℕ) → n ≡ faults_told answer f → 1 ≤ f → 1 ≤ n
@@ -39,53 +40,41 @@ unmarked_at (mark ∷ marks) (suc i) inside not =
     unmarked_at marks i (omega (arith, inside)) not
 
 module _ {M : Type 0} (tells keeps : Bool) (state : M → MediumState) (told : IsTrue tells) where
-  step_stays : (step : Step) (answer : Result (Unit {0}) Error) (old new : WriterState M)
-      → Takes tells keeps state step answer old new
+  call_stays : (asked : Asked) (answer : Result (Unit {0}) Error) (memory : List ℕ)
+      (old new : WriterState M) → Does tells keeps state asked answer (with_memory old memory) new
       → 1 ≤ (state old.medium).faults → 1 ≤ (state new.medium).faults
-  step_stays (Whole value) answer old new takes some =
-      stays answer (state old.medium).faults (state new.medium).faults (takes.file told).faults some
-  step_stays (Bits bits) answer old new takes some =
-      stays answer (state old.medium).faults (state new.medium).faults (takes.file told).faults some
-  step_stays (Batch values) answer old new takes some =
-      stays answer (state old.medium).faults (state new.medium).faults (takes.0.file told).faults
-      some
-  step_stays Flush answer old new takes some =
-      stays answer (state old.medium).faults (state new.medium).faults
-      (takes.publishes told).faults some
+  call_stays (write containers) answer memory old new (m, a) some =
+      stays answer (state old.medium).faults (state new.medium).faults (a.file told).faults some
+  call_stays publish answer memory old new c some =
+      stays answer (state old.medium).faults (state new.medium).faults (c.publishes told).faults some
 
-  steps_stay : (steps : List Step) (answers : List (Result (Unit {0}) Error)) (cuts : List ℕ)
-      (old new : WriterState M) → Runs tells keeps state steps answers cuts old new
+  calls_stay : (calls : List Call) (old new : WriterState M) → Lead tells keeps state calls old new
       → 1 ≤ (state old.medium).faults → 1 ≤ (state new.medium).faults
-  steps_stay [] [] cuts old new runs some =
-      omega (arith, some, ap (λ (w : WriterState M). (state w.medium).faults) runs.0)
-  steps_stay (step ∷ steps) (answer ∷ answers) (cut ∷ cuts) old new runs some =
-      steps_stay steps answers cuts runs.0 new runs.3
-      (step_stays step answer old runs.0 runs.2 some)
-  steps_stay _ _ _ old new runs some = absurd runs
+  calls_stay [] old new (memory, same) some =
+      omega (arith, some, ap (λ (w : WriterState M). (state w.medium).faults) same)
+  calls_stay (call ∷ calls) old new (memory, mid, at, does, rest) some =
+      calls_stay calls mid new rest (call_stays call.asked call.answer memory old mid does some)
 
-  unmarked : (steps : List Step) (answers : List (Result (Unit {0}) Error)) (cuts : List ℕ)
-      (old new : WriterState M) → Runs tells keeps state steps answers cuts old new
+  unmarked : (s : WavSpecEx) (steps : List Step) (calls : List Call) (old new : WriterState M)
+      → asked_by_all calls ≡ map (asked_by s) steps → Lead tells keeps state calls old new
       → (i : ℕ) → i < length steps → slice_index_or steps i Flush ≡ Flush
-      → slice_index_or (map mark_of answers) i true ≡ false
+      → slice_index_or (map (λ (call : Call). mark_of call.answer) calls) i true ≡ false
       → 1 ≤ (state new.medium).faults
-  unmarked [] [] cuts old new runs i inside is none = absurd (omega (arith, inside))
-  unmarked (step ∷ steps) (answer ∷ answers) (cut ∷ cuts) old new runs zero inside is none =
-      let flushes = subst (λ s. Takes tells keeps state s answer old runs.0) is runs.2 in
-      steps_stay steps answers cuts runs.0 new runs.3
-      (counts answer old (state old.medium).faults (state runs.0.medium).faults flushes.answers none
-      (flushes.publishes told).faults)
-  unmarked (step ∷ steps) (answer ∷ answers) (cut ∷ cuts) old new runs (suc i) inside is none =
-      unmarked steps answers cuts runs.0 new runs.3 i (omega (arith, inside)) is none
-  unmarked _ _ _ old new runs i inside is none = absurd runs
-
-  end_stays : (end : End) (answer : Result (Unit {0}) Error) (last : WriterState M) (medium : M)
-      → Ends tells keeps state end last answer medium
-      → 1 ≤ (state last.medium).faults → 1 ≤ (state medium).faults
-  end_stays Finalize answer last medium ends some =
-      stays answer (state last.medium).faults (state medium).faults (ends.publishes told).faults some
-  end_stays Drop answer last medium ends some =
-      stays ends.1 (state last.medium).faults (state medium).faults (ends.2.publishes told).faults
-      some
+  unmarked s [] calls old new asked lead i inside is none = absurd (omega (arith, inside))
+  unmarked s (step ∷ steps) [] old new asked lead i inside is none = cc
+  unmarked s (step ∷ steps) (call ∷ calls) old new asked (memory, mid, at, does, rest) zero inside is
+      none =
+      let one : call.asked ≡ asked_by s step = cc in
+      let c : Does tells keeps state publish call.answer (with_memory old memory) mid =
+      subst (λ a. Does tells keeps state a call.answer (with_memory old memory) mid)
+      (one ∙ ap (asked_by s) is) does in
+      calls_stay calls mid new rest
+      (counts call.answer (with_memory old memory) (state old.medium).faults
+      (state mid.medium).faults c.answers none (c.publishes told).faults)
+  unmarked s (step ∷ steps) (call ∷ calls) old new asked (memory, mid, at, does, rest) (suc i) inside
+      is none =
+      let then : asked_by_all calls ≡ map (asked_by s) steps = cc in
+      unmarked s steps calls mid new then rest i (omega (arith, inside)) is none
 
   -- a session whose spec can be written, with a flush that has no mark, met a fault
   pub failed : (s : WavSpecEx) (steps : List Step) (marks : List Bool) (end : End)
@@ -99,6 +88,7 @@ module _ {M : Type 0} (tells keeps : Bool) (state : M → MediumState) (told : I
         | inr fault ↦ omega (arith, (fault.2 told).faults)
       ]
   failed s steps marks end answer old medium writable (inr ran) i inside is none =
-      end_stays end answer ran.last medium ran.ends
-      (unmarked steps ran.answers ran.cuts ran.first ran.last ran.runs i inside is
+      stays ran.finish.answer (state ran.last.medium).faults (state medium).faults
+      (ran.ends.publishes told).faults
+      (unmarked ran.first.spec_ex steps ran.calls ran.first ran.last ran.asked ran.lead i inside is
       (ap (λ l. slice_index_or l i true) (sym ran.marked) ∙ none))

@@ -1,13 +1,15 @@
 // Functions of a user of the library, whose contracts follow from its public ones.
 ghost use Rattle.std.specs.Prelude.{◌≡◌, ℕ, suc, ◌+◌, ◌-◌, ◌/◌, ◌<◌, ◌≤◌, ◌++◌, Bool, false, true, List, length, drop, [], ◌∷◌, slice_index_or, None, Ok, Result, IfOk, IfSome, OnOk};
 ghost use Rattle.std.specs.List.{concat};
+ghost use Rattle.hound.specs.Calls.{Asked, Begun, Call, found_in, start_of};
+ghost use Rattle.hound.specs.Fmt.{IsSoundSpec};
 ghost use Rattle.hound.specs.Batch.{IsSameFile};
 ghost use Rattle.hound.specs.Container.{containers};
 ghost use Rattle.hound.specs.Containers.{AreContainers};
 ghost use Rattle.hound.specs.Counts.{Counts};
 ghost use Rattle.hound.specs.Header.{canonical, data_start};
 ghost use Rattle.hound.specs.Durables.{Around};
-ghost use Rattle.hound.specs.Headline.{HasWholeLength, IsLeftAfter, accepted_after, cut_point};
+ghost use Rattle.hound.specs.Headline.{HasPublished, IsLeftAfter, Kept, LosesNothing, accepted_by_all, begins_at};
 ghost use Rattle.hound.specs.Held.{held};
 ghost use Rattle.hound.specs.Losses.{SurvivesLoss};
 ghost use Rattle.hound.specs.Many.{containers_in};
@@ -16,10 +18,10 @@ ghost use Rattle.hound.specs.Reader.{samples_left};
 ghost use Rattle.hound.specs.Refusals.{OpensAs};
 ghost use Rattle.hound.specs.Repairing.{IsNoPad, ReadsFrames};
 ghost use Rattle.hound.specs.Room.{IsSixteen};
-ghost use Rattle.hound.specs.Run.{IsSession, Ran};
+ghost use Rattle.hound.specs.Run.{IsSession, Ran, all_calls};
 ghost use Rattle.hound.specs.Sizes.{field};
-ghost use Rattle.hound.specs.State.{WhereKeeps, WhereTells};
-ghost use Rattle.hound.specs.Steps.{accepted_by_all};
+ghost use Rattle.hound.specs.State.{MediumState, WhereKeeps, WhereTells};
+ghost use Rattle.hound.specs.Steps.{accepted_by_steps};
 ghost use Rattle.hound.specs.declared.Error.{Error};
 ghost use Rattle.hound.specs.declared.session.Begin.TheVariants.{New};
 ghost use Rattle.hound.specs.declared.session.End.{End};
@@ -104,8 +106,8 @@ fn last_checkpoint(steps: &[Step], marks: &[bool]) -> Option<usize>
 /// be written, or the medium failed.
 ///
 /// Whatever a loss of power then leaves is read as the first of the accepted samples: at least as
-/// those accepted before this checkpoint, unless a write of the length since then is cut in each
-/// state that has this length.
+/// those accepted before this checkpoint, or any before it, unless a write of the length since then
+/// is cut in each state that has this length.
 pub fn record_through_a_loss<M: Source + Medium>(
     alloc: Global,
     medium: M,
@@ -134,37 +136,31 @@ pub fn record_through_a_loss<M: Source + Medium>(
         → (data_start spec_ex - 4) / sector ≡ (data_start spec_ex - 1) / sector
         → (let s = M.state result.0 in
         SurvivesLoss sector s.start s.past s.flushed (length s.past) contents) →
-        Counts spec_ex (data_start spec_ex) (accepted_by_all spec_ex steps.now marks.new) contents
-        × (HasWholeLength (data_start spec_ex - 4) steps.now run.cuts i (M.state result.0) contents →
-        length (concat (accepted_after spec_ex [] steps.now marks.new i)) ≤ field (data_start spec_ex - 4) contents))))) }
+        Counts spec_ex (data_start spec_ex) (accepted_by_steps spec_ex steps.now marks.new) contents
+        × LosesNothing spec_ex (data_start spec_ex) [] (all_calls run) (M.state result.0) contents)))) }
 {
     let begin = Begin::New(spec_ex);
     let (medium, _) = run_durable_session(alloc, medium, begin, steps, marks, End::Drop);
     (medium, last_checkpoint(steps, marks))
 }
 
-/// Repairs what a recorder has left, whichever run over a medium of type `M` it was: no sample is
-/// missing that a flush of this run has published, whether calls failed or the power went. With
+/// Repairs what a recorder has left, whoever made its calls, over whichever medium: no sample is
+/// missing that one of its flushes has published, whether calls failed or the power went. With
 /// frames of one byte, what is left must not hold exactly one byte more than its data length counts.
-pub fn repair_recording<M: Medium, N: Source + Medium>(
-    left: N,
-    steps: &[Step],
-) -> result::Result<(N, Repair), (N, Error)>
+pub fn repair_recording<N: Source + Medium>(left: N) -> result::Result<(N, Repair), (N, Error)>
     requires place { WhereTells N.tells ((N.state left).place ≡ 0) }
-    ensures { WhereTells N.tells (WhereKeeps M.tells M.keeps ((spec_ex : WavSpecEx)
-        (marks : List Bool) (end : End) (old medium : M) (answer : Result Unit Error)
-        (run : Ran M.tells M.keeps M.state (New spec_ex) steps.now marks end old answer medium)
-        (i : ℕ) → i < length steps.now → slice_index_or steps.now i Flush ≡ Flush
-        → slice_index_or marks i false ≡ true
-        → IsLeftAfter (data_start spec_ex) (cut_point (drop (suc i) run.cuts) (M.state medium) 0)
-        (M.state medium) (N.state left).contents →
-        let published = accepted_after spec_ex [] steps.now marks i in
-        IsNoPad spec_ex (field (data_start spec_ex - 4) (N.state left).contents)
-        (held (data_start spec_ex) (N.state left).contents) published →
-        IfOk result (λ done. (done.1.spec_ex ≡ spec_ex) × ReadsFrames done.1 (data_start spec_ex)
-        published (N.state done.0).contents))) }
+    ensures { WhereTells N.tells ((s : WavSpecEx) (file : Begun) (asked : List Asked)
+        (recorded : MediumState) (kept : Kept s file asked recorded) (before after : List Call)
+        (flush : Call) → IsSoundSpec s → kept.calls ≡ before ++ (flush ∷ after) → HasPublished flush
+        → IsLeftAfter (start_of s file) (begins_at after recorded.past) recorded
+        (N.state left).contents →
+        let published = found_in file ++ accepted_by_all before in
+        IsNoPad s (field (start_of s file - 4) (N.state left).contents)
+        (held (start_of s file) (N.state left).contents) published →
+        IfOk result (λ done. (done.1.spec_ex ≡ s) × ReadsFrames done.1 (start_of s file)
+        published (N.state done.0).contents)) }
 {
-    a_repair_loses_no_published_sample::<M>(steps);
+    a_repair_loses_no_published_sample();
     repair_to_end(left)
 }
 

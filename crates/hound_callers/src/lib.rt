@@ -5,6 +5,7 @@
 mod callers;
 mod either;
 mod example;
+mod recording;
 mod twelve;
 
 pub use callers::{
@@ -13,4 +14,7 @@ pub use callers::{
 };
 pub use either::EitherSample;
 pub use example::record_and_read;
+pub use recording::{
+    record, record_mixed, record_twelve, record_twelve_and_repair, record_twelve_through_a_loss,
+};
 pub use twelve::Twelve;

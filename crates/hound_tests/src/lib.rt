@@ -19,4 +19,6 @@ mod memory;
 #[cfg(test)]
 mod program;
 #[cfg(test)]
+mod recording;
+#[cfg(test)]
 mod words;

@@ -100,7 +100,7 @@ fn has_the_first(contents: &[u8], accepted: u32, published: u32) -> bool {
 
 // Whether a reader finds the published samples first, once the contents are repaired.
 fn has_published_once_repaired(contents: Vec<u8>, published: u32) -> bool {
-    let Ok((tape, _)) = repair_recording::<Journal, _>(Tape::new(contents), &STEPS) else {
+    let Ok((tape, _)) = repair_recording(Tape::new(contents)) else {
         return false;
     };
     let bytes = tape.into_bytes();

@@ -24,3 +24,4 @@ pub mod AppendAnswers
 pub mod Writing
 pub mod AcceptingMany
 pub mod OneByOne
+pub mod Recording

@@ -4,6 +4,7 @@ pub mod Appending
 pub mod Batch
 pub mod Beginning
 pub mod Block
+pub mod Calls
 pub mod Counts
 pub mod Fields
 pub mod Many

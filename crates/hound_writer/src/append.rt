@@ -1,8 +1,10 @@
 // Appending to existing files.
-ghost use Rattle.std.specs.Prelude.{◌≡◌, MatchResult};
+ghost use Rattle.std.specs.Prelude.{◌≡◌, [], ⊤, MatchResult};
 ghost use Rattle.hound_medium.specs.State.{WhereTells};
 ghost use Rattle.hound_reader.specs.Fmt.{IsSoundSpec};
 ghost use Rattle.hound_reader.specs.Chunks.{Head, IsDataPlace};
+ghost use Rattle.hound_writer.specs.Calls.{Recorded, appended};
+ghost use Rattle.hound_writer.specs.Writer.{IsWhole, accepted_samples};
 ghost use Rattle.hound_writer.specs.Appending.{Appends, IsNotAppended, FailsCheck, head_fault};
 ghost use Rattle.hound_reader.specs.Refusals.{Names};
 
@@ -72,8 +74,10 @@ impl<W: Source + Medium> WavWriter<W> {
     /// lent.
     pub fn new_append(writer: W) -> Result<WavWriter<W>>
         requires { WhereTells W.tells ((W.state writer).place ≡ 0) }
-        ensures { MatchResult result (Appends W.tells W.state (W.state writer))
+        ensures appends { MatchResult result (Appends W.tells W.state (W.state writer))
             (λ e. (back : W) × WhereTells W.tells (IsNotAppended (W.state writer) (W.state back) e)) }
+        ensures recorded { MatchResult result (λ w. WhereTells W.tells (IsWhole W.state w) →
+            Recorded W.tells W.keeps W.state w.spec_ex (appended w.data_start (accepted_samples W.state w)) [] w) (λ _. ⊤) }
     {
         match WavWriter::try_append(writer) {
             Ok(writer) => Ok(writer),
@@ -95,8 +99,10 @@ impl<W: Source + Medium> WavWriter<W> {
     /// failed. An early end is an `IoError` of kind `Other`.
     pub fn try_append(writer: W) -> result::Result<WavWriter<W>, (W, Error)>
         requires { WhereTells W.tells ((W.state writer).place ≡ 0) }
-        ensures { MatchResult result (Appends W.tells W.state (W.state writer))
+        ensures appends { MatchResult result (Appends W.tells W.state (W.state writer))
             (λ refused. WhereTells W.tells (IsNotAppended (W.state writer) (W.state refused.0) refused.1)) }
+        ensures recorded { MatchResult result (λ w. WhereTells W.tells (IsWhole W.state w) →
+            Recorded W.tells W.keeps W.state w.spec_ex (appended w.data_start (accepted_samples W.state w)) [] w) (λ _. ⊤) }
     {
         let (writer, head) = find_data(writer);
         match head {

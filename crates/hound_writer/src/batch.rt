@@ -1,11 +1,13 @@
 // Batches of samples of sixteen bits.
-ghost use Rattle.std.specs.Prelude.{◌≡◌, ◌+◌, ◌*◌, ◌^◌, ◌≤◌, ◌<◌, length, ◌/◌, ◌++◌, max, [], take, IfOk, IfErr, OnOk, Ok, Err, false};
+ghost use Rattle.std.specs.Prelude.{◌≡◌, List, ◌∷◌, ◌+◌, ◌*◌, ◌^◌, ◌≤◌, ◌<◌, length, ◌/◌, ◌++◌, max, [], take, IfOk, IfErr, OnOk, Ok, Err, false};
 ghost use Rattle.std.specs.Borrow.{sem, RestsIfErr};
 ghost use Rattle.hound_number.specs.Number.{signed_bytes_of};
 ghost use Rattle.hound_spec.specs.declared.error.Error.TheVariants.{OutOfMemory, TooLong};
 ghost use Rattle.hound_sample.specs.Container.{containers};
 ghost use Rattle.hound_writer.specs.contracts.write.WavWriter.{the_row};
 ghost use Rattle.hound_writer.specs.Accepting.{Accepts};
+ghost use Rattle.hound_spec.specs.declared.spec.WavSpecEx.{WavSpecEx};
+ghost use Rattle.hound_writer.specs.Calls.{Asked, Begun, Recorded, write};
 ghost use Rattle.hound_writer.specs.Fields.{bytes_kept};
 ghost use Rattle.hound_writer.specs.Many.{AreShort, short_bytes};
 ghost use Rattle.hound_writer.specs.Room.{IsSixteen};
@@ -58,6 +60,11 @@ impl<W: Medium, B: BatchMemory> SampleWriter16<'_, W, B> {
             (Ok (containers old.spec_ex.bytes_per_sample (length (batch_bytes self.entry) / old.spec_ex.bytes_per_sample) (batch_bytes self.entry)))
             result old self.exit.0.now }
         ensures buffer { self.exit.0.now.buffer ≡ (batch_writer self.entry).buffer }
+        ensures recorded { (s : WavSpecEx) (file : Begun) (asked : List Asked)
+            → Recorded W.tells W.keeps W.state s file asked (batch_writer self.entry)
+            → Recorded W.tells W.keeps W.state s file
+            (asked ++ write (Ok (containers s.bytes_per_sample (length (batch_bytes self.entry) / s.bytes_per_sample) (batch_bytes self.entry))) ∷ [])
+            self.exit.0.now }
     {
         let SampleWriter16 {
             parent,
@@ -172,6 +179,7 @@ impl<W: Medium> WavWriter<W> {
     /// reuses for later batches. The errors, in their order: `TooLong`, if the RIFF size of the
     /// longer file would pass 4294967295; `OutOfMemory`, if the batch needs more memory than the
     /// writer has and there is none. Either leaves the writer as it was.
+    #[tactic(auto, using(crate::proofs::Recording::recorded_same))]
     pub fn get_i16_writer<'s>(
         &'s mut self,
         alloc: Global,
@@ -191,6 +199,9 @@ impl<W: Medium> WavWriter<W> {
         ensures stays { IfOk result (λ batch. IsSameFile self.old (batch_writer batch)) }
         ensures kept { IfOk result (λ batch. length (batch_writer batch).buffer
             ≡ max (length self.old.buffer) (2 * num_samples)) }
+        ensures recorded { IfOk result (λ batch. (s : WavSpecEx) (file : Begun) (asked : List Asked)
+            → Recorded W.tells W.keeps W.state s file asked self.old
+            → Recorded W.tells W.keeps W.state s file asked (batch_writer batch)) }
     {
         if !self.output.has_room(num_samples as u64 * 2) {
             return Err(Error::TooLong);
@@ -215,6 +226,7 @@ impl<'parent, W: Medium, B: BatchMemory> SampleWriter16<'parent, W, B> {
     /// `can_cast` says: each `i8`, `i16` and `i32` has. Higher bits of an `i32` are lost without an
     /// error.
     #[inline]
+    #[tactic(auto, using(crate::proofs::Recording::recorded_same))]
     pub fn write_sample<S: Sample>(&mut self, sample: S)
         requires room { 1 ≤ remaining self.old }
         requires short { S.can_cast sample }
@@ -225,6 +237,9 @@ impl<'parent, W: Medium, B: BatchMemory> SampleWriter16<'parent, W, B> {
         ensures stays { IsSameFile (batch_writer self.old) (batch_writer self.new) }
         ensures kept { length (batch_writer self.new).buffer
             ≡ length (batch_writer self.old).buffer }
+        ensures recorded { (s : WavSpecEx) (file : Begun) (asked : List Asked)
+            → Recorded W.tells W.keeps W.state s file asked (batch_writer self.old)
+            → Recorded W.tells W.keeps W.state s file asked (batch_writer self.new) }
     {
         let index = self.written;
         self.written = index + 1;
@@ -245,6 +260,9 @@ impl<'parent, W: Medium, B: BatchMemory> SampleWriter16<'parent, W, B> {
         ensures stays { IsSameFile (batch_writer self.old) (batch_writer self.new) }
         ensures kept { length (batch_writer self.new).buffer
             ≡ length (batch_writer self.old).buffer }
+        ensures recorded { (s : WavSpecEx) (file : Begun) (asked : List Asked)
+            → Recorded W.tells W.keeps W.state s file asked (batch_writer self.old)
+            → Recorded W.tells W.keeps W.state s file asked (batch_writer self.new) }
     {
         self.write_sample(sample);
     }

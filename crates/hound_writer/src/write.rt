@@ -37,7 +37,7 @@ impl<W: Medium> Model for WavWriter<W> {
 }
 
 impl<W: Medium> WavWriter<W> {
-    ghost use Rattle.std.specs.Prelude.{◌≡◌, ◌+◌, ◌-◌, ◌/◌, ◌%◌, ◌≤◌, ◌^◌, ◌↔◌, [], ◌∷◌, false, IsTrue, Ok, Err, Result, MatchResult, IfErr, OnOk, length, take};
+    ghost use Rattle.std.specs.Prelude.{◌≡◌, ◌+◌, ◌-◌, ◌/◌, ◌%◌, ◌≤◌, ◌^◌, ◌↔◌, ◌++◌, ⊤, List, ℕ, [], ◌∷◌, false, IsTrue, Ok, Err, Result, MatchResult, IfErr, OnOk, length, take};
     ghost use Rattle.hound_spec.specs.declared.error.Error.{Error};
     ghost use Rattle.hound_spec.specs.Header.{riff_size};
     ghost use Rattle.hound_spec.specs.Writable.{with_default_width};
@@ -46,6 +46,8 @@ impl<W: Medium> WavWriter<W> {
     ghost use Rattle.hound_writer.specs.Accepting.{Accepts};
     ghost use Rattle.hound_writer.specs.Answers.{IsIoError, one};
     ghost use Rattle.hound_writer.specs.Beginning.{Begins, IsNotBegun};
+    ghost use Rattle.hound_writer.specs.Calls.{Asked, Begun, Left, Recorded, new_file, publish, write};
+    ghost use Rattle.hound_spec.specs.declared.spec.WavSpecEx.{WavSpecEx};
     ghost use Rattle.hound_writer.specs.Fields.{of_fields};
     ghost use Rattle.hound_writer.specs.Many.{containers_in};
     ghost use Rattle.hound_writer.specs.Parts.{IsStanding};
@@ -59,9 +61,11 @@ impl<W: Medium> WavWriter<W> {
     /// dropped at an error, unless it was lent.
     pub fn new(writer: W, spec: WavSpec) -> Result<WavWriter<W>>
         requires { WhereTells W.tells ((W.state writer).place ≡ 0) }
-        ensures { MatchResult result (Begins W.tells W.keeps W.state (with_default_width spec)
+        ensures begins { MatchResult result (Begins W.tells W.keeps W.state (with_default_width spec)
             (W.state writer))
             (λ e. (back : W) × IsNotBegun W.tells W.keeps W.state (with_default_width spec) writer back e) }
+        ensures recorded { MatchResult result
+            (Recorded W.tells W.keeps W.state (with_default_width spec) new_file []) (λ _. ⊤) }
     {
         WavWriter::new_with_spec_ex(writer, WavSpecEx::from(spec))
     }
@@ -70,8 +74,10 @@ impl<W: Medium> WavWriter<W> {
     /// with the bytes that the bits need: condition and errors are the same.
     pub fn new_with_spec_ex(writer: W, spec_ex: WavSpecEx) -> Result<WavWriter<W>>
         requires { WhereTells W.tells ((W.state writer).place ≡ 0) }
-        ensures { MatchResult result (Begins W.tells W.keeps W.state spec_ex (W.state writer))
+        ensures begins { MatchResult result (Begins W.tells W.keeps W.state spec_ex (W.state writer))
             (λ e. (back : W) × IsNotBegun W.tells W.keeps W.state spec_ex writer back e) }
+        ensures recorded { MatchResult result
+            (Recorded W.tells W.keeps W.state spec_ex new_file []) (λ _. ⊤) }
     {
         match WavWriter::try_new(writer, spec_ex) {
             Ok(writer) => Ok(writer),
@@ -90,8 +96,10 @@ impl<W: Medium> WavWriter<W> {
     /// After an error nothing more is written.
     pub fn try_new(writer: W, spec_ex: WavSpecEx) -> result::Result<WavWriter<W>, (W, Error)>
         requires { WhereTells W.tells ((W.state writer).place ≡ 0) }
-        ensures { MatchResult result (Begins W.tells W.keeps W.state spec_ex (W.state writer))
+        ensures begins { MatchResult result (Begins W.tells W.keeps W.state spec_ex (W.state writer))
             (λ refused. IsNotBegun W.tells W.keeps W.state spec_ex writer refused.0 refused.1) }
+        ensures recorded { MatchResult result
+            (Recorded W.tells W.keeps W.state spec_ex new_file []) (λ _. ⊤) }
     {
         if !spec_ex.is_writable() {
             return Err((writer, Error::Unsupported));
@@ -138,6 +146,9 @@ impl<W: Medium> WavWriter<W> {
         ensures accepts { Accepts W.tells W.keeps W.state false
             (one (S.container sample self.old.spec_ex.spec.bits_per_sample self.old.spec_ex.bytes_per_sample)) result self.old self.new }
         ensures buffer { self.new.buffer ≡ self.old.buffer }
+        ensures recorded { (s : WavSpecEx) (file : Begun) (asked : List Asked)
+            → Recorded W.tells W.keeps W.state s file asked self.old
+            → Recorded W.tells W.keeps W.state s file (asked ++ write (one (S.container sample s.spec.bits_per_sample s.bytes_per_sample)) ∷ []) self.new }
     {
         let outcome = self.output.accept_sample(sample, &mut self.fault);
         if let Outcome::Accepted = outcome {
@@ -161,6 +172,9 @@ impl<W: Medium> WavWriter<W> {
         ensures accepts { Accepts W.tells W.keeps W.state false
             (containers_in S.container self.old.spec_ex samples.now) result self.old self.new }
         ensures buffer { self.new.buffer ≡ self.old.buffer }
+        ensures recorded { (s : WavSpecEx) (file : Begun) (asked : List Asked)
+            → Recorded W.tells W.keeps W.state s file asked self.old
+            → Recorded W.tells W.keeps W.state s file (asked ++ write (containers_in S.container s samples.now) ∷ []) self.new }
     {
         let outcome = self.output.accept_samples(samples, &mut self.fault);
         if let Outcome::Accepted = outcome {
@@ -179,7 +193,10 @@ impl<W: Medium> WavWriter<W> {
     /// of them are published and the medium is flushed. A recorder relies on it for checkpoints. Of
     /// a file the system has all bytes then; nothing here syncs them to the disk.
     pub fn flush(&mut self) -> Result<()>
-        ensures { Checkpoints W.tells W.keeps W.state result self.old self.new }
+        ensures checkpoints { Checkpoints W.tells W.keeps W.state result self.old self.new }
+        ensures recorded { (s : WavSpecEx) (file : Begun) (asked : List Asked)
+            → Recorded W.tells W.keeps W.state s file asked self.old
+            → Recorded W.tells W.keeps W.state s file (asked ++ publish ∷ []) self.new }
     {
         self.output.flush(&mut self.fault)
     }
@@ -204,7 +221,10 @@ impl<W: Medium> WavWriter<W> {
     ///
     /// The errors are those of [`WavWriter::finalize_into`], which also returns the medium.
     pub fn finalize(self) -> Result<()>
-        ensures { (end : W) × Finishes W.tells W.keeps W.state self result end }
+        ensures finishes { (end : W) × Finishes W.tells W.keeps W.state self result end }
+        ensures left { (s : WavSpecEx) (file : Begun) (asked : List Asked)
+            → Recorded W.tells W.keeps W.state s file asked self
+            → (end : W) × Left W.tells W.keeps W.state s file (asked ++ publish ∷ []) end }
     {
         let (_, result) = self.finalize_into();
         result
@@ -218,7 +238,10 @@ impl<W: Medium> WavWriter<W> {
     /// is tried again; `UnfinishedSample`, if the samples are no whole number of frames,
     /// although all of them are published and the medium is flushed.
     pub fn finalize_into(self) -> (W, Result<()>)
-        ensures { Finishes W.tells W.keeps W.state self result.1 result.0 }
+        ensures finishes { Finishes W.tells W.keeps W.state self result.1 result.0 }
+        ensures left { (s : WavSpecEx) (file : Begun) (asked : List Asked)
+            → Recorded W.tells W.keeps W.state s file asked self
+            → Left W.tells W.keeps W.state s file (asked ++ publish ∷ []) result.0 }
     {
         let mut last = self;
         let result = last.finish();
@@ -228,8 +251,11 @@ impl<W: Medium> WavWriter<W> {
     /// Does what a drop does, and returns the medium: it publishes the accepted samples as
     /// [`WavWriter::finalize_into`] does, and its error goes unseen.
     pub fn drop_into(self) -> W
-        ensures { (answer : Result Unit Error)
+        ensures finishes { (answer : Result Unit Error)
             × Finishes W.tells W.keeps W.state self answer result }
+        ensures left { (s : WavSpecEx) (file : Begun) (asked : List Asked)
+            → Recorded W.tells W.keeps W.state s file asked self
+            → Left W.tells W.keeps W.state s file (asked ++ publish ∷ []) result }
     {
         let (writer, _) = self.finalize_into();
         writer
@@ -280,11 +306,17 @@ impl<W: Medium> WavWriter<W> {
 impl<W: Medium> Drop for WavWriter<W> {
     ghost use Rattle.std.specs.Prelude.{Result};
     ghost use Rattle.hound_spec.specs.declared.error.Error.{Error};
+    ghost use Rattle.std.specs.Prelude.{List, [], ◌∷◌, ◌++◌};
+    ghost use Rattle.hound_spec.specs.declared.spec.WavSpecEx.{WavSpecEx};
+    ghost use Rattle.hound_writer.specs.Calls.{Asked, Begun, Left, Recorded, publish};
     ghost use Rattle.hound_writer.specs.Publishing.{Finishes};
 
     fn drop(self)
-        ensures { (answer : Result Unit Error) × (end : W)
+        ensures finishes { (answer : Result Unit Error) × (end : W)
             × Finishes W.tells W.keeps W.state self answer end }
+        ensures left { (s : WavSpecEx) (file : Begun) (asked : List Asked)
+            → Recorded W.tells W.keeps W.state s file asked self
+            → (end : W) × Left W.tells W.keeps W.state s file (asked ++ publish ∷ []) end }
     {
         let _ = self.finalize_into();
     }

@@ -4,4 +4,4 @@ use Rattle.hound.proofs.laws.a_batch_is_its_values.Goals as goal
 pub returns : goal.returns
 returns g x tells a b c behind whole batch runs =
     same_samples g.M.Placed.tells g.M.Placed.keeps g.M.Placed.state tells x.args.values a b c whole
-    behind batch runs
+    batch runs

@@ -1,8 +1,9 @@
+use Rattle.hound_writer.specs.Calls.{found_in, start_of}
 use Rattle.hound.proofs.Recovering.{none_lost}
 use Rattle.hound.proofs.laws.a_repair_loses_no_published_sample.Goals as goal
 
 pub returns : goal.returns
-returns g x tells keeps s marks end old medium answer run i looks cut mended found inside is marked left repairs alone no_pad =
-    none_lost g.M.Placed.tells g.M.Placed.keeps g.M.Placed.state tells keeps
-    (λ m. g.met.M.Medium.replays m tells keeps) s x.args.steps.now marks end old medium answer run i
-    inside is marked looks cut mended found left repairs alone no_pad
+returns x s file asked left kept before after flush looks cut mended found sound same has_all at repairs alone no_pad =
+    none_lost s (start_of s file) (found_in file) kept.calls left kept.promises sound.1
+    kept.at_end.wide before after flush same has_all looks cut mended found at repairs alone sound
+    no_pad

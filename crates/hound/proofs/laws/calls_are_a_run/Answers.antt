@@ -1,10 +1,8 @@
-use Rattle.std.proofs.Common.{map, refl}
-use Rattle.hound_writer.specs.Answers.{mark_of}
 use Rattle.hound.proofs.Whole.{ran}
 use Rattle.hound.proofs.laws.calls_are_a_run.Goals as goal
 
 pub returns : goal.returns
-returns g x begin end old medium first last answers cuts answer begins runs ends =
-    ran g.M.Placed.tells g.M.Placed.keeps g.M.Placed.state begin x.args.steps.now
-    (map mark_of answers) end old answer medium first last answers cuts begins runs refl ends
-    (g.met.M.Medium.replays)
+returns g x begin end old medium first last calls answer finished begins lead asked ends told =
+    let M = g.M.Placed in
+    ran M.tells M.keeps M.state begin x.args.steps.now end old answer finished medium first last
+    calls begins lead asked ends told (g.met.M.Medium.replays)

@@ -1,4 +1,4 @@
-use Rattle.std.proofs.Common.{arith, inl, inr, refl, rules, subst}
+use Rattle.std.proofs.Common.{arith, inl, inr, refl, rules, subst, sym}
 use Rattle.hound.specs.declared.session.Begin.{Begin}
 use Rattle.hound.specs.declared.session.End.{End}
 use Rattle.hound.specs.Run.{IsNotBegun, Ran}
@@ -26,46 +26,49 @@ returns-in-Err-clause-begun g c tells s is_new empty long =
 pub returns-clause-begun : goal.returns-clause-begun
 returns-clause-begun g c tells s is_new empty long =
     let W = g.M.Placed in
-    let runs = c.take_steps.ensures.runs in
-    ran W.tells W.keeps W.state c.args.begin c.args.steps.now c.take_steps.new.marks c.args.end
-    c.args.medium c.end_writer.result.1 c.end_writer.result.0 c.in-Ok.writer
-    c.take_steps.new.writer runs.0 runs.1
-    c.in-Ok.ensures runs.3 runs.2 c.end_writer.ensures (g.met.M.Medium.replays)
+    let (calls, asked, marked, lead) = c.take_steps.ensures.runs in
+    let (finished, finishes, same) = c.end_writer.ensures in
+    subst (λ m. Ran W.tells W.keeps W.state c.args.begin c.args.steps.now m c.args.end c.args.medium
+    c.end_writer.result.1 c.end_writer.result.0) (sym marked)
+    (ran W.tells W.keeps W.state c.args.begin c.args.steps.now c.args.end c.args.medium
+    c.end_writer.result.1 finished c.end_writer.result.0 c.in-Ok.writer c.take_steps.new.writer calls
+    c.in-Ok.ensures lead asked finishes same (g.met.M.Medium.replays))
 
 pub returns-clause-session : goal.returns-clause-session
 returns-clause-session g c =
     let W = g.M.Placed in
-    let runs = c.take_steps.ensures.runs in
-    inr (ran W.tells W.keeps W.state c.args.begin c.args.steps.now c.take_steps.new.marks c.args.end
-    c.args.medium c.end_writer.result.1 c.end_writer.result.0 c.in-Ok.writer
-    c.take_steps.new.writer runs.0 runs.1
-    c.in-Ok.ensures runs.3 runs.2 c.end_writer.ensures (g.met.M.Medium.replays))
+    let (calls, asked, marked, lead) = c.take_steps.ensures.runs in
+    let (finished, finishes, same) = c.end_writer.ensures in
+    inr (subst (λ m. Ran W.tells W.keeps W.state c.args.begin c.args.steps.now m c.args.end
+    c.args.medium c.end_writer.result.1 c.end_writer.result.0) (sym marked)
+    (ran W.tells W.keeps W.state c.args.begin c.args.steps.now c.args.end c.args.medium
+    c.end_writer.result.1 finished c.end_writer.result.0 c.in-Ok.writer c.take_steps.new.writer calls
+    c.in-Ok.ensures lead asked finishes same (g.met.M.Medium.replays)))
 
 pub returns-clause-canonical : goal.returns-clause-canonical
 returns-clause-canonical g c tells s is_new is_finalize =
     let W = g.M.Placed in
-    let runs = c.take_steps.ensures.runs in
-    let r = ran W.tells W.keeps W.state c.args.begin c.args.steps.now c.take_steps.new.marks
-    c.args.end c.args.medium c.end_writer.result.1 c.end_writer.result.0 c.in-Ok.writer
-    c.take_steps.new.writer runs.0 runs.1
-    c.in-Ok.ensures runs.3 runs.2 c.end_writer.ensures (g.met.M.Medium.replays) in
+    let (calls, asked, marked, lead) = c.take_steps.ensures.runs in
+    let (finished, finishes, same) = c.end_writer.ensures in
     new_canonical W.tells W.keeps W.state s c.args.steps.now c.take_steps.new.marks c.args.medium
     c.end_writer.result.1 c.end_writer.result.0 tells
-    (subst (λ (x : Begin × End).
-    Ran W.tells W.keeps W.state x.0 c.args.steps.now c.take_steps.new.marks x.1 c.args.medium
-    c.end_writer.result.1 c.end_writer.result.0) (λ i. (is_new i, is_finalize i)) r)
+    (subst (λ (x : _ × (Begin × End)). Ran W.tells W.keeps W.state x.1.0 c.args.steps.now x.0 x.1.1
+    c.args.medium c.end_writer.result.1 c.end_writer.result.0)
+    (λ i. (sym marked i, (is_new i, is_finalize i)))
+    (ran W.tells W.keeps W.state c.args.begin c.args.steps.now c.args.end c.args.medium
+    c.end_writer.result.1 finished c.end_writer.result.0 c.in-Ok.writer c.take_steps.new.writer calls
+    c.in-Ok.ensures lead asked finishes same (g.met.M.Medium.replays)))
 
 pub returns-clause-exact : goal.returns-clause-exact
 returns-clause-exact g c tells s is_new writable empty none =
     let W = g.M.Placed in
-    let runs = c.take_steps.ensures.runs in
-    let r = ran W.tells W.keeps W.state c.args.begin c.args.steps.now c.take_steps.new.marks
-    c.args.end c.args.medium c.end_writer.result.1 c.end_writer.result.0 c.in-Ok.writer
-    c.take_steps.new.writer runs.0 runs.1
-    c.in-Ok.ensures runs.3 runs.2 c.end_writer.ensures (g.met.M.Medium.replays) in
+    let (calls, asked, marked, lead) = c.take_steps.ensures.runs in
+    let (finished, finishes, same) = c.end_writer.ensures in
     new_exact W.tells W.keeps W.state s c.args.steps.now c.take_steps.new.marks c.args.medium
     c.end_writer.result.1 c.end_writer.result.0 tells c.args.end
-    (subst (λ b.
-    Ran W.tells W.keeps W.state b c.args.steps.now c.take_steps.new.marks c.args.end
-    c.args.medium c.end_writer.result.1 c.end_writer.result.0) is_new r) empty
+    (subst (λ (x : _ × Begin). Ran W.tells W.keeps W.state x.1 c.args.steps.now x.0 c.args.end
+    c.args.medium c.end_writer.result.1 c.end_writer.result.0) (λ i. (sym marked i, is_new i))
+    (ran W.tells W.keeps W.state c.args.begin c.args.steps.now c.args.end c.args.medium
+    c.end_writer.result.1 finished c.end_writer.result.0 c.in-Ok.writer c.take_steps.new.writer calls
+    c.in-Ok.ensures lead asked finishes same (g.met.M.Medium.replays))) empty
     (c.requires.place tells) none

@@ -1,7 +1,14 @@
-use Rattle.std.proofs.Common.{arith, rules, w32}
+use Rattle.std.proofs.Common.{[], arith, refl, rules, w32}
 use Rattle.std.proofs.Math.Facts.{to_z-of_z}
 use Rattle.hound.proofs.Running.{marked_more, whole_taken}
 use Rattle.hound.proofs.runs.take_steps.Goals as goal
+
+pub loop-i-init : goal.loop-i-init
+loop-i-init g c = record {
+  size = search rules;
+  within = omega arith;
+  runs = ([], refl, refl, (c.args.writer.now.buffer, refl));
+}
 
 pub loop-i-preserved-in-Whole : goal.loop-i-preserved-in-Whole
 loop-i-preserved-in-Whole g c =

@@ -10,7 +10,7 @@ returns-in-Ok-take_until_error g c = inr (inr record {
   last = c.take_until_error.new.writer;
   begins = c.in-Ok.ensures;
   runs = c.in-Ok-take_until_error.ensures;
-  ends = c.finalize_into.ensures;
+  ends = c.finalize_into.ensures.finishes;
 })
 
 pub returns-in-Err-take_until_error : goal.returns-in-Err-take_until_error
@@ -21,6 +21,6 @@ returns-in-Err-take_until_error g c = inr (inl record {
   last = c.take_until_error.new.writer;
   begins = c.in-Ok.ensures;
   stops = c.in-Err-take_until_error.ensures;
-  dropped = c.drop_into.ensures.0;
-  ends = c.drop_into.ensures.1;
+  dropped = c.drop_into.ensures.finishes.0;
+  ends = c.drop_into.ensures.finishes.1;
 })

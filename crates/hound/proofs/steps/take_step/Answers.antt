@@ -1,6 +1,7 @@
 use Rattle.std.proofs.Common.{rules, subst, sym, w32}
 use Rattle.std.proofs.Math.Facts.{to_z-of_z}
-use Rattle.hound.specs.Run.{Takes}
+use Rattle.hound.specs.Steps.{Takes}
+use Rattle.hound_writer.proofs.Recording.{flush_left}
 use Rattle.hound.proofs.Running.{whole_taken}
 use Rattle.hound.proofs.steps.take_step.Goals as goal
 
@@ -16,17 +17,26 @@ returns-in-Bits g c =
     let write = c.write_sample in
     subst (λ step.
     Takes g.M.Placed.tells g.M.Placed.keeps g.M.Placed.state step write.result c.args.writer.now
-    write.new.self) (sym c.in-Bits.is) write.ensures.accepts
+    write.new.self) (sym c.in-Bits.is)
+    (record { does = (_, write.ensures.accepts); returns = write.ensures.accepts.adds.answers })
 
 pub returns-in-Batch : goal.returns-in-Batch
 returns-in-Batch g c =
     subst (λ step.
     Takes g.M.Placed.tells g.M.Placed.keeps g.M.Placed.state step c.write_batch.result
     c.args.writer.now c.write_batch.new.writer) (sym c.in-Batch.is)
-    (c.write_batch.ensures.accepts, c.write_batch.ensures.memory)
+    (record {
+      does = (_, c.write_batch.ensures.accepts);
+      returns = (c.write_batch.ensures.accepts.adds.answers, c.write_batch.ensures.memory);
+    })
 
 pub returns-in-Flush : goal.returns-in-Flush
 returns-in-Flush g c =
     subst (λ step.
     Takes g.M.Placed.tells g.M.Placed.keeps g.M.Placed.state step c.flush.result
-    c.args.writer.now c.flush.new.self) (sym c.in-Flush.is) c.flush.ensures
+    c.args.writer.now c.flush.new.self) (sym c.in-Flush.is)
+    (record {
+      does = flush_left g.M.Placed.tells g.M.Placed.keeps g.M.Placed.state c.flush.result
+          c.args.writer.now c.flush.new.self c.flush.ensures.checkpoints;
+      returns = c.flush.ensures.checkpoints.answers;
+    })

@@ -1,7 +1,7 @@
 use Rattle.std.proofs.Common.{◌≡◌, w32, to_z, of_z, rules, subst}
 use Rattle.std.proofs.Math.Facts.{to_z-of_z}
 use Rattle.hound.specs.declared.session.Step.TheVariants.{Whole}
-use Rattle.hound.specs.Run.{Takes}
+use Rattle.hound.specs.Steps.{Takes}
 use Rattle.hound.proofs.steps.write_whole.Goals as goal
 
 pub returns : goal.returns
@@ -10,4 +10,8 @@ returns g c =
     let value = c.args.value in
     let back : to_z w32 (of_z w32 value) ≡ value = to_z-of_z {w = w32} (search rules) in
     subst (λ v. Takes W.tells W.keeps W.state (Whole v) c.write_sample.result c.args.writer.now
-    c.write_sample.new.self) back c.write_sample.ensures.accepts
+    c.write_sample.new.self) back
+    (record {
+      does = (_, c.write_sample.ensures.accepts);
+      returns = c.write_sample.ensures.accepts.adds.answers;
+    })

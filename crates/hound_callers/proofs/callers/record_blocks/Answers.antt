@@ -34,4 +34,4 @@ returns g c told whole =
     c.args.writer.now loop.writer c.flush.new.self told
     (subst (λ l. Recorded W.tells W.keeps W.state g.S.Sample.container l c.args.writer.now
     loop.writer) (take_all loop.done values c.loop-done-test.false)
-    (loop.invariant.recorded told whole)) c.flush.ensures
+    (loop.invariant.recorded told whole)) c.flush.ensures.checkpoints

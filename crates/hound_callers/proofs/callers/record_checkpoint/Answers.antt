@@ -34,4 +34,4 @@ published tells keeps state (Ok c) (Ok x) old mid new adds publishes told whole 
 pub returns : goal.returns
 returns g c =
     published g.M.Placed.tells g.M.Placed.keeps g.M.Placed.state _ c.flush.result _ _ _
-    c.in_ok-write_sample.ensures.accepts c.flush.ensures
+    c.in_ok-write_sample.ensures.accepts c.flush.ensures.checkpoints

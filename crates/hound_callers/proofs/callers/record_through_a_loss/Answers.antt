@@ -1,14 +1,12 @@
 use Rattle.std.proofs.Common.{◌≡◌, ℕ, ◌-◌, ◌/◌, ◌≤◌, List, [], length, Option, None, Some, IfSome, refl, subst, arith}
-use Rattle.std.specs.List.{concat}
 use Rattle.hound.specs.Durables.{Around}
 use Rattle.hound.specs.Counts.{Counts}
-use Rattle.hound.specs.Headline.{HasWholeLength, accepted_after}
+use Rattle.hound.specs.Headline.{LosesNothing}
 use Rattle.hound.specs.Header.{data_start}
 use Rattle.hound.specs.Losses.{SurvivesLoss}
 use Rattle.hound.specs.Own.{own}
-use Rattle.hound.specs.Run.{Ran}
-use Rattle.hound.specs.Sizes.{field}
-use Rattle.hound.specs.Steps.{accepted_by_all}
+use Rattle.hound.specs.Run.{Ran, all_calls}
+use Rattle.hound.specs.Steps.{accepted_by_steps}
 use Rattle.hound.specs.declared.Durable.{Durable}
 use Rattle.hound.specs.declared.session.Begin.TheVariants.{New}
 use Rattle.hound.specs.declared.session.End.TheVariants.{Drop}
@@ -56,12 +54,10 @@ returns-clause-survives g c tells keeps = by c.last_checkpoint.result c.last_che
         → (let s = g.M.Placed.state c.run_durable_session-medium.result.0 in
         SurvivesLoss sector s.start s.past s.flushed (length s.past) contents) →
         Counts c.args.spec_ex (data_start c.args.spec_ex)
-        (accepted_by_all c.args.spec_ex c.args.steps.now c.run_durable_session-medium.new.marks)
+        (accepted_by_steps c.args.spec_ex c.args.steps.now c.run_durable_session-medium.new.marks)
         contents
-        × (HasWholeLength (data_start c.args.spec_ex - 4) c.args.steps.now run.cuts i
-        (g.M.Placed.state c.run_durable_session-medium.result.0) contents →
-        length (concat (accepted_after c.args.spec_ex [] c.args.steps.now
-        c.run_durable_session-medium.new.marks i)) ≤ field (data_start c.args.spec_ex - 4) contents))))
+        × LosesNothing c.args.spec_ex (data_start c.args.spec_ex) [] (all_calls run)
+        (g.M.Placed.state c.run_durable_session-medium.result.0) contents)))
     by None last = tt
     by (Some i) last =
         let run = c.run_durable_session-medium in
@@ -79,7 +75,7 @@ returns-clause-survives g c tells keeps = by c.last_checkpoint.result c.last_che
             λ sector contents some one lost. (
               run.ensures.after_loss tells keeps spec refl c.requires.empty long sector some one
                   contents lost,
-              (kept.4.1 sector contents some one lost).1 i flushed.0 flushed.1 flushed.2,
+              kept.4.1 sector contents some one lost,
             ),
           ),
         )

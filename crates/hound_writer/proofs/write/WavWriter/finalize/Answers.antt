@@ -1,4 +1,8 @@
 use Rattle.hound_writer.proofs.write.WavWriter.finalize.Goals as goal
 
-pub returns : goal.returns
-returns g c = (c.finalize_into.result.0, c.finalize_into.ensures)
+pub returns-clause-finishes : goal.returns-clause-finishes
+returns-clause-finishes g c = (c.finalize_into.result.0, c.finalize_into.ensures.finishes)
+
+pub returns-clause-left : goal.returns-clause-left
+returns-clause-left g c s file asked so_far =
+    (c.finalize_into.result.0, c.finalize_into.ensures.left s file asked so_far)

@@ -1,18 +1,25 @@
 use Rattle.std.proofs.Common.{subst}
 use Rattle.hound_reader.specs.Sources.{FindsData}
 use Rattle.hound_writer.proofs.Appending.{answer_after, walk_fails}
+use Rattle.hound_writer.proofs.Recording.{recorded_appended}
 use Rattle.hound_writer.proofs.write.WavWriter.try_append.Goals as goal
 
-pub returns-in-Ok : goal.returns-in-Ok
-returns-in-Ok g c =
+pub returns-in-Ok-clause-appends : goal.returns-in-Ok-clause-appends
+returns-in-Ok-clause-appends g c =
     let old = g.W.Placed.state c.args.writer in
     let mid = g.W.Placed.state c.find_data-writer.result.0 in
     answer_after g.W.Placed.tells g.W.Placed.state c.in-Ok.head old mid _
     (λ tells. subst (λ r. FindsData r old mid) c.in-Ok.is
     (c.find_data-writer.ensures.finds tells)) c.append_at.ensures
 
-pub returns-in-Err : goal.returns-in-Err
-returns-in-Err g c tells =
+pub returns-in-Ok-clause-recorded : goal.returns-in-Ok-clause-recorded
+returns-in-Ok-clause-recorded g c =
+    let W = g.W.Placed in
+    recorded_appended W.tells W.keeps W.state _ (W.state c.args.writer) c.append_at.result
+    (returns-in-Ok-clause-appends g c)
+
+pub returns-in-Err-clause-appends : goal.returns-in-Err-clause-appends
+returns-in-Err-clause-appends g c tells =
     let old = g.W.Placed.state c.args.writer in
     let mid = g.W.Placed.state c.find_data-writer.result.0 in
     walk_fails c.in-Err.error c.error_of.result old mid (c.requires tells) c.error_of.ensures

@@ -3,6 +3,7 @@ use Rattle.hound_spec.proofs.HeaderLemmas.{length-header}
 use Rattle.hound_spec.specs.Header.{data_start}
 use Rattle.hound_spec.specs.Writable.{IsWritable}
 use Rattle.hound_writer.specs.Beginning.{Begins}
+use Rattle.hound_writer.proofs.Recording.{recorded_new}
 use Rattle.hound_writer.proofs.Beginning.{sound_begin, stands_begin, place_begins, header_file, header_cut}
 use Rattle.hound_writer.proofs.write.WavWriter.try_new.Goals as goal
 
@@ -22,8 +23,8 @@ at_end-requires g c =
           place_begins g.W.Placed.keeps s _ _ _ _ is (c.requires tells) puts puts.whole;
     }
 
-pub returns-in-Ok : goal.returns-in-Ok
-returns-in-Ok g c =
+pub returns-in-Ok-clause-begins : goal.returns-in-Ok-clause-begins
+returns-in-Ok-clause-begins g c =
     let s = c.args.spec_ex in
     let is = c.as_slice-bytes.ensures ∙ c.header_of-header.ensures in
     let writable : IsWritable s = search rules in
@@ -45,8 +46,14 @@ returns-in-Ok g c =
           (c.requires tells) writable (c.in-Ok.ensures tells);
     }
 
-pub returns-in-Err : goal.returns-in-Err
-returns-in-Err g c =
+pub returns-in-Ok-clause-recorded : goal.returns-in-Ok-clause-recorded
+returns-in-Ok-clause-recorded g c =
+    let W = g.W.Placed in
+    recorded_new W.tells W.keeps W.state c.args.spec_ex (W.state c.args.writer) c.at_end.result
+    (returns-in-Ok-clause-begins g c)
+
+pub returns-in-Err-clause-begins : goal.returns-in-Err-clause-begins
+returns-in-Err-clause-begins g c =
     let writable : IsWritable c.args.spec_ex = search rules in
     inr (
       writable,

@@ -1,0 +1,209 @@
+// Recorders that make their calls themselves.
+ghost use Rattle.std.specs.Prelude.{◌≡◌, ◌⊎◌, ◌-◌, ◌/◌, List, ◌∷◌, ◌++◌, [], ⊤, Ok, MatchResult, length, map};
+ghost use Rattle.std.specs.List.{flat_map};
+ghost use Rattle.hound.specs.Answers.{one};
+ghost use Rattle.hound.specs.Calls.{Asked, Begun, Call, Recorded, new_file, publish, write};
+ghost use Rattle.hound.specs.Container.{containers};
+ghost use Rattle.hound.specs.Headline.{HasPublished, Kept, KeptWithin, accepted_by_all};
+ghost use Rattle.hound.specs.Header.{data_start};
+ghost use Rattle.hound.specs.Held.{held};
+ghost use Rattle.hound.specs.Many.{containers_in};
+ghost use Rattle.hound.specs.Number.{signed_bytes_of};
+ghost use Rattle.hound.specs.Repairing.{IsNoPad, ReadsFrames};
+ghost use Rattle.hound.specs.Room.{IsSixteen};
+ghost use Rattle.hound.specs.Sizes.{field};
+ghost use Rattle.hound.specs.State.{MediumState, WhereKeeps, WhereTells};
+ghost use Rattle.hound.specs.declared.WavSpecEx.{WavSpecEx};
+ghost use Rattle.hound_callers.specs.Recording.{block_asks, recorder_asks};
+
+use crate::twelve::Twelve;
+use hound::{
+    Durable, Error, Medium, Repair, Sample, Source, WavSpecEx, WavWriter,
+    a_repair_loses_no_published_sample, repair_to_end, what_a_loss_leaves, what_is_kept,
+};
+use std::alloc::Global;
+use std::result;
+
+// Writes a block, and publishes it if it is to be, whatever the results are.
+fn record_block<S: Sample + Copy, M: Medium>(
+    writer: &mut WavWriter<M>,
+    block: &[S],
+    publishes: bool,
+)
+    ensures { (s : WavSpecEx) (file : Begun) (asked : List Asked)
+        → Recorded M.tells M.keeps M.state s file asked writer.old
+        → Recorded M.tells M.keeps M.state s file
+        (asked ++ block_asks (containers_in S.container s block.now) publishes) writer.new }
+{
+    let _ = writer.write_samples(block);
+    if publishes {
+        let _ = writer.flush();
+    }
+}
+
+/// Records blocks of samples into a new file, with a flush after every fourth, whatever the results
+/// of these calls are.
+pub fn record<S: Sample + Copy, M: Source + Medium>(
+    medium: M,
+    spec_ex: WavSpecEx,
+    blocks: &[&[S]],
+) -> result::Result<WavWriter<M>, (M, Error)>
+    requires { WhereTells M.tells ((M.state medium).place ≡ 0) }
+    ensures { MatchResult result
+        (Recorded M.tells M.keeps M.state spec_ex new_file (recorder_asks (λ block. containers_in S.container spec_ex block.now) 0 blocks.now))
+        (λ _. ⊤) }
+{
+    let mut writer = match WavWriter::try_new(medium, spec_ex) {
+        Ok(writer) => writer,
+        Err(refused) => return Err(refused),
+    };
+    for i in 0..blocks.len() {
+        record_block(&mut writer, blocks[i], i % 4 == 3);
+    }
+    Ok(writer)
+}
+
+/// Records blocks of twelve-bit samples as [`record`] does, and ends the file: what is left holds
+/// all that such calls promise, in each of its states.
+pub fn record_twelve<M: Source + Medium>(
+    medium: M,
+    spec_ex: WavSpecEx,
+    blocks: &[&[Twelve]],
+) -> result::Result<M, (M, Error)>
+    requires { WhereTells M.tells ((M.state medium).place ≡ 0) }
+    ensures { MatchResult result (λ left. WhereKeeps M.tells M.keeps
+        (Kept spec_ex new_file (recorder_asks (λ block. containers_in ⟦<Twelve as Sample>⟧.container spec_ex block.now) 0 blocks.now ++ publish ∷ []) (M.state left)))
+        (λ _. ⊤) }
+{
+    what_is_kept::<M>();
+    let writer = match record(medium, spec_ex, blocks) {
+        Ok(writer) => writer,
+        Err(refused) => return Err(refused),
+    };
+    let (medium, _) = writer.finalize_into();
+    Ok(medium)
+}
+
+/// Records over a medium that may lose its power: whatever sectors keep what was written since it
+/// was flushed, what is left counts, and has lost no sample that a flush has published.
+///
+/// The medium must be new: its place is 0, and nothing has been written to it yet.
+pub fn record_twelve_through_a_loss<M: Source + Medium>(
+    medium: M,
+    spec_ex: WavSpecEx,
+    blocks: &[&[Twelve]],
+) -> result::Result<M, (M, Error)>
+    requires place { WhereTells M.tells ((M.state medium).place ≡ 0) }
+    requires past { WhereKeeps M.tells M.keeps ((M.state medium).past ≡ []) }
+    requires flushed { WhereKeeps M.tells M.keeps ((M.state medium).flushed ≡ 0) }
+    ensures { MatchResult result (λ left. WhereKeeps M.tells M.keeps
+        (KeptWithin spec_ex new_file (recorder_asks (λ block. containers_in ⟦<Twelve as Sample>⟧.container spec_ex block.now) 0 blocks.now ++ publish ∷ []) (M.state left)))
+        (λ _. ⊤) }
+{
+    let writer = match record(Durable::new(medium), spec_ex, blocks) {
+        Ok(writer) => writer,
+        Err((durable, error)) => return Err((durable.into_inner(), error)),
+    };
+    let (durable, _) = writer.finalize_into();
+    what_a_loss_leaves(&durable);
+    Ok(durable.into_inner())
+}
+
+/// Records blocks of twelve-bit samples as [`record`] does, drops the writer, whatever its end did,
+/// and repairs the file: no sample is missing that a flush has published. With frames of one byte,
+/// what is left must not hold exactly one byte more than its data length counts.
+pub fn record_twelve_and_repair<M: Source + Medium>(
+    medium: M,
+    spec_ex: WavSpecEx,
+    blocks: &[&[Twelve]],
+) -> result::Result<(M, Repair), (M, Error)>
+    requires { WhereTells M.tells ((M.state medium).place ≡ 0) }
+    ensures { MatchResult result (λ done. WhereKeeps M.tells M.keeps ((left : MediumState)
+        × (kept : Kept spec_ex new_file (recorder_asks (λ block. containers_in ⟦<Twelve as Sample>⟧.container spec_ex block.now) 0 blocks.now ++ publish ∷ []) left)
+        × ((before after : List Call) (flush : Call) → kept.calls ≡ before ++ (flush ∷ after)
+        → HasPublished flush
+        → IsNoPad spec_ex (field (data_start spec_ex - 4) left.contents)
+        (held (data_start spec_ex) left.contents) (accepted_by_all before) →
+        (done.1.spec_ex ≡ spec_ex)
+        × ReadsFrames done.1 (data_start spec_ex) (accepted_by_all before) (M.state done.0).contents)))
+        (λ _. ⊤) }
+{
+    what_is_kept::<M>();
+    a_repair_loses_no_published_sample();
+    let writer = match record(medium, spec_ex, blocks) {
+        Ok(writer) => writer,
+        Err(refused) => return Err(refused),
+    };
+    let mut medium = writer.drop_into();
+    if let Err(error) = medium.go(0) {
+        return Err((medium, Error::IoError(error)));
+    }
+    repair_to_end(medium)
+}
+
+// Writes single samples, whatever the results are.
+fn record_singles<S: Sample + Copy, M: Medium>(writer: &mut WavWriter<M>, singles: &[S])
+    ensures spec { writer.new.spec_ex ≡ writer.old.spec_ex }
+    ensures recorded { (s : WavSpecEx) (file : Begun) (asked : List Asked)
+        → Recorded M.tells M.keeps M.state s file asked writer.old
+        → Recorded M.tells M.keeps M.state s file
+        (asked ++ map (λ v. write (one (S.container v s.spec.bits_per_sample s.bytes_per_sample))) singles.now) writer.new }
+{
+    for sample in singles {
+        let _ = writer.write_sample(*sample);
+    }
+}
+
+// Writes a batch, which is accepted by one call.
+fn record_batch<M: Medium>(
+    alloc: Global,
+    writer: &mut WavWriter<M>,
+    batch: &[i16],
+) -> hound::Result<()>
+    requires { IsSixteen writer.old.spec_ex }
+    ensures { (s : WavSpecEx) (file : Begun) (asked : List Asked)
+        → Recorded M.tells M.keeps M.state s file asked writer.old
+        → (Recorded M.tells M.keeps M.state s file asked writer.new)
+        ⊎ (let bytes = flat_map (signed_bytes_of 2) batch.now in
+        Recorded M.tells M.keeps M.state s file
+        (asked ++ write (Ok (containers s.bytes_per_sample (length bytes / s.bytes_per_sample) bytes)) ∷ []) writer.new) }
+{
+    if batch.len() > u32::MAX as usize {
+        return Err(Error::TooLong);
+    }
+    let mut values = writer.get_i16_writer(alloc, batch.len() as u32)?;
+    for value in batch {
+        values.write_sample(*value);
+    }
+    values.flush()
+}
+
+/// Records single samples of eight bits and then a batch of sixteen into a new file, and ends it:
+/// what is left holds all that these calls promise. A batch that finds no memory or no room isn't
+/// among them.
+pub fn record_mixed<M: Source + Medium>(
+    alloc: Global,
+    medium: M,
+    spec_ex: WavSpecEx,
+    singles: &[i8],
+    batch: &[i16],
+) -> result::Result<M, (M, Error)>
+    requires place { WhereTells M.tells ((M.state medium).place ≡ 0) }
+    requires sixteen { IsSixteen spec_ex }
+    ensures { MatchResult result (λ left. WhereKeeps M.tells M.keeps (
+        let asked = map (λ v. write (one (⟦<i8 as Sample>⟧.container v spec_ex.spec.bits_per_sample spec_ex.bytes_per_sample))) singles.now in
+        let bytes = flat_map (signed_bytes_of 2) batch.now in
+        (Kept spec_ex new_file (asked ++ publish ∷ []) (M.state left))
+        ⊎ (Kept spec_ex new_file ((asked ++ write (Ok (containers spec_ex.bytes_per_sample (length bytes / spec_ex.bytes_per_sample) bytes)) ∷ []) ++ publish ∷ []) (M.state left))))
+        (λ _. ⊤) }
+{
+    what_is_kept::<M>();
+    let mut writer = match WavWriter::try_new(medium, spec_ex) {
+        Ok(writer) => writer,
+        Err(refused) => return Err(refused),
+    };
+    record_singles(&mut writer, singles);
+    let _ = record_batch(alloc, &mut writer, batch);
+    let (medium, _) = writer.finalize_into();
+    Ok(medium)
+}

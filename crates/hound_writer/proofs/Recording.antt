@@ -1,0 +1,204 @@
+-- A list of calls and one more.
+use Rattle.std.proofs.Common.{ℕ, MatchResult, Ok, Err, arith, Bool, false, List, [], ◌∷◌, ◌++◌, ◌≡◌, length, Result, refl, subst, sym, ◌∙◌, ap}
+use Rattle.std.specs.Prelude.{⊤}
+use Rattle.hound_spec.specs.declared.error.Error.{Error}
+use Rattle.hound_spec.specs.declared.spec.WavSpecEx.{WavSpecEx}
+use Rattle.hound_medium.specs.State.{MediumState, WhereTells}
+use Rattle.hound_sample.specs.Container.{Refusal, containers}
+use Rattle.hound_writer.specs.Accepting.{Accepts}
+use Rattle.hound_writer.specs.Appending.{Appends}
+use Rattle.hound_writer.specs.Batch.{IsSameFile}
+use Rattle.hound_writer.specs.Beginning.{Begins}
+use Rattle.hound_writer.specs.Publishing.{Checkpoints, Finishes}
+use Rattle.hound_writer.specs.Writer.{WriterState, IsWhole, accepted_samples, sample_count}
+use Rattle.hound_writer.specs.Calls.{Asked, write, publish, Call, Does, Begun, Lead, Left, Opens, Recorded, asked_by_all, appended, new_file, with_memory}
+
+module _ {W : Type 0} (tells keeps : Bool) (state : W → MediumState) where
+  abbrev pub call_at : Asked → Result (Unit {0}) Error → WriterState W → Call
+  call_at asked answer old =
+      record { asked = asked; answer = answer; began = length (state old.medium).past }
+
+  -- one call more
+  pub lead_more : (calls : List Call) (asked : Asked) (answer : Result (Unit {0}) Error)
+      (a b c : WriterState W) → Lead tells keeps state calls a b
+      → Does tells keeps state asked answer b c
+      → Lead tells keeps state (calls ++ call_at asked answer b ∷ []) a c
+  lead_more [] asked answer a b c (memory, same) does = (
+    memory,
+    c,
+    ap (λ (w : WriterState W). length (state w.medium).past) same,
+    subst (λ w. Does tells keeps state asked answer w c) same does,
+    (c.buffer, refl),
+  )
+  lead_more (call ∷ calls) asked answer a b c (memory, mid, at, first, rest) does =
+      (memory, mid, at, first, lead_more calls asked answer mid b c rest does)
+
+  -- and the same calls with another memory
+  lead_same : (calls : List Call) (a b : WriterState W) (memory : List ℕ)
+      → Lead tells keeps state calls a b → Lead tells keeps state calls a (with_memory b memory)
+  lead_same [] a b memory (first, same) =
+      (memory, ap (λ (w : WriterState W). with_memory w memory) same)
+  lead_same (call ∷ calls) a b memory (first, mid, at, does, rest) =
+      (first, mid, at, does, lead_same calls mid b memory rest)
+
+  pub asked_more : (calls : List Call) (asked : Asked) (answer : Result (Unit {0}) Error)
+      (b : WriterState W)
+      → asked_by_all (calls ++ call_at asked answer b ∷ []) ≡ asked_by_all calls ++ asked ∷ []
+  asked_more [] asked answer b = refl
+  asked_more (call ∷ calls) asked answer b =
+      ap (λ l. call.asked ∷ l) (asked_more calls asked answer b)
+
+  -- the spec stays
+  pub call_spec : (asked : Asked) (answer : Result (Unit {0}) Error) (a b : WriterState W)
+      → Does tells keeps state asked answer a b → b.spec_ex ≡ a.spec_ex
+  call_spec (write containers) answer a b (memory, accepts) = accepts.adds.spec_ex
+  call_spec publish answer a b leaves = leaves.samples.spec_ex
+
+  pub lead_spec : (calls : List Call) (a b : WriterState W) → Lead tells keeps state calls a b
+      → b.spec_ex ≡ a.spec_ex
+  lead_spec [] a b (memory, same) = ap (λ (w : WriterState W). w.spec_ex) same
+  lead_spec (call ∷ calls) a b (memory, mid, at, does, rest) =
+      lead_spec calls mid b rest
+      ∙ call_spec call.asked call.answer (with_memory a memory) mid does
+
+  pub opens_spec : (s : WavSpecEx) (file : Begun) (first : WriterState W)
+      → Opens tells keeps state s file first → first.spec_ex ≡ s
+  opens_spec s new_file first opens = opens.1.begun.spec
+  opens_spec s (appended start found) first opens = opens.spec_is
+
+  pub flush_left : (answer : Result (Unit {0}) Error) (a b : WriterState W)
+      → Checkpoints tells keeps state answer a b → Does tells keeps state publish answer a b
+  flush_left answer a b c = record {
+    answers = c.answers;
+    samples = c.samples;
+    publishes = c.publishes;
+    whole = c.whole;
+    accepted = c.accepted;
+    moments = c.moments;
+  }
+
+  -- the writer that an end leaves: the same but for its medium
+  abbrev pub ended : WriterState W → W → WriterState W
+  ended w end = record w { medium = end }
+
+  pub end_left : (answer : Result (Unit {0}) Error) (w : WriterState W) (end : W)
+      → Finishes tells keeps state w answer end
+      → Does tells keeps state publish answer w (ended w end)
+  end_left answer w end f = record {
+    answers = f.answers;
+    samples = record { spec_ex = refl; data_start = refl; data_length = refl; buffer = refl };
+    publishes = f.publishes;
+    whole = λ told whole. let grows = (f.publishes told).grows in omega (arith, whole, grows);
+    accepted = λ told whole.
+        ap (λ l. containers w.spec_ex.bytes_per_sample (sample_count w) (l ++ w.waiting))
+        ((f.publishes told).out whole);
+    moments = f.moments;
+  }
+
+  pub recorded_more : (asked : Asked) (answer : Result (Unit {0}) Error) (s : WavSpecEx)
+      (file : Begun) (list : List Asked) (b c : WriterState W)
+      (so_far : Recorded tells keeps state s file list b)
+      → Does tells keeps state asked answer b c
+      → Recorded tells keeps state s file (list ++ asked ∷ []) c
+  unfolding Recorded
+  recorded_more asked answer s file list b c so_far does = record {
+    first = so_far.first;
+    calls = so_far.calls ++ call_at asked answer b ∷ [];
+    opens = so_far.opens;
+    lead = lead_more so_far.calls asked answer so_far.first b c so_far.lead does;
+    asked_is = asked_more so_far.calls asked answer b ∙ ap (λ l. l ++ asked ∷ []) so_far.asked_is;
+  }
+
+  -- the spec of a writer is that of its file
+  pub recorded_spec : (s : WavSpecEx) (file : Begun) (list : List Asked) (w : WriterState W)
+      → Recorded tells keeps state s file list w → w.spec_ex ≡ s
+  unfolding Recorded
+  recorded_spec s file list w r =
+      lead_spec r.calls r.first w r.lead ∙ opens_spec s file r.first r.opens
+
+  -- one call for samples more, by their containers in a file of any spec
+  pub recorded_write : (wanted : WavSpecEx → Result (List (List ℕ)) Refusal)
+      (answer : Result (Unit {0}) Error) (s : WavSpecEx) (file : Begun) (list : List Asked)
+      (b c : WriterState W) → Recorded tells keeps state s file list b
+      → Accepts tells keeps state false (wanted b.spec_ex) answer b c
+      → Recorded tells keeps state s file (list ++ write (wanted s) ∷ []) c
+  recorded_write wanted answer s file list b c so_far accepts =
+      subst (λ x. Recorded tells keeps state s file (list ++ write (wanted x) ∷ []) c)
+      (recorded_spec s file list b so_far)
+      (recorded_more (write (wanted b.spec_ex)) answer s file list b c so_far (false, accepts))
+
+  pub recorded_flush : (answer : Result (Unit {0}) Error) (s : WavSpecEx) (file : Begun)
+      (list : List Asked) (b c : WriterState W) → Recorded tells keeps state s file list b
+      → Checkpoints tells keeps state answer b c
+      → Recorded tells keeps state s file (list ++ publish ∷ []) c
+  recorded_flush answer s file list b c so_far does =
+      recorded_more publish answer s file list b c so_far (flush_left answer b c does)
+
+  -- the same writer with another memory for batches
+  pub recorded_same : (s : WavSpecEx) (file : Begun) (list : List Asked) (a b : WriterState W)
+      → IsSameFile a b → Recorded tells keeps state s file list a
+      → Recorded tells keeps state s file list b
+  unfolding Recorded
+  recorded_same s file list a b same r =
+      let is : with_memory a b.buffer ≡ b = λ i. record {
+        medium = sym same.medium i;
+        spec_ex = sym same.spec_ex i;
+        data_start = sym same.data_start i;
+        out = sym same.out i;
+        waiting = sym same.waiting i;
+        buffer = b.buffer;
+      } in record {
+        first = r.first;
+        calls = r.calls;
+        opens = r.opens;
+        lead = subst (Lead tells keeps state r.calls r.first) is
+            (lead_same r.calls r.first a b.buffer r.lead);
+        asked_is = r.asked_is;
+      }
+
+  -- a writer that has begun a file
+  recorded_first : (s : WavSpecEx) (file : Begun) (w : WriterState W)
+      → Opens tells keeps state s file w → Recorded tells keeps state s file [] w
+  unfolding Recorded
+  recorded_first s file w opens =
+      record { first = w; calls = []; opens = opens; lead = (w.buffer, refl); asked_is = refl }
+
+  pub recorded_new : (s : WavSpecEx) (old : MediumState) (w : WriterState W)
+      → Begins tells keeps state s old w → Recorded tells keeps state s new_file [] w
+  recorded_new s old w begins = recorded_first s new_file w (old, begins)
+
+  pub recorded_append : (old : MediumState) (w : WriterState W) → Appends tells state old w
+      → WhereTells tells (IsWhole state w)
+      → Recorded tells keeps state w.spec_ex
+      (appended w.data_start (accepted_samples state w)) [] w
+  recorded_append old w appends whole =
+      recorded_first w.spec_ex (appended w.data_start (accepted_samples state w)) w (record {
+        old = old;
+        appends = appends;
+        spec_is = refl;
+        start_is = refl;
+        whole = whole;
+        found_is = λ _. refl;
+      })
+
+  pub recorded_appended : {E : Type 0} (Q : E → Type 0) (old : MediumState)
+      (r : Result (WriterState W) E) → MatchResult r (Appends tells state old) Q
+      → MatchResult r (λ w. WhereTells tells (IsWhole state w)
+      → Recorded tells keeps state w.spec_ex
+      (appended w.data_start (accepted_samples state w)) [] w) (λ _. ⊤)
+  recorded_appended Q old (Ok w) appends = recorded_append old w appends
+  recorded_appended Q old (Err e) appends = tt
+
+  -- an end, as the last of the calls
+  pub left_by : (answer : Result (Unit {0}) Error) (s : WavSpecEx) (file : Begun)
+      (list : List Asked) (w : WriterState W) (end : W)
+      → Finishes tells keeps state w answer end
+      → Recorded tells keeps state s file list w
+      → Left tells keeps state s file (list ++ publish ∷ []) end
+  unfolding Left Recorded
+  left_by answer s file list w end f so_far = record {
+    last = ended w end;
+    recorded = recorded_more publish answer s file list w (ended w end) so_far
+        (end_left answer w end f);
+    is = refl;
+  }
