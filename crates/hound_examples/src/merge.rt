@@ -1,7 +1,7 @@
 // merge OUT IN..: writes a file with a channel for each of these files of one channel.
 //
 // It prints nothing. The files have one spec and length. A block is read of each file, and its samples
-// are put in their places of a block of frames. Where a file ends early, the whole frames before that are
+// go to their places in a block of frames. Where a file ends early, the whole frames before that are
 // written.
 use hound::{WavReader, WavSpec, WavSpecEx, WavWriter};
 use std::env;
