@@ -52,7 +52,7 @@ def levels(name):
         peak = max(abs(number) for number in tenth) / 32768
         mean_square = sum((number / 32768) ** 2 for number in tenth) / len(tenth)
         seconds, rms = start / 44100, 10 * math.log10(mean_square)
-        print(f"{seconds:.1f} s  RMS {rms:.2f} dBFS, peak {20 * math.log10(peak):.2f} dBFS")
+        print(f"{seconds:.1f} s  channel 1  RMS {rms:.2f} dBFS, peak {20 * math.log10(peak):.2f} dBFS")
 
 
 def mulaw(name):

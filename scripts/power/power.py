@@ -237,11 +237,12 @@ files() {{
     stat -c '%s %n' /disk/*.wav; echo
     for file in /disk/*.wav; do dd if=$file bs={BLOCK} conv=sync,noerror; done
 }}
+ln -s /bin/hound_examples /bin/mend # The name says which example runs.
 look() {{
     {before}
     {mount} || {{ {after}; {mount}; }} || return
     echo mounted; files
-    for file in /disk/*.wav; do hound_examples mend $file --yes > /dev/null; done
+    for file in /disk/*.wav; do mend $file --yes > /dev/null; done
     files
     umount /disk
 }}

@@ -1,34 +1,32 @@
-// Floats: `floats FILE` writes each sample as its pattern of bits and as a number.
+// floats FILE: prints each sample of a file of floats as its pattern of bits and as a number.
 //
-// The library keeps floats as patterns (`FloatBits`), so that every one comes back, a NaN too. The
-// standard library makes numbers of them, in which all NaNs are one. Each error has its own line.
-use crate::failure::Failure;
+// A line is `3f000000 0.5`. The library keeps floats as patterns (`FloatBits`), so that every one comes
+// back, a NaN too. As numbers all NaNs are one. Each error of the library has a line of its own.
 use hound::{Error, FloatBits, WavReader};
-use std::io;
+use std::env;
 use std::path::Path;
+use std::process::ExitCode;
 
-/// Writes a line for each sample, or a line that says why there are none.
-pub fn floats<O: io::Write>(
-    rt: &HostRuntime,
-    path: Path<'_>,
-    output: &mut O,
-) -> Result<(), Failure> {
-    match show(rt, path, output) {
-        Ok(()) => Ok(()),
+pub fn main(rt: HostRuntime) -> hound::Result<ExitCode> {
+    let Some(file) = env::args(&rt)?.nth(1) else {
+        eprintln!(rt; "usage: floats FILE")?;
+        return Ok(ExitCode::from(2));
+    };
+    match show(&rt, Path::new(file.as_str())) {
+        Ok(()) => Ok(ExitCode::SUCCESS),
         Err(error) => {
-            let text = text_of(&error);
-            writeln!(output, "{text}")?;
-            Err(error.into())
+            println!(rt; "{}", text_of(&error))?;
+            Err(error)
         }
     }
 }
 
-fn show<O: io::Write>(rt: &HostRuntime, path: Path<'_>, output: &mut O) -> hound::Result<()> {
+fn show(rt: &HostRuntime, path: Path<'_>) -> hound::Result<()> {
     let mut reader = WavReader::open(rt, rt.alloc(), path)?;
     for sample in reader.samples::<FloatBits>() {
         let sample = sample?;
         let (pattern, number) = (sample.0, sample.to_f32());
-        writeln!(output, "{pattern:08x} {number}")?;
+        println!(rt; "{pattern:08x} {number}")?;
     }
     Ok(())
 }

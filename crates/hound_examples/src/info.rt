@@ -1,13 +1,40 @@
-// What a file is: `info FILE`.
+// info FILE: prints what a file is, or at which byte reading it fails, and why.
 //
-// The chunks up to the data, each with the place and the length of its content; the spec and the
-// length; or why the file can't be read and at which byte, which a reader around the file counts.
-use crate::chunks::{Chunk, chunks_from};
-use crate::failure::Failure;
+// It prints the chunks up to the data, each with the place and the length of its content, the spec, and
+// the length. The reader needs no chunk but its own two; the others are walked over here, so that one
+// sees what a recorder left in the file. The byte of an error is counted by a reader around the file.
 use hound::{SampleFormat, WavReader, WavSpec, read_wave_header};
-use std::io::{BufReader, Seek};
+use std::io::{BufReader, ErrorKind, Read, Seek, SeekFrom};
 use std::path::Path;
-use std::{fs, io};
+use std::process::ExitCode;
+use std::{env, fs, io};
+
+pub fn main(rt: HostRuntime) -> hound::Result<ExitCode> {
+    let Some(name) = env::args(&rt)?.nth(1) else {
+        eprintln!(rt; "usage: info FILE")?;
+        return Ok(ExitCode::from(2));
+    };
+    let path = Path::new(name.as_str());
+    let mut file = BufReader::new(rt.alloc(), fs::open(&rt, path)?)?;
+    if read_wave_header(&mut file).is_ok() {
+        show_chunks(&rt, &mut file)?;
+    }
+    file.rewind()?;
+    let mut counting = Counting {
+        reader: file,
+        taken: 0,
+    };
+    match WavReader::new(&mut counting) {
+        Ok(reader) => {
+            show(&rt, &reader)?;
+            Ok(ExitCode::SUCCESS)
+        }
+        Err(error) => {
+            eprintln!(rt; "at byte {}: {error}", counting.taken)?;
+            Ok(ExitCode::from(1))
+        }
+    }
+}
 
 // Counts the bytes that are taken.
 #[derive(Drop)]
@@ -24,29 +51,37 @@ impl<R: io::Read> io::Read for Counting<R> {
     }
 }
 
-/// Writes what the file is.
-pub fn info<O: io::Write>(rt: &HostRuntime, path: Path<'_>, output: &mut O) -> Result<(), Failure> {
-    let mut file = BufReader::new(rt.alloc(), fs::open(rt, path)?)?;
-    if read_wave_header(&mut file).is_ok() {
-        for chunk in chunks_from(rt.alloc(), &mut file, 12)? {
-            let tag = chunk.tag.escape_ascii();
-            let Chunk { start, length, .. } = chunk;
-            writeln!(output, "{tag} at byte {start}, {length} bytes")?;
+// A line for each chunk after the first twelve bytes: up to the data, the end of the file, or what
+// is no chunk, since its tag is no text.
+fn show_chunks<F: io::Read + io::Seek>(rt: &HostRuntime, file: &mut F) -> io::Result<()> {
+    let mut place = 12u64;
+    for _ in 0..u32::MAX {
+        let mut header = [0; 8];
+        match file.read_exact(&mut header) {
+            Ok(()) => {}
+            Err(error) if error.kind() == ErrorKind::UnexpectedEof => break,
+            Err(error) => return Err(error),
         }
+        let [a, b, c, d, e, f, g, h] = header;
+        let tag = [a, b, c, d];
+        if !tag.iter().all(|byte| (b' '..=b'~').contains(byte)) {
+            break;
+        }
+        let length = u32::from_le_bytes([e, f, g, h]);
+        place = place.saturating_add(8);
+        println!(rt; "{} at byte {place}, {length} bytes", tag.escape_ascii())?;
+        if tag == *b"data" {
+            break;
+        }
+        // A pad byte follows a chunk of odd length.
+        place = place.saturating_add(u64::from(length) + u64::from(length % 2));
+        file.seek(SeekFrom::Start(place))?;
     }
-    file.rewind()?;
-    let mut file = Counting {
-        reader: file,
-        taken: 0,
-    };
-    match WavReader::new(&mut file) {
-        Ok(reader) => Ok(show(&reader, output)?),
-        Err(error) => Err(Failure::Unreadable(file.taken, error)),
-    }
+    Ok(())
 }
 
 // The spec and the length.
-fn show<R: io::Read + Drop, O: io::Write>(reader: &WavReader<R>, output: &mut O) -> io::Result<()> {
+fn show<R: io::Read + Drop>(rt: &HostRuntime, reader: &WavReader<R>) -> io::Result<()> {
     let WavSpec {
         channels,
         sample_rate,
@@ -57,15 +92,10 @@ fn show<R: io::Read + Drop, O: io::Write>(reader: &WavReader<R>, output: &mut O)
         SampleFormat::Int => "int",
         SampleFormat::Float => "float",
     };
-    writeln!(
-        output,
+    println!(rt;
         "channels {channels}, rate {sample_rate}, bits {bits_per_sample}, format {format}"
     )?;
-    let samples = reader.len();
-    let frames = reader.duration();
+    let (samples, frames) = (reader.len(), reader.duration());
     let seconds = f64::from(frames) / f64::from(sample_rate);
-    writeln!(
-        output,
-        "samples {samples}, frames {frames}, seconds {seconds:.6}"
-    )
+    println!(rt; "samples {samples}, frames {frames}, seconds {seconds:.6}")
 }

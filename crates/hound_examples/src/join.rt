@@ -1,68 +1,79 @@
-// Files of one spec, one after the other: `join OUT IN..`.
+// join OUT IN..: writes files of one spec one after the other.
 //
-// Each is appended to the joined file, which is whole after each of its parts. Integers are read as
-// `i32` and floats as `FloatBits`, which keep every sample as it is. Of a part that ends early the
-// frames before that are appended, and the parts after it aren't.
-use crate::failure::Failure;
-use crate::frames::{block_of, whole_frames};
-use hound::{FloatBits, Medium, Sample, SampleFormat, WavReader, WavWriter};
-use std::io;
+// It prints nothing. Integers are read as `i32` and floats as `FloatBits`, which keep every sample as it
+// is. Of a file that ends early the whole frames before that are written, and none of the files after
+// it.
+use hound::{Error, FloatBits, Medium, Sample, SampleFormat, WavReader, WavSpecEx, WavWriter};
 use std::path::Path;
+use std::process::ExitCode;
+use std::{env, io};
 
-/// Makes the joined file, once all files were looked at.
-pub fn join(rt: &HostRuntime, to: &str, from: &[&str]) -> Result<(), Failure> {
-    let Some(first) = from.first() else {
-        return Err(Failure::Usage);
+pub fn main(rt: HostRuntime) -> hound::Result<ExitCode> {
+    let words: Vec<String> = env::args(&rt)?.collect(rt.alloc())?;
+    let [_, to, first, others @ ..] = words.as_slice() else {
+        eprintln!(rt; "usage: join OUT IN..")?;
+        return Ok(ExitCode::from(2));
     };
-    let spec_ex = WavReader::open(rt, rt.alloc(), Path::new(first))?.spec_ex();
-    for part in from {
-        if *part == to {
-            return Err(Failure::SameFile);
-        }
-        if WavReader::open(rt, rt.alloc(), Path::new(part))?.spec_ex() != spec_ex {
-            return Err(Failure::OtherSpec);
+    let spec_ex = spec_of(&rt, first)?;
+    for from in others {
+        if spec_of(&rt, from)? != spec_ex {
+            eprintln!(rt; "the files differ in channels, rate, bits or format")?;
+            return Ok(ExitCode::from(1));
         }
     }
-    WavWriter::create_with_spec_ex(rt, rt.alloc(), Path::new(to), spec_ex)?.finalize()?;
-    for part in from {
-        append(rt, Path::new(to), Path::new(part))?;
+    if first == to || others.contains(to) {
+        eprintln!(rt; "a file can't be read and written at once")?;
+        return Ok(ExitCode::from(1));
     }
-    Ok(())
+    let path = Path::new(to.as_str());
+    let mut writer = WavWriter::create_with_spec_ex(&rt, rt.alloc(), path, spec_ex)?;
+    copy_file(&rt, first, &mut writer)?;
+    for from in others {
+        copy_file(&rt, from, &mut writer)?;
+    }
+    writer.finalize()?;
+    Ok(ExitCode::SUCCESS)
 }
 
-// Appends the samples of a file to those of another.
-fn append(rt: &HostRuntime, to: Path<'_>, part: Path<'_>) -> Result<(), Failure> {
-    let mut reader = WavReader::open(rt, rt.alloc(), part)?;
-    let mut writer = WavWriter::append(rt, rt.alloc(), to)?;
-    let channels = reader.spec().channels;
-    let end = match reader.spec().sample_format {
+// The spec of a file, with the width of its containers.
+fn spec_of(rt: &HostRuntime, file: &str) -> hound::Result<WavSpecEx> {
+    Ok(WavReader::open(rt, rt.alloc(), Path::new(file))?.spec_ex())
+}
+
+fn copy_file<W: Medium>(
+    rt: &HostRuntime,
+    from: &str,
+    writer: &mut WavWriter<W>,
+) -> hound::Result<()> {
+    let mut reader = WavReader::open(rt, rt.alloc(), Path::new(from))?;
+    let channels = usize::from(reader.spec().channels.max(1));
+    let length = channels * (4096 / channels).max(1); // A block has whole frames.
+    match reader.spec().sample_format {
         SampleFormat::Int => {
-            let mut block = block_of(rt.alloc(), channels, 0i32)?;
-            copy(&mut reader, &mut writer, &mut block)
+            let mut block = vec![in rt.alloc(); 0i32; length]?;
+            copy(&mut reader, writer, &mut block)
         }
         SampleFormat::Float => {
-            let mut block = block_of(rt.alloc(), channels, FloatBits(0))?;
-            copy(&mut reader, &mut writer, &mut block)
+            let mut block = vec![in rt.alloc(); FloatBits(0); length]?;
+            copy(&mut reader, writer, &mut block)
         }
-    };
-    writer.finalize()?;
-    end?;
-    Ok(())
+    }
 }
 
-// Copies as many samples a call as the block has, which are whole frames.
+// Copies a block a call, up to the end or an error, and of the last block the whole frames.
 fn copy<S: Sample + Copy, R: io::Read + Drop, W: Medium>(
     reader: &mut WavReader<R>,
     writer: &mut WavWriter<W>,
     block: &mut [S],
 ) -> hound::Result<()> {
-    let channels = reader.spec().channels;
+    let channels = usize::from(reader.spec().channels.max(1));
+    // A `for` is known to end; a `loop` needs a proof.
     for _ in 0..u64::MAX {
         let (count, result) = reader.read_samples(block);
-        writer.write_samples(&block[..whole_frames(count, channels)])?;
+        writer.write_samples(&block[..count - count % channels])?;
         if count < block.len() {
             return result;
         }
     }
-    Ok(())
+    Err(Error::TooLong)
 }

@@ -1,50 +1,50 @@
-// How loud a file is, tenth by tenth of a second: `levels FILE`.
+// levels FILE: prints how loud each channel of a file is in each tenth of a second.
 //
-// `seek` leads to the first frame of each tenth, and one call reads it. Its root mean square (RMS)
-// and its peak are in decibels relative to full scale (dBFS): 0 is the largest, silence is -inf. Of a
-// file that ends early the last line is that of the samples before that.
-use crate::failure::Failure;
+// A line is `0.1 s  channel 1  RMS -4.20 dBFS, peak -1.86 dBFS`. `seek` leads to the first frame of each
+// tenth, and one call reads it. The root mean square (RMS) and the peak are in decibels relative to full
+// scale (dBFS): 0 is the largest, silence is -inf. Of a file that ends early the last lines are those of
+// the samples before that.
 use hound::WavReader;
-use std::io;
+use std::env;
 use std::path::Path;
+use std::process::ExitCode;
 
-/// Writes a line for each tenth of a second.
-pub fn levels<O: io::Write>(
-    rt: &HostRuntime,
-    path: Path<'_>,
-    output: &mut O,
-) -> Result<(), Failure> {
-    let mut reader = WavReader::open(rt, rt.alloc(), path)?;
+pub fn main(rt: HostRuntime) -> hound::Result<ExitCode> {
+    let Some(file) = env::args(&rt)?.nth(1) else {
+        eprintln!(rt; "usage: levels FILE")?;
+        return Ok(ExitCode::from(2));
+    };
+    let mut reader = WavReader::open(&rt, rt.alloc(), Path::new(file.as_str()))?;
     let spec = reader.spec();
-    let rate = spec.sample_rate;
-    let tenth = (rate / 10).max(1) as usize;
-    let most = (tenth * spec.channels as usize).min(reader.len() as usize);
+    let channels = usize::from(spec.channels.max(1));
+    let tenth = (spec.sample_rate / 10).max(1) as usize;
+    let most = (tenth * channels).min(reader.len() as usize);
     let mut samples = vec![in rt.alloc(); 0i32; most]?;
     let full = 2f64.powi(i32::from(spec.bits_per_sample) - 1);
     for frame in (0..reader.duration()).step_by(tenth) {
         reader.seek(frame)?;
         let (count, result) = reader.read_samples(&mut samples);
-        if count > 0 {
-            let (square, peak) = level_of(&samples[..count]);
-            let seconds = f64::from(frame) / f64::from(rate);
+        let seconds = f64::from(frame) / f64::from(spec.sample_rate);
+        for channel in 0..channels.min(count) {
+            let (square, peak) = level_of(&samples[channel..count], channels);
             let rms = 20.0 * (square.sqrt() / full).log10();
             let peak = 20.0 * (peak / full).log10();
-            writeln!(
-                output,
-                "{seconds:.1} s  RMS {rms:.2} dBFS, peak {peak:.2} dBFS"
+            println!(rt;
+                "{seconds:.1} s  channel {}  RMS {rms:.2} dBFS, peak {peak:.2} dBFS",
+                channel + 1
             )?;
         }
         result?;
     }
-    Ok(())
+    Ok(ExitCode::SUCCESS)
 }
 
-// The mean square of some samples, and the largest of them.
-fn level_of(samples: &[i32]) -> (f64, f64) {
+// The mean square of each so many-th sample, and the largest of these, the first one among them.
+fn level_of(samples: &[i32], step: usize) -> (f64, f64) {
     let mut peak = 0f64;
     let mut squares = 0f64;
     let mut count = 0f64;
-    for sample in samples {
+    for sample in samples.iter().step_by(step.max(1)) {
         let sample = f64::from(*sample);
         peak = peak.max(sample.abs());
         squares += sample * sample;

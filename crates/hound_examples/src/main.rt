@@ -1,38 +1,69 @@
-//! The program `hound_examples`: examples of what the library is used for, a module each.
+//! Examples of what the library is used for, a page each, to be copied into `src/main.rt` of a crate
+//! of one's own (whose first line is `#![tactic(auto)]`). This program has all of them: the name that
+//! it is called by, as `sine` by a link, says which runs.
 #![tactic(auto)]
 
-mod channels;
-mod chunks;
+mod append;
 mod convert;
-mod failure;
+mod dither;
+mod faulty;
 mod floats;
-mod frames;
 mod info;
 mod join;
 mod levels;
 mod memory;
 mod mend;
+mod merge;
 mod mulaw;
+mod pipe;
 mod record;
 mod reverse;
-mod run;
-mod session;
 mod sine;
+mod split;
 mod stream;
+mod tone;
 
-use run::run;
-use std::io::BufWriter;
+use std::env;
 use std::process::ExitCode;
-use std::{env, io};
 
-fn main(rt: HostRuntime) -> io::Result<ExitCode> {
-    let arguments: Vec<String> = env::args(&rt)?.collect(rt.alloc())?;
-    let words: Vec<&str> = arguments
-        .iter()
-        .skip(1)
-        .map(|word| word.as_str())
-        .collect(rt.alloc())?;
-    let mut output = BufWriter::new(rt.alloc(), rt.stdout())?;
-    let status = run(&rt, &words, &mut rt.stdin(), &mut output, &mut rt.stderr());
-    Ok(ExitCode::from(status))
+fn main(rt: HostRuntime) -> hound::Result<ExitCode> {
+    let Some(program) = env::args(&rt)?.next() else {
+        return Ok(ExitCode::from(2));
+    };
+    match file_name(program.as_str()) {
+        "append" => append::main(rt),
+        "convert" => convert::main(rt),
+        "dither" => dither::main(rt),
+        "faulty" => faulty::main(rt),
+        "floats" => floats::main(rt),
+        "info" => info::main(rt),
+        "join" => join::main(rt),
+        "levels" => levels::main(rt),
+        "memory" => memory::main(rt),
+        "mend" => mend::main(rt),
+        "merge" => merge::main(rt),
+        "mulaw" => mulaw::main(rt),
+        "pipe" => pipe::main(rt),
+        "record" => record::main(rt),
+        "reverse" => reverse::main(rt),
+        "sine" => sine::main(rt),
+        "split" => split::main(rt),
+        "stream" => stream::main(rt),
+        "tone" => tone::main(rt),
+        _ => {
+            println!(rt;
+                "append convert dither faulty floats info join levels memory mend merge mulaw pipe \
+                 record reverse sine split stream tone"
+            )?;
+            Ok(ExitCode::SUCCESS)
+        }
+    }
+}
+
+// The last name of a path.
+fn file_name(path: &str) -> &str {
+    match path.rsplit_once("/") {
+        Some((_, name)) => name,
+        None => path,
+    }
 }

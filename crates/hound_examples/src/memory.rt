@@ -1,17 +1,13 @@
-// In memory: `memory NUMBER..` writes a file of 16 bits into a `Tape` and reads it back.
+// memory NUMBER..: writes numbers as a file of sixteen bits into memory, and reads it back.
 //
-// A `Tape` is bytes and a place among them. What is proved of files holds of it to the letter, since
-// contracts know its bytes; it never fails but for memory.
-use crate::failure::Failure;
+// It prints how long the file is, and its samples, a line each. A `Tape` is bytes and a place among
+// them. What is proved of files holds of it to the letter, since contracts know its bytes; it never fails
+// but for memory.
 use hound::{SampleFormat, Tape, WavReader, WavSpec, WavWriter};
-use std::io;
+use std::env;
+use std::process::ExitCode;
 
-/// Writes how long the file is, and its samples.
-pub fn memory<O: io::Write>(
-    rt: &HostRuntime,
-    numbers: &[&str],
-    output: &mut O,
-) -> Result<(), Failure> {
+pub fn main(rt: HostRuntime) -> hound::Result<ExitCode> {
     let spec = WavSpec {
         channels: 1,
         sample_rate: 44100,
@@ -20,19 +16,18 @@ pub fn memory<O: io::Write>(
     };
     let mut tape = Tape::new(Vec::new(rt.alloc()));
     let mut writer = WavWriter::new(&mut tape, spec)?;
-    for number in numbers {
-        let Ok(sample) = number.parse::<i16>() else {
-            return Err(Failure::BadNumber);
+    for word in env::args(&rt)?.skip(1) {
+        let Ok(sample) = word.parse::<i16>() else {
+            eprintln!(rt; "usage: memory NUMBER..")?;
+            return Ok(ExitCode::from(2));
         };
         writer.write_sample(sample)?;
     }
     writer.finalize()?;
     let bytes = tape.into_bytes();
-    let length = bytes.len();
-    writeln!(output, "{length} bytes")?;
+    println!(rt; "{} bytes", bytes.len())?;
     for sample in WavReader::new(bytes.as_slice())?.samples::<i16>() {
-        let sample = sample?;
-        writeln!(output, "{sample}")?;
+        println!(rt; "{}", sample?)?;
     }
-    Ok(())
+    Ok(ExitCode::SUCCESS)
 }

@@ -1,19 +1,19 @@
-// What a codec loses: `mulaw FILE`, for a file of at most sixteen bits.
+// mulaw FILE: prints what a codec loses of a file of at most sixteen bits.
 //
-// Each sample goes through the mu-law of ITU-T G.711, to eight bits and back, and is compared with
-// what it was. For another codec put its two functions in the place of `encode` and `decode`.
-use crate::failure::Failure;
+// A line is `largest error 642, mean error 221.627`. Each sample goes through the mu-law of ITU-T G.711,
+// to eight bits and back, and is compared with what it was. For another codec put its two functions in
+// the place of `encode` and `decode`.
 use hound::WavReader;
-use std::io;
+use std::env;
 use std::path::Path;
+use std::process::ExitCode;
 
-/// Writes a line with the largest error and the mean one.
-pub fn mulaw<O: io::Write>(
-    rt: &HostRuntime,
-    path: Path<'_>,
-    output: &mut O,
-) -> Result<(), Failure> {
-    let mut reader = WavReader::open(rt, rt.alloc(), path)?;
+pub fn main(rt: HostRuntime) -> hound::Result<ExitCode> {
+    let Some(file) = env::args(&rt)?.nth(1) else {
+        eprintln!(rt; "usage: mulaw FILE")?;
+        return Ok(ExitCode::from(2));
+    };
+    let mut reader = WavReader::open(&rt, rt.alloc(), Path::new(file.as_str()))?;
     let mut largest = 0u16;
     let mut sum = 0f64;
     for sample in reader.samples::<i16>() {
@@ -23,8 +23,8 @@ pub fn mulaw<O: io::Write>(
         sum += f64::from(error);
     }
     let mean = sum / f64::from(reader.len().max(1));
-    writeln!(output, "largest error {largest}, mean error {mean:.3}")?;
-    Ok(())
+    println!(rt; "largest error {largest}, mean error {mean:.3}")?;
+    Ok(ExitCode::SUCCESS)
 }
 
 // What is added to a magnitude of thirteen bits, and the largest sum.

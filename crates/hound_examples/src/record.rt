@@ -1,28 +1,32 @@
-// A recorder with checkpoints: `record FILE COUNT [durable]`, with the samples as numbers on
-// standard input.
+// record FILE COUNT [durable]: records raw samples, with a checkpoint after each COUNT of them.
 //
-// A `flush` follows the header, and each COUNT samples. If the program is killed after the first
-// one, the file can be read, and has all samples that an Ok `flush` has published. With `durable`
-// each flush syncs the file, so it has them after a loss of power too if the disk keeps
-// what it says it has. How such a file is mended is said at the end.
+// As in `arecord -t raw -f S16_LE -r 44100 | record FILE 4410`: the samples on standard input have
+// sixteen bits and one channel. It prints nothing. If the program is killed after the first checkpoint,
+// the file can be read, and has all samples that an Ok `flush` has published. With `durable` each flush
+// syncs the file, so it has them after a loss of power too if the disk keeps what it says it has. Samples
+// that a kill left after those that the header counts come back by `mend FILE --yes`.
 ghost use Rattle.std.specs.Prelude.{◌<◌};
 
-use crate::failure::Failure;
-use hound::{Medium, SampleFormat, WavSpec, WavWriter};
-use std::io;
-use std::io::{BufRead, BufReader};
+use hound::{Error, Medium, Sample, SampleFormat, WavSpec, WavWriter};
+use std::io::{BufReader, ErrorKind};
 use std::path::Path;
+use std::process::ExitCode;
+use std::{env, io};
 
-/// Records all numbers of the input; those before one that is none, or too large, are kept.
-pub fn record<I: io::Read>(
-    rt: &HostRuntime,
-    path: Path<'_>,
-    count: &str,
-    is_durable: bool,
-    input: &mut I,
-) -> Result<(), Failure> {
-    let Ok(count @ 1..) = count.parse::<u32>() else {
-        return Err(Failure::Usage);
+pub fn main(rt: HostRuntime) -> hound::Result<ExitCode> {
+    let words: Vec<String> = env::args(&rt)?.collect(rt.alloc())?;
+    let words: Vec<&str> = words
+        .iter()
+        .skip(1)
+        .map(|word| word.as_str())
+        .collect(rt.alloc())?;
+    let (file, count, is_durable) = match words.as_slice() {
+        [file, count] => (*file, count.parse::<u32>(), false),
+        [file, count, "durable"] => (*file, count.parse::<u32>(), true),
+        _ => return usage(&rt),
+    };
+    let Ok(count @ 1..) = count else {
+        return usage(&rt);
     };
     let spec = WavSpec {
         channels: 1,
@@ -30,39 +34,42 @@ pub fn record<I: io::Read>(
         bits_per_sample: 16,
         sample_format: SampleFormat::Int,
     };
+    let path = Path::new(file);
+    let mut input = BufReader::new(rt.alloc(), rt.stdin())?;
     if is_durable {
-        let writer = WavWriter::create_durable(rt, rt.alloc(), path, spec)?;
-        return record_into(rt, writer, count, input);
+        let writer = WavWriter::create_durable(&rt, rt.alloc(), path, spec)?;
+        record(writer, count, &mut input)?;
+    } else {
+        let writer = WavWriter::create(&rt, rt.alloc(), path, spec)?;
+        record(writer, count, &mut input)?;
     }
-    let writer = WavWriter::create(rt, rt.alloc(), path, spec)?;
-    record_into(rt, writer, count, input)
+    Ok(ExitCode::SUCCESS)
 }
 
-// Records into a file that was begun.
-fn record_into<W: Medium, I: io::Read>(
-    rt: &HostRuntime,
-    writer: WavWriter<W>,
+fn usage(rt: &HostRuntime) -> hound::Result<ExitCode> {
+    eprintln!(rt; "usage: record FILE COUNT [durable]")?;
+    Ok(ExitCode::from(2))
+}
+
+// Records the input up to its end; half a sample there is left out.
+fn record<W: Medium, I: io::Read>(
+    mut writer: WavWriter<W>,
     count: u32,
     input: &mut I,
-) -> Result<(), Failure>
+) -> hound::Result<()>
     requires some { 0 < count }
 {
-    let mut writer = writer;
     writer.flush()?; // The header leaves the buffer.
-    for line in BufReader::new(rt.alloc(), input)?.lines(rt.alloc()) {
-        for word in line?.split_whitespace() {
-            let Ok(sample) = word.parse::<i16>() else {
-                return Err(Failure::BadNumber);
-            };
-            writer.write_sample(sample)?;
-            if writer.len() % count == 0 {
-                writer.flush()?;
-            }
+    // A `for` is known to end; a `loop` needs a proof.
+    for _ in 0..u64::MAX {
+        match i16::read(input, SampleFormat::Int, 2, 16) {
+            Ok(sample) => writer.write_sample(sample)?,
+            Err(Error::IoError(error)) if error.kind() == ErrorKind::Other => break,
+            Err(error) => return Err(error),
+        }
+        if writer.len() % count == 0 {
+            writer.flush()?;
         }
     }
-    writer.finalize()?;
-    Ok(())
+    writer.finalize()
 }
-
-// If the recorder was killed while it wrote the sizes, they may be torn, and samples may follow those
-// that they count: `mend FILE --yes` gives back every whole frame that the file holds.

@@ -1,38 +1,43 @@
-// A file backwards: `reverse IN OUT`, with all samples in a `Vec` meanwhile.
+// reverse IN OUT: writes the frames of a file of integers in the opposite order.
 //
-// One call of `read_samples` reads them all, since the `Vec` has a place for each, and one of
-// `write_samples` writes them. Frames are reversed as a whole, so that channels stay where they are.
-// Of a file that ends early the frames before that are written.
-use crate::failure::Failure;
-use crate::frames::whole_frames;
+// It prints nothing. One call of `read_samples` reads all samples, since the `Vec` has a place for each,
+// and one of `write_samples` writes them. Frames are reversed as a whole, so that channels stay where
+// they are. Of a file that ends early the frames before that are written.
 use hound::{Error, SampleFormat, WavReader, WavWriter};
+use std::env;
 use std::path::Path;
+use std::process::ExitCode;
 
-/// Writes the frames of a file of integers in the opposite order.
-pub fn reverse(rt: &HostRuntime, from: &str, to: &str) -> Result<(), Failure> {
+pub fn main(rt: HostRuntime) -> hound::Result<ExitCode> {
+    let words: Vec<String> = env::args(&rt)?.collect(rt.alloc())?;
+    let [_, from, to] = words.as_slice() else {
+        eprintln!(rt; "usage: reverse IN OUT")?;
+        return Ok(ExitCode::from(2));
+    };
     if from == to {
-        return Err(Failure::SameFile);
+        eprintln!(rt; "a file can't be read and written at once")?;
+        return Ok(ExitCode::from(1));
     }
-    let mut reader = WavReader::open(rt, rt.alloc(), Path::new(from))?;
+    reverse(&rt, Path::new(from.as_str()), Path::new(to.as_str()))?;
+    Ok(ExitCode::SUCCESS)
+}
+
+fn reverse(rt: &HostRuntime, from: Path<'_>, to: Path<'_>) -> hound::Result<()> {
+    let mut reader = WavReader::open(rt, rt.alloc(), from)?;
     let spec = reader.spec();
     if spec.sample_format == SampleFormat::Float {
-        return Err(Error::InvalidSampleFormat.into());
+        return Err(Error::InvalidSampleFormat);
     }
+    let channels = usize::from(spec.channels.max(1));
     let mut samples = vec![in rt.alloc(); 0i32; reader.len() as usize]?;
     let (count, end) = reader.read_samples(&mut samples);
-    let frames = &mut samples[..whole_frames(count, spec.channels)];
+    let frames = &mut samples[..count - count % channels];
     frames.reverse();
-    for frame in frames.chunks_mut(spec.channels.max(1) as usize) {
+    for frame in frames.chunks_mut(channels) {
         frame.reverse();
     }
-    let mut writer = WavWriter::create_with_spec_ex(
-        rt,
-        rt.alloc(),
-        Path::new(to),
-        reader.spec_ex(),
-    )?;
+    let mut writer = WavWriter::create_with_spec_ex(rt, rt.alloc(), to, reader.spec_ex())?;
     writer.write_samples(frames)?;
     writer.finalize()?;
-    end?;
-    Ok(())
+    end
 }

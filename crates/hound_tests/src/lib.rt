@@ -7,6 +7,8 @@ mod answers;
 #[cfg(test)]
 mod calling;
 #[cfg(test)]
+mod documented;
+#[cfg(test)]
 mod durable;
 #[cfg(test)]
 mod files;
@@ -16,6 +18,8 @@ mod helpers;
 mod losses;
 #[cfg(test)]
 mod memory;
+#[cfg(test)]
+mod passes;
 #[cfg(test)]
 mod program;
 #[cfg(test)]

@@ -1,0 +1,75 @@
+// dither IN OUT: writes a file of 24 bits with 16 bits a sample, dithered.
+//
+// It prints how many samples were clipped: `0 samples clipped`. Before a sample is rounded, noise is
+// added to it: the sum of two random numbers, each as likely anywhere in one step of 16 bits (TPDF).
+// The error of rounding is then noise that doesn't depend on the music. The random numbers are those of
+// a linear congruential generator, the same at each run.
+use hound::{Error, SampleFormat, WavReader, WavSpec, WavWriter};
+use std::env;
+use std::path::Path;
+use std::process::ExitCode;
+
+pub fn main(rt: HostRuntime) -> hound::Result<ExitCode> {
+    let words: Vec<String> = env::args(&rt)?.collect(rt.alloc())?;
+    let [_, from, to] = words.as_slice() else {
+        eprintln!(rt; "usage: dither IN OUT")?;
+        return Ok(ExitCode::from(2));
+    };
+    if from == to {
+        eprintln!(rt; "a file can't be read and written at once")?;
+        return Ok(ExitCode::from(1));
+    }
+    let (from, to) = (Path::new(from.as_str()), Path::new(to.as_str()));
+    let clipped = dither(&rt, from, to)?;
+    println!(rt; "{clipped} samples clipped")?;
+    Ok(ExitCode::SUCCESS)
+}
+
+// How many samples were clipped.
+fn dither(rt: &HostRuntime, from: Path<'_>, to: Path<'_>) -> hound::Result<u32> {
+    let mut reader = WavReader::open(rt, rt.alloc(), from)?;
+    let old = reader.spec();
+    if old.sample_format == SampleFormat::Float || old.bits_per_sample != 24 {
+        return Err(Error::Unsupported);
+    }
+    let new = WavSpec {
+        bits_per_sample: 16,
+        ..old
+    };
+    let mut writer = WavWriter::create(rt, rt.alloc(), to, new)?;
+    let mut block = vec![in rt.alloc(); 0i32; 4096]?;
+    let mut random = Random { state: 1 };
+    let mut clipped = 0u32;
+    // Up to a block that isn't full, the last one. A `for` is known to end; a `loop` needs a proof.
+    for _ in 0..u64::MAX {
+        let (count, result) = reader.read_samples(&mut block);
+        for sample in block[..count].iter_mut() {
+            let noise = i32::from(random.step()) + i32::from(random.step()) - 255;
+            let rounded = ((*sample).clamp(-8388608, 8388607) + noise + 128) >> 8;
+            let fitting = rounded.clamp(-32768, 32767);
+            clipped = clipped.saturating_add(u32::from(rounded != fitting));
+            *sample = fitting;
+        }
+        writer.write_samples(&block[..count])?;
+        result?;
+        if count < block.len() {
+            break;
+        }
+    }
+    writer.finalize()?;
+    Ok(clipped)
+}
+
+// Random numbers, by the constants of Numerical Recipes.
+#[derive(Drop)]
+struct Random {
+    state: u32,
+}
+
+impl Random {
+    // One from 0 to 255: a step of 16 bits has 256 of 24.
+    fn step(&mut self) -> u8 {
+        self.state = self.state.wrapping_mul(1664525).wrapping_add(1013904223);
+        (self.state >> 24) as u8
+    }
+}

@@ -1,0 +1,175 @@
+// The examples of the public items' documentation, each run: scripts/check_docs looks that each of
+// them is here.
+use crate::helpers::{FOUR_SAMPLES, sixteen, tape_of};
+use hound::{
+    FloatBits, Journal, RepairState, SampleFormat, Tape, WavReader, WavSpec, WavSpecEx, WavWriter,
+    repair,
+};
+use std::alloc::Global;
+use std::io::Cursor;
+use std::test::Fail;
+
+// Writes the four samples by each call that accepts some.
+fn write(alloc: Global) -> hound::Result<Vec<u8>> {
+    let spec = WavSpec {
+        channels: 1,
+        sample_rate: 44100,
+        bits_per_sample: 16,
+        sample_format: SampleFormat::Int,
+    };
+    let mut tape = Tape::new(Vec::new(alloc));
+    let mut writer = WavWriter::new(&mut tape, spec)?;
+    writer.write_sample(2i16)?;
+    writer.flush()?; // A reader finds one sample now.
+    writer.write_samples(&[-3i16])?; // All of a slice, or nothing.
+    let mut batch = writer.get_i16_writer(alloc, 2)?;
+    batch.write_sample(5i16);
+    batch.write_sample(-7i16);
+    batch.flush()?;
+    writer.finalize()?;
+    Ok(tape.into_bytes())
+}
+
+#[test]
+fn what_is_written_by_each_call(rt: HostRuntime) -> Result<(), Fail> {
+    let bytes = write(rt.alloc())?;
+    assert_eq!(rt; bytes.as_slice(), &FOUR_SAMPLES[..]);
+    Ok(())
+}
+
+// The sum of all samples, one at a time.
+fn sum_of(bytes: &[u8]) -> hound::Result<i64> {
+    let mut sum = 0i64;
+    let mut reader = WavReader::new(bytes)?;
+    for sample in reader.samples::<i32>() {
+        sum = sum.wrapping_add(i64::from(sample?));
+    }
+    Ok(sum)
+}
+
+// The same by blocks.
+fn sum_of_blocks(bytes: &[u8]) -> hound::Result<i64> {
+    let mut sum = 0i64;
+    let mut reader = WavReader::new(bytes)?;
+    let mut block = [0i32; 3];
+    for _ in 0..u64::MAX {
+        let (count, result) = reader.read_samples(&mut block);
+        for sample in &block[..count] {
+            sum = sum.wrapping_add(i64::from(*sample));
+        }
+        result?; // Ok, or why no more samples came.
+        if count < block.len() {
+            break;
+        }
+    }
+    Ok(sum)
+}
+
+// The third sample.
+fn third(bytes: &[u8]) -> hound::Result<Option<i16>> {
+    let mut reader = WavReader::new(Cursor::new(bytes))?;
+    reader.seek(2)?;
+    reader.into_samples::<i16>().next().transpose()
+}
+
+#[test]
+fn what_is_read_by_each_call(rt: HostRuntime) -> Result<(), Fail> {
+    let sums = (sum_of(&FOUR_SAMPLES)?, sum_of_blocks(&FOUR_SAMPLES)?);
+    assert_eq!(rt; sums, (-3, -3));
+    assert_eq!(rt; third(&FOUR_SAMPLES)?, Some(5));
+    Ok(())
+}
+
+// A file of 24 bits in four bytes.
+fn write_wide(alloc: Global) -> hound::Result<u16> {
+    let spec_ex = WavSpecEx {
+        spec: WavSpec {
+            bits_per_sample: 24,
+            ..sixteen(1)
+        },
+        bytes_per_sample: 4, // `WavSpecEx::from(spec)` has 3.
+    };
+    let mut tape = Tape::new(Vec::new(alloc));
+    let mut writer = WavWriter::new_with_spec_ex(&mut tape, spec_ex)?;
+    writer.write_sample(-70_000)?;
+    writer.finalize()?;
+    let reader = WavReader::new(tape.bytes())?;
+    Ok(reader.spec_ex().bytes_per_sample)
+}
+
+// A float that was written is read.
+fn write_float(alloc: Global) -> hound::Result<Option<f32>> {
+    let spec = WavSpec {
+        bits_per_sample: 32,
+        sample_format: SampleFormat::Float,
+        ..sixteen(1)
+    };
+    let mut tape = Tape::new(Vec::new(alloc));
+    let mut writer = WavWriter::new(&mut tape, spec)?;
+    writer.write_sample(FloatBits::from(0.5))?;
+    writer.finalize()?;
+    let mut reader = WavReader::new(tape.bytes())?;
+    let sample = reader.samples::<FloatBits>().next().transpose()?;
+    Ok(sample.map(FloatBits::to_f32))
+}
+
+#[test]
+fn what_a_wide_container_and_a_float_are(rt: HostRuntime) -> Result<(), Fail> {
+    assert_eq!(rt; write_wide(rt.alloc())?, 4);
+    assert_eq!(rt; write_float(rt.alloc())?, Some(0.5));
+    Ok(())
+}
+
+// How many samples a reader finds after a fault: the first checkpoint was made, the second failed.
+fn find_after_a_fault(alloc: Global) -> hound::Result<u32> {
+    let mut journal = Journal::new(alloc, Vec::new(alloc))?;
+    let mut writer = WavWriter::new(&mut journal, sixteen(1))?;
+    writer.write_samples(&[2i16, -3])?;
+    writer.flush()?;
+    drop(writer);
+    let calls = 9; // From the tenth call on.
+    journal.fail(calls, u64::MAX);
+    let bytes = journal.bytes_after(alloc, journal.taken())?;
+    Ok(WavReader::new(bytes.as_slice())?.len())
+}
+
+// A recording whose sizes still say that it is empty.
+fn mend(alloc: Global, bytes: &[u8]) -> Result<(RepairState, u32), Fail> {
+    let tape = tape_of(alloc, bytes)?;
+    match repair(tape) {
+        Ok((tape, found)) => {
+            let samples = WavReader::new(tape.bytes())?.len(); // As many as were found.
+            Ok((found.was, samples))
+        }
+        Err((_, error)) => Err(error.into()),
+    }
+}
+
+// Two samples more, at the end of a file.
+fn append(alloc: Global, bytes: &[u8]) -> Result<u32, Fail> {
+    let mut tape = tape_of(alloc, bytes)?;
+    let mut writer = WavWriter::new_append(&mut tape)?;
+    writer.write_samples(&[11i16, -13])?;
+    writer.finalize()?;
+    Ok(WavReader::new(tape.bytes())?.len())
+}
+
+#[test]
+fn what_is_found_mended_and_appended(rt: HostRuntime) -> Result<(), Fail> {
+    assert_eq!(rt; find_after_a_fault(rt.alloc())?, 2);
+    let mut cut = FOUR_SAMPLES;
+    cut[40] = 0;
+    let mended = mend(rt.alloc(), &cut)?;
+    assert_eq!(rt; mended, (RepairState::CutOff, 4));
+    assert_eq!(rt; append(rt.alloc(), &FOUR_SAMPLES)?, 6);
+    Ok(())
+}
+
+#[test]
+fn what_a_repair_says(rt: HostRuntime) -> Result<(), Fail> {
+    let whole = format!(in rt.alloc(); "{}", RepairState::Whole)?;
+    assert_eq!(rt; whole.as_str(), "the file is whole");
+    let cut = format!(in rt.alloc(); "{}", RepairState::CutOff)?;
+    assert_eq!(rt; cut.as_str(), "the recording was cut off");
+    Ok(())
+}
