@@ -27,6 +27,11 @@ use std::io::ErrorKind;
 /// A `put` without memory, or whose end would be above `u64::MAX`, is an `Err` of kind
 /// `OutOfMemory`; it allocates all it needs before it changes anything. Every `Err` changes only
 /// the count of faults. Its memory grows with each byte written.
+///
+/// ```
+/// journal.fail(0, u64::MAX); // Every call fails from now on.
+/// let before = journal.bytes_after(alloc, 46)?; // A header, and half of the data.
+/// ```
 #[derive(Drop)]
 pub struct Journal {
     start: Vec<u8>,

@@ -17,6 +17,12 @@ impl WavReader<io::BufReader<fs::File>> {
     ///
     /// The errors, in their order: `IoError`, if the file can't be opened; `OutOfMemory`, if there
     /// is no memory for the buffer; those of [`WavReader::new`].
+    ///
+    /// ```
+    /// let mut reader = WavReader::open(rt, rt.alloc(), path)?;
+    /// let mut block = [0i16; 4096];
+    /// let (count, result) = reader.read_samples(&mut block); // 4096, or those before an error.
+    /// ```
     pub fn open(
         rt: &impl Files<File = fs::File>,
         alloc: Global,

@@ -82,6 +82,13 @@ pub fn read_wave_header<R: io::Read>(reader: &mut R) -> Result<u64>
 /// after the sample that was read last. So it has no buffer, and a file needs one around it, as in
 /// [`WavReader::open`]. Any `io::Read` is read: a slice of bytes, a `Tape`, a
 /// `Journal`, a `BufReader<File>`, or a `&mut` to one, which is then still there at an error.
+///
+/// ```
+/// let mut reader = WavReader::new(bytes)?;
+/// for sample in reader.samples::<i32>() {
+///     sum = sum.wrapping_add(i64::from(sample?));
+/// }
+/// ```
 #[derive(Drop)]
 pub struct WavReader<R> {
     reader: KeepingReader<R>,
@@ -222,6 +229,14 @@ impl<R: io::Read + Drop> WavReader<R> {
     /// fit or are left, so 0 only at the end or for an empty slice. An `Err` is the item that the
     /// iterator would give next, and [`WavReader::samples_left`] counts it as one: an error of the
     /// type, which comes before any byte is taken, a fault, or an early end.
+    ///
+    /// ```
+    /// let (count, result) = reader.read_samples(&mut block);
+    /// for sample in &block[..count] {
+    ///     sum = sum.wrapping_add(i64::from(*sample));
+    /// }
+    /// result?; // Ok, or why no more samples came.
+    /// ```
     pub fn read_samples<S: Sample>(&mut self, samples: &mut [S]) -> (usize, Result<()>)
         ensures { ReadsBlock R.remaining S.refusal S.meaning result.0 result.1 samples.old
             samples.new self.old self.new }
@@ -256,6 +271,12 @@ impl<R: io::Read + Drop> WavReader<R> {
     /// A `time` at or after [`WavReader::duration`] is allowed; then no samples are left. A time
     /// in seconds is that many times the sample rate. The one error is the source's own: then the
     /// reader counts as before, and a source whose bytes are known is where it was.
+    ///
+    /// ```
+    /// let mut reader = WavReader::new(Cursor::new(bytes))?;
+    /// reader.seek(2)?;
+    /// reader.into_samples::<i16>().next().transpose()
+    /// ```
     pub fn seek(&mut self, time: u32) -> io::Result<()>
     where
         R: Source,

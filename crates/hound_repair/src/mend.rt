@@ -122,6 +122,16 @@ fn repair_with<M: Source + Medium>(
 /// for samples that are not written with these bits, bytes and format; `TooLong`, where the RIFF
 /// size would pass 4294967295; at these nothing is written. `IoError`, where the medium failed; a
 /// size may be torn then, and another call mends it.
+///
+/// ```
+/// match repair(tape) {
+///     Ok((tape, found)) => {
+///         let samples = WavReader::new(tape.bytes())?.len(); // As many as were found.
+///         Ok((found.was, samples))
+///     }
+///     Err((_, error)) => Err(error.into()),
+/// }
+/// ```
 pub fn repair<M: Source + Medium>(medium: M) -> result::Result<(M, Repair), (M, Error)>
     requires { WhereTells M.tells ((M.state medium).place ≡ 0) }
     ensures sound { IfOk result (λ done. IsSoundSpec done.1.spec_ex) }

@@ -24,6 +24,13 @@ use std::{io, result};
 /// `sample.to_f32()` the number of a sample; every NaN has one pattern there. `==` compares
 /// patterns, so 0.0 and -0.0 differ. It can't be cast to sixteen bits: generic code can't do it,
 /// and `as_i16` of the type itself returns 0.
+///
+/// ```
+/// writer.write_sample(FloatBits::from(0.5))?;
+/// writer.finalize()?;
+/// let mut reader = WavReader::new(tape.bytes())?;
+/// let sample = reader.samples::<FloatBits>().next().transpose()?;
+/// ```
 #[repr(C)]
 #[derive(Clone, Copy, Debug, PartialEq, Eq)]
 pub struct FloatBits(pub u32);

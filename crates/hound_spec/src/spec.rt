@@ -15,6 +15,15 @@ pub enum SampleFormat {
 ///
 /// The fields can be any numbers; [`WavSpecEx::is_writable`] says which of them a file can be
 /// written with.
+///
+/// ```
+/// let spec = WavSpec {
+///     channels: 1,
+///     sample_rate: 44100,
+///     bits_per_sample: 16,
+///     sample_format: SampleFormat::Int,
+/// };
+/// ```
 #[derive(Clone, Copy, Debug, PartialEq, Eq)]
 pub struct WavSpec {
     /// The number of channels, whose samples are interleaved: a sample of each is a frame.
@@ -35,6 +44,16 @@ pub struct WavSpec {
 /// The properties of the audio data, with the width of a sample in the file.
 ///
 /// `WavSpecEx::from(spec)` has the default width.
+///
+/// ```
+/// let spec_ex = WavSpecEx {
+///     spec: WavSpec {
+///         bits_per_sample: 24,
+///         ..spec
+///     },
+///     bytes_per_sample: 4, // `WavSpecEx::from(spec)` has 3.
+/// };
+/// ```
 #[derive(Clone, Copy, Debug, PartialEq, Eq)]
 pub struct WavSpecEx {
     /// The properties of the audio data; its bits are the used ones.

@@ -2,8 +2,8 @@
 // them is here.
 use crate::helpers::{FOUR_SAMPLES, sixteen, tape_of};
 use hound::{
-    FloatBits, Journal, RepairState, SampleFormat, Tape, WavReader, WavSpec, WavSpecEx, WavWriter,
-    repair,
+    Begin, End, FloatBits, Journal, RepairState, SampleFormat, Step, Tape, WavReader, WavSpec,
+    WavSpecEx, WavWriter, repair, run_session, run_sessions,
 };
 use std::alloc::Global;
 use std::io::Cursor;
@@ -17,8 +17,7 @@ fn write(alloc: Global) -> hound::Result<Vec<u8>> {
         bits_per_sample: 16,
         sample_format: SampleFormat::Int,
     };
-    let mut tape = Tape::new(Vec::new(alloc));
-    let mut writer = WavWriter::new(&mut tape, spec)?;
+    let mut writer = WavWriter::new(Tape::new(Vec::new(alloc)), spec)?;
     writer.write_sample(2i16)?;
     writer.flush()?; // A reader finds one sample now.
     writer.write_samples(&[-3i16])?; // All of a slice, or nothing.
@@ -26,7 +25,8 @@ fn write(alloc: Global) -> hound::Result<Vec<u8>> {
     batch.write_sample(5i16);
     batch.write_sample(-7i16);
     batch.flush()?;
-    writer.finalize()?;
+    let (tape, result) = writer.finalize_into();
+    result?;
     Ok(tape.into_bytes())
 }
 
@@ -82,10 +82,11 @@ fn what_is_read_by_each_call(rt: HostRuntime) -> Result<(), Fail> {
 
 // A file of 24 bits in four bytes.
 fn write_wide(alloc: Global) -> hound::Result<u16> {
+    let spec = sixteen(1);
     let spec_ex = WavSpecEx {
         spec: WavSpec {
             bits_per_sample: 24,
-            ..sixteen(1)
+            ..spec
         },
         bytes_per_sample: 4, // `WavSpecEx::from(spec)` has 3.
     };
@@ -120,17 +121,20 @@ fn what_a_wide_container_and_a_float_are(rt: HostRuntime) -> Result<(), Fail> {
     Ok(())
 }
 
-// How many samples a reader finds after a fault: the first checkpoint was made, the second failed.
-fn find_after_a_fault(alloc: Global) -> hound::Result<u32> {
+// How many samples a reader finds in the middle of the first patch, and once every call fails.
+fn find_after_faults(alloc: Global) -> hound::Result<(u32, u32)> {
     let mut journal = Journal::new(alloc, Vec::new(alloc))?;
     let mut writer = WavWriter::new(&mut journal, sixteen(1))?;
     writer.write_samples(&[2i16, -3])?;
     writer.flush()?;
     drop(writer);
-    let calls = 9; // From the tenth call on.
-    journal.fail(calls, u64::MAX);
-    let bytes = journal.bytes_after(alloc, journal.taken())?;
-    Ok(WavReader::new(bytes.as_slice())?.len())
+    journal.fail(0, u64::MAX); // Every call fails from now on.
+    let before = journal.bytes_after(alloc, 46)?; // A header, and half of the data.
+    let after = journal.bytes_after(alloc, journal.taken())?;
+    Ok((
+        WavReader::new(before.as_slice())?.len(),
+        WavReader::new(after.as_slice())?.len(),
+    ))
 }
 
 // A recording whose sizes still say that it is empty.
@@ -156,7 +160,7 @@ fn append(alloc: Global, bytes: &[u8]) -> Result<u32, Fail> {
 
 #[test]
 fn what_is_found_mended_and_appended(rt: HostRuntime) -> Result<(), Fail> {
-    assert_eq!(rt; find_after_a_fault(rt.alloc())?, 2);
+    assert_eq!(rt; find_after_faults(rt.alloc())?, (0, 2));
     let mut cut = FOUR_SAMPLES;
     cut[40] = 0;
     let mended = mend(rt.alloc(), &cut)?;
@@ -171,5 +175,47 @@ fn what_a_repair_says(rt: HostRuntime) -> Result<(), Fail> {
     assert_eq!(rt; whole.as_str(), "the file is whole");
     let cut = format!(in rt.alloc(); "{}", RepairState::CutOff)?;
     assert_eq!(rt; cut.as_str(), "the recording was cut off");
+    Ok(())
+}
+
+const SPEC: WavSpecEx = WavSpecEx {
+    spec: WavSpec {
+        channels: 1,
+        sample_rate: 44100,
+        bits_per_sample: 16,
+        sample_format: SampleFormat::Int,
+    },
+    bytes_per_sample: 2,
+};
+
+// A whole run as one call.
+fn record(alloc: Global) -> hound::Result<([bool; 4], Vec<u8>)> {
+    let steps = [
+        Step::Whole(2),
+        Step::Whole(40_000),
+        Step::Batch(&[5, -7]),
+        Step::Flush,
+    ];
+    let mut marks = [false; 4];
+    let tape = Tape::new(Vec::new(alloc));
+    let begin = Begin::New(SPEC);
+    let (tape, answer) = run_session(alloc, tape, begin, &steps, &mut marks, End::Finalize);
+    answer?;
+    Ok((marks, tape.into_bytes()))
+}
+
+fn record_twice(alloc: Global, steps: &[Step]) -> hound::Result<Vec<u8>> {
+    let tape = Tape::new(Vec::new(alloc));
+    let (tape, answer) = run_sessions(alloc, tape, SPEC, &[&steps[..], &steps[..]]);
+    answer?;
+    Ok(tape.into_bytes())
+}
+
+#[test]
+fn what_runs_leave(rt: HostRuntime) -> Result<(), Fail> {
+    let (marks, bytes) = record(rt.alloc())?;
+    assert_eq!(rt; (marks, bytes.len()), ([true, false, true, true], 50));
+    let twice = record_twice(rt.alloc(), &[Step::Whole(2), Step::Batch(&[5, -7])])?;
+    assert_eq!(rt; twice.len(), 56);
     Ok(())
 }

@@ -129,3 +129,9 @@ fn printed(rt: &HostRuntime, sum: i32) -> io::Result<()> {
     println!(rt; "{sum}")?;
     Ok(())
 }
+
+#[test]
+fn adds(rt: HostRuntime) {
+    let sum = sums(&[1, 2], 0, 0, 0, 0).0;
+    assert_eq!(rt; sum, 3);
+}

@@ -72,6 +72,12 @@ impl<W: Source + Medium> WavWriter<W> {
     /// Appends to the file in a medium, as [`WavWriter::try_append`] does, which returns the medium
     /// at an error: conditions and errors are the same. Here it is dropped, unless it was
     /// lent.
+    ///
+    /// ```
+    /// let mut writer = WavWriter::new_append(&mut tape)?;
+    /// writer.write_samples(&[11i16, -13])?;
+    /// writer.finalize()?;
+    /// ```
     pub fn new_append(writer: W) -> Result<WavWriter<W>>
         requires { WhereTells W.tells ((W.state writer).place ≡ 0) }
         ensures appends { MatchResult result (Appends W.tells W.state (W.state writer))

@@ -179,6 +179,13 @@ impl<W: Medium> WavWriter<W> {
     /// reuses for later batches. The errors, in their order: `TooLong`, if the RIFF size of the
     /// longer file would pass 4294967295; `OutOfMemory`, if the batch needs more memory than the
     /// writer has and there is none. Either leaves the writer as it was.
+    ///
+    /// ```
+    /// let mut batch = writer.get_i16_writer(alloc, 2)?;
+    /// batch.write_sample(5i16);
+    /// batch.write_sample(-7i16);
+    /// batch.flush()?;
+    /// ```
     #[tactic(auto, using(crate::proofs::Recording::recorded_same))]
     pub fn get_i16_writer<'s>(
         &'s mut self,

@@ -64,6 +64,14 @@ impl WavWriter<io::BufWriter<fs::File>> {
     /// The errors, in their order: `IoError`, if the file can't be created; `OutOfMemory`, if there
     /// is no memory for the buffer; `Unsupported`, for a spec that can't be written; `IoError`,
     /// if the header can't be written.
+    ///
+    /// ```
+    /// let mut writer = WavWriter::create(rt, rt.alloc(), path, spec)?;
+    /// for sample in 0..4800i16 {
+    ///     writer.write_sample(sample)?;
+    /// }
+    /// writer.flush()?; // A reader finds these 4800 now, whatever becomes of the writer.
+    /// ```
     pub fn create(
         rt: &impl Files<File = fs::File>,
         alloc: Global,

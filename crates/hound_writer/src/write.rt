@@ -20,6 +20,13 @@ use std::{io, result};
 ///
 /// A writer that is dropped publishes what was accepted, as [`WavWriter::finalize`] does, and its
 /// fault goes unseen: call `finalize` to see it.
+///
+/// ```
+/// let mut writer = WavWriter::new(Tape::new(Vec::new(alloc)), spec)?;
+/// writer.write_sample(2i16)?;
+/// writer.flush()?; // A reader finds one sample now.
+/// writer.write_samples(&[-3i16])?; // All of a slice, or nothing.
+/// ```
 pub struct WavWriter<W: Medium> {
     // The file that it writes.
     pub(crate) output: Output<W>,
@@ -237,6 +244,12 @@ impl<W: Medium> WavWriter<W> {
     /// The errors, in their order: `IoError`, at the first fault of the medium, after which nothing
     /// is tried again; `UnfinishedSample`, if the samples are no whole number of frames,
     /// although all of them are published and the medium is flushed.
+    ///
+    /// ```
+    /// let (tape, result) = writer.finalize_into();
+    /// result?;
+    /// Ok(tape.into_bytes())
+    /// ```
     pub fn finalize_into(self) -> (W, Result<()>)
         ensures finishes { Finishes W.tells W.keeps W.state self result.1 result.0 }
         ensures left { (s : WavSpecEx) (file : Begun) (asked : List Asked)
