@@ -36,7 +36,7 @@ pub(crate) fn write_bytes_at(out: &mut [u8], at: usize, bytes: &[u8])
     out[at..at + bytes.len()].copy_from_slice(bytes);
 }
 
-/// Stores the containers of samples at a place, and the pad byte after an odd number of bytes.
+/// Stores the containers of samples at a place.
 pub(crate) fn write_samples_at<S: Sample + Copy>(
     out: &mut [u8],
     at: usize,
