@@ -12,7 +12,7 @@ use Rattle.hound_reader.specs.Chunks.{Head}
 use Rattle.hound_reader.proofs.WrittenLemmas.{length-concat, containers-concat}
 use Rattle.hound_writer.specs.Counts.{Counts}
 use Rattle.hound_writer.specs.Sizes.{ChangesSizesOnly, field}
-use Rattle.hound_sample.proofs.Containers.{containers_front}
+use Rattle.hound_writer.proofs.Containers.{containers_front}
 use Rattle.hound_writer.proofs.Counted.{counts_more, counts_standing}
 use Rattle.hound_writer.proofs.Heads.{head_behind}
 use Rattle.hound.specs.declared.session.Step.{Step}

@@ -56,7 +56,8 @@ impl SampleWords {
     ghost use Rattle.hound.specs.ItemReads.{ReadsItem, error_of_item, reason_of};
     ghost use Rattle.hound.specs.ManyReads.{FillsFront, ReadsEach, items_of};
     ghost use Rattle.hound.specs.Meaning.{ReadRefusal, float_refusal, int_meaning, int_refusal, low_short, pattern};
-    ghost use Rattle.hound.specs.Reads.{Reads, ReadsContainer};
+    ghost use Rattle.hound.specs.Reads.{Reads, ReadsContainer, read_error};
+    ghost use Rattle.hound.specs.Slices.{all_containers, first_error, joined_containers};
 
     fn read() -> bool
         ensures { result ≡ result }
@@ -143,10 +144,10 @@ impl WriterWords {
     ghost use Rattle.hound.specs.Appending.{Appends, FailsCheck, HasOneAppendAnswer, IsNotAppended, head_fault};
     ghost use Rattle.hound.specs.Batch.{IsSameFile, batch_bytes, batch_lender, batch_writer, remaining};
     ghost use Rattle.hound.specs.Beginning.{Begins, HasBegun, IsNotBegun};
-    ghost use Rattle.hound.specs.Block.{GoesOut, IsLimit, all_out, answer_of, or_fault};
+    ghost use Rattle.hound.specs.Block.{GoesOut, IsLimit, all_out, answer_of, block_length, or_fault};
     ghost use Rattle.hound.specs.Counts.{Counts};
     ghost use Rattle.hound.specs.Fields.{IsConsistent, bytes_kept, of_fields};
-    ghost use Rattle.hound.specs.Many.{AcceptsEach, all_containers, containers_in, joined_containers, outcome_of, sample_bytes};
+    ghost use Rattle.hound.specs.Many.{AcceptsEach, AreShort, containers_in, outcome_of, sample_bytes, short_bytes};
     ghost use Rattle.hound.specs.Parts.{HasSize, IsPatched, IsPublishResult, IsStanding, Patches, PatchesAtEach, PutsAt};
     ghost use Rattle.hound.specs.Publishing.{Checkpoints, Finishes};
     ghost use Rattle.hound.specs.Room.{IsSixteen};
