@@ -1,6 +1,6 @@
 -- Containers of one width, joined.
 use Rattle.std.proofs.Common.{◌≡◌, ℕ, List, [], ◌∷◌, ◌++◌, length, take, drop, sym, ap, ◌∙◌, subst, take-append-drop}
-use Rattle.std.proofs.lemmas.List.Folds.{concat-append}
+pub use Rattle.std.proofs.lemmas.List.Folds.{concat-append}
 use Rattle.std.specs.List.{concat, AllByRecursion}
 
 -- containers of one width

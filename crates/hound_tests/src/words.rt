@@ -144,11 +144,11 @@ impl WriterWords {
     ghost use Rattle.hound.specs.Appending.{Appends, FailsCheck, HasOneAppendAnswer, IsNotAppended, head_fault};
     ghost use Rattle.hound.specs.Batch.{IsSameFile, batch_bytes, batch_lender, batch_writer, remaining};
     ghost use Rattle.hound.specs.Beginning.{Begins, HasBegun, IsNotBegun};
-    ghost use Rattle.hound.specs.Block.{GoesOut, IsLimit, all_out, answer_of, or_fault};
+    ghost use Rattle.hound.specs.Block.{GoesOut, IsLimit, all_out, answer_of, block_length, or_fault};
     ghost use Rattle.hound.specs.Calls.{Asked, Begun, Call, Lead, Left, Recorded, appended, asked_by_all, found_in, new_file, publish, start_of, write};
     ghost use Rattle.hound.specs.Counts.{Counts};
     ghost use Rattle.hound.specs.Fields.{IsConsistent, bytes_kept, of_fields};
-    ghost use Rattle.hound.specs.Many.{AcceptsEach, containers_in, outcome_of, sample_bytes};
+    ghost use Rattle.hound.specs.Many.{AcceptsEach, AreShort, containers_in, outcome_of, sample_bytes, short_bytes};
     ghost use Rattle.hound.specs.Parts.{HasSize, IsPatched, IsPublishResult, IsStanding, Patches, PatchesAtEach, PutsAt};
     ghost use Rattle.hound.specs.Publishing.{Checkpoints, Finishes};
     ghost use Rattle.hound.specs.Room.{IsSixteen};
