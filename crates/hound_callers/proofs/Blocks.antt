@@ -4,7 +4,8 @@ use Rattle.std.proofs.lemmas.List.{append-nil}
 use Rattle.std.proofs.Math.Seq.{take-add}
 use Rattle.hound.specs.Accepting.{Accepts}
 use Rattle.hound.specs.Container.{Refusal}
-use Rattle.hound.specs.Many.{all_containers, and_more, containers_in}
+use Rattle.hound.specs.Many.{containers_in}
+use Rattle.hound.specs.Slices.{all_containers, and_more}
 use Rattle.hound.specs.Publishing.{Checkpoints, ReadsAs}
 use Rattle.hound.specs.State.{MediumState}
 use Rattle.hound.specs.Writer.{WriterState, IsWhole, accepted_samples}
