@@ -166,7 +166,8 @@ module _ (s : WavSpecEx) (start : ℕ) (found : List (List ℕ)) (calls : List C
   CanonicalAtEnd = (before : List Call) (end : Call) → calls ≡ before ++ (end ∷ []) →
       HasPublished end → StartsWith medium.contents (canonical s (accepted before))
 
--- What calls promise of a medium that keeps its past, in each of its states since the first of them.
+-- What calls promise of a medium that records every byte written, in each of its states since the
+-- first of them.
 pub record Promises (s : WavSpecEx) (start : ℕ) (found : List (List ℕ)) (calls : List Call)
     (medium : MediumState) : Type 0 where
   pub counted : CountedAtEach s start found calls medium
@@ -204,8 +205,8 @@ pub record Holds (s : WavSpecEx) (file : Begun) (asked : List Asked) (medium : M
   pub asked_is : asked_by_all calls ≡ asked
   pub at_end : HoldsAtEnd s file calls medium
 
--- What a writer has left that was asked these, over a medium that keeps its past: the calls that were
--- made, and all that they promise.
+-- What a writer has left that was asked these, over a medium that records every byte written: the
+-- calls that were made, and all that they promise.
 pub record Kept (s : WavSpecEx) (file : Begun) (asked : List Asked) (medium : MediumState) :
     Type 0 where
   pub calls : List Call
@@ -226,7 +227,8 @@ pub record SurvivesAtEnd (s : WavSpecEx) (start : ℕ) (found : List (List ℕ))
       Counts s start (found ++ accepted_by_all calls) contents
       × LosesNothing s start found calls medium contents
 
--- What a writer has left that was asked these, in a medium within a `Durable` that keeps its past.
+-- What a writer has left that was asked these, in a medium within a `Durable` that records every byte
+-- written.
 pub record KeptWithin (s : WavSpecEx) (file : Begun) (asked : List Asked) (medium : MediumState) :
     Type 0 where
   pub calls : List Call
