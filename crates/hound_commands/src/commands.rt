@@ -140,7 +140,7 @@ fn pack<R: io::Read, O: io::Write>(
         (R.remaining input.old) failure output.old output.new) }
 {
     let numbers = read_numbers(alloc, input)?;
-    let file = file_of(alloc, spec, numbers)?;
+    let file = file_of(alloc, spec, &numbers)?;
     write_text(output, Tape::bytes(&file))?;
     output.flush()?;
     Ok(())
