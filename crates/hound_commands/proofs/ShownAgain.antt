@@ -4,19 +4,19 @@ use Rattle.std.proofs.Common.{◌≡◌, ℕ, ℤ, ◌+◌, ◌%◌, ◌≤◌, 
 use Rattle.std.proofs.lemmas.List.Folds.{concat-append}
 use Rattle.std.specs.Int.{w32}
 use Rattle.std.specs.List.{AllByRecursion, concat, flat_map}
-use Rattle.hound.specs.Answer.{HasOneFileAnswer, readable}
-use Rattle.hound.specs.Chunks.{Readable}
-use Rattle.hound.specs.Container.{Refusal, containers, int_container}
-use Rattle.hound.specs.Containers.{AreContainers}
-use Rattle.hound.specs.FmtChunk.{greatest_u32}
-use Rattle.hound.specs.Header.{canonical, data_start, riff_size}
-use Rattle.hound.specs.Meaning.{int_meaning}
-use Rattle.hound.specs.Writable.{IsWritable, with_default_width}
-use Rattle.hound.specs.declared.Error.{Error}
-use Rattle.hound.specs.declared.Error.TheVariants as errors
-use Rattle.hound.specs.declared.SampleFormat.TheVariants.{Int}
-use Rattle.hound.specs.declared.WavSpec.{WavSpec}
-use Rattle.hound.specs.declared.WavSpecEx.{WavSpecEx}
+use Rattle.hound_reader.specs.Answer.{HasOneFileAnswer, readable}
+use Rattle.hound_reader.specs.Chunks.{Readable}
+use Rattle.hound_sample.specs.Container.{Refusal, containers, int_container}
+use Rattle.hound_reader.specs.Containers.{AreContainers}
+use Rattle.hound_spec.specs.FmtChunk.{greatest_u32}
+use Rattle.hound_spec.specs.Header.{canonical, data_start, riff_size}
+use Rattle.hound_sample.specs.Meaning.{int_meaning}
+use Rattle.hound_spec.specs.Writable.{IsWritable, with_default_width}
+use Rattle.hound_spec.specs.declared.error.Error.{Error}
+use Rattle.hound_spec.specs.declared.error.Error.TheVariants as errors
+use Rattle.hound_spec.specs.declared.spec.SampleFormat.TheVariants.{Int}
+use Rattle.hound_spec.specs.declared.spec.WavSpec.{WavSpec}
+use Rattle.hound_spec.specs.declared.spec.WavSpecEx.{WavSpecEx}
 use Rattle.hound_text.specs.Text.{SayNumbers, SaysNumbers, words}
 use Rattle.hound_text.specs.Writing.{integer_line}
 use Rattle.hound_commands.proofs.PackAnswers.{each_width, have-bytes, parts}

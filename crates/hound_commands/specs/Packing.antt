@@ -2,14 +2,14 @@
 -- there is none.
 use Rattle.std.specs.Prelude.{◌≡◌, ℕ, ℤ, ◌%◌, ◌≤◌, ⊤, List, [], ◌∷◌, ◌++◌, length, Result, Ok, Err}
 use Rattle.std.specs.List.{concat}
-use Rattle.hound.specs.Container.{Refusal, too_wide, int_container}
-use Rattle.hound.specs.FmtChunk.{greatest_u32}
-use Rattle.hound.specs.Header.{canonical, data_start, riff_size}
-use Rattle.hound.specs.Many.{containers_in}
-use Rattle.hound.specs.Writable.{IsWritable}
-use Rattle.hound.specs.declared.Error.{Error}
-use Rattle.hound.specs.declared.Error.TheVariants.{OutOfMemory, TooLong, TooWide, UnfinishedSample, Unsupported}
-use Rattle.hound.specs.declared.WavSpecEx.{WavSpecEx}
+use Rattle.hound_sample.specs.Container.{Refusal, too_wide, int_container}
+use Rattle.hound_spec.specs.FmtChunk.{greatest_u32}
+use Rattle.hound_spec.specs.Header.{canonical, data_start, riff_size}
+use Rattle.hound_writer.specs.Many.{containers_in}
+use Rattle.hound_spec.specs.Writable.{IsWritable}
+use Rattle.hound_spec.specs.declared.error.Error.{Error}
+use Rattle.hound_spec.specs.declared.error.Error.TheVariants.{OutOfMemory, TooLong, TooWide, UnfinishedSample, Unsupported}
+use Rattle.hound_spec.specs.declared.spec.WavSpecEx.{WavSpecEx}
 use Rattle.hound_commands.specs.declared.failure.Failure.{Failure}
 use Rattle.hound_commands.specs.declared.failure.Failure.TheVariants.{BadNumber, InputOrOutput, Refused}
 

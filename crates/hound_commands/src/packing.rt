@@ -1,11 +1,13 @@
 // Numbers to a file.
 ghost use Rattle.std.specs.Prelude.{◌≡◌, IfErr, IfOk};
-ghost use Rattle.hound.specs.Writable.{with_default_width};
-ghost use Rattle.hound.specs.declared.SampleFormat.TheVariants.{Int};
+ghost use Rattle.hound_spec.specs.Writable.{with_default_width};
+ghost use Rattle.hound_spec.specs.declared.spec.SampleFormat.TheVariants.{Int};
 ghost use Rattle.hound_commands.specs.Packing.{IsPacked, IsPackFailure};
 
 use crate::failure::Failure;
-use hound::{Placed, Tape, WavSpec, WavSpecEx, WavWriter};
+use hound_medium::{Placed, Tape};
+use hound_spec::{WavSpec, WavSpecEx};
+use hound_writer::WavWriter;
 use std::alloc::Global;
 
 /// The whole file of these samples, or the first cause for which there is none: the spec, a number
