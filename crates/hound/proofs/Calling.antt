@@ -19,7 +19,8 @@ use Rattle.hound_writer.specs.Sizes.{ChangesSizesOnly, field}
 use Rattle.hound_writer.specs.Storing.{IsStored, KeepsStored}
 use Rattle.hound_writer.specs.Writer.{WriterState, HasHeader, IsBegun, IsCounted, IsWhole, accepted_samples, data_length, padded_end}
 use Rattle.hound_writer.proofs.Answers.{unless_failed, unless_then}
-use Rattle.hound_writer.proofs.Sizes.{header_front, sizes_front, sizes_then, take_front}
+use Rattle.hound_writer.proofs.Fresh.{begun_front}
+use Rattle.hound_writer.proofs.Sizes.{sizes_front, sizes_then, take_front}
 use Rattle.hound_writer.proofs.Storing.{stored_fewer, stored_join}
 use Rattle.hound.specs.Headline.{AsksToWrite, BeginInOrder, CountedAtEach, FlushedByFlushes, PublishedByFlushes, StoredAtEach, WriteOnly, accepted_by_all, accepted_of, begins_at}
 use Rattle.hound_repair.proofs.Joining.{concat-append}
@@ -34,19 +35,6 @@ length-concat-append xs ys = ap length (concat-append xs ys) ∙ length-append (
 -- before the data only the two sizes changed
 sizes_still : (start : ℕ) (c : List ℕ) → ChangesSizesOnly start c c
 sizes_still start c = record { front = refl; middle = refl }
-
--- what is before the data stays, so the header does
-begun_front : {M : Type 0} (state : M → MediumState) (old new : WriterState M)
-    → new.spec_ex ≡ old.spec_ex → new.data_start ≡ old.data_start
-    → take old.data_start (state new.medium).contents ≡ take old.data_start
-    (state old.medium).contents
-    → IsBegun state old → IsBegun state new
-begun_front state old new spec start front (has, at) = (
-  subst (λ s. HasHeader s (state new.medium).contents) (sym spec)
-      (header_front old.spec_ex old.data_start (state old.medium).contents
-      (state new.medium).contents at front has),
-  start ∙ at ∙ ap data_start (sym spec),
-)
 
 -- P, if a call with this mark published all
 pub has : {P : Type 0} (answer : Result (Unit {0}) Error) → mark_of answer ≡ true

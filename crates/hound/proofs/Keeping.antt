@@ -25,6 +25,7 @@ use Rattle.hound_writer.specs.Counts.{Counts, ReadsFirst}
 use Rattle.hound_writer.specs.Sizes.{ChangesSizesOnly, field}
 use Rattle.hound_writer.specs.Writer.{WriterState, HasHeader, IsBegun, IsCounted, IsSound, IsWhole, accepted_bytes, accepted_samples, data_length}
 use Rattle.hound_writer.proofs.Containers.{none_whole}
+use Rattle.hound_writer.proofs.Fresh.{none_accepted, zero_div}
 use Rattle.hound_writer.proofs.Heads.{head_inside, head_with}
 use Rattle.hound_writer.proofs.Recording.{opens_spec}
 use Rattle.hound_writer.proofs.Samples.{concat-samples, length-out, length_out, samples_out}
@@ -34,19 +35,6 @@ use Rattle.hound.proofs.Later.{same_moment}
 use Rattle.hound.proofs.Losing.{moments_grow}
 use Rattle.hound.proofs.NeverLess.{never_less}
 use Rattle.hound.proofs.PowerLoss.{accepted_parts, counted_after_loss, kept_after_loss, wide_containers}
-
-zero_div : (w : ℕ) → 0 / w ≡ 0
-zero_div zero = refl
-zero_div (suc w) = omega arith
-
--- nothing is accepted in a new file
-pub none_accepted : {M : Type 0} (state : M → MediumState) (w : WriterState M) → IsSound w
-    → w.waiting ≡ [] → w.out ≡ 0 → accepted_samples state w ≡ []
-none_accepted state w sound none empty =
-    let bytes = drop w.data_start (state w.medium).contents in
-    samples_out state w none sound
-    ∙ ap (λ n. containers w.spec_ex.bytes_per_sample n bytes)
-    (ap (λ n. n / w.spec_ex.bytes_per_sample) empty ∙ zero_div w.spec_ex.bytes_per_sample)
 
 -- no data are whole frames
 none_fault : (s : WavSpecEx) → data_fault s 0 ≡ None

@@ -21,6 +21,7 @@ use Rattle.hound_writer.specs.Sizes.{ChangesSizesOnly}
 use Rattle.hound_writer.specs.Writer.{WriterState, IsWhole, IsBegun, accepted_samples, data_length}
 use Rattle.hound_writer.proofs.Accepting.{length_overlay_max}
 use Rattle.hound_writer.proofs.Answers.{on_published_then}
+use Rattle.hound_writer.proofs.Fresh.{none_accepted, only_header}
 use Rattle.hound_writer.proofs.Recording.{end_left, ended, lead_more, left_by}
 use Rattle.hound_writer.proofs.Samples.{length_out, samples_out}
 use Rattle.hound_writer.proofs.Sizes.{sizes_then}
@@ -35,7 +36,7 @@ use Rattle.hound.specs.Run.{AppendedSurvives, Begins, EndsAs, IsNotBegun, IsSess
 use Rattle.hound.specs.Steps.{accepted_by, accepted_by_steps, asked_by}
 use Rattle.hound.proofs.Calling.{length-concat-append, went}
 use Rattle.hound.proofs.Faults.{all_published, grows_told, no_fault_parts}
-use Rattle.hound.proofs.Keeping.{First, first_append, first_new, none_accepted, promised, sized, survives}
+use Rattle.hound.proofs.Keeping.{First, first_append, first_new, promised, sized, survives}
 use Rattle.hound.proofs.PowerLoss.{accepted_parts}
 use Rattle.hound.proofs.Running.{call_accepts}
 
@@ -210,36 +211,20 @@ module _ {M : Type 0} (tells keeps : Bool) (state : M → MediumState) (s : WavS
     new_exact empty start (same, small) =
         let w = r.first in
         let file = r.begins.file told in
-        let h = header w.spec_ex 0 0 in
-        let put : (state w.medium).contents ≡ h ++ drop (0 + length h) [] =
-        file.puts.contents
-        ∙ (λ i. overlay (empty i) (placed (start i) (take_all (length h) h (omega arith) i)))
-        ∙ overlay_is [] 0 h (omega arith) in
         let exact =
         (r.leaves told).exact file.whole is_begun
         (same ∙ sym file.faults, omega (arith, file.faults, small)) in
         let c = canonical s (accepted_by_steps s steps marks) in
         let starts : take (length c) (state medium).contents ≡ c =
         subst (λ l. StartsWith (state medium).contents l) file_of exact.0 in
-        let first_size : length (state w.medium).contents ≡ data_start s =
-        ap length put ∙ length-append h (drop (0 + length h) [])
-        ∙ omega (
-          arith,
-          length-header w.spec_ex 0 0,
-          length-drop (0 + length h) (the_empty),
-          ap data_start r.begins.begun.spec,
-        ) in
         sym (take_all (length c) (state medium).contents
         (omega (
           arith,
           exact.1,
           ap length file_of,
-          first_size,
+          only_header tells keeps state told s (state old) w r.begins empty start,
           length-canonical s (accepted_by_steps s steps marks),
         ))) ∙ starts
-      where
-        the_empty : List ℕ
-        the_empty = []
 
   pub new_canonical : Ran tells keeps state (New s) steps marks Finalize old answer medium
       → OnOk answer

@@ -38,7 +38,7 @@ use Rattle.hound.specs.Steps.{Returns, Takes, accepted_by, asked_by, containers_
 use Rattle.hound.proofs.Answering.{IsAfter, publishing_after, room_with, step_answers}
 use Rattle.hound.proofs.Calling.{call_faults, call_reach, length-concat-append}
 use Rattle.hound.proofs.Faults.{all_published, grows_told, no_fault_parts}
-use Rattle.hound.proofs.Keeping.{none_accepted}
+use Rattle.hound_writer.proofs.Fresh.{none_accepted}
 use Rattle.hound.proofs.Running.{step_went}
 use Rattle.hound_spec.specs.FmtChunk.{greatest_u32}
 

@@ -4,7 +4,7 @@ use Rattle.std.specs.Io.{StartsWith}
 use Rattle.std.specs.Io.KnownBytes.{Appends, Keeps}
 use Rattle.std.proofs.KnownBytes.{starts_with_rest}
 use Rattle.std.proofs.Transfers.{starts_with_of_append, starts_with_trans}
-use Rattle.hound.specs.Writing.{Writes}
+use Rattle.hound_number.specs.Writing.{Writes}
 use Rattle.hound_commands.specs.Output.{GetsBeginning, GetsBuffered}
 
 -- texts appended one after the other

@@ -3,22 +3,22 @@ use Rattle.std.proofs.Common.{◌≡◌, ℕ, zero, suc, ◌+◌, ◌*◌, ◌<�
 use Rattle.std.specs.Io.{StartsWith}
 use Rattle.std.specs.Io.KnownBytes.{Appends, Keeps}
 use Rattle.std.proofs.Transfers.{starts_with_of_eq, starts_with_trans}
-use Rattle.hound.specs.Input.{Known}
-use Rattle.hound.specs.Meaning.{ReadRefusal, other_format, wider, other_pair, float_refusal, int_meaning, int_refusal, pattern}
-use Rattle.hound.specs.Reader.{ReaderState, meaning_at, refusal_at}
-use Rattle.hound.specs.Items.{GivesItems}
-use Rattle.hound.specs.ManyReads.{items_of}
+use Rattle.hound_number.specs.Input.{Known}
+use Rattle.hound_sample.specs.Meaning.{ReadRefusal, other_format, wider, other_pair, float_refusal, int_meaning, int_refusal, pattern}
+use Rattle.hound_reader.specs.Reader.{ReaderState, meaning_at, refusal_at}
+use Rattle.hound_reader.specs.Items.{GivesItems}
+use Rattle.hound_sample.specs.ManyReads.{items_of}
 use Rattle.std.specs.List.{flat_map}
-use Rattle.hound.specs.Reads.{Reads, error_of_read}
-use Rattle.hound.specs.Refusals.{IsRefusal}
-use Rattle.hound.specs.Chunks.{Readable, Unreadable}
-use Rattle.hound.specs.Cause.TheVariants as causes
-use Rattle.hound.specs.declared.Error.{Error}
-use Rattle.hound.specs.declared.Error.TheVariants as errors
-use Rattle.hound.specs.declared.SampleFormat.{SampleFormat}
-use Rattle.hound.specs.declared.SampleFormat.TheVariants.{Float, Int}
-use Rattle.hound.specs.declared.WavSpec.{WavSpec}
-use Rattle.hound.specs.declared.WavSpecEx.{WavSpecEx}
+use Rattle.hound_sample.specs.Reads.{Reads, error_of_read}
+use Rattle.hound_reader.specs.Refusals.{IsRefusal}
+use Rattle.hound_reader.specs.Chunks.{Readable, Unreadable}
+use Rattle.hound_reader.specs.declared.cause.Cause.TheVariants as causes
+use Rattle.hound_spec.specs.declared.error.Error.{Error}
+use Rattle.hound_spec.specs.declared.error.Error.TheVariants as errors
+use Rattle.hound_spec.specs.declared.spec.SampleFormat.{SampleFormat}
+use Rattle.hound_spec.specs.declared.spec.SampleFormat.TheVariants.{Float, Int}
+use Rattle.hound_spec.specs.declared.spec.WavSpec.{WavSpec}
+use Rattle.hound_spec.specs.declared.spec.WavSpecEx.{WavSpecEx}
 use Rattle.hound_text.specs.Writing.{integer_line, pattern_line}
 use Rattle.hound_commands.proofs.Outputs.{appends-kept, appends-none, gets-more, gets-none, gets-stopped, gets-then, gets-written}
 use Rattle.hound_commands.specs.Failing.{failure_of}

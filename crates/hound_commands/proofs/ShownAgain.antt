@@ -1,29 +1,28 @@
 -- What `show` writes of a file that `pack` made is packed again, and text is packed as one file.
 use Rattle.std.specs.Prelude.{FitsSigned}
-use Rattle.std.proofs.Common.{◌≡◌, ℕ, ℤ, ◌+◌, ◌%◌, ◌≤◌, ◌⊎◌, inl, inr, List, [], ◌∷◌, ◌++◌, length, drop, Ok, Some, refl, sym, ◌∙◌, ap, subst, length-append, arith}
+use Rattle.std.proofs.Common.{◌≡◌, ℕ, ℤ, ◌+◌, ◌%◌, ◌≤◌, ◌⊎◌, inl, inr, List, [], ◌∷◌, ◌++◌, length, drop, Result, Ok, Some, refl, sym, ◌∙◌, ap, subst, length-append, arith}
 use Rattle.std.proofs.lemmas.List.Folds.{concat-append}
 use Rattle.std.specs.Int.{w32}
 use Rattle.std.specs.List.{AllByRecursion, concat, flat_map}
-use Rattle.hound.specs.Answer.{HasOneFileAnswer, readable}
-use Rattle.hound.specs.Chunks.{Readable}
-use Rattle.hound.specs.Container.{containers, int_container}
-use Rattle.hound.specs.ContainerLaws.{int_container-in_width}
-use Rattle.hound.specs.Containers.{AreContainers}
-use Rattle.hound.specs.FmtChunk.{greatest_u32}
-use Rattle.hound.specs.Header.{canonical, data_start, riff_size}
-use Rattle.hound.specs.Meaning.{int_meaning}
-use Rattle.hound.specs.Writable.{IsWritable, with_default_width}
-use Rattle.hound.specs.declared.Error.{Error}
-use Rattle.hound.specs.declared.Error.TheVariants as errors
-use Rattle.hound.specs.declared.SampleFormat.TheVariants.{Int}
-use Rattle.hound.specs.declared.WavSpec.{WavSpec}
-use Rattle.hound.specs.declared.WavSpecEx.{WavSpecEx}
+use Rattle.hound_reader.specs.Answer.{HasOneFileAnswer, readable}
+use Rattle.hound_reader.specs.Chunks.{Readable}
+use Rattle.hound_sample.specs.Container.{Refusal, containers, int_container}
+use Rattle.hound_reader.specs.Containers.{AreContainers}
+use Rattle.hound_spec.specs.FmtChunk.{greatest_u32}
+use Rattle.hound_spec.specs.Header.{canonical, data_start, riff_size}
+use Rattle.hound_sample.specs.Meaning.{int_meaning}
+use Rattle.hound_spec.specs.Writable.{IsWritable, with_default_width}
+use Rattle.hound_spec.specs.declared.error.Error.{Error}
+use Rattle.hound_spec.specs.declared.error.Error.TheVariants as errors
+use Rattle.hound_spec.specs.declared.spec.SampleFormat.TheVariants.{Int}
+use Rattle.hound_spec.specs.declared.spec.WavSpec.{WavSpec}
+use Rattle.hound_spec.specs.declared.spec.WavSpecEx.{WavSpecEx}
 use Rattle.hound_text.specs.Text.{SayNumbers, SaysNumbers, words}
 use Rattle.hound_text.specs.Writing.{integer_line}
-use Rattle.hound_commands.proofs.PackAnswers.{have-bytes}
+use Rattle.hound_commands.proofs.PackAnswers.{each_width, have-bytes, parts}
 use Rattle.hound_commands.proofs.ShowAnswers.{integers_line}
 use Rattle.hound_commands.specs.Commands.{IsNotPacked, Packs}
-use Rattle.hound_commands.specs.Packing.{HasRoom, HaveContainers, IsPackFailure, IsPacked}
+use Rattle.hound_commands.specs.Packing.{HasRoom, IsPackFailure, IsPacked, containers_of}
 use Rattle.hound_commands.specs.Showing.{IsShown, Shows, sample_line, sample_lines, spec_line}
 use Rattle.hound_commands.specs.declared.failure.Failure.{Failure}
 use Rattle.hound_commands.specs.declared.failure.Failure.TheVariants.{BadNumber, InputOrOutput, Refused}
@@ -45,37 +44,11 @@ say_within [] (n ∷ ns) says = absurd says
 say_within (part ∷ parts) [] says = absurd says
 say_within (part ∷ parts) (n ∷ ns) says = (says.0.within, say_within parts ns says.1)
 
-have_one : (s : WavSpecEx) (ns : List ℤ) (cs ds : List (List ℕ)) → HaveContainers s ns cs → HaveContainers s ns ds → cs ≡ ds
-have_one s [] [] [] here there = refl
-have_one s [] (c ∷ cs) ds here there = absurd here
-have_one s [] [] (d ∷ ds) here there = absurd there
-have_one s (n ∷ ns) [] ds here there = absurd here
-have_one s (n ∷ ns) (c ∷ cs) [] here there = absurd there
-have_one s (n ∷ ns) (c ∷ cs) (d ∷ ds) (is, here) (other, there) =
-    let same : c ≡ d = cc in
-    ap (λ x. x ∷ cs) same ∙ ap (λ l. d ∷ l) (have_one s ns cs ds here there)
-
--- the containers of the first numbers, and of the others
-have_split : (s : WavSpecEx) (ns ms : List ℤ) (cs : List (List ℕ)) → HaveContainers s (ns ++ ms) cs
-    → (front : List (List ℕ)) × (back : List (List ℕ)) × (cs ≡ front ++ back) × HaveContainers s ns front × HaveContainers s ms back
-have_split s [] ms cs have = ([], cs, refl, tt, have)
-have_split s (n ∷ ns) ms [] have = absurd have
-have_split s (n ∷ ns) ms (c ∷ cs) (is, have) =
-    let (front, back, cs_are, here, there) = have_split s ns ms cs have in
-    (c ∷ front, back, ap (λ l. c ∷ l) cs_are, (is, here), there)
-
-each_width : (s : WavSpecEx) (ns : List ℤ) (cs : List (List ℕ)) → HaveContainers s ns cs
-    → AllByRecursion (λ c. length c ≡ s.bytes_per_sample) cs
-each_width s [] [] have = tt
-each_width s [] (c ∷ cs) have = absurd have
-each_width s (n ∷ ns) [] have = absurd have
-each_width s (n ∷ ns) (c ∷ cs) (is, have) = ((int_container-in_width n _ _ c is).0, each_width s ns cs have)
-
-have_length : (s : WavSpecEx) (ns : List ℤ) (cs : List (List ℕ)) → HaveContainers s ns cs → length ns ≡ length cs
-have_length s [] [] have = refl
-have_length s [] (c ∷ cs) have = absurd have
-have_length s (n ∷ ns) [] have = absurd have
-have_length s (n ∷ ns) (c ∷ cs) (is, have) = let more = have_length s ns cs have in omega (arith, more)
+have_length : (s : WavSpecEx) (ns : List ℤ) (cs : List (List ℕ)) → containers_of s ns ≡ Ok cs → length ns ≡ length cs
+have_length s [] cs have = ap length (let e : [] ≡ cs = cc in e)
+have_length s (n ∷ ns) cs have =
+    let (c, rest, is, more, all) = parts (int_container n s.spec.bits_per_sample s.bytes_per_sample) (containers_of s ns) cs have in
+    omega (arith, have_length s ns rest more, ap length all)
 
 -- ---- the lines of a packed file
 
@@ -84,13 +57,13 @@ abbrev ComeBack : Type 0
 ComeBack = (v : ℤ) (bits width : ℕ) (c : List ℕ) → int_container v bits width ≡ Ok c → int_meaning width bits c ≡ v
 
 same_lines : (s : WavSpecEx) (ns : List ℤ) (cs : List (List ℕ)) → s.spec.sample_format ≡ Int → ComeBack
-    → HaveContainers s ns cs → flat_map (sample_line s) cs ≡ flat_map integer_line ns
-same_lines s [] [] integers back have = refl
-same_lines s [] (c ∷ cs) integers back have = absurd have
-same_lines s (n ∷ ns) [] integers back have = absurd have
-same_lines s (n ∷ ns) (c ∷ cs) integers back (is, have) =
-    ap (λ l. l ++ flat_map (sample_line s) cs) (sym (integers_line s integers c) ∙ ap integer_line (back n _ _ c is))
-    ∙ ap (λ l. integer_line n ++ l) (same_lines s ns cs integers back have)
+    → containers_of s ns ≡ Ok cs → flat_map (sample_line s) cs ≡ flat_map integer_line ns
+same_lines s [] cs integers back have = ap (flat_map (sample_line s)) (let e : cs ≡ [] = cc in e)
+same_lines s (n ∷ ns) cs integers back have =
+    let (c, rest, is, more, all) = parts (int_container n s.spec.bits_per_sample s.bytes_per_sample) (containers_of s ns) cs have in
+    ap (flat_map (sample_line s)) all
+    ∙ ap (λ l. l ++ flat_map (sample_line s) rest) (sym (integers_line s integers c) ∙ ap integer_line (back n _ _ c is))
+    ∙ ap (λ l. integer_line n ++ l) (same_lines s ns rest integers back more)
 
 are_containers : (s : WavSpecEx) (ns : List ℤ) (file : List ℕ) → (packed : IsPacked s ns file) → AreContainers s packed.containers
 are_containers s ns file packed =
@@ -144,12 +117,14 @@ shown_again spec input file text written one back say integers (ns, packed_file,
 
 -- ---- one answer for each text
 
+one_list : (r : Result (List (List ℕ)) Refusal) (cs ds : List (List ℕ)) → r ≡ Ok cs → r ≡ Ok ds → cs ≡ ds
+one_list r cs ds here there = cc
+
 pub packed_once : (s : WavSpecEx) (text first second : List ℕ) → Packs s (Some text) (Some []) (Some first)
     → Packs s (Some text) (Some []) (Some second) → first ≡ second
 packed_once s text first second (ns, file, says, packed, got) (ms, other, too, again, gets) =
     let numbers : ns ≡ ms = say_one (words text) ns ms says too in
-    let same = have_one s ms packed.containers again.containers
-    (subst (λ l. HaveContainers s l packed.containers) numbers packed.have) again.have in
+    let same : packed.containers ≡ again.containers = one_list (containers_of s ms) packed.containers again.containers (ap (containers_of s) (sym numbers) ∙ packed.have) again.have in
     got ∙ packed.file_is ∙ ap (canonical s) same ∙ sym again.file_is ∙ sym gets
 
 -- an error that needs no cause of the text: a fault, or too little memory
@@ -161,25 +136,12 @@ not_refused : (s : WavSpecEx) (ns : List ℤ) (file : List ℕ) (e : Error) → 
 not_refused s ns file errors.OutOfMemory packed refused = refl
 not_refused s ns file errors.Unsupported packed refused = absurd (refused packed.writable)
 not_refused s ns file errors.TooWide packed (writable, refused) =
-    let whole = subst (λ l. HaveContainers s l packed.containers) refused.whole packed.have in
-    let (front, back, cs_are, here, there) = have_split s refused.before (refused.number ∷ refused.after) packed.containers whole in
-    absurd (wide back there)
-  where
-    wide : (back : List (List ℕ)) → HaveContainers s (refused.number ∷ refused.after) back → ⊥
-    wide [] have = have
-    wide (c ∷ cs) (is, have) = let h = refused.wide in cc
+    let have = packed.have in cc
 not_refused s ns file errors.TooLong packed (writable, refused) =
-    let whole = subst (λ l. HaveContainers s l packed.containers) refused.whole packed.have in
-    let (front, back, cs_are, here, there) = have_split s refused.before refused.after packed.containers whole in
-    let same = have_one s refused.before front refused.containers here refused.have in
-    let joined : length (concat packed.containers) ≡ length (concat front) + length (concat back) =
-    ap (λ l. length (concat l)) cs_are ∙ ap length (concat-append front back) ∙ length-append (concat front) (concat back) in
-    let room : riff_size (data_start s) (length (concat packed.containers)) ≤ greatest_u32 = packed.room in
-    let fits : riff_size (data_start s) (length (concat front)) ≤ greatest_u32 = omega (arith, joined, room) in
-    absurd (refused.no_room (subst (HasRoom s) same fits))
+    absurd (refused.no_room (subst (HasRoom s) (one_list (containers_of s ns) packed.containers refused.containers packed.have refused.have) packed.room))
 not_refused s ns file errors.UnfinishedSample packed (writable, refused) =
-    let same = have_one s ns packed.containers refused.containers packed.have refused.have in
-    absurd (refused.frames (subst (λ l. length l % s.spec.channels ≡ 0) same packed.frames))
+    absurd (refused.frames (subst (λ l. length l % s.spec.channels ≡ 0)
+    (one_list (containers_of s ns) packed.containers refused.containers packed.have refused.have) packed.frames))
 not_refused s ns file (errors.IoError e) packed refused = absurd refused.1
 not_refused s ns file (errors.FormatError e) packed refused = absurd refused.1
 not_refused s ns file errors.InvalidSampleFormat packed refused = absurd refused.1

@@ -2,11 +2,11 @@
 use Rattle.std.specs.Prelude.{◌≡◌, ℕ, ℤ, ◌≤◌, ◌⊎◌, ⊤, IfSome, List, [], ◌∷◌, Option, codes}
 use Rattle.std.specs.Borrow.{Bor}
 use Rattle.std.specs.Str.Parse.{IsNumeral, digits_value}
-use Rattle.hound.specs.declared.SampleFormat.TheVariants.{Int}
-use Rattle.hound.specs.declared.WavSpec.{WavSpec}
+use Rattle.hound_spec.specs.declared.spec.SampleFormat.TheVariants.{Int}
+use Rattle.hound_spec.specs.declared.spec.WavSpec.{WavSpec}
 use Rattle.std.specs.Io.KnownBytes.{Appends}
-use Rattle.hound.specs.declared.WavSpecEx.{WavSpecEx}
-use Rattle.hound.specs.declared.Error.TheVariants.{OutOfMemory}
+use Rattle.hound_spec.specs.declared.spec.WavSpecEx.{WavSpecEx}
+use Rattle.hound_spec.specs.declared.error.Error.TheVariants.{OutOfMemory}
 use Rattle.hound_text.specs.Text.{SaysNoNumbers, SaysNumbers}
 use Rattle.hound_commands.specs.Output.{GetsBeginning}
 use Rattle.hound_commands.specs.Packing.{IsPacked, IsPackFailure}

@@ -1,6 +1,6 @@
 -- Which failure of the program an error of a call is.
-use Rattle.hound.specs.declared.Error.{Error}
-use Rattle.hound.specs.declared.Error.TheVariants.{IoError, OutOfMemory}
+use Rattle.hound_spec.specs.declared.error.Error.{Error}
+use Rattle.hound_spec.specs.declared.error.Error.TheVariants.{IoError, OutOfMemory}
 use Rattle.hound_text.specs.declared.Refusal.{Refusal}
 use Rattle.hound_text.specs.declared.Refusal.TheVariants.{BadNumber as TextBadNumber, InputOrOutput as TextInputOrOutput, TooLong as TextTooLong, OutOfMemory as TextOutOfMemory}
 use Rattle.hound_commands.specs.declared.failure.Failure.{Failure}

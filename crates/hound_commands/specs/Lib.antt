@@ -2,5 +2,4 @@ pub mod Commands
 pub mod Failing
 pub mod Output
 pub mod Packing
-pub mod Session
 pub mod Showing

@@ -2,26 +2,20 @@
 -- there is none.
 use Rattle.std.specs.Prelude.{◌≡◌, ℕ, ℤ, ◌%◌, ◌≤◌, ⊤, List, [], ◌∷◌, ◌++◌, length, Result, Ok, Err}
 use Rattle.std.specs.List.{concat}
-use Rattle.hound.specs.Container.{Refusal, too_wide, int_container}
-use Rattle.hound.specs.FmtChunk.{greatest_u32}
-use Rattle.hound.specs.Header.{canonical, data_start, riff_size}
-use Rattle.hound.specs.Writable.{IsWritable}
-use Rattle.hound.specs.declared.Error.{Error}
-use Rattle.hound.specs.declared.Error.TheVariants.{OutOfMemory, TooLong, TooWide, UnfinishedSample, Unsupported}
-use Rattle.hound.specs.declared.WavSpecEx.{WavSpecEx}
+use Rattle.hound_sample.specs.Container.{Refusal, too_wide, int_container}
+use Rattle.hound_spec.specs.FmtChunk.{greatest_u32}
+use Rattle.hound_spec.specs.Header.{canonical, data_start, riff_size}
+use Rattle.hound_writer.specs.Many.{containers_in}
+use Rattle.hound_spec.specs.Writable.{IsWritable}
+use Rattle.hound_spec.specs.declared.error.Error.{Error}
+use Rattle.hound_spec.specs.declared.error.Error.TheVariants.{OutOfMemory, TooLong, TooWide, UnfinishedSample, Unsupported}
+use Rattle.hound_spec.specs.declared.spec.WavSpecEx.{WavSpecEx}
 use Rattle.hound_commands.specs.declared.failure.Failure.{Failure}
 use Rattle.hound_commands.specs.declared.failure.Failure.TheVariants.{BadNumber, InputOrOutput, Refused}
 
--- the container of a number in a file of this spec
-abbrev pub container_of : WavSpecEx → ℤ → Result (List ℕ) Refusal
-container_of s number = int_container number s.spec.bits_per_sample s.bytes_per_sample
-
--- each number has a container, and these are the containers, in order
-abbrev pub HaveContainers : WavSpecEx → List ℤ → List (List ℕ) → Type 0
-HaveContainers s [] [] = ⊤
-HaveContainers s (number ∷ numbers) (container ∷ containers) =
-    (container_of s number ≡ Ok container) × HaveContainers s numbers containers
-HaveContainers s _ _ = ⊥
+-- the containers of numbers, in their order, or why the first that has none has none
+abbrev pub containers_of : WavSpecEx → List ℤ → Result (List (List ℕ)) Refusal
+containers_of s numbers = containers_in int_container s numbers
 
 -- the size fields of a file have room for these containers
 abbrev pub HasRoom : WavSpecEx → List (List ℕ) → Type 0
@@ -31,42 +25,28 @@ HasRoom s containers = riff_size (data_start s) (length (concat containers)) ≤
 pub record IsPacked (s : WavSpecEx) (numbers : List ℤ) (file : List ℕ) : Type 0 where
   pub writable : IsWritable s
   pub containers : List (List ℕ)
-  pub have : HaveContainers s numbers containers
+  pub have : containers_of s numbers ≡ Ok containers
   pub room : HasRoom s containers
   pub frames : length containers % s.spec.channels ≡ 0
   pub file_is : file ≡ canonical s containers
 
--- The first number that can't be packed is too wide: those before it have containers, with room for
--- all.
-pub record IsTooWide (s : WavSpecEx) (numbers : List ℤ) : Type 0 where
-  pub before : List ℤ
-  pub number : ℤ
-  pub after : List ℤ
-  pub whole : numbers ≡ before ++ number ∷ after
-  pub containers : List (List ℕ)
-  pub have : HaveContainers s before containers
-  pub room : HasRoom s containers
-  pub wide : container_of s number ≡ Err too_wide
-
--- The first number that can't be packed has no room: all numbers up to it have containers.
+-- The numbers have containers, for which there is no room.
 pub record IsTooLong (s : WavSpecEx) (numbers : List ℤ) : Type 0 where
-  pub before : List ℤ
-  pub after : List ℤ
-  pub whole : numbers ≡ before ++ after
   pub containers : List (List ℕ)
-  pub have : HaveContainers s before containers
+  pub have : containers_of s numbers ≡ Ok containers
   pub no_room : HasRoom s containers → ⊥
 
 -- The numbers have containers, with room for all, but are no whole frames.
 pub record IsUnfinished (s : WavSpecEx) (numbers : List ℤ) : Type 0 where
   pub containers : List (List ℕ)
-  pub have : HaveContainers s numbers containers
+  pub have : containers_of s numbers ≡ Ok containers
   pub room : HasRoom s containers
   pub frames : length containers % s.spec.channels ≡ 0 → ⊥
 
--- why numbers can't be packed in a spec that can be written: the first cause
+-- why numbers can't be packed in a spec that can be written: one is too wide; all have containers,
+-- but no room; or they are no whole frames
 abbrev pub IsRefused : WavSpecEx → List ℤ → Error → Type 0
-IsRefused s numbers TooWide = IsTooWide s numbers
+IsRefused s numbers TooWide = containers_of s numbers ≡ Err too_wide
 IsRefused s numbers TooLong = IsTooLong s numbers
 IsRefused s numbers UnfinishedSample = IsUnfinished s numbers
 IsRefused s numbers _ = ⊥

@@ -3,17 +3,17 @@ use Rattle.std.specs.Prelude.{◌≡◌, ℕ, ◌*◌, ◌<◌, ◌≤◌, ◌�
 use Rattle.std.specs.Io.{StartsWith}
 use Rattle.std.specs.Io.KnownBytes.{Appends}
 use Rattle.std.specs.List.{flat_map}
-use Rattle.hound.specs.Cause.{Cause}
-use Rattle.hound.specs.Chunks.{Readable, Unreadable}
-use Rattle.hound.specs.Container.{containers}
-use Rattle.hound.specs.Meaning.{ReadRefusal, float_refusal, int_meaning, int_refusal, pattern}
-use Rattle.hound.specs.Reads.{error_of_read}
-use Rattle.hound.specs.Refusals.{Names}
-use Rattle.hound.specs.declared.Error.{Error}
-use Rattle.hound.specs.declared.SampleFormat.{SampleFormat}
-use Rattle.hound.specs.declared.SampleFormat.TheVariants.{Float, Int}
-use Rattle.hound.specs.declared.WavSpec.{WavSpec}
-use Rattle.hound.specs.declared.WavSpecEx.{WavSpecEx}
+use Rattle.hound_reader.specs.declared.cause.Cause.{Cause}
+use Rattle.hound_reader.specs.Chunks.{Readable, Unreadable}
+use Rattle.hound_sample.specs.Container.{containers}
+use Rattle.hound_sample.specs.Meaning.{ReadRefusal, float_refusal, int_meaning, int_refusal, pattern}
+use Rattle.hound_sample.specs.Reads.{error_of_read}
+use Rattle.hound_reader.specs.Refusals.{Names}
+use Rattle.hound_spec.specs.declared.error.Error.{Error}
+use Rattle.hound_spec.specs.declared.spec.SampleFormat.{SampleFormat}
+use Rattle.hound_spec.specs.declared.spec.SampleFormat.TheVariants.{Float, Int}
+use Rattle.hound_spec.specs.declared.spec.WavSpec.{WavSpec}
+use Rattle.hound_spec.specs.declared.spec.WavSpecEx.{WavSpecEx}
 use Rattle.hound_commands.specs.Output.{GetsBuffered}
 use Rattle.hound_commands.specs.declared.failure.Failure.{Failure}
 use Rattle.hound_commands.specs.declared.failure.Failure.TheVariants.{BadNumber, InputOrOutput, Refused}

@@ -1,8 +1,8 @@
 // What the program does, over any reader and writers.
 ghost use Rattle.std.specs.Prelude.{◌≡◌, ◌≤◌, ◌↔◌, ◌⊎◌, ℤ, List, IfErr, IfSome, IsNone, MatchResult, OnOk};
-ghost use Rattle.hound.specs.Writable.{with_default_width};
-ghost use Rattle.hound.specs.declared.SampleFormat.TheVariants.{Int};
-ghost use Rattle.hound.specs.declared.WavSpec.{WavSpec};
+ghost use Rattle.hound_spec.specs.Writable.{with_default_width};
+ghost use Rattle.hound_spec.specs.declared.spec.SampleFormat.TheVariants.{Int};
+ghost use Rattle.hound_spec.specs.declared.spec.WavSpec.{WavSpec};
 ghost use Rattle.hound_commands.specs.Commands.{AreNumbersOf, IsCommand, IsPackCommand, IsShowCommand, Packs, PacksUntil, SaySpec};
 ghost use Rattle.hound_commands.specs.Showing.{Shows, ShowsUntil};
 ghost use Rattle.hound_commands.specs.declared.failure.Failure.{Failure};
@@ -10,8 +10,10 @@ ghost use Rattle.hound_commands.specs.declared.failure.Failure.{Failure};
 use crate::failure::Failure;
 use crate::packing::file_of;
 use crate::showing::show;
-use hound::{SampleFormat, Tape, WavSpec, WavWriter};
+use hound_medium::Tape;
+use hound_spec::{SampleFormat, WavSpec};
 use hound_text::{digits, read_numbers, write_text};
+use hound_writer::WavWriter;
 use std::alloc::Global;
 use std::fmt::Display;
 use std::io::Write;
@@ -140,7 +142,7 @@ fn pack<R: io::Read, O: io::Write>(
         (R.remaining input.old) failure output.old output.new) }
 {
     let numbers = read_numbers(alloc, input)?;
-    let file = file_of(alloc, spec, numbers)?;
+    let file = file_of(alloc, spec, &numbers)?;
     write_text(output, Tape::bytes(&file))?;
     output.flush()?;
     Ok(())

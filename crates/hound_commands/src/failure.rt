@@ -1,10 +1,10 @@
 // Why the program fails.
 ghost use Rattle.std.specs.Prelude.{◌≡◌};
-ghost use Rattle.hound.specs.declared.Error.TheVariants.{OutOfMemory};
+ghost use Rattle.hound_spec.specs.declared.error.Error.TheVariants.{OutOfMemory};
 ghost use Rattle.hound_commands.specs.Failing.{failure_of, refusal_of};
 ghost use Rattle.hound_commands.specs.declared.failure.Failure.TheVariants.{InputOrOutput, Refused};
 
-use hound::Error;
+use hound_spec::Error;
 use hound_text::Refusal;
 use std::alloc::{AllocError, AllocFailed};
 use std::io;

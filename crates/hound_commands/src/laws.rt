@@ -1,16 +1,17 @@
 // What holds of every file and text.
 ghost use Rattle.std.specs.Prelude.{◌≡◌, ◌⊎◌, ℕ, List, [], ◌++◌, Some};
-ghost use Rattle.hound.specs.Writable.{with_default_width};
-ghost use Rattle.hound.specs.declared.Error.TheVariants.{OutOfMemory};
-ghost use Rattle.hound.specs.declared.SampleFormat.TheVariants.{Int};
-ghost use Rattle.hound.specs.declared.WavSpec.{WavSpec};
-ghost use Rattle.hound.specs.declared.WavSpecEx.{WavSpecEx};
+ghost use Rattle.hound_spec.specs.Writable.{with_default_width};
+ghost use Rattle.hound_spec.specs.declared.error.Error.TheVariants.{OutOfMemory};
+ghost use Rattle.hound_spec.specs.declared.spec.SampleFormat.TheVariants.{Int};
+ghost use Rattle.hound_spec.specs.declared.spec.WavSpec.{WavSpec};
+ghost use Rattle.hound_spec.specs.declared.spec.WavSpecEx.{WavSpecEx};
 ghost use Rattle.hound_commands.specs.Commands.{IsNotPacked, Packs};
 ghost use Rattle.hound_commands.specs.Showing.{Shows, spec_line};
 ghost use Rattle.hound_commands.specs.declared.failure.Failure.{Failure};
 ghost use Rattle.hound_commands.specs.declared.failure.Failure.TheVariants.{InputOrOutput, Refused};
 
-use hound::{integers_come_back, one_answer, written_is_read};
+use hound_reader::{one_answer, written_is_read};
+use hound_sample::integers_come_back;
 use hound_text::lines_say_their_numbers;
 
 /// The lines of samples that `show` writes of a file that `pack` made are packed as the same file,

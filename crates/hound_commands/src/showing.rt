@@ -1,13 +1,15 @@
 // A file to lines.
 ghost use Rattle.std.specs.Prelude.{◌≡◌, ◌+◌, ◌<◌, ◌≤◌, ◌++◌, ℕ, [], List, IfErr, OnErr, OnOk, length};
 ghost use Rattle.std.specs.List.{flat_map};
-ghost use Rattle.hound.specs.Reader.{meaning_at, refusal_at};
+ghost use Rattle.hound_reader.specs.Reader.{meaning_at, refusal_at};
 ghost use Rattle.hound_commands.specs.Output.{GetsBeginning, GetsBuffered};
 ghost use Rattle.hound_commands.specs.Showing.{Shows, ShowsSamples, ShowsUntil, StopsSamples, sample_line, show_refusal, spec_line};
 ghost use Rattle.hound_text.specs.Writing.{integer_line, pattern_line};
 
 use crate::failure::Failure;
-use hound::{FloatBits, Sample, SampleFormat, WavReader, WavSpec};
+use hound_reader::WavReader;
+use hound_sample::{FloatBits, Sample};
+use hound_spec::{SampleFormat, WavSpec};
 use hound_text::Lines;
 use std::io;
 use std::io::Write;

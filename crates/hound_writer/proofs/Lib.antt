@@ -25,3 +25,4 @@ pub mod Writing
 pub mod AcceptingMany
 pub mod OneByOne
 pub mod Recording
+pub mod Fresh

@@ -1,0 +1,102 @@
+-- What one call for samples and an end leave in a medium that was empty: exactly the canonical file.
+use Rattle.std.proofs.Common.{◌≡◌, ℕ, zero, suc, ◌+◌, ◌/◌, ◌≤◌, max, Bool, List, [], ◌++◌, length, take, drop, Ok, IsTrue, refl, sym, ◌∙◌, ap, subst, arith, length-append, length-drop}
+use Rattle.std.proofs.lemmas.List.{take_all}
+use Rattle.std.specs.List.{concat}
+use Rattle.std.specs.Io.{StartsWith}
+use Rattle.hound_spec.specs.declared.spec.WavSpecEx.{WavSpecEx}
+use Rattle.hound_spec.specs.Header.{header, data_start, canonical}
+use Rattle.hound_spec.proofs.HeaderLemmas.{length-canonical, length-header}
+use Rattle.hound_sample.specs.Container.{containers}
+use Rattle.hound_medium.specs.Bytes.{placed, overlay}
+use Rattle.hound_medium.specs.State.{MediumState}
+use Rattle.hound_medium.proofs.Overlays.{overlay_is}
+use Rattle.hound_writer.specs.Accepting.{Accepts}
+use Rattle.hound_writer.specs.Beginning.{Begins}
+use Rattle.hound_writer.specs.Publishing.{Finishes}
+use Rattle.hound_writer.specs.Writer.{WriterState, HasHeader, IsBegun, IsSound, IsWhole, accepted_samples, data_length}
+use Rattle.hound_writer.proofs.Samples.{samples_out}
+use Rattle.hound_writer.proofs.Sizes.{header_front}
+
+-- no bytes are no samples, of any width
+pub zero_div : (w : ℕ) → 0 / w ≡ 0
+zero_div zero = refl
+zero_div (suc w) = omega arith
+
+-- a writer with no accepted bytes has no samples
+pub none_accepted : {M : Type 0} (state : M → MediumState) (w : WriterState M) → IsSound w
+    → w.waiting ≡ [] → w.out ≡ 0 → accepted_samples state w ≡ []
+none_accepted state w sound none empty =
+    let bytes = drop w.data_start (state w.medium).contents in
+    samples_out state w none sound
+    ∙ ap (λ n. containers w.spec_ex.bytes_per_sample n bytes)
+    (ap (λ n. n / w.spec_ex.bytes_per_sample) empty ∙ zero_div w.spec_ex.bytes_per_sample)
+
+-- what is before the data stays, so the header does
+pub begun_front : {M : Type 0} (state : M → MediumState) (old new : WriterState M)
+    → new.spec_ex ≡ old.spec_ex → new.data_start ≡ old.data_start
+    → take old.data_start (state new.medium).contents ≡ take old.data_start
+    (state old.medium).contents
+    → IsBegun state old → IsBegun state new
+begun_front state old new spec start front (has, at) = (
+  subst (λ s. HasHeader s (state new.medium).contents) (sym spec)
+      (header_front old.spec_ex old.data_start (state old.medium).contents
+      (state new.medium).contents at front has),
+  start ∙ at ∙ ap data_start (sym spec),
+)
+
+module _ {W : Type 0} (tells keeps : Bool) (state : W → MediumState) (told : IsTrue tells)
+    (s : WavSpecEx) (old : MediumState) (first : WriterState W)
+    (begins : Begins tells keeps state s old first) where
+  -- the header alone is in a medium that was empty
+  pub only_header : old.contents ≡ [] → old.place ≡ 0
+      → length (state first.medium).contents ≡ data_start s
+  only_header empty start =
+      let h = header first.spec_ex 0 0 in
+      let put : (state first.medium).contents ≡ h ++ drop (0 + length h) [] =
+      (begins.file told).puts.contents
+      ∙ (λ i. overlay (empty i) (placed (start i) (take_all (length h) h (omega arith) i)))
+      ∙ overlay_is [] 0 h (omega arith) in
+      ap length put ∙ length-append h (drop (0 + length h) [])
+      ∙ omega (
+        arith,
+        length-header first.spec_ex 0 0,
+        length-drop (0 + length h) (the_empty),
+        ap data_start begins.begun.spec,
+      )
+    where
+      the_empty : List ℕ
+      the_empty = []
+
+  -- a new file, one call for samples, and an end
+  pub fresh_file : (last : WriterState W) (end : W) (memory : Bool) (list : List (List ℕ))
+      → old.contents ≡ [] → old.place ≡ 0
+      → Accepts tells keeps state memory (Ok list) (Ok tt) first last
+      → Finishes tells keeps state last (Ok tt) end → (state end).contents ≡ canonical s list
+  fresh_file last end memory list empty start accepts finishes =
+      let b = begins.begun in
+      let f = begins.file told in
+      let a = accepts.file told in
+      let p = finishes.publishes told in
+      let whole = a.whole f.whole in
+      let samples : accepted_samples state last ≡ list =
+      a.accepted f.whole ∙ ap (λ l. l ++ list) (none_accepted state first b.sound b.none_waits b.none_out) in
+      let spec : last.spec_ex ≡ s = accepts.adds.spec_ex ∙ b.spec in
+      let begun = begun_front state first last accepts.adds.spec_ex accepts.adds.data_start a.front
+      (f.header, b.start ∙ ap data_start (sym b.spec)) in
+      let starts : StartsWith (state end).contents (canonical s list) =
+      subst (λ x. StartsWith (state end).contents x) (λ i. canonical (spec i) (samples i))
+      (p.canonical whole begun) in
+      let nothing : data_length first ≡ 0 =
+      (λ i. b.none_out i + length (b.none_waits i)) in
+      sym (take_all (length (canonical s list)) (state end).contents
+      (omega (
+        arith,
+        p.reach,
+        a.reach,
+        only_header empty start,
+        length-canonical s list,
+        accepts.adds.data_length,
+        accepts.adds.data_start,
+        nothing,
+        b.start,
+      ))) ∙ starts
