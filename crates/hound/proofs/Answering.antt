@@ -62,9 +62,9 @@ pub room_with : {M : Type 0} (tells keeps : Bool) (state : M → MediumState) (l
     (step : Step) (old new : WriterState M) → 2 * longest ≤ length old.buffer
     → Takes tells keeps state step (Ok tt) old new
     → 2 * longest_with longest step ≤ length new.buffer
-room_with tells keeps state longest (Whole value) old new room t = omega (arith, room, (t.does).1.adds.kept)
-room_with tells keeps state longest (Bits bits) old new room t = omega (arith, room, (t.does).1.adds.kept)
+room_with tells keeps state longest (Whole value) old new room t = omega (arith, room, (t.does).0.adds.kept)
+room_with tells keeps state longest (Bits bits) old new room t = omega (arith, room, (t.does).0.adds.kept)
 room_with tells keeps state longest (Batch values) old new room t =
-    omega (arith, room, (t.does).1.adds.kept, t.returns.1)
+    omega (arith, room, (t.does).0.adds.kept, t.returns.1)
 room_with tells keeps state longest Flush old new room t =
     omega (arith, room, ap length (t.does).samples.buffer)

@@ -1,5 +1,5 @@
 -- What a batch accepts.
-use Rattle.std.proofs.Common.{◌≡◌, ℕ, ℤ, ◌+◌, ◌*◌, ◌/◌, ◌<◌, ◌≤◌, true, false, nat_le, Bool, cond, List, [], ◌∷◌, ◌++◌, length, map, Result, Ok, Err, refl, sym, ◌∙◌, ap, subst, arith, inl, inr, length-append, le-leb, lt-ltb}
+use Rattle.std.proofs.Common.{◌≡◌, ℕ, ℤ, ◌+◌, ◌*◌, ◌/◌, ◌<◌, ◌≤◌, true, false, nat_le, nat_lt, Bool, cond, List, [], ◌∷◌, ◌++◌, length, map, Result, Ok, Err, refl, sym, ◌∙◌, ap, subst, arith, inl, inr, length-append, le-leb, lt-ltb}
 use Rattle.std.proofs.lemmas.Bool.{cases_Bool, true≢false}
 use Rattle.std.proofs.lemmas.Bool.Decides.{nat_tests}
 use Rattle.std.proofs.lemmas.List.{take_at, drop_at}
@@ -14,6 +14,7 @@ use Rattle.hound_medium.specs.State.{MediumState, WhereTells, WhereKeeps}
 use Rattle.hound_writer.specs.Accepting.{Accepts}
 use Rattle.hound_writer.specs.Answers.{AcceptAnswer, FitAnswer, faults_told, mark_of}
 use Rattle.hound_writer.specs.Batch.{IsSameFile}
+use Rattle.hound_writer.specs.Calls.{Does, OnBatched, batch, size_of}
 use Rattle.hound_writer.specs.Writer.{WriterState, HasRoom, IsWhole, IsCounted, data_length}
 use Rattle.hound_writer.proofs.Accepting.{accepts_refused, accepts_swapped, fit_failed}
 use Rattle.hound_writer.proofs.Writing.{no_room}
@@ -176,3 +177,45 @@ module _ {M : Type 0} (tells keeps : Bool) (state : M → MediumState) (old : Wr
           (accepts_swapped tells keeps state memory
           (λ _. Ok list) answer mid old new new mid.buffer new.buffer
           (fit_failed answer fits) kept refl old_is refl asks)
+
+-- a batch does what its call does
+pub batch_does : {M : Type 0} (tells keeps : Bool) (state : M → MediumState) (old : WriterState M)
+    (values : List ℤ) (answer : Result (Unit {0}) Error) (new : WriterState M)
+    → Accepts tells keeps state (wants_memory values old) (batch_containers old.spec_ex values)
+    answer old new
+    → OnBatched answer (2 * length values ≤ length new.buffer)
+    → Does tells keeps state (batch (batch_containers old.spec_ex values)) answer old new
+batch_does tells keeps state old values answer new accepts reuses =
+    elim (cases_Bool (is_sixteen old.spec_ex.spec)) [
+      | inl sixteen ↦
+          let asked : batch_containers old.spec_ex values ≡ Ok (map (signed_bytes_of 2) values) =
+          ap (λ b. cond b (Ok (map (signed_bytes_of 2) values)) (Err unsupported)) sixteen in
+          let size : size_of (batch_containers old.spec_ex values) ≡ 2 * length values =
+          ap size_of asked ∙ length-joined values in (
+            subst (λ n. Accepts tells keeps state (nat_lt (length old.buffer) n)
+                (batch_containers old.spec_ex values) answer old new) (sym size) accepts,
+            λ _. subst (λ n. OnBatched answer (n ≤ length new.buffer)) (sym size) reuses,
+          )
+      | inr other ↦
+          let asked : batch_containers old.spec_ex values ≡ Err unsupported =
+          ap (λ b. cond b (Ok (map (signed_bytes_of 2) values)) (Err unsupported)) other in
+          let is : answer ≡ Err Unsupported =
+          subst (λ a. AcceptAnswer (wants_memory values old) a old answer) asked
+          accepts.adds.answers in
+          let a = accepts.adds in (
+            record {
+              adds = record {
+                answers = subst (λ x. AcceptAnswer _ x old answer) (sym asked) is;
+                refused = a.refused;
+                spec_ex = a.spec_ex;
+                data_start = a.data_start;
+                data_length = a.data_length;
+                kept = a.kept;
+              };
+              file = accepts.file;
+              moments = accepts.moments;
+            },
+            λ _. subst (λ r. OnBatched r
+                (size_of (batch_containers old.spec_ex values) ≤ length new.buffer)) (sym is) tt,
+          )
+    ]

@@ -13,7 +13,7 @@ use Rattle.hound_medium.specs.Spans.{Span}
 use Rattle.hound_medium.proofs.Overlays.{front_part}
 use Rattle.hound_medium.proofs.Spans.{moment_last}
 use Rattle.hound_writer.specs.Answers.{OnPublished, UnlessFailed, faults_told, mark_of}
-use Rattle.hound_writer.specs.Calls.{Asked, Call, Does, Lead, publish, with_memory, write}
+use Rattle.hound_writer.specs.Calls.{Asked, Call, Does, Lead, publish, put, with_memory}
 use Rattle.hound_writer.specs.Counts.{Counts}
 use Rattle.hound_writer.specs.Sizes.{ChangesSizesOnly, field}
 use Rattle.hound_writer.specs.Storing.{IsStored, KeepsStored}
@@ -103,7 +103,7 @@ module _ {W : Type 0} (tells keeps : Bool) (state : W → MediumState) (told : I
   pub call_faults : (asked : Asked) (answer : Result (Unit {0}) Error) (memory : List ℕ)
       (old new : WriterState W) → Does tells keeps state asked answer (with_memory old memory) new
       → (state new.medium).faults ≡ faults_told answer (state old.medium).faults
-  call_faults (write containers) answer memory old new (m, a) = (a.file told).faults
+  call_faults (put allocates containers) answer memory old new (a, m) = (a.file told).faults
   call_faults publish answer memory old new c = (c.publishes told).faults
 
   -- and unless it met one, the contents end no later than before, or at the end of the data
@@ -111,7 +111,7 @@ module _ {W : Type 0} (tells keeps : Bool) (state : W → MediumState) (told : I
       (old new : WriterState W) → Does tells keeps state asked answer (with_memory old memory) new
       → UnlessFailed answer (length (state new.medium).contents
       ≤ max (length (state old.medium).contents) (padded_end new))
-  call_reach (write containers) answer memory old new (m, a) =
+  call_reach (put allocates containers) answer memory old new (a, m) =
       unless_then answer (λ le. omega (arith, le)) (a.file told).reach
   call_reach publish answer memory old new c =
       unless_failed answer
@@ -136,7 +136,7 @@ module _ {W : Type 0} (tells keeps : Bool) (state : W → MediumState) (told : I
   pub call_went : (asked : Asked) (answer : Result (Unit {0}) Error) (memory : List ℕ)
       (old new : WriterState W) → Does tells keeps state asked answer (with_memory old memory) new
       → Went (accepted_of asked (mark_of answer)) old new
-  call_went (write containers) answer memory old new (m, a) = record {
+  call_went (put allocates containers) answer memory old new (a, m) = record {
     spec_ex = a.adds.spec_ex;
     data_start = a.adds.data_start;
     size = a.adds.data_length;
@@ -147,7 +147,7 @@ module _ {W : Type 0} (tells keeps : Bool) (state : W → MediumState) (told : I
     accepted = (a.file told).accepted;
     counts = λ whole _. (a.file told).counts whole;
     faults = grows_told answer (state old.medium) (state new.medium) (a.file told).faults;
-    reach = call_reached (write containers) answer memory old new (m, a);
+    reach = call_reached (put allocates containers) answer memory old new (a, m);
   }
   call_went publish answer memory old new c = record {
     spec_ex = c.samples.spec_ex;
@@ -225,7 +225,7 @@ module _ {W : Type 0} (tells keeps : Bool) (state : W → MediumState) (told : I
         → Does tells keeps state asked answer (with_memory old memory) new → IsWhole state old
         → Span (λ _. Counts old.spec_ex old.data_start (accepted_samples state old)) 0
         (state old.medium) (state new.medium)
-    call_span (write containers) answer memory old new (m, a) whole =
+    call_span (put allocates containers) answer memory old new (a, m) whole =
         (a.moments told kept).counts whole
     call_span publish answer memory old new c whole = (c.moments told kept).counts whole
 
@@ -296,7 +296,7 @@ module _ {W : Type 0} (tells keeps : Bool) (state : W → MediumState) (told : I
         → (k : ℕ) → length (state old.medium).past ≤ k → k ≤ length (state new.medium).past
         → ChangesSizesOnly old.data_start (state old.medium).contents
         (moment (state new.medium).start (state new.medium).past k)
-    call_sizes (write containers) answer memory old new (m, a) behind whole k from to =
+    call_sizes (put allocates containers) answer memory old new (a, m) behind whole k from to =
         let c = moment (state new.medium).start (state new.medium).past k in
         sizes_front old.data_start (state old.medium).contents c behind
         (take_front old.data_start (old.data_start + old.out) (state old.medium).contents c
@@ -310,7 +310,7 @@ module _ {W : Type 0} (tells keeps : Bool) (state : W → MediumState) (told : I
         → Does tells keeps state asked answer (with_memory old memory) new → IsWhole state old
         → KeepsStored old.data_start (concat (accepted_samples state old)) (state old.medium)
         (state new.medium)
-    call_stored (write containers) answer memory old new (m, a) whole =
+    call_stored (put allocates containers) answer memory old new (a, m) whole =
         (a.moments told kept).stored whole
     call_stored publish answer memory old new c whole = (c.moments told kept).stored whole
 
@@ -402,7 +402,7 @@ module _ {W : Type 0} (tells keeps : Bool) (state : W → MediumState) (told : I
           → field (old.data_start - 4) (moment (state new.medium).start (state new.medium).past k)
           ≡ field (old.data_start - 4) (state old.medium).contents)
       wrote publish answer memory old new does none behind whole = absurd none
-      wrote (write containers) answer memory old new (m, a) none behind whole =
+      wrote (put allocates containers) answer memory old new (a, m) none behind whole =
           let start = old.data_start in
           let end = start + old.out in
           let contents = (state old.medium).contents in (

@@ -8,7 +8,7 @@ use Rattle.hound_medium.specs.State.{MediumState}
 use Rattle.hound_medium.proofs.Spans.{moment_last}
 use Rattle.hound_durable.specs.Losses.{place_of}
 use Rattle.hound_durable.proofs.Ascending.{place_before}
-use Rattle.hound_writer.specs.Calls.{Asked, Call, Does, Lead, publish, with_memory, write}
+use Rattle.hound_writer.specs.Calls.{Asked, Call, Does, Lead, publish, put, with_memory}
 use Rattle.hound_writer.specs.Publishing.{IsOldOrNew, IsOutside}
 use Rattle.hound_writer.specs.Sizes.{field}
 use Rattle.hound_writer.specs.Writer.{WriterState, IsWhole, accepted_samples, data_length}
@@ -48,9 +48,9 @@ module _ {W : Type 0} (tells keeps : Bool) (state : W → MediumState) (told : I
       → (k : ℕ) → length (state old.medium).past ≤ k → k ≤ length (state new.medium).past
       → IsOutside p (state old.medium) (state new.medium) k
       → v ≤ field p (moment (state new.medium).start (state new.medium).past k)
-  call_lasts p v (write list) answer memory old new does at behind whole says all k from to outside =
+  call_lasts p v (put allocates list) answer memory old new does at behind whole says all k from to outside =
       let c = moment (state new.medium).start (state new.medium).past k in
-      let same = (wrote tells keeps state told kept replays (write list) answer memory old new does
+      let same = (wrote tells keeps state told kept replays (put allocates list) answer memory old new does
       tt behind whole).1 k from to in
       omega (arith, says, ap (λ n. field n c) at, same, ap (λ n. field n (state old.medium).contents) at)
   call_lasts p v publish answer memory old new does at behind whole says all k from to outside =

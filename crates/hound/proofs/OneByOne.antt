@@ -64,7 +64,7 @@ one_by_one tells keeps state (v ∷ values) s old new sixteen same (mid, t, runs
     (subst (λ x. AcceptAnswer false (step_containers x (Whole v)) old
     (Ok (tt {0}))) same t.returns) in
     λ i. here i ++ one_by_one tells keeps state values s mid new sixteen
-    ((t.does).1.adds.spec_ex ∙ same) runs i
+    ((t.does).0.adds.spec_ex ∙ same) runs i
 
 -- an Ok batch is of sixteen bits
 pub batch_is_sixteen : {M : Type 0} (memory : Bool) (w : WriterState M) (s : WavSpecEx)

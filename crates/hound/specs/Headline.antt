@@ -11,7 +11,7 @@ use Rattle.hound_durable.specs.Losses.{Ascends, SurvivesLoss, place_of}
 use Rattle.hound_reader.specs.Chunks.{Head}
 use Rattle.hound_reader.specs.Fmt.{IsSoundSpec}
 use Rattle.hound_writer.specs.Answers.{if_marked, mark_of}
-use Rattle.hound_writer.specs.Calls.{Asked, Begun, Call, appended, asked_by_all, found_in, new_file, publish, start_of, write}
+use Rattle.hound_writer.specs.Calls.{Asked, Begun, Call, appended, asked_by_all, found_in, new_file, publish, put, start_of}
 use Rattle.hound_writer.specs.Counts.{Counts}
 use Rattle.hound_writer.specs.Sizes.{field}
 use Rattle.hound_writer.specs.Storing.{IsStored}
@@ -19,7 +19,7 @@ use Rattle.hound_writer.specs.Writer.{HasHeader}
 
 -- what a call accepted, by what it asked and its mark
 abbrev pub accepted_of : Asked → Bool → List (List ℕ)
-accepted_of (write containers) mark = if_marked mark containers
+accepted_of (put allocates containers) mark = if_marked mark containers
 accepted_of publish mark = []
 
 -- what calls accepted, in their order
@@ -39,7 +39,7 @@ HasPublished call = (call.asked ≡ publish) × (mark_of call.answer ≡ true)
 
 -- calls that write samples only
 abbrev pub AsksToWrite : Asked → Type 0
-AsksToWrite (write containers) = ⊤
+AsksToWrite (put allocates containers) = ⊤
 AsksToWrite publish = ⊥
 
 abbrev pub WriteOnly : List Call → Type 0

@@ -2,7 +2,6 @@
 use Rattle.std.specs.Prelude.{ℕ, ℤ, ◌*◌, ◌≤◌, ◌&&◌, ◌==◌, ⊤, nat_lt, Bool, true, false, if◌then◌else◌, List, [], ◌∷◌, ◌++◌, length, map, Result, Ok, Err}
 use Rattle.hound_number.specs.Number.{signed_bytes_of}
 use Rattle.hound_spec.specs.declared.error.Error.{Error}
-use Rattle.hound_spec.specs.declared.error.Error.TheVariants.{IoError}
 use Rattle.hound_spec.specs.declared.spec.SampleFormat.{SampleFormat}
 use Rattle.hound_spec.specs.declared.spec.SampleFormat.TheVariants.{Int, Float}
 use Rattle.hound_spec.specs.declared.spec.WavSpec.{WavSpec}
@@ -10,7 +9,7 @@ use Rattle.hound_spec.specs.declared.spec.WavSpecEx.{WavSpecEx}
 use Rattle.hound_sample.specs.Container.{Refusal, unsupported, int_container, pattern_container}
 use Rattle.hound_medium.specs.State.{MediumState}
 use Rattle.hound_writer.specs.Answers.{AcceptAnswer, IsPublishing, if_marked, one}
-use Rattle.hound_writer.specs.Calls.{Asked, Does, publish, write}
+use Rattle.hound_writer.specs.Calls.{Asked, Does, OnBatched, batch, publish, write}
 use Rattle.hound_writer.specs.Writer.{WriterState}
 use Rattle.hound.specs.declared.session.Step.{Step}
 use Rattle.hound.specs.declared.session.Step.TheVariants.{Whole, Bits, Batch, Flush}
@@ -32,12 +31,6 @@ batch_containers s values =
 abbrev pub wants_memory : {M : Type 0} → List ℤ → WriterState M → Bool
 wants_memory values w = nat_lt (length w.buffer) (2 * length values)
 
--- P for a batch that had its memory: for an Ok and for an `IoError`
-abbrev pub OnBatched : {T : Type 0} → Result T Error → Type 0 → Type 0
-OnBatched (Ok x) P = P
-OnBatched (Err (IoError e)) P = P
-OnBatched (Err _) P = ⊤
-
 -- the containers of a step, one for each value of a batch, or why it has none
 abbrev pub step_containers : WavSpecEx → Step → Result (List (List ℕ)) Refusal
 step_containers s (Whole value) =
@@ -51,7 +44,7 @@ step_containers s Flush = Ok []
 abbrev pub asked_by : WavSpecEx → Step → Asked
 asked_by s (Whole value) = write (step_containers s (Whole value))
 asked_by s (Bits bits) = write (step_containers s (Bits bits))
-asked_by s (Batch values) = write (step_containers s (Batch values))
+asked_by s (Batch values) = batch (step_containers s (Batch values))
 asked_by s Flush = publish
 
 -- What a step returns: only a batch may lack memory, which is reused, also if the medium then failed.

@@ -1,8 +1,9 @@
 // Steps taken with a writer.
 ghost use Rattle.std.specs.Prelude.{◌≡◌, ◌*◌, ◌≤◌, length};
 ghost use Rattle.hound_writer.specs.Accepting.{Accepts};
+ghost use Rattle.hound_writer.specs.Calls.{OnBatched};
 ghost use Rattle.hound.specs.declared.session.Step.TheVariants.{Whole};
-ghost use Rattle.hound.specs.Steps.{OnBatched, Takes, is_sixteen, batch_containers, wants_memory};
+ghost use Rattle.hound.specs.Steps.{Takes, is_sixteen, batch_containers, wants_memory};
 
 use crate::session::Step;
 use hound_medium::Medium;

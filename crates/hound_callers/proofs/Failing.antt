@@ -2,7 +2,7 @@
 use Rattle.std.proofs.Common.{◌≡◌, ℕ, zero, suc, ◌<◌, ◌≤◌, Bool, true, false, IsTrue, List, [], ◌∷◌, length, map, slice_index_or, Result, Ok, Err, inl, inr, refl, sym, ◌∙◌, ap, subst, arith}
 use Rattle.std.proofs.lemmas.Bool.{false≢true}
 use Rattle.hound.specs.Answers.{IsPublishing, faults_told, mark_of}
-use Rattle.hound.specs.Calls.{Asked, Call, Does, Lead, asked_by_all, publish, with_memory, write}
+use Rattle.hound.specs.Calls.{Asked, Call, Does, Lead, asked_by_all, publish, put, with_memory}
 use Rattle.hound.specs.Run.{IsSession}
 use Rattle.hound.specs.Steps.{asked_by}
 use Rattle.hound.specs.State.{MediumState}
@@ -43,7 +43,7 @@ module _ {M : Type 0} (tells keeps : Bool) (state : M → MediumState) (told : I
   call_stays : (asked : Asked) (answer : Result (Unit {0}) Error) (memory : List ℕ)
       (old new : WriterState M) → Does tells keeps state asked answer (with_memory old memory) new
       → 1 ≤ (state old.medium).faults → 1 ≤ (state new.medium).faults
-  call_stays (write containers) answer memory old new (m, a) some =
+  call_stays (put allocates containers) answer memory old new (a, m) some =
       stays answer (state old.medium).faults (state new.medium).faults (a.file told).faults some
   call_stays publish answer memory old new c some =
       stays answer (state old.medium).faults (state new.medium).faults (c.publishes told).faults some

@@ -11,7 +11,7 @@ use Rattle.hound_writer.specs.Batch.{IsSameFile}
 use Rattle.hound_writer.specs.Beginning.{Begins}
 use Rattle.hound_writer.specs.Publishing.{Checkpoints, Finishes}
 use Rattle.hound_writer.specs.Writer.{WriterState, IsWhole, accepted_samples, sample_count}
-use Rattle.hound_writer.specs.Calls.{Asked, write, publish, Call, Does, Begun, Lead, Left, Opens, Recorded, asked_by_all, appended, new_file, with_memory}
+use Rattle.hound_writer.specs.Calls.{Asked, put, write, publish, Call, Does, Begun, Lead, Left, Opens, Recorded, asked_by_all, appended, new_file, with_memory}
 
 module _ {W : Type 0} (tells keeps : Bool) (state : W → MediumState) where
   abbrev pub call_at : Asked → Result (Unit {0}) Error → WriterState W → Call
@@ -51,7 +51,7 @@ module _ {W : Type 0} (tells keeps : Bool) (state : W → MediumState) where
   -- the spec stays
   pub call_spec : (asked : Asked) (answer : Result (Unit {0}) Error) (a b : WriterState W)
       → Does tells keeps state asked answer a b → b.spec_ex ≡ a.spec_ex
-  call_spec (write containers) answer a b (memory, accepts) = accepts.adds.spec_ex
+  call_spec (put allocates containers) answer a b (accepts, reuses) = accepts.adds.spec_ex
   call_spec publish answer a b leaves = leaves.samples.spec_ex
 
   pub lead_spec : (calls : List Call) (a b : WriterState W) → Lead tells keeps state calls a b
@@ -125,7 +125,7 @@ module _ {W : Type 0} (tells keeps : Bool) (state : W → MediumState) where
   recorded_write wanted answer s file list b c so_far accepts =
       subst (λ x. Recorded tells keeps state s file (list ++ write (wanted x) ∷ []) c)
       (recorded_spec s file list b so_far)
-      (recorded_more (write (wanted b.spec_ex)) answer s file list b c so_far (false, accepts))
+      (recorded_more (write (wanted b.spec_ex)) answer s file list b c so_far (accepts, λ no. absurd no))
 
   pub recorded_flush : (answer : Result (Unit {0}) Error) (s : WavSpecEx) (file : Begun)
       (list : List Asked) (b c : WriterState W) → Recorded tells keeps state s file list b

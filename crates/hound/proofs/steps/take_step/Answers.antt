@@ -2,6 +2,7 @@ use Rattle.std.proofs.Common.{rules, subst, sym, w32}
 use Rattle.std.proofs.Math.Facts.{to_z-of_z}
 use Rattle.hound.specs.Steps.{Takes}
 use Rattle.hound_writer.proofs.Recording.{flush_left}
+use Rattle.hound.proofs.Batching.{batch_does}
 use Rattle.hound.proofs.Running.{whole_taken}
 use Rattle.hound.proofs.steps.take_step.Goals as goal
 
@@ -18,7 +19,7 @@ returns-in-Bits g c =
     subst (λ step.
     Takes g.M.Placed.tells g.M.Placed.keeps g.M.Placed.state step write.result c.args.writer.now
     write.new.self) (sym c.in-Bits.is)
-    (record { does = (_, write.ensures.accepts); returns = write.ensures.accepts.adds.answers })
+    (record { does = (write.ensures.accepts, λ no. absurd no); returns = write.ensures.accepts.adds.answers })
 
 pub returns-in-Batch : goal.returns-in-Batch
 returns-in-Batch g c =
@@ -26,7 +27,9 @@ returns-in-Batch g c =
     Takes g.M.Placed.tells g.M.Placed.keeps g.M.Placed.state step c.write_batch.result
     c.args.writer.now c.write_batch.new.writer) (sym c.in-Batch.is)
     (record {
-      does = (_, c.write_batch.ensures.accepts);
+      does = batch_does g.M.Placed.tells g.M.Placed.keeps g.M.Placed.state c.args.writer.now _
+          c.write_batch.result c.write_batch.new.writer c.write_batch.ensures.accepts
+          c.write_batch.ensures.memory;
       returns = (c.write_batch.ensures.accepts.adds.answers, c.write_batch.ensures.memory);
     })
 

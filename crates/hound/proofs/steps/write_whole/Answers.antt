@@ -12,6 +12,6 @@ returns g c =
     subst (λ v. Takes W.tells W.keeps W.state (Whole v) c.write_sample.result c.args.writer.now
     c.write_sample.new.self) back
     (record {
-      does = (_, c.write_sample.ensures.accepts);
+      does = (c.write_sample.ensures.accepts, λ no. absurd no);
       returns = c.write_sample.ensures.accepts.adds.answers;
     })
