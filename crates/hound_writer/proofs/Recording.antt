@@ -1,6 +1,7 @@
 -- A list of calls and one more.
 use Rattle.std.proofs.Common.{ℕ, MatchResult, Ok, Err, arith, Bool, false, List, [], ◌∷◌, ◌++◌, ◌≡◌, length, Result, refl, subst, sym, ◌∙◌, ap}
 use Rattle.std.specs.Prelude.{⊤}
+use Rattle.std.proofs.lemmas.Bool.{false≢true}
 use Rattle.hound_spec.specs.declared.error.Error.{Error}
 use Rattle.hound_spec.specs.declared.spec.WavSpecEx.{WavSpecEx}
 use Rattle.hound_medium.specs.State.{MediumState, WhereTells}
@@ -125,7 +126,7 @@ module _ {W : Type 0} (tells keeps : Bool) (state : W → MediumState) where
   recorded_write wanted answer s file list b c so_far accepts =
       subst (λ x. Recorded tells keeps state s file (list ++ write (wanted x) ∷ []) c)
       (recorded_spec s file list b so_far)
-      (recorded_more (write (wanted b.spec_ex)) answer s file list b c so_far (accepts, λ no. absurd no))
+      (recorded_more (write (wanted b.spec_ex)) answer s file list b c so_far (accepts, λ no. absurd (false≢true no)))
 
   pub recorded_flush : (answer : Result (Unit {0}) Error) (s : WavSpecEx) (file : Begun)
       (list : List Asked) (b c : WriterState W) → Recorded tells keeps state s file list b

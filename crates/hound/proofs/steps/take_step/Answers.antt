@@ -1,4 +1,5 @@
 use Rattle.std.proofs.Common.{rules, subst, sym, w32}
+use Rattle.std.proofs.lemmas.Bool.{false≢true}
 use Rattle.std.proofs.Math.Facts.{to_z-of_z}
 use Rattle.hound.specs.Steps.{Takes}
 use Rattle.hound_writer.proofs.Recording.{flush_left}
@@ -19,7 +20,7 @@ returns-in-Bits g c =
     subst (λ step.
     Takes g.M.Placed.tells g.M.Placed.keeps g.M.Placed.state step write.result c.args.writer.now
     write.new.self) (sym c.in-Bits.is)
-    (record { does = (write.ensures.accepts, λ no. absurd no); returns = write.ensures.accepts.adds.answers })
+    (record { does = (write.ensures.accepts, λ no. absurd (false≢true no)); returns = write.ensures.accepts.adds.answers })
 
 pub returns-in-Batch : goal.returns-in-Batch
 returns-in-Batch g c =

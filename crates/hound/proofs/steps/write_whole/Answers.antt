@@ -1,4 +1,5 @@
 use Rattle.std.proofs.Common.{◌≡◌, w32, to_z, of_z, rules, subst}
+use Rattle.std.proofs.lemmas.Bool.{false≢true}
 use Rattle.std.proofs.Math.Facts.{to_z-of_z}
 use Rattle.hound.specs.declared.session.Step.TheVariants.{Whole}
 use Rattle.hound.specs.Steps.{Takes}
@@ -12,6 +13,6 @@ returns g c =
     subst (λ v. Takes W.tells W.keeps W.state (Whole v) c.write_sample.result c.args.writer.now
     c.write_sample.new.self) back
     (record {
-      does = (c.write_sample.ensures.accepts, λ no. absurd no);
+      does = (c.write_sample.ensures.accepts, λ no. absurd (false≢true no));
       returns = c.write_sample.ensures.accepts.adds.answers;
     })
