@@ -205,7 +205,8 @@ batch_does tells keeps state old values answer new accepts reuses =
           let a = accepts.adds in (
             record {
               adds = record {
-                answers = subst (λ x. AcceptAnswer _ x old answer) (sym asked) is;
+                answers = subst (λ x. AcceptAnswer (nat_lt (length old.buffer)
+                    (size_of (batch_containers old.spec_ex values))) x old answer) (sym asked) is;
                 refused = a.refused;
                 spec_ex = a.spec_ex;
                 data_start = a.data_start;
