@@ -205,8 +205,9 @@ pub record Holds (s : WavSpecEx) (file : Begun) (asked : List Asked) (medium : M
   pub asked_is : asked_by_all calls ≡ asked
   pub at_end : HoldsAtEnd s file calls medium
 
--- What a writer has left that was asked these, over a medium that records every byte written: the
--- calls that were made, and all that they promise.
+-- What a writer has left that was asked these, over a medium that records every byte written: calls
+-- that asked them, with results, and all that such calls promise. That they were made, each by its
+-- contract, is `Left`.
 pub record Kept (s : WavSpecEx) (file : Begun) (asked : List Asked) (medium : MediumState) :
     Type 0 where
   pub calls : List Call

@@ -8,7 +8,7 @@ pub fn record_and_read(rt: &HostRuntime, path: Path<'_>, spec: WavSpec) -> hound
     for sample in 0..4800i16 {
         writer.write_sample(sample)?;
     }
-    writer.flush()?; // A reader finds these 4800 now, whatever becomes of the writer.
+    writer.flush()?; // A reader finds these 4800 now.
     writer.write_samples(&[-1i16, 1, -1])?; // All three, or none.
     writer.finalize()?;
     let mut reader = WavReader::open(rt, rt.alloc(), path)?;

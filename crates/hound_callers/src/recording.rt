@@ -2,7 +2,7 @@
 ghost use Rattle.std.specs.Prelude.{◌≡◌, ◌⊎◌, ◌-◌, ◌/◌, List, ◌∷◌, ◌++◌, [], ⊤, Ok, MatchResult, length, map};
 ghost use Rattle.std.specs.List.{flat_map};
 ghost use Rattle.hound.specs.Answers.{one};
-ghost use Rattle.hound.specs.Calls.{Asked, Begun, Call, Recorded, new_file, publish, write};
+ghost use Rattle.hound.specs.Calls.{Asked, Begun, Call, Left, Recorded, new_file, publish, write};
 ghost use Rattle.hound.specs.Container.{containers};
 ghost use Rattle.hound.specs.Headline.{HasPublished, Kept, KeptWithin, accepted_by_all};
 ghost use Rattle.hound.specs.Header.{data_start};
@@ -63,15 +63,19 @@ pub fn record<S: Sample + Copy, M: Source + Medium>(
     Ok(writer)
 }
 
-/// Records blocks of twelve-bit samples as [`record`] does, and ends the file: what is left holds
-/// all that such calls promise, in each of its states.
+/// Records blocks of twelve-bit samples as [`record`] does, and ends the file: these calls were made,
+/// one by one, and led to what is left (`left`), which holds all that they promise, in each of its
+/// states (`kept`).
 pub fn record_twelve<M: Source + Medium>(
     medium: M,
     spec_ex: WavSpecEx,
     blocks: &[&[Twelve]],
 ) -> result::Result<M, (M, Error)>
     requires { WhereTells M.tells ((M.state medium).place ≡ 0) }
-    ensures { MatchResult result (λ left. WhereKeeps M.tells M.keeps
+    ensures left { MatchResult result (λ left. Left M.tells M.keeps M.state spec_ex new_file
+        (recorder_asks (λ block. containers_in ⟦<Twelve as Sample>⟧.container spec_ex block.now) 0 blocks.now ++ publish ∷ []) left)
+        (λ _. ⊤) }
+    ensures kept { MatchResult result (λ left. WhereKeeps M.tells M.keeps
         (Kept spec_ex new_file (recorder_asks (λ block. containers_in ⟦<Twelve as Sample>⟧.container spec_ex block.now) 0 blocks.now ++ publish ∷ []) (M.state left)))
         (λ _. ⊤) }
 {
