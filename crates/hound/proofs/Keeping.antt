@@ -29,7 +29,7 @@ use Rattle.hound_writer.proofs.Fresh.{none_accepted, zero_div}
 use Rattle.hound_writer.proofs.Heads.{head_inside, head_with}
 use Rattle.hound_writer.proofs.Recording.{opens_spec}
 use Rattle.hound_writer.proofs.Samples.{concat-samples, length-out, length_out, samples_out}
-use Rattle.hound.specs.Headline.{CanonicalAtEnd, HeadAtEach, Holds, HoldsAtEnd, IfNew, Kept, Promises, SurvivesAtEnd, accepted_by_all, accepted_of, begins_at}
+use Rattle.hound.specs.Headline.{CanonicalAtEnd, HeadAtEach, Holds, HoldsAtEnd, IfNew, Keeps, Kept, Promises, SurvivesAtEnd, accepted_by_all, accepted_of, begins_at}
 use Rattle.hound.proofs.Calling.{begin, counted, has, in_order, later, made, published, sizes_at_each, stays_flushed, stored, went}
 use Rattle.hound.proofs.Later.{same_moment}
 use Rattle.hound.proofs.Losing.{moments_grow}
@@ -326,34 +326,36 @@ module _ {W : Type 0} (tells keeps : Bool) (state : W → MediumState) where
 
   -- what a writer left holds what its calls promise
   pub left_holds : (s : WavSpecEx) (file : Begun) (asked : List Asked) (medium : W)
-      → Left tells keeps state s file asked medium → WhereTells tells (Holds s file asked (state medium))
+      → Left tells keeps state s file asked medium
+      → WhereTells tells (Holds tells keeps state s file asked medium)
   unfolding Left
   left_holds s file asked medium left told =
       let r = left.recorded in
-      subst (λ m. Holds s file asked (state m)) (sym left.is) (record {
-        calls = r.calls;
-        asked_is = r.asked_is;
-        at_end = holds_at_end s file r.calls r.first left.last r.opens r.lead told;
-      })
+      record {
+        left = left;
+        at_end = subst (λ m. HoldsAtEnd s file r.calls (state m)) (sym left.is)
+            (holds_at_end s file r.calls r.first left.last r.opens r.lead told);
+      }
 
   module _ (replays : (m : W)
       → WhereKeeps tells keeps ((state m).contents ≡ overlay (state m).start (state m).past)) where
     pub left_kept : (s : WavSpecEx) (file : Begun) (asked : List Asked) (medium : W)
         → Left tells keeps state s file asked medium
-        → WhereKeeps tells keeps (Kept s file asked (state medium))
+        → WhereKeeps tells keeps (Kept tells keeps state s file asked medium)
     unfolding Left
     left_kept s file asked medium left told kept =
         let r = left.recorded in
         let last = left.last in
-        subst (λ m. Kept s file asked (state m)) (sym left.is) (record {
-          calls = r.calls;
-          asked_is = r.asked_is;
-          at_end = holds_at_end s file r.calls r.first last r.opens r.lead told;
-          promises = of_file s file r.calls r.first last r.opens r.lead told
-              (λ s start found. Promises s start found r.calls (state last.medium))
-              (promised r.calls r.first last (first_opens s file r.first r.opens) r.lead told
-              (opens_whole s file r.first r.opens told) kept (λ m. replays m told kept));
-        })
+        record {
+          left = left;
+          promised = subst (λ m. Keeps s file r.calls (state m)) (sym left.is) (record {
+            at_end = holds_at_end s file r.calls r.first last r.opens r.lead told;
+            promises = of_file s file r.calls r.first last r.opens r.lead told
+                (λ s start found. Promises s start found r.calls (state last.medium))
+                (promised r.calls r.first last (first_opens s file r.first r.opens) r.lead told
+                (opens_whole s file r.first r.opens told) kept (λ m. replays m told kept));
+          });
+        }
 
 -- What survives in a medium of this past that was flushed up to f, no earlier than the flushes of
 -- these calls did, and then wrote bytes at ascending places only.

@@ -10,7 +10,7 @@ use Rattle.hound_durable.specs.Losses.{Ascends}
 use Rattle.hound_durable.specs.Own.{own, replays_own}
 use Rattle.hound_durable.specs.declared.durable.Durable.{Durable}
 use Rattle.hound_writer.specs.Calls.{Asked, Begun, Call, Left, asked_by_all, found_in, publish, start_of}
-use Rattle.hound.specs.Headline.{Kept, KeptWithin}
+use Rattle.hound.specs.Headline.{KeptWithin, SurvivesAtEnd}
 use Rattle.hound.proofs.Keeping.{left_kept, survives}
 
 -- the state that a durable medium shows
@@ -62,17 +62,20 @@ pub left_within : {M : Type 0} {g : Ghosts M}
     → IsTrue g.tells → IsTrue g.keeps → (s : WavSpecEx) (file : Begun) (asked : List Asked)
     (d : Durable M g)
     → Left g.tells g.keeps (λ (d : Durable M g). shown d) s file (asked ++ publish ∷ []) d
-    → KeptWithin s file (asked ++ publish ∷ []) (within d)
+    → KeptWithin g.tells g.keeps (λ (d : Durable M g). shown d) s file (asked ++ publish ∷ []) d
+    (within d)
 left_within {M} {g} replays told kept s file asked d left =
-    let k : Kept s file (asked ++ publish ∷ []) (shown d) =
+    let k =
     left_kept g.tells g.keeps (λ (d : Durable M g). shown d)
     (λ m told kept. replays_own g.keeps (g.state m.inner) m.faults m.flushed kept
     (replays m.inner told kept)) s file (asked ++ publish ∷ []) d left told kept in
-    let (before, end, parts, is) = last_call k.calls asked publish k.asked_is in
-    subst (KeptWithin s file (asked ++ publish ∷ [])) (same_state d told kept) (record {
-      calls = k.calls;
-      asked_is = k.asked_is;
-      survives = survives s (start_of s file) (found_in file) k.calls before end (shown d)
-          (within d).flushed (within d).faults k.promises parts is (flushed_later d told kept)
-          (flushed_within d told kept) (ascends d told kept);
-    })
+    let r = k.left.recorded in
+    let (before, end, parts, is) = last_call r.calls asked publish r.asked_is in
+    record {
+      left = k.left;
+      survives = subst (SurvivesAtEnd s (start_of s file) (found_in file) r.calls)
+          (same_state d told kept)
+          (survives s (start_of s file) (found_in file) r.calls before end (shown d)
+          (within d).flushed (within d).faults k.promised.promises parts is
+          (flushed_later d told kept) (flushed_within d told kept) (ascends d told kept));
+    }

@@ -11,7 +11,7 @@ use Rattle.hound_durable.specs.Losses.{Ascends, SurvivesLoss, place_of}
 use Rattle.hound_reader.specs.Chunks.{Head}
 use Rattle.hound_reader.specs.Fmt.{IsSoundSpec}
 use Rattle.hound_writer.specs.Answers.{if_marked, mark_of}
-use Rattle.hound_writer.specs.Calls.{Asked, Begun, Call, appended, asked_by_all, found_in, new_file, publish, put, start_of}
+use Rattle.hound_writer.specs.Calls.{Asked, Begun, Call, LeftBy, appended, asked_by_all, found_in, new_file, publish, put, start_of}
 use Rattle.hound_writer.specs.Counts.{Counts}
 use Rattle.hound_writer.specs.Sizes.{field}
 use Rattle.hound_writer.specs.Storing.{IsStored}
@@ -198,22 +198,24 @@ pub record HoldsAtEnd (s : WavSpecEx) (file : Begun) (calls : List Call) (medium
   pub counts : Counts s (start_of s file) (found_in file ++ accepted_by_all calls) medium.contents
   pub canonical : IfNew file (CanonicalAtEnd s (start_of s file) (found_in file) calls medium)
 
--- What a writer has left that was asked these, over a medium whose bytes are known.
-pub record Holds (s : WavSpecEx) (file : Begun) (asked : List Asked) (medium : MediumState) :
+-- What calls promise of a medium that records every byte written, once they have led to it.
+pub record Keeps (s : WavSpecEx) (file : Begun) (calls : List Call) (medium : MediumState) :
     Type 0 where
-  pub calls : List Call
-  pub asked_is : asked_by_all calls ≡ asked
-  pub at_end : HoldsAtEnd s file calls medium
-
--- What a writer has left that was asked these, over a medium that records every byte written: calls
--- that asked them, with results, and all that such calls promise. That they were made, each by its
--- contract, is `Left`.
-pub record Kept (s : WavSpecEx) (file : Begun) (asked : List Asked) (medium : MediumState) :
-    Type 0 where
-  pub calls : List Call
-  pub asked_is : asked_by_all calls ≡ asked
   pub at_end : HoldsAtEnd s file calls medium
   pub promises : Promises s (start_of s file) (found_in file) calls medium
+
+-- What a writer has left that was asked these, over a medium whose bytes are known: its calls, each
+-- by its contract, led to this medium; and what they leave there.
+pub record Holds {W : Type 0} (tells keeps : Bool) (state : W → MediumState) (s : WavSpecEx)
+    (file : Begun) (asked : List Asked) (medium : W) : Type 0 where
+  pub left : LeftBy tells keeps state s file asked medium
+  pub at_end : HoldsAtEnd s file left.recorded.calls (state medium)
+
+-- The same over a medium that records every byte written: and all that these calls promise.
+pub record Kept {W : Type 0} (tells keeps : Bool) (state : W → MediumState) (s : WavSpecEx)
+    (file : Begun) (asked : List Asked) (medium : W) : Type 0 where
+  pub left : LeftBy tells keeps state s file asked medium
+  pub promised : Keeps s file left.recorded.calls (state medium)
 
 -- What a loss of power at the end leaves of a medium that wrote bytes at ascending places only since
 -- it was flushed, the header before that, as the medium within a `Durable` does: it counts, and has
@@ -228,13 +230,12 @@ pub record SurvivesAtEnd (s : WavSpecEx) (start : ℕ) (found : List (List ℕ))
       Counts s start (found ++ accepted_by_all calls) contents
       × LosesNothing s start found calls medium contents
 
--- What a writer has left that was asked these, in a medium within a `Durable` that records every byte
--- written.
-pub record KeptWithin (s : WavSpecEx) (file : Begun) (asked : List Asked) (medium : MediumState) :
-    Type 0 where
-  pub calls : List Call
-  pub asked_is : asked_by_all calls ≡ asked
-  pub survives : SurvivesAtEnd s (start_of s file) (found_in file) calls medium
+-- What a writer over a `Durable` has left that was asked these: its calls, each by its contract, led
+-- to this durable medium; and what a loss of power leaves of the medium within it.
+pub record KeptWithin {W : Type 0} (tells keeps : Bool) (state : W → MediumState) (s : WavSpecEx)
+    (file : Begun) (asked : List Asked) (durable : W) (medium : MediumState) : Type 0 where
+  pub left : LeftBy tells keeps state s file asked durable
+  pub survives : SurvivesAtEnd s (start_of s file) (found_in file) left.recorded.calls medium
 
 -- What is left at some point after so many bytes were written: the contents of a state, or what a
 -- loss of power leaves of a medium that has written bytes at ascending places only since it was

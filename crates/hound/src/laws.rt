@@ -19,7 +19,7 @@ ghost use Rattle.hound.specs.declared.session.Step.TheVariants.{Whole, Batch};
 ghost use Rattle.hound.specs.declared.session.Begin.TheVariants.{New};
 ghost use Rattle.hound.specs.declared.session.Begin.{Begin};
 ghost use Rattle.hound.specs.declared.session.End.{End};
-ghost use Rattle.hound.specs.Headline.{HasPublished, Holds, IsLeftAfter, Kept, KeptWithin, accepted_by_all, begins_at};
+ghost use Rattle.hound.specs.Headline.{HasPublished, Holds, IsLeftAfter, Keeps, Kept, KeptWithin, accepted_by_all, begins_at};
 ghost use Rattle.hound.specs.Run.{Begins, EndsAs, Ran};
 ghost use Rattle.hound.specs.Sessions.{AreSessions, RunsOk, all_steps};
 ghost use Rattle.hound.specs.Steps.{Takes, asked_by, containers_of};
@@ -83,10 +83,10 @@ pub fn sessions_leave_one_file<'a, M: Medium>(spec_ex: WavSpecEx, sessions: &'a 
 /// are repaired, unless chunks follow the data, or, with frames of one byte and a data length that
 /// is one less than what is held, the last one is taken for a pad byte.
 pub fn a_repair_loses_no_published_sample()
-    ensures { (s : WavSpecEx) (file : Begun) (asked : List Asked) (left : MediumState)
-        (kept : Kept s file asked left) (before after : List Call) (flush : Call) (looks : Bool)
+    ensures { (s : WavSpecEx) (file : Begun) (calls : List Call) (left : MediumState)
+        (kept : Keeps s file calls left) (before after : List Call) (flush : Call) (looks : Bool)
         (cut mended : MediumState) (found : Repair) → IsSoundSpec s
-        → kept.calls ≡ before ++ (flush ∷ after) → HasPublished flush
+        → calls ≡ before ++ (flush ∷ after) → HasPublished flush
         → IsLeftAfter (start_of s file) (begins_at after left.past) left cut.contents
         → Repairs looks cut found mended
         → (IsTrue looks → found.was ≡ HasChunksAfterData → ⊥) →
@@ -96,16 +96,16 @@ pub fn a_repair_loses_no_published_sample()
         (found.spec_ex ≡ s) × ReadsFrames found (start_of s file) published mended.contents }
 {}
 
-/// What a writer leaves at its end counts what its calls accepted, and over a medium that keeps its
-/// past each of its states holds all that they promise: whoever made the calls, with whatever
-/// results.
+/// What a writer leaves at its end counts what its calls accepted, and over a medium that records
+/// every byte written each of its states holds all that they promise: whoever made the calls, with
+/// whatever results.
 pub fn what_is_kept<M: Medium>()
     ensures at_end { WhereTells M.tells ((s : WavSpecEx) (file : Begun) (asked : List Asked)
         (medium : M) → Left M.tells M.keeps M.state s file asked medium
-        → Holds s file asked (M.state medium)) }
+        → Holds M.tells M.keeps M.state s file asked medium) }
     ensures kept { WhereKeeps M.tells M.keeps ((s : WavSpecEx) (file : Begun) (asked : List Asked)
         (medium : M) → Left M.tells M.keeps M.state s file asked medium
-        → Kept s file asked (M.state medium)) }
+        → Kept M.tells M.keeps M.state s file asked medium) }
 {}
 
 /// What a loss of power leaves of the medium within a `Durable` over which a writer was ended: it
@@ -113,5 +113,5 @@ pub fn what_is_kept<M: Medium>()
 pub fn what_a_loss_leaves<M: Medium>(durable: &Durable<M>)
     ensures { WhereKeeps M.tells M.keeps ((s : WavSpecEx) (file : Begun) (asked : List Asked)
         → Left M.tells M.keeps (⟦<Durable<M> as Placed>⟧.state) s file (asked ++ publish ∷ []) durable.now
-        → KeptWithin s file (asked ++ publish ∷ []) (within durable.now)) }
+        → KeptWithin M.tells M.keeps (⟦<Durable<M> as Placed>⟧.state) s file (asked ++ publish ∷ []) durable.now (within durable.now)) }
 {}

@@ -9,7 +9,7 @@ use hound_reader::{Cause, Reason};
 pub enum Fault {
     /// The bytes have no data to be read.
     Head(Cause),
-    /// The samples are floats and integers were asked for, or the other way round.
+    /// The samples are floats and integers were requested, or the other way round.
     OtherFormat,
     /// The samples, or a value, are wider than what is to hold them.
     Wider,

@@ -107,7 +107,7 @@ pub extern "C" fn hound_write_f32(spec: &HoundSpec, samples: &[FloatBits], out: 
     code_of(write_file::<FloatBits>(*spec, SampleFormat::Float, samples, out))
 }
 
-/// Puts samples behind those of the file in the first `used` bytes.
+/// Appends samples after those of the file in the first `used` bytes.
 #[unsafe(no_mangle)]
 pub extern "C" fn hound_append_i16(file: &mut [u8], used: usize, samples: &[i16]) -> i64
     ensures { Returns result (Appends Int int_container samples.now used file.old file.new) }

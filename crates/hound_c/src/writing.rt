@@ -76,7 +76,7 @@ fn data_start_of(spec_ex: WavSpecEx) -> usize
     }
 }
 
-/// How many bytes so many samples take, and how many the file that has them behind a header of
+/// How many bytes so many samples take, and how many the file that has them after a header of
 /// this many.
 pub(crate) fn sizes_of(
     spec_ex: WavSpecEx,

@@ -9,7 +9,7 @@ ghost use Rattle.hound.specs.Containers.{AreContainers};
 ghost use Rattle.hound.specs.Counts.{Counts};
 ghost use Rattle.hound.specs.Header.{canonical, data_start};
 ghost use Rattle.hound.specs.Durables.{Around};
-ghost use Rattle.hound.specs.Headline.{HasPublished, IsLeftAfter, Kept, LosesNothing, accepted_by_all, begins_at};
+ghost use Rattle.hound.specs.Headline.{HasPublished, IsLeftAfter, Keeps, LosesNothing, accepted_by_all, begins_at};
 ghost use Rattle.hound.specs.Held.{held};
 ghost use Rattle.hound.specs.Losses.{SurvivesLoss};
 ghost use Rattle.hound.specs.Many.{containers_in};
@@ -149,9 +149,9 @@ pub fn record_through_a_loss<M: Source + Medium>(
 /// frames of one byte, what is left must not hold exactly one byte more than its data length counts.
 pub fn repair_recording<N: Source + Medium>(left: N) -> result::Result<(N, Repair), (N, Error)>
     requires place { WhereTells N.tells ((N.state left).place ≡ 0) }
-    ensures { WhereTells N.tells ((s : WavSpecEx) (file : Begun) (asked : List Asked)
-        (recorded : MediumState) (kept : Kept s file asked recorded) (before after : List Call)
-        (flush : Call) → IsSoundSpec s → kept.calls ≡ before ++ (flush ∷ after) → HasPublished flush
+    ensures { WhereTells N.tells ((s : WavSpecEx) (file : Begun) (calls : List Call)
+        (recorded : MediumState) (kept : Keeps s file calls recorded) (before after : List Call)
+        (flush : Call) → IsSoundSpec s → calls ≡ before ++ (flush ∷ after) → HasPublished flush
         → IsLeftAfter (start_of s file) (begins_at after recorded.past) recorded
         (N.state left).contents →
         let published = found_in file ++ accepted_by_all before in

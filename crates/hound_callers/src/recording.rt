@@ -4,6 +4,7 @@ ghost use Rattle.std.specs.List.{flat_map};
 ghost use Rattle.hound.specs.Answers.{one};
 ghost use Rattle.hound.specs.Calls.{Asked, Begun, Call, Left, Recorded, new_file, publish, write};
 ghost use Rattle.hound.specs.Container.{containers};
+ghost use Rattle.hound.specs.Durables.{Around, within};
 ghost use Rattle.hound.specs.Headline.{HasPublished, Kept, KeptWithin, accepted_by_all};
 ghost use Rattle.hound.specs.Header.{data_start};
 ghost use Rattle.hound.specs.Held.{held};
@@ -18,7 +19,7 @@ ghost use Rattle.hound_callers.specs.Recording.{block_asks, recorder_asks};
 
 use crate::twelve::Twelve;
 use hound::{
-    Durable, Error, Medium, Repair, Sample, Source, WavSpecEx, WavWriter,
+    Durable, Error, Medium, Placed, Repair, Sample, Source, WavSpecEx, WavWriter,
     a_repair_loses_no_published_sample, repair_to_end, what_a_loss_leaves, what_is_kept,
 };
 use std::alloc::Global;
@@ -76,7 +77,7 @@ pub fn record_twelve<M: Source + Medium>(
         (recorder_asks (λ block. containers_in ⟦<Twelve as Sample>⟧.container spec_ex block.now) 0 blocks.now ++ publish ∷ []) left)
         (λ _. ⊤) }
     ensures kept { MatchResult result (λ left. WhereKeeps M.tells M.keeps
-        (Kept spec_ex new_file (recorder_asks (λ block. containers_in ⟦<Twelve as Sample>⟧.container spec_ex block.now) 0 blocks.now ++ publish ∷ []) (M.state left)))
+        (Kept M.tells M.keeps M.state spec_ex new_file (recorder_asks (λ block. containers_in ⟦<Twelve as Sample>⟧.container spec_ex block.now) 0 blocks.now ++ publish ∷ []) left))
         (λ _. ⊤) }
 {
     what_is_kept::<M>();
@@ -101,7 +102,7 @@ pub fn record_twelve_through_a_loss<M: Source + Medium>(
     requires past { WhereKeeps M.tells M.keeps ((M.state medium).past ≡ []) }
     requires flushed { WhereKeeps M.tells M.keeps ((M.state medium).flushed ≡ 0) }
     ensures { MatchResult result (λ left. WhereKeeps M.tells M.keeps
-        (KeptWithin spec_ex new_file (recorder_asks (λ block. containers_in ⟦<Twelve as Sample>⟧.container spec_ex block.now) 0 blocks.now ++ publish ∷ []) (M.state left)))
+        (Around (M.state medium) (M.state left) (λ _ durable. KeptWithin M.tells M.keeps (⟦<Durable<M> as Placed>⟧.state) spec_ex new_file (recorder_asks (λ block. containers_in ⟦<Twelve as Sample>⟧.container spec_ex block.now) 0 blocks.now ++ publish ∷ []) durable (within durable))))
         (λ _. ⊤) }
 {
     let writer = match record(Durable::new(medium), spec_ex, blocks) {
@@ -122,12 +123,12 @@ pub fn record_twelve_and_repair<M: Source + Medium>(
     blocks: &[&[Twelve]],
 ) -> result::Result<(M, Repair), (M, Error)>
     requires { WhereTells M.tells ((M.state medium).place ≡ 0) }
-    ensures { MatchResult result (λ done. WhereKeeps M.tells M.keeps ((left : MediumState)
-        × (kept : Kept spec_ex new_file (recorder_asks (λ block. containers_in ⟦<Twelve as Sample>⟧.container spec_ex block.now) 0 blocks.now ++ publish ∷ []) left)
-        × ((before after : List Call) (flush : Call) → kept.calls ≡ before ++ (flush ∷ after)
+    ensures { MatchResult result (λ done. WhereKeeps M.tells M.keeps ((left : M)
+        × (kept : Kept M.tells M.keeps M.state spec_ex new_file (recorder_asks (λ block. containers_in ⟦<Twelve as Sample>⟧.container spec_ex block.now) 0 blocks.now ++ publish ∷ []) left)
+        × ((before after : List Call) (flush : Call) → kept.left.recorded.calls ≡ before ++ (flush ∷ after)
         → HasPublished flush
-        → IsNoPad spec_ex (field (data_start spec_ex - 4) left.contents)
-        (held (data_start spec_ex) left.contents) (accepted_by_all before) →
+        → IsNoPad spec_ex (field (data_start spec_ex - 4) (M.state left).contents)
+        (held (data_start spec_ex) (M.state left).contents) (accepted_by_all before) →
         (done.1.spec_ex ≡ spec_ex)
         × ReadsFrames done.1 (data_start spec_ex) (accepted_by_all before) (M.state done.0).contents)))
         (λ _. ⊤) }
@@ -197,8 +198,8 @@ pub fn record_mixed<M: Source + Medium>(
     ensures { MatchResult result (λ left. WhereKeeps M.tells M.keeps (
         let asked = map (λ v. write (one (⟦<i8 as Sample>⟧.container v spec_ex.spec.bits_per_sample spec_ex.bytes_per_sample))) singles.now in
         let bytes = flat_map (signed_bytes_of 2) batch.now in
-        (Kept spec_ex new_file (asked ++ publish ∷ []) (M.state left))
-        ⊎ (Kept spec_ex new_file ((asked ++ write (Ok (containers spec_ex.bytes_per_sample (length bytes / spec_ex.bytes_per_sample) bytes)) ∷ []) ++ publish ∷ []) (M.state left))))
+        (Kept M.tells M.keeps M.state spec_ex new_file (asked ++ publish ∷ []) left)
+        ⊎ (Kept M.tells M.keeps M.state spec_ex new_file ((asked ++ write (Ok (containers spec_ex.bytes_per_sample (length bytes / spec_ex.bytes_per_sample) bytes)) ∷ []) ++ publish ∷ []) left)))
         (λ _. ⊤) }
 {
     what_is_kept::<M>();

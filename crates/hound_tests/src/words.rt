@@ -198,7 +198,7 @@ struct SessionWords;
 
 impl SessionWords {
     ghost use Rattle.hound.specs.FirstError.{IsAnswered};
-    ghost use Rattle.hound.specs.Headline.{HasPublished, Holds, IsLeftAfter, Kept, KeptWithin, LosesNothing, accepted_by_all, begins_at};
+    ghost use Rattle.hound.specs.Headline.{HasPublished, Holds, IsLeftAfter, Keeps, Kept, KeptWithin, LosesNothing, accepted_by_all, begins_at};
     ghost use Rattle.hound.specs.Run.{AppendedSurvives, Begins, EndsAs, IsNotBegun, IsSession, NoFault, Ran, all_calls};
     ghost use Rattle.hound.specs.Sessions.{AreSessions, RunsAgain, RunsOk, RunsOn, RunsOnce, StopsIn, StopsShort, all_steps};
     ghost use Rattle.hound.specs.Steps.{Takes, accepted_by_steps, asked_by, batch_containers, containers_of, is_sixteen, wants_memory};

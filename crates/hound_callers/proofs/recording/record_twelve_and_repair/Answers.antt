@@ -9,7 +9,7 @@ use Rattle.hound.specs.Headline.{HasPublished, Kept, accepted_by_all}
 use Rattle.hound.specs.Held.{held}
 use Rattle.hound.specs.Repairing.{IsNoPad, IsNotRepaired, ReadsFrames, Repairs}
 use Rattle.hound.specs.Sizes.{field}
-use Rattle.hound.specs.State.{MediumState, WhereKeeps, WhereTells}
+use Rattle.hound.specs.State.{WhereKeeps, WhereTells}
 use Rattle.hound.specs.declared.Error.{Error}
 use Rattle.hound.specs.declared.Repair.{Repair}
 use Rattle.hound_callers.proofs.recording.record_twelve_and_repair.Goals as goal
@@ -26,11 +26,11 @@ returns g c =
         (λ (done : _ × Repair). Repairs false (g.M.Placed.state c.go.new.self) done.1 (g.M.Placed.state done.0))
         (λ (refused : _ × Error). IsNotRepaired false (g.M.Placed.state c.go.new.self) (g.M.Placed.state refused.0) refused.1))
         → MatchResult r (λ (done : _ × Repair). WhereKeeps g.M.Placed.tells g.M.Placed.keeps
-        ((left : MediumState) × (kept : Kept c.args.spec_ex new_file asked left)
-        × ((before after : List Call) (flush : Call) → kept.calls ≡ before ++ (flush ∷ after)
+        ((left : _) × (kept : Kept g.M.Placed.tells g.M.Placed.keeps g.M.Placed.state c.args.spec_ex new_file asked left)
+        × ((before after : List Call) (flush : Call) → kept.left.recorded.calls ≡ before ++ (flush ∷ after)
         → HasPublished flush
-        → IsNoPad c.args.spec_ex (field (data_start c.args.spec_ex - 4) left.contents)
-        (held (data_start c.args.spec_ex) left.contents) (accepted_by_all before)
+        → IsNoPad c.args.spec_ex (field (data_start c.args.spec_ex - 4) (g.M.Placed.state left).contents)
+        (held (data_start c.args.spec_ex) (g.M.Placed.state left).contents) (accepted_by_all before)
         → (done.1.spec_ex ≡ c.args.spec_ex)
         × ReadsFrames done.1 (data_start c.args.spec_ex) (accepted_by_all before)
         (g.M.Placed.state done.0).contents))) (λ _. ⊤)
@@ -45,14 +45,14 @@ returns g c =
         let last : cut.contents ≡ moment left.start left.past (length left.past) =
         same ∙ g.met.M.Medium.replays c.drop_into-medium.result told keeps
         ∙ ap (overlay left.start) (sym (take_all (length left.past) left.past (omega arith))) in (
-          left,
+          c.drop_into-medium.result,
           kept,
           λ before after flush parts has_all no_pad.
-              c.a_repair_loses_no_published_sample.ensures s new_file asked left kept before after flush
-              false cut (g.M.Placed.state done.0) done.1 kept.at_end.sound parts has_all
+              c.a_repair_loses_no_published_sample.ensures s new_file kept.left.recorded.calls left kept.promised before after flush
+              false cut (g.M.Placed.state done.0) done.1 kept.promised.at_end.sound parts has_all
               (inl (
                 length left.past,
-                (kept.promises.in_order before (flush ∷ []) after parts).1,
+                (kept.promised.promises.in_order before (flush ∷ []) after parts).1,
                 omega arith,
                 last,
               ))
