@@ -121,15 +121,24 @@ fn what_a_wide_container_and_a_float_are(rt: HostRuntime) -> Result<(), Fail> {
     Ok(())
 }
 
-// How many samples a reader finds in the middle of the first patch, and once every call fails.
+// The contents in the middle of the first patch, of a journal whose calls all fail from now on.
+fn half(alloc: Global, journal: &mut Journal) -> hound::Result<Vec<u8>> {
+    if journal.taken() < 46 {
+        return Ok(Vec::new(alloc));
+    }
+    journal.fail(0, u64::MAX); // Every call fails from now on.
+    let before = journal.bytes_after(alloc, 46)?; // A header, and half of the data.
+    Ok(before)
+}
+
+// How many samples a reader finds there, and once every call fails.
 fn find_after_faults(alloc: Global) -> hound::Result<(u32, u32)> {
     let mut journal = Journal::new(alloc, Vec::new(alloc))?;
     let mut writer = WavWriter::new(&mut journal, sixteen(1))?;
     writer.write_samples(&[2i16, -3])?;
     writer.flush()?;
     drop(writer);
-    journal.fail(0, u64::MAX); // Every call fails from now on.
-    let before = journal.bytes_after(alloc, 46)?; // A header, and half of the data.
+    let before = half(alloc, &mut journal)?;
     let after = journal.bytes_after(alloc, journal.taken())?;
     Ok((
         WavReader::new(before.as_slice())?.len(),

@@ -31,34 +31,49 @@ fn holds(alloc: Global, bytes: &[u8], samples: &[i16]) -> bool {
     }
 }
 
+fn records(alloc: Global, blocks: &[&[Twelve]]) -> bool {
+    match record_twelve(empty_tape(alloc), integers(1, 44100, 16, 2), blocks) {
+        Ok(tape) => holds(alloc, tape.bytes(), &ACCEPTED),
+        Err(_) => false,
+    }
+}
+
+fn repairs(alloc: Global, blocks: &[&[Twelve]]) -> bool {
+    match record_twelve_and_repair(empty_tape(alloc), integers(1, 44100, 16, 2), blocks) {
+        Ok((tape, found)) => found.frames == 6 && holds(alloc, tape.bytes(), &ACCEPTED),
+        Err(_) => false,
+    }
+}
+
+fn survives(alloc: Global, blocks: &[&[Twelve]]) -> hound::Result<bool> {
+    let journal = Journal::new(alloc, Vec::new(alloc))?;
+    match record_twelve_through_a_loss(journal, integers(1, 44100, 16, 2), blocks) {
+        Ok(journal) => {
+            let bytes = journal.bytes_after(alloc, journal.taken())?;
+            Ok(holds(alloc, &bytes, &ACCEPTED))
+        }
+        Err((_, error)) => Err(error),
+    }
+}
+
+fn mixes(alloc: Global) -> bool {
+    let spec_ex = WavSpecEx::from(sixteen(1));
+    match record_mixed(alloc, empty_tape(alloc), spec_ex, &[7, -8], &[300, -301]) {
+        Ok(tape) => holds(alloc, tape.bytes(), &[7, -8, 300, -301]),
+        Err(_) => false,
+    }
+}
+
 #[test]
 fn recorders_leave_what_they_accepted(rt: HostRuntime) -> Result<(), Fail> {
     let alloc = rt.alloc();
-    let spec_ex = integers(1, 44100, 16, 2);
-    let recorded = match record_twelve(empty_tape(alloc), spec_ex, &BLOCKS) {
-        Ok(tape) => holds(alloc, tape.bytes(), &ACCEPTED),
-        Err(_) => false,
-    };
-    let repaired = match record_twelve_and_repair(empty_tape(alloc), spec_ex, &BLOCKS) {
-        Ok((tape, found)) => found.frames == 6 && holds(alloc, tape.bytes(), &ACCEPTED),
-        Err(_) => false,
-    };
-    let journal = Journal::new(alloc, Vec::new(alloc))?;
-    let survived = match record_twelve_through_a_loss(journal, spec_ex, &BLOCKS) {
-        Ok(journal) => {
-            let bytes = journal.bytes_after(alloc, journal.taken())?;
-            holds(alloc, bytes.as_slice(), &ACCEPTED)
-        }
-        Err(_) => false,
-    };
-    let spec_ex = WavSpecEx::from(sixteen(1));
-    let mixed = match record_mixed(alloc, empty_tape(alloc), spec_ex, &[7, -8], &[300, -301]) {
-        Ok(tape) => holds(alloc, tape.bytes(), &[7, -8, 300, -301]),
-        Err(_) => false,
-    };
-    assert_eq!(rt;
-        (recorded, repaired, survived, mixed),
-        (true, true, true, true)
+    let blocks: &[&[Twelve]] = &BLOCKS;
+    let found = (
+        records(alloc, blocks),
+        repairs(alloc, blocks),
+        survives(alloc, blocks)?,
+        mixes(alloc),
     );
+    assert_eq!(rt; found, (true, true, true, true));
     Ok(())
 }
