@@ -131,12 +131,32 @@ fn seek_often<R: io::Read + io::Seek>(mut reader: WavReader<R>, count: u32) -> h
     Ok(sum)
 }
 
-fn write_memory<P: Pattern>(count: u32) -> Answer {
+/// Times this work on a writer into memory of its full size.
+fn into_memory<P: Pattern>(
+    count: u32,
+    work: impl FnOnce(WavWriter<&mut Cursor<Vec<u8>>>) -> hound::Result<()>,
+) -> Answer {
     let mut bytes = Cursor::new(full::<P>(count));
     let start = Instant::now();
-    write_all::<P, _>(WavWriter::new(&mut bytes, P::spec(1))?, count)?;
+    work(WavWriter::new(&mut bytes, P::spec(1))?)?;
     let time = start.elapsed().as_nanos();
     Ok(written(bytes.get_ref(), time))
+}
+
+/// Times this work on a writer into a file.
+fn into_file<P: Pattern>(
+    channels: u16,
+    path: &str,
+    work: impl FnOnce(WavWriter<io::BufWriter<std::fs::File>>) -> hound::Result<()>,
+) -> Answer {
+    let start = Instant::now();
+    work(WavWriter::create(path, P::spec(channels))?)?;
+    let time = start.elapsed().as_nanos();
+    Ok(written(&std::fs::read(path)?, time))
+}
+
+fn write_memory<P: Pattern>(count: u32) -> Answer {
+    into_memory::<P>(count, |writer| write_all::<P, _>(writer, count))
 }
 
 fn read_memory<P: Pattern>(count: u32) -> Answer {
@@ -147,10 +167,7 @@ fn read_memory<P: Pattern>(count: u32) -> Answer {
 }
 
 fn write_file<P: Pattern>(channels: u16, count: u32, path: &str) -> Answer {
-    let start = Instant::now();
-    write_all::<P, _>(WavWriter::create(path, P::spec(channels))?, count)?;
-    let time = start.elapsed().as_nanos();
-    Ok(written(&std::fs::read(path)?, time))
+    into_file::<P>(channels, path, |writer| write_all::<P, _>(writer, count))
 }
 
 fn read_file<P: Pattern>(channels: u16, count: u32, path: &str) -> Answer {
@@ -193,31 +210,13 @@ fn measure(case: &str, count: u32, path: &str) -> Answer {
             let time = start.elapsed().as_nanos();
             Ok(written(bytes.get_ref(), time))
         }
-        "batch_i16_mem" => {
-            let mut bytes = Cursor::new(full::<Sixteen>(count));
-            let start = Instant::now();
-            write_batches(WavWriter::new(&mut bytes, Sixteen::spec(1))?, count)?;
-            let time = start.elapsed().as_nanos();
-            Ok(written(bytes.get_ref(), time))
-        }
-        "batch_i16_file" => {
-            let start = Instant::now();
-            write_batches(WavWriter::create(path, Sixteen::spec(1))?, count)?;
-            let time = start.elapsed().as_nanos();
-            Ok(written(&std::fs::read(path)?, time))
-        }
+        "batch_i16_mem" => into_memory::<Sixteen>(count, |writer| write_batches(writer, count)),
+        "batch_i16_file" => into_file::<Sixteen>(1, path, |writer| write_batches(writer, count)),
         "flush_i16_mem" => {
-            let mut bytes = Cursor::new(full::<Sixteen>(count));
-            let start = Instant::now();
-            write_flushing::<Sixteen, _>(WavWriter::new(&mut bytes, Sixteen::spec(1))?, count)?;
-            let time = start.elapsed().as_nanos();
-            Ok(written(bytes.get_ref(), time))
+            into_memory::<Sixteen>(count, |writer| write_flushing::<Sixteen, _>(writer, count))
         }
         "flush_i16_file" => {
-            let start = Instant::now();
-            write_flushing::<Sixteen, _>(WavWriter::create(path, Sixteen::spec(1))?, count)?;
-            let time = start.elapsed().as_nanos();
-            Ok(written(&std::fs::read(path)?, time))
+            into_file::<Sixteen>(1, path, |writer| write_flushing::<Sixteen, _>(writer, count))
         }
         "seek_f32_mem" => {
             let reader = WavReader::new(Cursor::new(file_of::<Float>(1, 1_000_000)?));
