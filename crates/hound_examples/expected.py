@@ -1,9 +1,9 @@
 #!/usr/bin/env python3
-"""Prints what scripts/try_programs expects of the examples: what the original crate, sox and python make of the same input.
+"""Prints what scripts/try_programs expects of the examples: what the original crate, sox, ffmpeg and python make of it.
 
 usage: ./expected.py SINE
 
-SINE is the file that the first example in the original crate's README writes. It needs sox, and a
+SINE is the file that the first example in the original crate's README writes. It needs sox, ffmpeg, and a
 python that has audioop, chunk and wave, as 3.11."""
 import array
 import audioop
@@ -101,6 +101,11 @@ with tempfile.TemporaryDirectory() as folder:
     sox(*"-t raw -e signed -b 16 -c 2 -r 44100 five.s16 five.wav".split())
     show("five.wav")
     info("five.wav")
+    with open("halves.f32", "wb") as file:
+        array.array("f", [at / 65536 for at in range(-9, 10)] + [1, -1, 1.5, -1.5]).tofile(file)
+    words = "-v error -f f32le -ar 44100 -ac 1 -i halves.f32 -f s16le -".split()
+    halves = subprocess.run(["ffmpeg", *words], check=True, capture_output=True).stdout
+    print("halves by ffmpeg:", array.array("h", halves).tolist())
     with open("three.s24", "wb") as file:
         for number in [-8388608, 300, -70000]:
             file.write(number.to_bytes(3, "little", signed=True))

@@ -7,10 +7,12 @@ usage: python3 expected.py < stdin > stdout
 Each thing that a row speaks of has a class: a reader of bytes (Fed), the media (Tape, Journal), a
 file that is read (Reader) and one that is written (Writer). An error of the library is raised as
 `Refused`, with the words that a row has for it."""
+import math
 import re
 import struct
 import sys
 import zlib
+from fractions import Fraction
 from collections import namedtuple
 
 # The greatest number of 32 bits: what a size field can say, and how many bytes may follow the WAVE
@@ -147,6 +149,33 @@ def signed(value, bits):
     """The lowest bits of a number, as a signed one."""
     half = 1 << (bits - 1)
     return (value + half) % (2 * half) - half
+
+
+def clipped(number, bits):
+    """A number as the nearest one of so many bits, and the word `clipped` where that is another one."""
+    half = 1 << (bits - 1)
+    nearest = max(-half, min(half - 1, number))
+    return [str(nearest)] + (["clipped"] if nearest != number else [])
+
+
+def row_to_float(value, bits):
+    # The quotient is exact in the 64 bits that Python has.
+    return [struct.pack(">f", int(value) / 2 ** (int(bits) - 1)).hex()]
+
+
+def row_to_int(pattern, bits):
+    (number,) = struct.unpack(">f", bytes.fromhex(pattern))
+    if number != number:
+        return ["0"]
+    if abs(number) == float("inf"):
+        number = 2**99 if number > 0 else -(2**99)
+    # `round` of a fraction takes a half to the even number.
+    return clipped(round(Fraction(number) * 2 ** (int(bits) - 1)), int(bits))
+
+
+def row_change(value, old, new):
+    scaled = Fraction(int(value) * 2 ** int(new), 2 ** int(old))
+    return clipped(math.floor(scaled + Fraction(1, 2)), int(new))
 
 
 def container(kind, value, bits, width):
@@ -1272,6 +1301,9 @@ ROWS = {
     "write_padded": row_write_padded,
     "decode": row_decode,
     "short": lambda kind, word: ["0" if kind == "f" else str(signed(int(word), 16))],
+    "to_float": row_to_float,
+    "to_int": row_to_int,
+    "change": row_change,
     "writable": lambda word: ["yes" if spec_of(word).is_writable() else "no"],
     "header": lambda word, *sizes: [header(spec_of(word), *sizes) or "no"],
     "infinite": lambda word: [infinite(spec_of(word).with_default_width())],

@@ -24,7 +24,6 @@ import disk
 import guest
 
 TOP = os.path.dirname(os.path.dirname(os.path.dirname(os.path.abspath(__file__))))
-RECORDER = os.path.join(TOP, "crates/hound_recorder/out/hound_recorder")
 EXAMPLES = os.path.join(TOP, "crates/hound_examples/out/hound_examples")
 HEADER = 44
 SPARE = 4096  # Bytes past the file system, for the marks.
@@ -68,10 +67,10 @@ SESSIONS = [
     Session("r6", "durable", 20, 60),
     Session("r6", "durable", 10, 20),
 ]
-WORDS = {"plain": [], "durable": ["16", "durable"], "append": ["16", "append"]}
+WORDS = {"plain": [], "durable": ["durable"], "append": ["durable", "append"]}
 
 # A trial that has to find wrong states, since something is left out: syncs of the recorder, as strace is told, or three
-# of four flushes of the disk. The syncs of a new file: itself and its folder by `fsync`, the first samples by `fsync`,
+# of four flushes of the disk. The syncs of a new file: itself and its folder by `fsync`, the header by `fsync`,
 # then by `fdatasync` in turn sizes and samples.
 Control = collections.namedtuple("Control", "fs sessions left_out")
 CONTROLS = {
@@ -95,18 +94,23 @@ def fresh(path, system):
 
 def script_of(sessions, system, size, left_out):
     """What the recording machine does. A mark is a block, written past the file system and not flushed: what the
-    recorder has said by then. The recorder stops while it is written. Another program writes a file beside it."""
+    recorder has said by then. The recorder stops while it is written. Another program writes a file beside it.
+    The samples count up; a file that is appended to says how many it has."""
     early = "echo 5 > /proc/sys/vm/dirty_writeback_centisecs; echo 10 > /proc/sys/vm/dirty_expire_centisecs"
     lines = [f"""
 mark() {{
     echo "mark $1 $2" | dd of=/dev/vda bs={SPARE} seek={size // SPARE} conv=sync,notrunc oflag=direct
 }}
-record() {{
-    number=$1; last=$2; shift 2
+session() {{
+    number=$1; last=$2; count=$3; file=$4; shift 4
+    first=0
+    [ "$file" = - ] || first=$(($(od -A n -t u4 -j 40 -N 4 $file) / 2))
+    tail -c +$((2 * first + 1)) /bin/samples | head -c $((2 * count)) > /tmp/given
     mark $number begun
-    "$@" > /tmp/lines &
+    "$@" < /tmp/given > /tmp/lines &
     recorder=$!
     while read line; do
+        [ "$line" = "${{line#* }}" ] || continue
         kill -STOP $recorder
         mark $number $line
         [ "$line" != "$last" ] || kill -KILL $recorder
@@ -118,6 +122,7 @@ record() {{
 {early if system.is_early else "true"}
 mount -t {system.kind} /dev/vda /disk || echo guest: no mount
 mkfifo /tmp/lines
+ln -s /bin/hound_examples /bin/record # The name says which example runs.
 while usleep 20000; do dd if=/dev/urandom of=/disk/other bs=4096 count=25 {"" if system.is_early else "oflag=direct"} 2> /dev/null; done &
 """]
     tracing = ["strace", "-o", "/dev/null", "-e", "trace=fsync,fdatasync"] if left_out else []
@@ -125,8 +130,10 @@ while usleep 20000; do dd if=/dev/urandom of=/disk/other bs=4096 count=25 {"" if
         tracing += ["-e", f"inject={calls}"]
     for number, session in enumerate(sessions):
         last = session.killed * session.length if session.killed else "-"
-        words = ["hound_recorder", "/disk/" + NAME.format(session.file), str(session.lots), str(session.length), *WORDS[session.kind]]
-        lines.append(" ".join(["record", str(number), str(last), *tracing, *words]))
+        file = "/disk/" + NAME.format(session.file)
+        before = file if session.kind == "append" else "-"
+        words = ["record", file, str(session.length), *WORDS[session.kind]]
+        lines.append(" ".join(["session", str(number), str(last), str(session.lots * session.length), before, *tracing, *words]))
     return "\n".join(lines)
 
 
@@ -135,7 +142,10 @@ def record(folder, system, sessions, left_out):
     image, used, initial, address = (os.path.join(folder, part) for part in ("image", "used", "initial", "socket"))
     size = fresh(image, system)
     subprocess.run(["cp", "--sparse=always", image, used], check=True)
-    programs = [RECORDER, shutil.which("strace")]
+    samples = os.path.join(folder, "samples")
+    with open(samples, "wb") as file:
+        file.write(struct.pack("<65536h", *(index & 0x7FFF for index in range(65536))))
+    programs = [EXAMPLES, samples, shutil.which("strace")]
     guest.initial_files(initial, system.modules, programs, script_of(sessions, system, size, left_out))
     server = disk.Server(used, address)
     server.start()

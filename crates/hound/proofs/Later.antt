@@ -1,37 +1,45 @@
--- From one state of a medium to a later one.
-use Rattle.std.proofs.Common.{◌≡◌, ℕ, ◌≤◌, List, [], ◌++◌, length, refl, sym, ◌∙◌, ap, arith, inl, append_assoc, length-append}
+-- From one state of a medium to a later one: bytes were appended to the past, and faults counted.
+use Rattle.std.proofs.Common.{◌≡◌, ℕ, ◌≤◌, List, [], length, refl, sym, ◌∙◌, ap, arith, inl, length-append, Result, Ok, Err}
+use Rattle.std.specs.Prelude.{⊤}
 use Rattle.std.proofs.lemmas.List.{append-nil}
+use Rattle.hound_spec.specs.declared.error.Error.{Error}
+use Rattle.hound_spec.specs.declared.error.Error.TheVariants.{IoError}
 use Rattle.hound_medium.specs.Bytes.{moment}
 use Rattle.hound_medium.specs.State.{MediumState}
-use Rattle.hound_medium.specs.Spans.{Span, FlushedSince}
-use Rattle.hound_medium.proofs.Spans.{flushed_then, moment_before}
+use Rattle.hound_medium.specs.Spans.{Span}
+use Rattle.hound_medium.proofs.Spans.{join, moment_before}
+use Rattle.hound_writer.specs.Answers.{faults_told}
+use Rattle.hound.specs.Headline.{NoFault}
 
 -- from one state of a medium to a later one bytes were appended to the past
-pub record Later (old new : MediumState) : Type 0 where
-  pub start : new.start ≡ old.start
-  pub added : List (ℕ × ℕ)
-  pub past : new.past ≡ old.past ++ added
-  pub flushed : FlushedSince old new
+abbrev pub Later : MediumState → MediumState → Type 0
+Later old new = Span (λ _ _. ⊤) 0 old new
 
 pub later_still : (a : MediumState) → Later a a
-later_still a =
-    record { start = refl; added = []; past = sym (append-nil a.past); flushed = inl refl }
+later_still a = record {
+  start = refl;
+  added = [];
+  past = sym (append-nil a.past);
+  flushed = inl refl;
+  each = λ _ _ _. tt;
+}
 
 pub later_then : (a b c : MediumState) → Later a b → Later b c → Later a c
-later_then a b c first then = record {
-  start = then.start ∙ first.start;
-  added = first.added ++ then.added;
-  past = then.past ∙ ap (λ (l : List (ℕ × ℕ)). l ++ then.added) first.past
-      ∙ append_assoc a.past first.added then.added;
-  flushed = flushed_then a b c
-      (omega (arith, ap length first.past, length-append a.past first.added)) first.flushed
-      then.flushed;
-}
+later_then a b c = join (λ _ _. ⊤) 0 a b c
 
 pub span_later : (At : ℕ → List ℕ → Type 0) (split : ℕ) (old new : MediumState)
     → Span At split old new → Later old new
 span_later At split old new span =
-    record { start = span.start; added = span.added; past = span.past; flushed = span.flushed }
+    record {
+      start = span.start;
+      added = span.added;
+      past = span.past;
+      flushed = span.flushed;
+      each = λ _ _ _. tt;
+    }
+
+pub longer : (a b : MediumState) → Later a b → length a.past ≤ length b.past
+longer a b l = omega (arith, ap length l.past, length-append a.past l.added)
 
 -- an earlier state stays what it was
 pub same_moment : (old new : MediumState) (k : ℕ) → Later old new → k ≤ length old.past
@@ -39,3 +47,31 @@ pub same_moment : (old new : MediumState) (k : ℕ) → Later old new → k ≤ 
 same_moment old new k later before =
     sym (moment_before old.start old.past later.added k before)
     ∙ (λ i. moment (sym later.start i) (sym later.past i) k)
+
+-- faults only grow, up to the largest count
+abbrev pub FaultsGrow : MediumState → MediumState → Type 0
+FaultsGrow old new =
+    old.faults ≤ 18446744073709551615 → (old.faults ≤ new.faults)
+    × (new.faults ≤ 18446744073709551615)
+
+pub grows_told : (answer : Result (Unit {0}) Error) (old new : MediumState)
+    → new.faults ≡ faults_told answer old.faults → FaultsGrow old new
+grows_told (Err (IoError e)) old new is small = (omega (arith, is, small), omega (arith, is, small))
+grows_told (Ok x) old new is small = (omega (arith, is), omega (arith, is, small))
+grows_told (Err e) old new is small = (omega (arith, is), omega (arith, is, small))
+
+pub grow_then : (a b c : MediumState) → FaultsGrow a b → FaultsGrow b c → FaultsGrow a c
+grow_then a b c first then small =
+    let one = first small in
+    let two = then one.1 in
+    (omega (arith, one.0, two.0), two.1)
+
+-- no fault in the whole is none in either part
+pub no_fault_parts : (a b c : MediumState) → FaultsGrow a b → FaultsGrow b c → NoFault a c
+    → NoFault a b × NoFault b c
+no_fault_parts a b c first then (same, small) =
+    let one = first (omega (arith, small)) in
+    let two = then one.1 in (
+      (omega (arith, one.0, two.0, same), small),
+      (omega (arith, one.0, two.0, same), omega (arith, one.0, two.0, same, small)),
+    )

@@ -1,7 +1,6 @@
-pub mod Faults
 pub mod Later
 pub mod Calling
-pub mod NeverLess
+pub mod Lengths
 pub mod Losing
 pub mod PowerLoss
 pub mod Keeping
@@ -9,8 +8,5 @@ pub mod Recovering
 pub mod Running
 pub mod Within
 pub mod Whole
-pub mod Answering
 pub mod Batching
-pub mod Chaining
 pub mod WholeSessions
-pub mod OneByOne

@@ -15,27 +15,24 @@ use Rattle.hound_writer.proofs.Counted.{samples_le}
 use Rattle.hound_writer.proofs.Heads.{head_with}
 use Rattle.hound_durable.specs.Losses.{Ascends, SurvivesLoss, place_of}
 
--- a byte of two parts that are the same
-byte_in : (p q n : ℕ) (c d : List ℕ) (i : ℕ) → i < n → take n (drop p c) ≡ take n (drop q d)
-    → get_or c (p + i) 0 ≡ get_or d (q + i) 0
-byte_in p q n c d i less same =
-    sym (get_or-take n (drop p c) i 0 less ∙ get_or-drop p c i 0)
-    ∙ ap (λ l. get_or l i 0) same
-    ∙ get_or-take n (drop q d) i 0 less ∙ get_or-drop q d i 0
-
-length_part : (p n : ℕ) (c : List ℕ) → p + n ≤ length c → length (take n (drop p c)) ≡ n
-length_part p n c inside = length-take-le n (drop p c) (omega (arith, inside, length-drop p c))
-
--- parts of two lists are the same if their bytes are
-same_part : (p q n : ℕ) (c d : List ℕ) → p + n ≤ length c → q + n ≤ length d
-    → ((i : ℕ) → i < n → get_or c (p + i) 0 ≡ get_or d (q + i) 0)
-    → take n (drop p c) ≡ take n (drop q d)
-same_part p q n c d inside within each =
-    ext_get_or 0 (take n (drop p c)) (take n (drop q d))
-    (length_part p n c inside ∙ sym (length_part q n d within))
-    (λ i few. let less : i < n = omega (arith, few, length_part p n c inside) in
-    get_or-take n (drop p c) i 0 less ∙ get_or-drop p c i 0 ∙ each i less
-    ∙ sym (get_or-take n (drop q d) i 0 less ∙ get_or-drop q d i 0))
+-- A part of what a loss of power leaves, if the states that its sectors are from have it all.
+pub part_survives : (p n sector f k : ℕ) (d start : List ℕ) (past : List (ℕ × ℕ)) (c : List ℕ)
+    → length d ≡ n → p + n ≤ length c → (lost : SurvivesLoss sector start past f k c)
+    → ((i : ℕ) → i < n
+    → take n (drop p (moment start past (lost.sectors ((p + i) / sector)).0)) ≡ d)
+    → take n (drop p c) ≡ d
+part_survives p n sector f k d start past c size inside lost each =
+    let long : length (take n (drop p c)) ≡ n =
+    length-take-le n (drop p c) (omega (arith, inside, length-drop p c)) in
+    ext_get_or 0 (take n (drop p c)) d (long ∙ sym size)
+    (λ i few.
+    let less : i < n = omega (arith, few, long) in
+    let s = lost.sectors ((p + i) / sector) in
+    let at = moment start past s.0 in
+    get_or-take n (drop p c) i 0 less ∙ get_or-drop p c i 0
+    ∙ s.3 (p + i) refl (omega (arith, less, inside))
+    ∙ sym (get_or-take n (drop p at) i 0 less ∙ get_or-drop p at i 0)
+    ∙ ap (λ l. get_or l i 0) (each i less))
 
 -- what is stored in each of these states is stored in whatever a loss of power leaves of them
 pub stored_survives : (h n sector f k : ℕ) (bytes start : List ℕ) (past : List (ℕ × ℕ)) (c : List ℕ)
@@ -45,39 +42,17 @@ pub stored_survives : (h n sector f k : ℕ) (bytes start : List ℕ) (past : Li
 stored_survives h zero sector f k bytes start past c few lost each = refl
 stored_survives h (suc n) sector f k bytes start past c few lost each =
     let l = lost.long in
-    let there = each l.0 l.1 l.2 in
     let longest = moment start past l.0 in
-    let inside : h + 0 + suc n ≤ length c =
-    omega (
+    let size = length-take-le (suc n) bytes few in
+    part_survives (h + 0) (suc n) sector f k (take (suc n) bytes) start past c size
+    (omega (
       arith,
       l.3,
-      few,
-      ap length there,
+      ap length (each l.0 l.1 l.2),
+      size,
       length-take (suc n) (drop (h + 0) longest),
-      length-take (suc n) (drop 0 bytes),
       length-drop (h + 0) longest,
-      length-drop 0 bytes,
-    ) in
-    same_part (h + 0) 0 (suc n) c bytes inside (omega (arith, few))
-    (λ i less.
-    let s = lost.sectors ((h + 0 + i) / sector) in
-    s.3 (h + 0 + i) refl (omega (arith, less, inside))
-    ∙ byte_in (h + 0) 0 (suc n) (moment start past s.0) bytes i less (each s.0 s.1 s.2))
-
--- a byte before the data, except for the two sizes
-same_before : (h : ℕ) (c d : List ℕ) (i : ℕ) → 8 ≤ h → ChangesSizesOnly h c d → i < h - 4
-    → (i < 4 → get_or d i 0 ≡ get_or c i 0) × (8 ≤ i → get_or d i 0 ≡ get_or c i 0)
-same_before h c d i behind changes less = (
-  λ low. subst (λ n. get_or d n 0 ≡ get_or c n 0) (let e : 0 + i ≡ i = omega arith in e)
-      (byte_in 0 0 4 d c i low changes.front),
-  λ high.
-      let j = i - 8 in
-      let at : 8 + j ≡ i = omega (arith, high) in
-      let middle : take (h - 4 - 8) (drop 8 d) ≡ take (h - 4 - 8) (drop 8 c) =
-      between_is d 8 (h - 4) ∙ changes.middle ∙ sym (between_is c 8 (h - 4)) in
-      subst (λ n. get_or d n 0 ≡ get_or c n 0) at
-      (byte_in 8 8 (h - 4 - 8) d c j (omega (arith, less, high)) middle),
-)
+    )) lost (λ i less. let s = lost.sectors ((h + 0 + i) / sector) in each s.0 s.1 s.2)
 
 -- contents get no shorter as bytes are written
 length_overlay : (es : List (ℕ × ℕ)) (c : List ℕ) → length c ≤ length (overlay c es)
@@ -215,49 +190,51 @@ module _ (h : ℕ) (bytes base start : List ℕ) (past : List (ℕ × ℕ)) (cov
     -- the data length is that of this state
     pub says_chosen : field (h - 4) c ≡ says chosen
     says_chosen =
+        let there = long chosen chosen_from chosen_to in
         ap number
-        (same_part (h - 4) (h - 4) 4 c (at chosen) (omega (arith, inside, behind))
-        (omega (arith, long chosen chosen_from chosen_to, behind))
-        (λ i less. (lost.sectors ((h - 4) / sector)).3 (h - 4 + i) (in_field i less)
-        (omega (arith, less, inside, behind))))
+        (part_survives (h - 4) 4 sector f k (take 4 (drop (h - 4) (at chosen))) start past c
+        (length-take-le 4 (drop (h - 4) (at chosen))
+        (omega (arith, there, behind, length-drop (h - 4) (at chosen))))
+        (omega (arith, inside, behind)) lost
+        (λ i less. ap (λ n. take 4 (drop (h - 4) (at (lost.sectors n).0))) (in_field i less)))
 
     -- what it covers is stored
-    pub stored_after : take (cover (field (h - 4) c)) (drop h c) ≡ take (cover (field (h - 4) c)) bytes
+    stored_after : take (cover (field (h - 4) c)) (drop h c) ≡ take (cover (field (h - 4) c)) bytes
     stored_after =
         let n = cover (says chosen) in
-        let each : (i : ℕ) → i < n → get_or c (h + i) 0 ≡ get_or bytes (0 + i) 0 =
-        λ i less.
-        let s = lost.sectors ((h + i) / sector) in
-        s.3 (h + i) refl (omega (arith, less, inside))
-        ∙ byte_in h 0 n (at s.0) bytes i less
-        (anywhere chosen s.0 chosen_from chosen_to s.1 s.2) in
         subst (λ v. take (cover v) (drop h c) ≡ take (cover v) bytes) (sym says_chosen)
-        (same_part h 0 n c bytes inside (omega (arith, few chosen chosen_from chosen_to)) each)
-
-    pub few_after : cover (field (h - 4) c) ≤ length bytes
-    few_after = omega (arith, ap cover says_chosen, few chosen chosen_from chosen_to)
-
-    before_data : (i : ℕ) → i < h - 4
-        → (i < 4 → get_or c i 0 ≡ get_or base i 0) × (8 ≤ i → get_or c i 0 ≡ get_or base i 0)
-    before_data i less =
-        let n = i / sector in
-        let here =
-        (lost.sectors n).3 i refl (omega (arith, less, inside)) in
-        let both =
-        same_before h base (at (lost.sectors n).0) i (omega (arith, behind))
-        (changes (lost.sectors n).0 (lost.sectors n).1 (lost.sectors n).2) less in
-        (λ low. here ∙ both.0 low, λ high. here ∙ both.1 high)
+        (part_survives h n sector f k (take n bytes) start past c
+        (length-take-le n bytes (few chosen chosen_from chosen_to)) inside lost
+        (λ i less. let s = lost.sectors ((h + i) / sector) in
+        anywhere chosen s.0 chosen_from chosen_to s.1 s.2))
 
     -- and so is the head
-    pub head_after : (s : WavSpecEx) (len : ℕ) → Head base s len h → h ≤ length base
+    head_after : (s : WavSpecEx) (len : ℕ) → Head base s len h → h ≤ length base
         → Head c s (field (h - 4) c) h
     head_after s len head whole =
+        let n = h - 4 - 8 in
+        let middle = take n (drop 8 base) in
         let front : take 4 c ≡ take 4 base =
-        same_part 0 0 4 c base (omega (arith, inside, behind)) (omega (arith, whole, behind))
-        (λ i less. (before_data (0 + i) (omega (arith, less, behind))).0 (omega (arith, less))) in
-        let middle : take (h - 4 - 8) (drop 8 c) ≡ take (h - 4 - 8) (drop 8 base) =
-        same_part 8 8 (h - 4 - 8) c base (omega (arith, inside, behind))
-        (omega (arith, whole, behind))
-        (λ i less. (before_data (8 + i) (omega (arith, less))).1 (omega arith)) in
+        part_survives 0 4 sector f k (take 4 base) start past c
+        (length-take-le 4 base (omega (arith, whole, behind))) (omega (arith, inside, behind)) lost
+        (λ i less. let s = lost.sectors ((0 + i) / sector) in (changes s.0 s.1 s.2).front) in
+        let rest : take n (drop 8 c) ≡ middle =
+        part_survives 8 n sector f k middle start past c
+        (length-take-le n (drop 8 base) (omega (arith, whole, behind, length-drop 8 base)))
+        (omega (arith, inside, behind)) lost
+        (λ i less. let s = lost.sectors ((8 + i) / sector) in
+        between_is (at s.0) 8 (h - 4) ∙ (changes s.0 s.1 s.2).middle
+        ∙ sym (between_is base 8 (h - 4))) in
         head_with base s len h head c (omega (arith, inside)) front
-        (sym (between_is c 8 (h - 4)) ∙ middle ∙ between_is base 8 (h - 4))
+        (sym (between_is c 8 (h - 4)) ∙ rest ∙ between_is base 8 (h - 4))
+
+    pub left_after : (s : WavSpecEx) (len : ℕ) → Head base s len h → h ≤ length base
+        → (field (h - 4) c ≡ says chosen)
+        × (take (cover (field (h - 4) c)) (drop h c) ≡ take (cover (field (h - 4) c)) bytes)
+        × (cover (field (h - 4) c) ≤ length bytes) × Head c s (field (h - 4) c) h
+    left_after s len head whole = (
+      says_chosen,
+      stored_after,
+      omega (arith, ap cover says_chosen, few chosen chosen_from chosen_to),
+      head_after s len head whole,
+    )

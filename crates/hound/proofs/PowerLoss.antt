@@ -1,6 +1,7 @@
 -- What a loss of power leaves of a writer's file.
 use Rattle.std.proofs.Common.{◌≡◌, ℕ, zero, suc, ◌+◌, ◌-◌, ◌*◌, ◌/◌, ◌%◌, ◌≤◌, inl, inr, List, [], ◌∷◌, ◌++◌, length, take, drop, refl, sym, ◌∙◌, ap, subst, arith, append_assoc, length-append, length-drop, take-append-drop}
 use Rattle.std.proofs.lemmas.Bool.{cases_lt}
+use Rattle.std.proofs.lemmas.Grind.{flat_map-append}
 use Rattle.std.proofs.lemmas.List.{length-take-le, take-take, take-append-le}
 use Rattle.std.proofs.lemmas.Nat.{div-add-mod', div_below, div-mul-add, mod-mul-add, mod_below, mul-le}
 use Rattle.std.specs.List.{concat, AllByRecursion}
@@ -19,7 +20,7 @@ use Rattle.hound_writer.proofs.Counted.{counts_more, counts_standing}
 use Rattle.hound_writer.proofs.Heads.{head_behind}
 use Rattle.hound.specs.Headline.{BeginInOrder, CountedAfterLoss, CountedAtEach, FlushedByFlushes, KeptAfterLoss, NeverLess, StoredAtEach, accepted_by_all, accepted_of, begins_at}
 use Rattle.hound_repair.proofs.Joining.{AreWide, concat-append, concat_front, wide_front, wide_take}
-use Rattle.hound.proofs.Losing.{few_after, head_after, says_chosen, stored_after}
+use Rattle.hound.proofs.Losing.{left_after, says_chosen}
 
 -- those of whole bytes are of their width
 pub wide_containers : (w n : ℕ) (bytes : List ℕ) → n * w ≤ length bytes
@@ -71,11 +72,7 @@ counts_stored s h q list c some wide head few among stored =
 -- what a list of calls accepted is what its first ones did, and what the others did
 pub accepted_parts : (before after : List Call)
     → accepted_by_all (before ++ after) ≡ accepted_by_all before ++ accepted_by_all after
-accepted_parts [] after = refl
-accepted_parts (call ∷ before) after =
-    let here = accepted_of call.asked (mark_of call.answer) in
-    ap (λ l. here ++ l) (accepted_parts before after)
-    ∙ sym (append_assoc here (accepted_by_all before) (accepted_by_all after))
+accepted_parts = flat_map-append (λ call. accepted_of call.asked (mark_of call.answer))
 
 -- The call during which this many bytes had been written, no later than a given one of a list.
 pub record During (calls before : List Call) (medium : MediumState) (j : ℕ) : Type 0 where
@@ -186,7 +183,7 @@ module _ (s : WavSpecEx) (h len : ℕ) (found : List (List ℕ)) (calls : List C
             ∙ sym (ap (take n) parts ∙ take-append-le n (concat first) rest (omega (arith, few, size))),
       )
 
-  pub counted_after_loss : CountedAfterLoss s h found calls end
+  counted_after_loss : CountedAfterLoss s h found calls end
   counted_after_loss before after call f k sector c same begun le from to ascends sized one lost =
       let all = list before in
       let bytes = concat all in
@@ -231,10 +228,8 @@ module _ (s : WavSpecEx) (h len : ℕ) (found : List (List ℕ)) (calls : List C
       λ j since until. long j (omega (arith, begun, since)) (omega (arith, until, within)) in
       let changes : (j : ℕ) → f ≤ j → j ≤ k → ChangesSizesOnly h base (at j) =
       λ j since until. sizes j (omega (arith, begun, since)) (omega (arith, until, within)) in
-      let here = stored_after h bytes base end.start end.past (cover w) f k behind within ascends
-      tall fits kept changes sector sized one c lost in
-      let few = few_after h bytes base end.start end.past (cover w) f k behind within ascends
-      tall fits kept changes sector sized one c lost in
+      let (says_is, here, few, head_is) = left_after h bytes base end.start end.past (cover w) f k
+      behind within ascends tall fits kept changes sector sized one c lost s len head whole in
       let v = field (h - 4) c in
       let q = (v + (w - 1)) / w in
       let among : q ≤ length all =
@@ -249,26 +244,16 @@ module _ (s : WavSpecEx) (h len : ℕ) (found : List (List ℕ)) (calls : List C
             ))
         | inr under ↦ under
       ] in
-      let chosen = lost.sectors ((h - 4) / sector) in
-      let head_is =
-      head_after h bytes base end.start end.past (cover w) f k behind within ascends
-      tall fits kept changes sector sized one c lost s len head whole in (
+      let chosen = lost.sectors ((h - 4) / sector) in (
         counts_stored s h q all c some wide_all head_is (le_cover w v some) among here,
-        (
-          chosen.0,
-          chosen.1,
-          chosen.2,
-          says_chosen h bytes base end.start end.past (cover w) f k behind within ascends tall
-              fits kept changes sector sized one c lost,
-        ),
+        (chosen.0, chosen.1, chosen.2, says_is),
         head_is,
       )
 
   -- the length field is that of a state, and no published sample is lost
-  pub kept_after_loss : NeverLess s h found calls end → FlushedByFlushes s h found calls end
+  kept_after_loss : NeverLess s h found calls end → FlushedByFlushes s h found calls end
       → KeptAfterLoss s h found calls end
-  kept_after_loss never flushed sector c begun known ascends sized one lost =
-      let f = end.flushed in
+  kept_after_loss never flushed f sector c begun later known ascends sized one lost =
       let k = length end.past in
       let behind : 20 ≤ h = head_behind base s len h head in
       let chosen = lost.sectors ((h - 4) / sector) in (
@@ -286,6 +271,11 @@ module _ (s : WavSpecEx) (h len : ℕ) (found : List (List ℕ)) (calls : List C
               arith,
               uncut.3,
               never before after flush uncut.0 same has_all
-                  (omega (arith, flushed before after flush same has_all, uncut.1)) uncut.2 uncut.4,
+                  (omega (arith, flushed before after flush same has_all, later, uncut.1)) uncut.2
+                  uncut.4,
             ),
       )
+
+  pub after_losses : NeverLess s h found calls end → FlushedByFlushes s h found calls end
+      → CountedAfterLoss s h found calls end × KeptAfterLoss s h found calls end
+  after_losses never flushed = (counted_after_loss, kept_after_loss never flushed)

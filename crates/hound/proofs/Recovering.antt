@@ -1,5 +1,5 @@
 -- What a flush has published, in whatever is left later.
-use Rattle.std.proofs.Common.{◌≡◌, ℕ, suc, ◌+◌, ◌-◌, ◌*◌, ◌≤◌, Bool, List, [], ◌∷◌, ◌++◌, length, take, drop, IsTrue, inl, inr, refl, sym, ◌∙◌, ap, subst, arith, append_assoc}
+use Rattle.std.proofs.Common.{◌≡◌, ℕ, suc, ◌+◌, ◌-◌, ◌*◌, ◌≤◌, Bool, List, [], ◌∷◌, ◌++◌, length, take, drop, IsTrue, inl, inr, sym, ◌∙◌, ap, subst, arith, append_assoc, length-append}
 use Rattle.std.specs.List.{concat}
 use Rattle.std.proofs.lemmas.Bool.{cases_lt}
 use Rattle.std.proofs.lemmas.List.{take_all}
@@ -21,15 +21,8 @@ use Rattle.hound_writer.specs.Sizes.{field}
 use Rattle.hound_writer.specs.Storing.{IsStored}
 use Rattle.hound.specs.Headline.{HasPublished, IsLeftAfter, Promises, accepted_by_all, begins_at}
 use Rattle.hound.proofs.Losing.{stored_survives}
-use Rattle.hound.proofs.PowerLoss.{accepted_parts, during}
-
--- a list that isn't empty has a last call
-last_of : (call : Call) (calls : List Call)
-    → (init : List Call) × (last : Call) × (call ∷ calls ≡ init ++ (last ∷ []))
-last_of call [] = ([], call, refl)
-last_of call (next ∷ calls) =
-    let (init, last, is) = last_of next calls in
-    (call ∷ init, last, ap (λ l. call ∷ l) is)
+use Rattle.hound.proofs.Calling.{at_call}
+use Rattle.hound.proofs.PowerLoss.{accepted_parts}
 
 module _ (s : WavSpecEx) (h : ℕ) (found : List (List ℕ)) (calls : List Call) (end : MediumState)
     (promises : Promises s h found calls end) (some : 1 ≤ s.bytes_per_sample)
@@ -71,18 +64,6 @@ module _ (s : WavSpecEx) (h : ℕ) (found : List (List ℕ)) (calls : List Call)
         (promises.in_order [] (before ++ (flush ∷ [])) after parts).0,
         ap (λ l. begins_at l end.past) parts,
       )
-
-  -- the call during which this many bytes had been written
-  at_call : (k : ℕ) → begins_at calls end.past ≤ k → k ≤ length end.past
-      → (front rest : List Call) × (call : Call) × (calls ≡ front ++ (call ∷ rest))
-      × (call.began ≤ k) × (k ≤ begins_at rest end.past)
-  at_call k since until =
-      let (init, last, is) = last_of flush after in
-      let whole : calls ≡ (before ++ init) ++ (last ∷ []) =
-      same ∙ ap (λ l. before ++ l) is ∙ sym (append_assoc before init (last ∷ [])) in
-      let d = during (before ++ init) [] last end k
-      (omega (arith, since, ap (λ l. begins_at l end.past) whole)) until in
-      (d.first, d.rest, d.call, whole ∙ d.parts, d.from, d.to)
 
   -- when the flush returns, all are stored
   stored_at_return : IsStored h (concat list) 0 (length (concat list)) (at from)
@@ -127,9 +108,18 @@ module _ (s : WavSpecEx) (h : ℕ) (found : List (List ℕ)) (calls : List Call)
     subst (IsStored h (concat list) 0 (length (concat list))) (sym is) (stored_later k since until),
   )
   published_is_left c (inr (f, k, sector, since, le, until, ascends, sized, one, lost)) = (
-    (let (front, rest, call, parts, low, high) = at_call k (omega (arith, first_began, since, le)) until
-        in (promises.after_loss front rest call f k sector c parts
-        (omega (arith, first_began, since)) le low high ascends sized one lost).2),
+    elim (at_call calls end.past k (omega (arith, first_began, since, le)) until) [
+      | inl none ↦
+          absurd (omega (
+            arith,
+            ap length none,
+            ap length same,
+            length-append before (flush ∷ after),
+          ))
+      | inr (front, rest, call, parts, low, high) ↦
+          (promises.after_loss front rest call f k sector c parts
+          (omega (arith, first_began, since)) le low high ascends sized one lost).2
+    ],
     stored_survives h (length (concat list)) sector f k (concat list) end.start end.past c
         (omega arith) lost
         (λ j low high. stored_later j (omega (arith, since, low)) (omega (arith, high, until))),

@@ -1,5 +1,5 @@
 -- What sessions return: the error of the first step or end that isn't Ok, by spec and steps.
-use Rattle.std.specs.Prelude.{◌≡◌, ℕ, ◌<◌, ◌⊎◌, OnOk, max, nat_lt, Bool, true, false, List, [], ◌∷◌, ◌++◌, length, Result, Ok, Err}
+use Rattle.std.specs.Prelude.{◌≡◌, ℕ, ◌<◌, ◌⊎◌, OnOk, Bool, true, List, [], ◌∷◌, ◌++◌, length, Result, Ok, Err}
 use Rattle.std.specs.Borrow.{Bor}
 use Rattle.std.specs.List.{concat}
 use Rattle.hound_spec.specs.declared.error.Error.{Error}
@@ -9,10 +9,10 @@ use Rattle.hound_spec.specs.Header.{data_start}
 use Rattle.hound_spec.specs.Writable.{IsWritable}
 use Rattle.hound_medium.specs.State.{MediumState, WhereTells}
 use Rattle.hound_writer.specs.Answers.{AcceptAnswer, IsIoError, IsPublishing}
+use Rattle.hound_writer.specs.Calls.{Asked, publish, put}
 use Rattle.hound_writer.specs.Writer.{WriterState}
 use Rattle.hound.specs.declared.session.Step.{Step}
-use Rattle.hound.specs.declared.session.Step.TheVariants.{Whole, Bits, Batch, Flush}
-use Rattle.hound.specs.Steps.{accepted_by, containers_of, step_containers}
+use Rattle.hound.specs.Steps.{accepted_by, asked_by, containers_of}
 
 -- a writer of a file of this spec that has accepted these samples, as far as results depend on it
 abbrev pub writer_after : WavSpecEx → List (List ℕ) → WriterState (Unit {0})
@@ -25,34 +25,24 @@ writer_after s list = record {
   buffer = [];
 }
 
--- What such a writer returns for a step, whose longest batch so far had this many values: only a
--- longer one may need memory.
-abbrev pub AnswersStep : WavSpecEx → List (List ℕ) → ℕ → Step → Result (Unit {0}) Error → Type 0
-AnswersStep s list longest (Whole value) answer =
-    AcceptAnswer false (step_containers s (Whole value)) (writer_after s list) answer
-AnswersStep s list longest (Bits bits) answer =
-    AcceptAnswer false (step_containers s (Bits bits)) (writer_after s list) answer
-AnswersStep s list longest (Batch values) answer =
-    AcceptAnswer (nat_lt longest (length values.now)) (step_containers s (Batch values))
-    (writer_after s list) answer
-AnswersStep s list longest Flush answer = IsPublishing answer (writer_after s list)
+-- what such a writer returns for a call
+abbrev pub AnswersCall : WavSpecEx → List (List ℕ) → Asked → Result (Unit {0}) Error → Type 0
+AnswersCall s list (put allocates containers) answer =
+    AcceptAnswer allocates containers (writer_after s list) answer
+AnswersCall s list publish answer = IsPublishing answer (writer_after s list)
 
--- the length of the longest batch, with this step
-abbrev pub longest_with : ℕ → Step → ℕ
-longest_with longest (Whole value) = longest
-longest_with longest (Bits bits) = longest
-longest_with longest (Batch values) = max longest (length values.now)
-longest_with longest Flush = longest
+-- what such a writer returns for a step
+abbrev pub AnswersStep : WavSpecEx → List (List ℕ) → Step → Result (Unit {0}) Error → Type 0
+AnswersStep s list step answer = AnswersCall s list (asked_by s step) answer
 
 -- what a session returns whose writer has accepted these samples: the error of the first step that
 -- isn't Ok, else what its end returns
-abbrev pub AnswersSession : WavSpecEx → List (List ℕ) → ℕ → List Step → Result (Unit {0}) Error →
-    Type 0
-AnswersSession s list longest [] answer = IsPublishing answer (writer_after s list)
-AnswersSession s list longest (step ∷ steps) answer =
-    ((e : Error) × (answer ≡ Err e) × AnswersStep s list longest step (Err e))
-    ⊎ (AnswersStep s list longest step (Ok tt)
-    × AnswersSession s (list ++ accepted_by s step true) (longest_with longest step) steps answer)
+abbrev pub AnswersSession : WavSpecEx → List (List ℕ) → List Step → Result (Unit {0}) Error → Type 0
+AnswersSession s list [] answer = IsPublishing answer (writer_after s list)
+AnswersSession s list (step ∷ steps) answer =
+    ((e : Error) × (answer ≡ Err e) × AnswersStep s list step (Err e))
+    ⊎ (AnswersStep s list step (Ok tt)
+    × AnswersSession s (list ++ accepted_by s step true) steps answer)
 
 -- what sessions return after a file of these samples: the error of the first that isn't Ok, which
 -- is that of the session or an `IoError` before it began
@@ -60,8 +50,8 @@ abbrev pub AnswersAll : WavSpecEx → List (List ℕ) → List (Bor (List Step))
     Result (Unit {0}) Error → Type 0
 AnswersAll s list [] answer = answer ≡ Ok tt
 AnswersAll s list (session ∷ sessions) answer =
-    ((e : Error) × (answer ≡ Err e) × (IsIoError e ⊎ AnswersSession s list 0 session.now (Err e)))
-    ⊎ (AnswersSession s list 0 session.now (Ok tt)
+    ((e : Error) × (answer ≡ Err e) × (IsIoError e ⊎ AnswersSession s list session.now (Err e)))
+    ⊎ (AnswersSession s list session.now (Ok tt)
     × AnswersAll s (list ++ containers_of s session.now) sessions answer)
 
 -- What the result of sessions shows: over every medium, that the spec can't be written; else the

@@ -1,7 +1,7 @@
 -- What a list of calls of a writer promises, whatever failed: counted in each state, published at a
 -- flush, canonical at the end.
-use Rattle.std.specs.Prelude.{◌≡◌, ℕ, ◌+◌, ◌-◌, ◌/◌, ◌<◌, ◌≤◌, ◌⊎◌, ⊤, Bool, true, List, [], ◌∷◌, ◌++◌, length}
-use Rattle.std.specs.List.{concat, AllByRecursion}
+use Rattle.std.specs.Prelude.{◌≡◌, ℕ, ◌+◌, ◌-◌, ◌/◌, ◌<◌, ◌≤◌, ◌⊎◌, max, Bool, true, List, [], ◌∷◌, ◌++◌, length}
+use Rattle.std.specs.List.{concat, flat_map, AllByRecursion}
 use Rattle.std.specs.Io.{StartsWith}
 use Rattle.hound_spec.specs.declared.spec.WavSpecEx.{WavSpecEx}
 use Rattle.hound_spec.specs.Header.{canonical, data_start}
@@ -11,7 +11,7 @@ use Rattle.hound_durable.specs.Losses.{Ascends, SurvivesLoss, place_of}
 use Rattle.hound_reader.specs.Chunks.{Head}
 use Rattle.hound_reader.specs.Fmt.{IsSoundSpec}
 use Rattle.hound_writer.specs.Answers.{if_marked, mark_of}
-use Rattle.hound_writer.specs.Calls.{Asked, Begun, Call, LeftBy, appended, asked_by_all, found_in, new_file, publish, put, start_of}
+use Rattle.hound_writer.specs.Calls.{Asked, Begun, Call, LeftBy, appended, found_in, new_file, publish, put, start_of}
 use Rattle.hound_writer.specs.Counts.{Counts}
 use Rattle.hound_writer.specs.Sizes.{field}
 use Rattle.hound_writer.specs.Storing.{IsStored}
@@ -24,9 +24,7 @@ accepted_of publish mark = []
 
 -- what calls accepted, in their order
 abbrev pub accepted_by_all : List Call → List (List ℕ)
-accepted_by_all [] = []
-accepted_by_all (call ∷ calls) =
-    accepted_of call.asked (mark_of call.answer) ++ accepted_by_all calls
+accepted_by_all calls = flat_map (λ call. accepted_of call.asked (mark_of call.answer)) calls
 
 -- where the first of these calls began; without one, the end of this past
 abbrev pub begins_at : List Call → List (ℕ × ℕ) → ℕ
@@ -36,15 +34,6 @@ begins_at (call ∷ calls) past = call.began
 -- a call that published all
 abbrev pub HasPublished : Call → Type 0
 HasPublished call = (call.asked ≡ publish) × (mark_of call.answer ≡ true)
-
--- calls that write samples only
-abbrev pub AsksToWrite : Asked → Type 0
-AsksToWrite (put allocates containers) = ⊤
-AsksToWrite publish = ⊥
-
-abbrev pub WriteOnly : List Call → Type 0
-WriteOnly [] = ⊤
-WriteOnly (call ∷ calls) = AsksToWrite call.asked × WriteOnly calls
 
 -- No write of the field at p is cut in the state after k bytes: each byte that one of these calls
 -- wrote at p before k was followed by three more, within the same call and before k.
@@ -83,7 +72,8 @@ module _ (s : WavSpecEx) (start : ℕ) (found : List (List ℕ)) (calls : List C
   -- where the next one begins, the length field is that of all samples accepted before it.
   abbrev pub PublishedByFlushes : Type 0
   PublishedByFlushes = (before later after : List Call) (flush : Call) (k : ℕ) →
-      calls ≡ before ++ (flush ∷ (later ++ after)) → HasPublished flush → WriteOnly later →
+      calls ≡ before ++ (flush ∷ (later ++ after)) → HasPublished flush →
+      AllByRecursion (λ call. call.asked ≡ publish → ⊥) later →
       begins_at (later ++ after) medium.past ≤ k → k ≤ begins_at after medium.past →
       field (start - 4) (contents_at k) ≡ length (concat (accepted before))
 
@@ -150,21 +140,21 @@ module _ (s : WavSpecEx) (start : ℕ) (found : List (List ℕ)) (calls : List C
       HasPublished flush → HasWholeLength after contents →
       length (concat (accepted before)) ≤ field (start - 4) contents)
 
-  -- The same for a medium that has written bytes only at ascending places since it was last flushed,
-  -- the header before that, if the power is lost at the end. Calls that all fail from some point on
-  -- are those of a machine that lost its power there.
-  abbrev pub KeptAfterLoss : Type 0
-  KeptAfterLoss = (sector : ℕ) (contents : List ℕ) → begins_at calls medium.past ≤ medium.flushed →
-      medium.flushed ≤ length medium.past →
-      Ascends medium.past medium.flushed (length medium.past) → 1 ≤ sector →
-      (start - 4) / sector ≡ (start - 1) / sector →
-      SurvivesLoss sector medium.start medium.past medium.flushed (length medium.past) contents →
-      LosesNothing contents
-
   -- An end that published leaves the canonical file of all accepted samples.
   abbrev pub CanonicalAtEnd : Type 0
   CanonicalAtEnd = (before : List Call) (end : Call) → calls ≡ before ++ (end ∷ []) →
       HasPublished end → StartsWith medium.contents (canonical s (accepted before))
+
+-- A loss of power at the end loses nothing of a medium that was flushed up to f, no earlier than by
+-- these calls, the header before that, and has written bytes only at ascending places since. Calls
+-- that all fail from some point on are those of a machine that lost its power there.
+abbrev pub KeptAfterLoss : WavSpecEx → ℕ → List (List ℕ) → List Call → MediumState → Type 0
+KeptAfterLoss s start found calls medium =
+    (f sector : ℕ) (contents : List ℕ) → begins_at calls medium.past ≤ f → medium.flushed ≤ f →
+    f ≤ length medium.past → Ascends medium.past f (length medium.past) → 1 ≤ sector →
+    (start - 4) / sector ≡ (start - 1) / sector →
+    SurvivesLoss sector medium.start medium.past f (length medium.past) contents →
+    LosesNothing s start found calls (record medium { flushed = f }) contents
 
 -- What calls promise of a medium that records every byte written, in each of its states since the
 -- first of them.
@@ -179,29 +169,40 @@ pub record Promises (s : WavSpecEx) (start : ℕ) (found : List (List ℕ)) (cal
   pub in_order : BeginInOrder s start found calls medium
   pub after_loss : CountedAfterLoss s start found calls medium
   pub kept_after_loss : KeptAfterLoss s start found calls medium
-  pub canonical : start ≡ data_start s →
-      HasHeader s (contents_at s start found calls medium (begins_at calls medium.past)) →
-      CanonicalAtEnd s start found calls medium
 
--- P for a new file
-abbrev pub IfNew : Begun → Type 0 → Type 0
-IfNew new_file P = P
-IfNew (appended start found) P = ⊤
+-- P for a file that was begun with the header of its spec, by the writer that had these contents
+-- first or by one before it
+abbrev pub IfBegun : WavSpecEx → Begun → List ℕ → Type 0 → Type 0
+IfBegun s new_file contents P = P
+IfBegun s (appended start found) contents P = start ≡ data_start s → HasHeader s contents → P
 
--- What calls leave in a medium whose bytes are known: it counts what they accepted, each sample as
--- wide as its spec says, and a new file is the canonical one at an end that published.
-pub record HoldsAtEnd (s : WavSpecEx) (file : Begun) (calls : List Call) (medium : MediumState) :
-    Type 0 where
-  pub sound : IfNew file (IsSoundSpec s)
+-- no call of the medium failed between these; past the largest count of faults one more isn't
+-- visible
+abbrev pub NoFault : MediumState → MediumState → Type 0
+NoFault old new = (new.faults ≡ old.faults) × (old.faults < 18446744073709551615)
+
+-- What calls leave in a medium whose bytes are known, from what their first writer had: it counts
+-- what they accepted, each sample as wide as its spec says; and a file that was begun with the header
+-- of its spec is the canonical one at an end that published, and of no more bytes than that or than
+-- there were if no call of the medium failed.
+pub record HoldsAtEnd (s : WavSpecEx) (file : Begun) (calls : List Call)
+    (begun medium : MediumState) : Type 0 where
+  pub sound : file ≡ new_file → IsSoundSpec s
   pub wide : AllByRecursion (λ c. length c ≡ s.bytes_per_sample)
       (found_in file ++ accepted_by_all calls)
   pub counts : Counts s (start_of s file) (found_in file ++ accepted_by_all calls) medium.contents
-  pub canonical : IfNew file (CanonicalAtEnd s (start_of s file) (found_in file) calls medium)
+  pub exact : IfBegun s file begun.contents (NoFault begun medium →
+      (before : List Call) (end : Call) → calls ≡ before ++ (end ∷ []) → end.asked ≡ publish →
+      let list = canonical s (found_in file ++ accepted_by_all before) in
+      StartsWith medium.contents list
+      × (length medium.contents ≤ max (length begun.contents) (length list)))
+  pub canonical : IfBegun s file begun.contents
+      (CanonicalAtEnd s (start_of s file) (found_in file) calls medium)
 
 -- What calls promise of a medium that records every byte written, once they have led to it.
-pub record Keeps (s : WavSpecEx) (file : Begun) (calls : List Call) (medium : MediumState) :
+pub record Keeps (s : WavSpecEx) (file : Begun) (calls : List Call) (begun medium : MediumState) :
     Type 0 where
-  pub at_end : HoldsAtEnd s file calls medium
+  pub at_end : HoldsAtEnd s file calls begun medium
   pub promises : Promises s (start_of s file) (found_in file) calls medium
 
 -- What a writer has left that was asked these, over a medium whose bytes are known: its calls, each
@@ -209,13 +210,14 @@ pub record Keeps (s : WavSpecEx) (file : Begun) (calls : List Call) (medium : Me
 pub record Holds {W : Type 0} (tells keeps : Bool) (state : W → MediumState) (s : WavSpecEx)
     (file : Begun) (asked : List Asked) (medium : W) : Type 0 where
   pub left : LeftBy tells keeps state s file asked medium
-  pub at_end : HoldsAtEnd s file left.recorded.calls (state medium)
+  pub at_end : HoldsAtEnd s file left.recorded.calls (state left.recorded.first.medium)
+      (state medium)
 
 -- The same over a medium that records every byte written: and all that these calls promise.
 pub record Kept {W : Type 0} (tells keeps : Bool) (state : W → MediumState) (s : WavSpecEx)
     (file : Begun) (asked : List Asked) (medium : W) : Type 0 where
   pub left : LeftBy tells keeps state s file asked medium
-  pub promised : Keeps s file left.recorded.calls (state medium)
+  pub promised : Keeps s file left.recorded.calls (state left.recorded.first.medium) (state medium)
 
 -- What a loss of power at the end leaves of a medium that wrote bytes at ascending places only since
 -- it was flushed, the header before that, as the medium within a `Durable` does: it counts, and has

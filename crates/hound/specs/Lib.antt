@@ -17,6 +17,7 @@ pub use Rattle.hound_sample.specs.ItemReads
 pub use Rattle.hound_sample.specs.ManyReads
 pub use Rattle.hound_sample.specs.Meaning
 pub use Rattle.hound_sample.specs.Reads
+pub use Rattle.hound_sample.specs.Scale
 pub use Rattle.hound_sample.specs.Slices
 pub use Rattle.hound_sample.specs.declared.item.ItemError
 pub use Rattle.hound_medium.specs.Bytes

@@ -1,26 +1,23 @@
 -- A run of a writer: how it begins, its steps as calls, and how it ends.
-use Rattle.std.specs.Prelude.{◌≡◌, ℕ, ◌+◌, ◌/◌, ◌<◌, ◌≤◌, ◌⊎◌, max, replicate, ⊤, Bool, false, List, [], ◌∷◌, ◌++◌, length, drop, map, Result, Ok, Err}
-use Rattle.std.specs.Io.{StartsWith}
+use Rattle.std.specs.Prelude.{◌≡◌, ℕ, ◌+◌, ◌/◌, ◌≤◌, ◌⊎◌, replicate, Bool, false, List, [], ◌∷◌, ◌++◌, length, drop, map, Result, Ok, Err}
 use Rattle.hound_spec.specs.declared.error.Error.{Error}
 use Rattle.hound_spec.specs.declared.spec.WavSpecEx.{WavSpecEx}
-use Rattle.hound_spec.specs.Header.{canonical}
 use Rattle.hound_medium.specs.State.{MediumState, WhereTells, WhereKeeps}
 use Rattle.hound_sample.specs.Container.{containers}
 use Rattle.hound_reader.specs.Chunks.{Head}
-use Rattle.hound_writer.specs.Answers.{OnPublished, mark_of}
+use Rattle.hound_writer.specs.Answers.{mark_of}
 use Rattle.hound_writer.specs.Appending.{Appends, IsNotAppended}
 use Rattle.hound_writer.specs.Beginning.{Begins as BeginsFile, IsNotBegun as IsNoFile}
-use Rattle.hound_writer.specs.Calls.{Call, Lead, asked_by_all, publish}
-use Rattle.hound_writer.specs.Counts.{Counts}
+use Rattle.hound_writer.specs.Calls.{Begun, Call, Lead, appended, asked_by_all, found_in, new_file, publish, start_of}
 use Rattle.hound_writer.specs.Publishing.{Finishes}
 use Rattle.hound_writer.specs.Sizes.{ChangesSizesOnly}
-use Rattle.hound_writer.specs.Writer.{WriterState, IsWhole, IsBegun, accepted_samples}
+use Rattle.hound_writer.specs.Writer.{WriterState, IsWhole, accepted_samples}
 use Rattle.hound.specs.declared.session.Step.{Step}
 use Rattle.hound.specs.declared.session.Begin.{Begin}
 use Rattle.hound.specs.declared.session.Begin.TheVariants.{New, Append}
 use Rattle.hound.specs.declared.session.End.{End}
 use Rattle.hound.specs.declared.session.End.TheVariants.{Finalize, Drop}
-use Rattle.hound.specs.Headline.{Promises, SurvivesAtEnd, accepted_by_all}
+use Rattle.hound.specs.Headline.{HoldsAtEnd, Promises, SurvivesAtEnd}
 use Rattle.hound.specs.Steps.{asked_by}
 
 -- how a run begins: with a new file, or after the data of the existing one
@@ -43,78 +40,60 @@ abbrev pub EndsAs : End → Result (Unit {0}) Error → Result (Unit {0}) Error 
 EndsAs Finalize answer finished = answer ≡ finished
 EndsAs Drop answer finished = answer ≡ Ok tt
 
--- P, if all was published at the end of a run, by its result
-abbrev pub OnFinalized : End → Result (Unit {0}) Error → Type 0 → Type 0
-OnFinalized Finalize answer P = OnPublished answer P
-OnFinalized Drop answer P = ⊤
+-- the spec and the file of a run as its writer began it
+abbrev pub spec_of : {M : Type 0} → Begin → WriterState M → WavSpecEx
+spec_of (New spec_ex) first = spec_ex
+spec_of Append first = first.spec_ex
 
--- no call of the medium failed between these; past the largest count of faults one more isn't
--- visible
-abbrev pub NoFault : MediumState → MediumState → Type 0
-NoFault old new = (new.faults ≡ old.faults) × (old.faults < 18446744073709551615)
+abbrev pub file_of : {M : Type 0} → (M → MediumState) → Begin → WriterState M → Begun
+file_of state (New spec_ex) first = new_file
+file_of state Append first = appended first.data_start (accepted_samples state first)
 
--- What a run leaves, with what it found and what its calls accepted: it is counted; before the data
--- only the two sizes changed; and a file that was begun with the header of its spec is then the
--- canonical one, of no more bytes than that or than there were before.
-pub record Leaves {M : Type 0} (state : M → MediumState) (calls : List Call) (end : End)
-    (answer : Result (Unit {0}) Error) (first : WriterState M) (medium : M) : Type 0 where
-  pub counts : IsWhole state first →
-      Counts first.spec_ex first.data_start
-      (accepted_samples state first ++ accepted_by_all calls) (state medium).contents
-  pub front : ChangesSizesOnly first.data_start (state first.medium).contents
-      (state medium).contents
-  pub file : IsWhole state first → IsBegun state first →
-      OnFinalized end answer
-      (StartsWith (state medium).contents
-      (canonical first.spec_ex (accepted_samples state first ++ accepted_by_all calls)))
-  pub exact : IsWhole state first → IsBegun state first →
-      NoFault (state first.medium) (state medium) →
-      let file = canonical first.spec_ex (accepted_samples state first ++ accepted_by_all calls) in
-      StartsWith (state medium).contents file
-      × (length (state medium).contents ≤ max (length (state first.medium).contents) (length file))
+-- the call of an end
+abbrev pub end_call : {M : Type 0} → (M → MediumState) → WriterState M →
+    Result (Unit {0}) Error → Call
+end_call state last finished =
+    record { asked = publish; answer = finished; began = length (state last.medium).past }
 
--- A run that began, made the call of every step, and then that of its end.
+-- A run that began, made the call of every step, and then that of its end: before the data only the
+-- two sizes changed, and if all the data were there the medium has what any list of these calls
+-- promises.
 pub record Ran {M : Type 0} (tells keeps : Bool) (state : M → MediumState) (begin : Begin)
     (steps : List Step) (marks : List Bool) (end : End) (old : M) (answer : Result (Unit {0}) Error)
     (medium : M) : Type 0 where
   pub first : WriterState M
   pub last : WriterState M
   pub calls : List Call
-  pub finish : Call
+  pub finished : Result (Unit {0}) Error
   pub begins : Begins tells keeps state begin old first
   pub lead : Lead tells keeps state calls first last
-  pub asked : asked_by_all calls ≡ map (asked_by first.spec_ex) steps
+  pub asked : asked_by_all calls ≡ map (asked_by (spec_of begin first)) steps
   pub marked : marks ≡ map (λ (call : Call). mark_of call.answer) calls
-  pub finish_asked : finish.asked ≡ publish
-  pub finish_began : finish.began ≡ length (state last.medium).past
-  pub ends : Finishes tells keeps state last finish.answer medium
-  pub told : EndsAs end answer finish.answer
-  pub leaves : WhereTells tells (Leaves state calls end answer first medium)
+  pub ends : Finishes tells keeps state last finished medium
+  pub told : EndsAs end answer finished
+  pub front : WhereTells tells (ChangesSizesOnly first.data_start (state first.medium).contents
+      (state medium).contents)
+  pub holds : WhereTells tells (IsWhole state first →
+      HoldsAtEnd (spec_of begin first) (file_of state begin first)
+      (calls ++ (end_call state last finished ∷ [])) (state first.medium) (state medium))
   pub promises : WhereKeeps tells keeps (IsWhole state first →
-      Promises first.spec_ex first.data_start (accepted_samples state first)
-      (calls ++ (finish ∷ [])) (state medium))
+      let s = spec_of begin first in let file = file_of state begin first in
+      Promises s (start_of s file) (found_in file)
+      (calls ++ (end_call state last finished ∷ [])) (state medium))
 
 -- all calls of a run, the end among them
 abbrev pub all_calls : {M : Type 0} {tells keeps : Bool} {state : M → MediumState} {begin : Begin}
     {steps : List Step} {marks : List Bool} {end : End} {old : M}
     {answer : Result (Unit {0}) Error} {medium : M} →
     Ran tells keeps state begin steps marks end old answer medium → List Call
-all_calls run = run.calls ++ (run.finish ∷ [])
+all_calls {state = state} run = run.calls ++ (end_call state run.last run.finished ∷ [])
 
--- a run that didn't begin: no step was taken
-pub record NotRun {M : Type 0} (tells keeps : Bool) (state : M → MediumState) (begin : Begin)
-    (steps : List Step) (marks : List Bool) (old : M) (answer : Result (Unit {0}) Error)
-    (medium : M) : Type 0 where
-  pub error : Error
-  pub told : answer ≡ Err error
-  pub why : IsNotBegun tells keeps state begin old medium error
-  pub marked : marks ≡ replicate (length steps) false
-
--- what `run_session` does
+-- what `run_session` does; where the run doesn't begin no step is taken
 abbrev pub IsSession : {M : Type 0} → Bool → Bool → (M → MediumState) → Begin → List Step →
     List Bool → End → M → Result (Unit {0}) Error → M → Type 0
 IsSession tells keeps state begin steps marks end old answer medium =
-    NotRun tells keeps state begin steps marks old answer medium
+    ((e : Error) × (answer ≡ Err e) × IsNotBegun tells keeps state begin old medium e
+    × (marks ≡ replicate (length steps) false))
     ⊎ Ran tells keeps state begin steps marks end old answer medium
 
 -- What a loss of power leaves of a run that appended to a file, whose data were complete.

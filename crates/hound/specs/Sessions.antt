@@ -19,106 +19,66 @@ use Rattle.hound.specs.FirstError.{AnswersStep, writer_after}
 use Rattle.hound.specs.Run.{Begins, IsNotBegun}
 use Rattle.hound.specs.Steps.{Takes, containers_of}
 
--- Steps that were all Ok, each from where the one before it ended.
-abbrev pub RunsOk : {M : Type 0} → Bool → Bool → (M → MediumState) → List Step → WriterState M →
-    WriterState M → Type 0
-RunsOk tells keeps state [] old new = new ≡ old
-RunsOk {M} tells keeps state (step ∷ steps) old new =
-    (mid : WriterState M) × Takes tells keeps state step (Ok tt) old mid
-    × RunsOk tells keeps state steps mid new
+-- Steps up to the first error, which is then the result, whatever the end of the writer, a drop, came
+-- to; without an error the result is that of `finalize_into`.
+abbrev pub RunsUntil : {M : Type 0} → Bool → Bool → (M → MediumState) → List Step → WriterState M →
+    Result (Unit {0}) Error → M → Type 0
+RunsUntil tells keeps state [] w answer medium = Finishes tells keeps state w answer medium
+RunsUntil {M} tells keeps state (step ∷ steps) w answer medium =
+    ((e : Error) × (new : WriterState M) × (dropped : Result (Unit {0}) Error) × (answer ≡ Err e)
+    × Takes tells keeps state step (Err e) w new × Finishes tells keeps state new dropped medium)
+    ⊎ ((new : WriterState M) × Takes tells keeps state step (Ok tt) w new
+    × RunsUntil tells keeps state steps new answer medium)
 
--- the first steps were Ok, and then one was this error
-pub record StopsIn {M : Type 0} (tells keeps : Bool) (state : M → MediumState) (steps : List Step)
-    (e : Error) (old new : WriterState M) : Type 0 where
-  pub before : List Step
-  pub step : Step
-  pub after : List Step
-  pub whole : steps ≡ before ++ step ∷ after
-  pub last : WriterState M
-  pub runs : RunsOk tells keeps state before old last
-  pub takes : Takes tells keeps state step (Err e) last new
+-- one session, up to its first error: it isn't begun, or its steps are taken
+abbrev pub RunsFrom : {M : Type 0} → Bool → Bool → (M → MediumState) → Begin → List Step → M →
+    Result (Unit {0}) Error → M → Type 0
+RunsFrom {M} tells keeps state begin steps old answer medium =
+    ((e : Error) × (answer ≡ Err e) × IsNotBegun tells keeps state begin old medium e)
+    ⊎ ((w : WriterState M) × Begins tells keeps state begin old w
+    × RunsUntil tells keeps state steps w answer medium)
 
--- a session whose steps were all Ok, and which was finalized with this result
-pub record IsFinished {M : Type 0} (tells keeps : Bool) (state : M → MediumState) (begin : Begin)
-    (steps : List Step)
-    (old : M) (answer : Result (Unit {0}) Error) (medium : M) : Type 0 where
-  pub first : WriterState M
-  pub last : WriterState M
-  pub begins : Begins tells keeps state begin old first
-  pub runs : RunsOk tells keeps state steps first last
-  pub ends : Finishes tells keeps state last answer medium
-
--- a session that stopped in a step, whose error is the result, and whose writer was dropped
-pub record IsStopped {M : Type 0} (tells keeps : Bool) (state : M → MediumState) (begin : Begin)
-    (steps : List Step)
-    (old : M) (answer : Result (Unit {0}) Error) (medium : M) : Type 0 where
-  pub error : Error
-  pub told : answer ≡ Err error
-  pub first : WriterState M
-  pub last : WriterState M
-  pub begins : Begins tells keeps state begin old first
-  pub stops : StopsIn tells keeps state steps error first last
-  pub dropped : Result (Unit {0}) Error
-  pub ends : Finishes tells keeps state last dropped medium
-
--- one session, up to its first error: it isn't begun, or it stops in a step, or it is finished
+-- the same after the medium went to its beginning, if the session appends to the file
 abbrev pub RunsOnce : {M : Type 0} → Bool → Bool → (M → MediumState) → Begin → List Step → M →
     Result (Unit {0}) Error → M → Type 0
-RunsOnce tells keeps state begin steps old answer medium =
-    ((e : Error) × (answer ≡ Err e) × IsNotBegun tells keeps state begin old medium e)
-    ⊎ (IsStopped tells keeps state begin steps old answer medium
-    ⊎ IsFinished tells keeps state begin steps old answer medium)
-
--- one more session: the medium goes to its beginning, and the session appends to the file
-abbrev pub RunsAgain : {M : Type 0} → Bool → Bool → (M → MediumState) → List Step → M →
-    Result (Unit {0}) Error → M → Type 0
-RunsAgain {M} tells keeps state steps old answer medium =
+RunsOnce tells keeps state (New s) steps old answer medium =
+    RunsFrom tells keeps state (New s) steps old answer medium
+RunsOnce {M} tells keeps state Append steps old answer medium =
     ((e : IoFault) × (answer ≡ Err (IoError e))
     × WhereTells tells (Goes {T = Unit {0}} 0 (Err e) (state old) (state medium)))
     ⊎ ((mid : M)
     × WhereTells tells (Goes {T = Unit {0}} {E = IoFault} 0 (Ok tt) (state old) (state mid))
-    × RunsOnce tells keeps state Append steps mid answer medium)
+    × RunsFrom tells keeps state Append steps mid answer medium)
 
--- further sessions, each of which was Ok except perhaps the last one that was run, whose result is
--- returned
-abbrev pub RunsOn : {M : Type 0} → Bool → Bool → (M → MediumState) → List (Bor (List Step)) → M →
-    Result (Unit {0}) Error → M → Type 0
-RunsOn tells keeps state [] old answer medium = (answer ≡ Ok tt) × (medium ≡ old)
-RunsOn {M} tells keeps state (session ∷ sessions) old answer medium =
-    ((e : Error) × (answer ≡ Err e) × RunsAgain tells keeps state session.now old answer medium)
-    ⊎ ((mid : M) × RunsAgain tells keeps state session.now old (Ok tt) mid
-    × RunsOn tells keeps state sessions mid answer medium)
-
--- what `run_sessions` does: nothing if there are no sessions; else the first begins a file, and
--- the others append to it
-abbrev pub AreSessions : {M : Type 0} → Bool → Bool → (M → MediumState) → WavSpecEx →
+-- what `run_sessions` does: sessions, the first of which begins so and the others append, each of them
+-- Ok except perhaps the last one that was run, whose result is returned
+abbrev pub RunsOn : {M : Type 0} → Bool → Bool → (M → MediumState) → Begin →
     List (Bor (List Step)) → M → Result (Unit {0}) Error → M → Type 0
-AreSessions tells keeps state s [] old answer medium = (answer ≡ Ok tt) × (medium ≡ old)
-AreSessions {M} tells keeps state s (session ∷ sessions) old answer medium =
+RunsOn tells keeps state begin [] old answer medium = (answer ≡ Ok tt) × (medium ≡ old)
+RunsOn {M} tells keeps state begin (session ∷ sessions) old answer medium =
     ((e : Error) × (answer ≡ Err e)
-    × RunsOnce tells keeps state (New s) session.now old answer medium)
-    ⊎ ((mid : M) × RunsOnce tells keeps state (New s) session.now old (Ok tt) mid
-    × RunsOn tells keeps state sessions mid answer medium)
+    × RunsOnce tells keeps state begin session.now old (Err e) medium)
+    ⊎ ((mid : M) × RunsOnce tells keeps state begin session.now old (Ok tt) mid
+    × RunsOn tells keeps state Append sessions mid answer medium)
 
 -- all steps of sessions, in order
 abbrev pub all_steps : List (Bor (List Step)) → List Step
 all_steps sessions = flat_map (λ session. session.now) sessions
 
--- The error of a session whose steps `before` were accepted: its end gave it, or the next step did.
-abbrev pub StopsAt : WavSpecEx → List Step → List Step → Error → Type 0
-StopsAt s before after e =
-    IsPublishing {T = Unit {0}} (Err e) (writer_after s (containers_of s before))
-    ⊎ ((step : Step) × (rest : List Step) × (longest : ℕ) × (after ≡ step ∷ rest)
-    × AnswersStep s (containers_of s before) longest step (Err e))
+-- the error of a session whose writer had accepted these: its end gave it, or the next step did
+abbrev pub StopsAt : WavSpecEx → List (List ℕ) → List Step → Error → Type 0
+StopsAt s list after e =
+    IsPublishing {T = Unit {0}} (Err e) (writer_after s list)
+    ⊎ ((step : Step) × (rest : List Step) × (after ≡ step ∷ rest) × AnswersStep s list step (Err e))
 
--- Sessions that stopped with an error though no call of the medium failed: it is no `IoError`, the
--- steps before it were accepted and their canonical file is there, and an end or the next step gave
--- it.
-pub record StopsShort (s : WavSpecEx) (steps : List Step) (e : Error)
+-- Sessions after a file of these that stopped with an error though no call of the medium failed: it
+-- is no `IoError`, the steps before it were accepted and their canonical file is there, and an end or
+-- the next step gave it.
+pub record StopsShort (s : WavSpecEx) (list : List (List ℕ)) (steps : List Step) (e : Error)
     (contents : List ℕ) : Type 0 where
   pub no_fault : IsIoError e → ⊥
   pub before : List Step
   pub after : List Step
   pub whole : steps ≡ before ++ after
-  pub file : StartsWith contents (canonical s (containers_of s before))
-  pub why : StopsAt s before after e
+  pub file : StartsWith contents (canonical s (list ++ containers_of s before))
+  pub why : StopsAt s (list ++ containers_of s before) after e

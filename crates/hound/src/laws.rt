@@ -1,13 +1,16 @@
 // What holds for every run.
-ghost use Rattle.std.specs.Prelude.{◌≡◌, ◌<◌, ◌≤◌, ◌-◌, ℕ, Bool, IsTrue, List, [], ◌∷◌, ◌++◌, Ok, Result, length, map};
+ghost use Rattle.std.specs.Prelude.{◌≡◌, ◌<◌, ◌≤◌, ◌-◌, ◌/◌, ℕ, Bool, false, IsTrue, List, [], ◌∷◌, ◌++◌, Ok, Result, length, map};
 ghost use Rattle.hound_spec.specs.declared.error.Error.{Error};
 ghost use Rattle.hound_spec.specs.declared.spec.WavSpecEx.{WavSpecEx};
 ghost use Rattle.hound_spec.specs.Header.{canonical};
 ghost use Rattle.hound_medium.specs.State.{MediumState, WhereKeeps, WhereTells};
 ghost use Rattle.hound_durable.specs.Durables.{within};
+ghost use Rattle.hound_sample.specs.Container.{containers, int_container};
 ghost use Rattle.hound_reader.specs.Fmt.{IsSoundSpec};
 ghost use Rattle.hound_writer.specs.Answers.{mark_of};
 ghost use Rattle.hound_writer.specs.Calls.{Asked, Begun, Call, Lead, Left, asked_by_all, found_in, new_file, publish, start_of};
+ghost use Rattle.hound_writer.specs.Accepting.{Accepts};
+ghost use Rattle.hound_writer.specs.Many.{AcceptsEach, short_bytes};
 ghost use Rattle.hound_writer.specs.Publishing.{Finishes};
 ghost use Rattle.hound_writer.specs.Writer.{WriterState, IsWhole, accepted_samples, data_length};
 ghost use Rattle.hound_writer.specs.Sizes.{field};
@@ -15,14 +18,13 @@ ghost use Rattle.hound_repair.specs.Held.{held};
 ghost use Rattle.hound_repair.specs.Repairing.{IsNoPad, ReadsFrames, Repairs};
 ghost use Rattle.hound_repair.specs.declared.sizes.Repair.{Repair};
 ghost use Rattle.hound_repair.specs.declared.sizes.RepairState.TheVariants.{HasChunksAfterData};
-ghost use Rattle.hound.specs.declared.session.Step.TheVariants.{Whole, Batch};
 ghost use Rattle.hound.specs.declared.session.Begin.TheVariants.{New};
 ghost use Rattle.hound.specs.declared.session.Begin.{Begin};
 ghost use Rattle.hound.specs.declared.session.End.{End};
 ghost use Rattle.hound.specs.Headline.{HasPublished, Holds, IsLeftAfter, Keeps, Kept, KeptWithin, accepted_by_all, begins_at};
 ghost use Rattle.hound.specs.Run.{Begins, EndsAs, Ran};
-ghost use Rattle.hound.specs.Sessions.{AreSessions, RunsOk, all_steps};
-ghost use Rattle.hound.specs.Steps.{Takes, asked_by, containers_of};
+ghost use Rattle.hound.specs.Sessions.{RunsOn, all_steps};
+ghost use Rattle.hound.specs.Steps.{asked_by, containers_of};
 
 use crate::session::Step;
 use hound_durable::Durable;
@@ -31,11 +33,12 @@ use hound_spec::WavSpecEx;
 
 /// A batch accepts what its values do one by one: the same samples, and the same count of them.
 ///
-/// It holds over a medium whose bytes are known, from one writer whose accepted samples are there,
-/// if the batch and each step returned Ok.
+/// It holds over a medium whose bytes are known, from one writer of samples of sixteen bits whose
+/// accepted samples are there, if the `flush` of the batch and each `write_sample` returned Ok.
 pub fn a_batch_is_its_values<M: Medium>(values: &[i16])
-    ensures { WhereTells M.tells ((a b c : WriterState M) → 4 ≤ a.data_start → IsWhole M.state a →
-        Takes M.tells M.keeps M.state (Batch values.entry) (Ok tt) a b → RunsOk M.tells M.keeps M.state (map (λ v. Whole v) values.now) a c →
+    ensures { WhereTells M.tells ((a b c : WriterState M) → IsWhole M.state a →
+        a.spec_ex.spec.bits_per_sample ≡ 16 → a.spec_ex.bytes_per_sample ≡ 2 →
+        Accepts M.tells M.keeps M.state false (Ok (containers a.spec_ex.bytes_per_sample (length (short_bytes values.now) / a.spec_ex.bytes_per_sample) (short_bytes values.now))) (Ok tt) a b → AcceptsEach M.tells M.keeps M.state int_container values.now a c →
         (accepted_samples M.state b ≡ accepted_samples M.state c) × (data_length b ≡ data_length c)) }
 {}
 
@@ -70,7 +73,7 @@ pub fn a_run_leaves_its_calls<M: Medium>(steps: &[Step])
 pub fn sessions_leave_one_file<'a, M: Medium>(spec_ex: WavSpecEx, sessions: &'a [&'a [Step<'a>]])
     ensures { WhereTells M.tells ((old new : M) → (M.state old).place ≡ 0
         → (M.state old).contents ≡ [] → 0 < length sessions.now
-        → AreSessions M.tells M.keeps M.state spec_ex sessions.now old (Ok tt) new →
+        → RunsOn M.tells M.keeps M.state (New spec_ex) sessions.now old (Ok tt) new →
         (M.state new).contents ≡ canonical spec_ex (containers_of spec_ex (all_steps sessions.now))) }
 {}
 
@@ -83,8 +86,8 @@ pub fn sessions_leave_one_file<'a, M: Medium>(spec_ex: WavSpecEx, sessions: &'a 
 /// are repaired, unless chunks follow the data, or, with frames of one byte and a data length that
 /// is one less than what is held, the last one is taken for a pad byte.
 pub fn a_repair_loses_no_published_sample()
-    ensures { (s : WavSpecEx) (file : Begun) (calls : List Call) (left : MediumState)
-        (kept : Keeps s file calls left) (before after : List Call) (flush : Call) (looks : Bool)
+    ensures { (s : WavSpecEx) (file : Begun) (calls : List Call) (begun left : MediumState)
+        (kept : Keeps s file calls begun left) (before after : List Call) (flush : Call) (looks : Bool)
         (cut mended : MediumState) (found : Repair) → IsSoundSpec s
         → calls ≡ before ++ (flush ∷ after) → HasPublished flush
         → IsLeftAfter (start_of s file) (begins_at after left.past) left cut.contents

@@ -91,7 +91,10 @@ pub use hound_repair::{
     a_second_repair_writes_nothing, find_damage, find_damage_in_file, repair, repair_file,
     repair_file_to_end, repair_to_end,
 };
-pub use hound_sample::{FloatBits, Sample, integers_come_back, short_integers_are_kept};
+pub use hound_sample::{
+    FloatBits, Sample, change_bits, float_to_int, int_to_float, integers_come_back,
+    short_integers_are_kept,
+};
 pub use hound_spec::{
     Error, Result, SampleFormat, WavSpec, WavSpecEx, extensions_come_back, fields_come_back,
 };

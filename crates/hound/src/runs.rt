@@ -11,11 +11,12 @@ ghost use Rattle.hound_writer.specs.Calls.{Call, Lead, asked_by_all};
 ghost use Rattle.hound_writer.specs.Publishing.{Finishes};
 ghost use Rattle.hound.specs.declared.session.Begin.TheVariants.{New};
 ghost use Rattle.hound.specs.declared.session.End.TheVariants.{Finalize};
-ghost use Rattle.hound.specs.Run.{Begins, EndsAs, IsNotBegun, IsSession, NoFault, Ran};
+ghost use Rattle.hound.specs.Headline.{NoFault};
+ghost use Rattle.hound.specs.Run.{Begins, EndsAs, IsNotBegun, IsSession, Ran};
 ghost use Rattle.hound.specs.Steps.{accepted_by_steps, asked_by};
 
 use crate::session::{Begin, End, Step};
-use crate::steps::{take_step, write_whole};
+use crate::steps::take_step;
 use hound_medium::{Medium, Source};
 use hound_spec::{Error, Result};
 use hound_writer::WavWriter;
@@ -49,12 +50,7 @@ pub(crate) fn begin_writer<M: Source + Medium>(
 }
 
 // Takes all steps, whatever earlier ones returned, and marks them.
-fn take_steps<M: Medium>(
-    alloc: Global,
-    writer: &mut WavWriter<M>,
-    steps: &[Step],
-    marks: &mut [bool],
-)
+fn take_steps<M: Medium>(writer: &mut WavWriter<M>, steps: &[Step], marks: &mut [bool])
     requires { length steps.now ≡ length marks.old }
     ensures size { length marks.new ≡ length marks.old }
     ensures runs { (calls : List Call)
@@ -63,11 +59,7 @@ fn take_steps<M: Medium>(
         × Lead M.tells M.keeps M.state calls writer.old writer.new }
 {
     for i in 0..steps.len() {
-        if let Step::Whole(value) = steps[i] {
-            marks[i] = is_marked(&write_whole(writer, value));
-            continue;
-        }
-        let answer = take_step(alloc, writer, steps[i]);
+        let answer = take_step(writer, steps[i]);
         marks[i] = is_marked(&answer);
     }
 }
@@ -91,10 +83,10 @@ fn end_writer<M: Medium>(writer: WavWriter<M>, end: End) -> (M, Result<()>)
 /// marks are false; else that of `finalize_into`, or Ok at a drop.
 ///
 /// There must be as many marks as steps, with any values before, and the medium must be at 0, as
-/// each new one is; `go(0)` leads there. `alloc` is for batches, two bytes a sample, and a batch
-/// that finds no memory has a false mark.
+/// each new one is; `go(0)` leads there. No memory is taken, for batches neither, so the allocator
+/// isn't used.
 pub fn run_session<M: Source + Medium>(
-    alloc: Global,
+    _alloc: Global,
     medium: M,
     begin: Begin,
     steps: &[Step],
@@ -128,6 +120,6 @@ pub fn run_session<M: Source + Medium>(
         Ok(writer) => writer,
         Err((medium, error)) => return (medium, Err(error)),
     };
-    take_steps(alloc, &mut writer, steps, marks);
+    take_steps(&mut writer, steps, marks);
     end_writer(writer, end)
 }

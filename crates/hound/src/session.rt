@@ -3,7 +3,7 @@ use hound_sample::FloatBits;
 use hound_spec::WavSpecEx;
 
 /// One call of a writer, between its constructor and its end.
-#[derive(Clone, Copy)]
+#[derive(Clone, Copy, Debug, PartialEq, Eq)]
 pub enum Step<'a> {
     /// Writes an integer, by `write_sample` of an `i32`. One that the bits of the spec can't hold
     /// is `TooWide`.
@@ -13,8 +13,8 @@ pub enum Step<'a> {
     /// it is `Unsupported`.
     Bits(FloatBits),
 
-    /// Writes a batch of samples of sixteen bits, all of them or none: by `get_i16_writer` and its
-    /// `flush`. For a writer of other samples nothing is called, and the step is `Unsupported`.
+    /// Writes samples of sixteen bits, all of them or none, by `write_samples`. For a writer of other
+    /// samples nothing is called, and the step is `Unsupported`.
     Batch(&'a [i16]),
 
     /// Publishes what was accepted, by `flush`. An unfinished frame is published too, and the
@@ -23,7 +23,7 @@ pub enum Step<'a> {
 }
 
 /// How a session begins.
-#[derive(Clone, Copy)]
+#[derive(Clone, Copy, Debug, PartialEq, Eq)]
 pub enum Begin {
     /// With a new file of this spec, by `try_new`. A spec that can't be written is `Unsupported`,
     /// and the medium stays as it was.
@@ -35,7 +35,7 @@ pub enum Begin {
 }
 
 /// How a session ends.
-#[derive(Clone, Copy)]
+#[derive(Clone, Copy, Debug, PartialEq, Eq)]
 pub enum End {
     /// By `finalize_into`, whose result is returned: `UnfinishedSample` if the last frame lacks
     /// samples, which are in the file all the same.

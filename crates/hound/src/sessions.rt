@@ -1,40 +1,37 @@
 // Sessions one after the other over one medium.
-ghost use Rattle.std.specs.Prelude.{◌≡◌, ◌<◌, [], OnOk, IfErr, length, MatchResult};
+ghost use Rattle.std.specs.Prelude.{◌≡◌, ◌<◌, [], Err, Result, OnOk, IfErr, length, MatchResult};
 ghost use Rattle.std.specs.Io.{StartsWith};
+ghost use Rattle.hound_spec.specs.declared.error.Error.{Error};
 ghost use Rattle.hound_spec.specs.Header.{canonical};
-ghost use Rattle.hound_medium.specs.State.{WhereTells};
 ghost use Rattle.hound_spec.specs.Writable.{IsWritable};
+ghost use Rattle.hound_medium.specs.State.{WhereTells};
+ghost use Rattle.hound_writer.specs.Publishing.{Finishes};
+ghost use Rattle.hound.specs.declared.session.Begin.TheVariants.{Append, New};
 ghost use Rattle.hound.specs.FirstError.{IsAnswered};
-ghost use Rattle.hound.specs.Run.{NoFault};
-ghost use Rattle.hound.specs.Sessions.{AreSessions, RunsOk, RunsOn, RunsOnce, RunsAgain, StopsIn, StopsShort, all_steps};
+ghost use Rattle.hound.specs.Headline.{NoFault};
+ghost use Rattle.hound.specs.Sessions.{RunsFrom, RunsOn, RunsOnce, RunsUntil, StopsShort, all_steps};
 ghost use Rattle.hound.specs.Steps.{containers_of};
 
 use crate::runs::begin_writer;
 use crate::session::{Begin, Step};
-use crate::steps::{take_step, write_whole};
+use crate::steps::take_step;
 use hound_medium::{Medium, Source};
 use hound_spec::{Error, Result, WavSpecEx};
 use hound_writer::WavWriter;
 use std::alloc::Global;
 
-// Takes steps up to the first that returns an error.
-fn take_until_error<M: Medium>(
-    alloc: Global,
-    writer: &mut WavWriter<M>,
-    steps: &[Step],
-) -> Result<()>
-    ensures { MatchResult result (λ _.
-        RunsOk M.tells M.keeps M.state steps.now writer.old writer.new)
-        (λ e. StopsIn M.tells M.keeps M.state steps.now e writer.old writer.new) }
+// Takes steps up to the first that returns an error. Whatever end follows, they are then a session.
+fn take_until_error<M: Medium>(writer: &mut WavWriter<M>, steps: &[Step]) -> Result<()>
+    ensures { MatchResult result
+        (λ _. (answer : Result Unit Error) (medium : M)
+        → Finishes M.tells M.keeps M.state writer.new answer medium
+        → RunsUntil M.tells M.keeps M.state steps.now writer.old answer medium)
+        (λ e. (dropped : Result Unit Error) (medium : M)
+        → Finishes M.tells M.keeps M.state writer.new dropped medium
+        → RunsUntil M.tells M.keeps M.state steps.now writer.old (Err e) medium) }
 {
     for i in 0..steps.len() {
-        if let Step::Whole(value) = steps[i] {
-            match write_whole(writer, value) {
-                Ok(()) => continue,
-                Err(error) => return Err(error),
-            }
-        }
-        match take_step(alloc, writer, steps[i]) {
+        match take_step(writer, steps[i]) {
             Ok(()) => {}
             Err(error) => return Err(error),
         }
@@ -43,47 +40,38 @@ fn take_until_error<M: Medium>(
 }
 
 // Runs a session up to the first error, and returns the medium.
-fn run_until_error<M: Source + Medium>(
-    alloc: Global,
-    medium: M,
-    begin: Begin,
-    steps: &[Step],
-) -> (M, Result<()>)
+fn run_until_error<M: Source + Medium>(medium: M, begin: Begin, steps: &[Step]) -> (M, Result<()>)
     requires { WhereTells M.tells ((M.state medium).place ≡ 0) }
-    ensures { RunsOnce M.tells M.keeps M.state begin steps.now medium result.1 result.0 }
+    ensures { RunsFrom M.tells M.keeps M.state begin steps.now medium result.1 result.0 }
 {
     let mut writer = match begin_writer(medium, begin) {
         Ok(writer) => writer,
         Err((medium, error)) => return (medium, Err(error)),
     };
-    match take_until_error(alloc, &mut writer, steps) {
+    match take_until_error(&mut writer, steps) {
         Ok(()) => writer.finalize_into(),
         Err(error) => (writer.drop_into(), Err(error)),
     }
 }
 
 // Appends to the file in a medium by one more session.
-fn append_session<M: Source + Medium>(alloc: Global, medium: M, steps: &[Step]) -> (M, Result<()>)
-    ensures { RunsAgain M.tells M.keeps M.state steps.now medium result.1 result.0 }
+fn append_session<M: Source + Medium>(medium: M, steps: &[Step]) -> (M, Result<()>)
+    ensures { RunsOnce M.tells M.keeps M.state Append steps.now medium result.1 result.0 }
 {
     let mut medium = medium;
     if let Err(error) = medium.go(0) {
         return (medium, Err(Error::IoError(error)));
     }
-    run_until_error(alloc, medium, Begin::Append, steps)
+    run_until_error(medium, Begin::Append, steps)
 }
 
 // Appends to the file in a medium by further sessions, up to the first error.
-fn append_sessions<M: Source + Medium>(
-    alloc: Global,
-    medium: M,
-    sessions: &[&[Step<'_>]],
-) -> (M, Result<()>)
-    ensures { RunsOn M.tells M.keeps M.state sessions.now medium result.1 result.0 }
+fn append_sessions<M: Source + Medium>(medium: M, sessions: &[&[Step<'_>]]) -> (M, Result<()>)
+    ensures { RunsOn M.tells M.keeps M.state Append sessions.now medium result.1 result.0 }
 {
     let mut medium = medium;
     for i in 0..sessions.len() {
-        let (back, answer) = append_session(alloc, medium, sessions[i]);
+        let (back, answer) = append_session(medium, sessions[i]);
         medium = back;
         if let Err(error) = answer {
             return (medium, Err(error));
@@ -100,17 +88,18 @@ fn append_sessions<M: Source + Medium>(
 /// an `UnfinishedSample` of a flush or an end; or an `IoError` of the medium. What was accepted
 /// before is published then, unless the medium failed. Without sessions nothing is done.
 ///
-/// The medium is returned. It must be at 0 before, as each new one is; `go(0)` leads there.
+/// The medium is returned. It must be at 0 before, as each new one is; `go(0)` leads there. No memory
+/// is taken, so the allocator isn't used.
 /// If steps borrow their batches, call it from a function that takes `&[Step]`, and pass these as
 /// `&[&steps[..]]`.
 pub fn run_sessions<'a, M: Source + Medium>(
-    alloc: Global,
+    _alloc: Global,
     medium: M,
     spec_ex: WavSpecEx,
     sessions: &'a [&'a [Step<'a>]],
 ) -> (M, Result<()>)
     requires { WhereTells M.tells ((M.state medium).place ≡ 0) }
-    ensures sessions { AreSessions M.tells M.keeps M.state spec_ex sessions.now medium result.1
+    ensures sessions { RunsOn M.tells M.keeps M.state (New spec_ex) sessions.now medium result.1
         result.0 }
 
     // An error is that of the first step or end that isn't Ok, by the spec and the steps.
@@ -126,14 +115,14 @@ pub fn run_sessions<'a, M: Source + Medium>(
     // are there.
     ensures stops { WhereTells M.tells (IsWritable spec_ex
         → NoFault (M.state medium) (M.state result.0) →
-        IfErr result.1 (λ e. StopsShort spec_ex (all_steps sessions.now) e (M.state result.0).contents)) }
+        IfErr result.1 (λ e. StopsShort spec_ex [] (all_steps sessions.now) e (M.state result.0).contents)) }
 {
     let Some((first, others)) = sessions.split_first() else {
         return (medium, Ok(()));
     };
-    let (medium, answer) = run_until_error(alloc, medium, Begin::New(spec_ex), first);
+    let (medium, answer) = run_until_error(medium, Begin::New(spec_ex), first);
     if let Err(error) = answer {
         return (medium, Err(error));
     }
-    append_sessions(alloc, medium, others)
+    append_sessions(medium, others)
 }

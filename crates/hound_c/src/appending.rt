@@ -4,8 +4,8 @@ ghost use Rattle.hound_c.specs.Writing.{Appends};
 
 use crate::fault::Fault;
 use crate::head::find_data_in;
-use crate::writing::{check_samples, sizes_of, write_bytes_at, write_pad_at, write_samples_at};
-use hound_number::le_u32;
+use crate::writing::{check_samples, sizes_of, write_data_at};
+use hound_repair::set_sizes;
 use hound_sample::Sample;
 use hound_spec::{SampleFormat, is_pair};
 
@@ -35,7 +35,7 @@ pub(crate) fn append_block<S: Sample + Copy>(
     if !is_pair(spec_ex.spec.sample_format, bits, width) {
         return Err(Fault::OtherPair);
     }
-    let end = found.data_start + found.data_length as usize;
+    let end = found.data_start + found.samples as usize * width as usize;
     if end > used {
         return Err(Fault::Truncated);
     }
@@ -50,9 +50,7 @@ pub(crate) fn append_block<S: Sample + Copy>(
     if size > file.len() {
         return Err(Fault::NoRoom);
     }
-    write_samples_at(file, end, samples, bits, width);
-    write_pad_at(file, found.data_start + data_length as usize, data_length);
-    write_bytes_at(file, 4, &le_u32((size - 8) as u32));
-    write_bytes_at(file, found.data_start - 4, &le_u32(data_length));
+    write_data_at(file, end, samples, bits, width, data_length);
+    set_sizes(file, found.data_start - 4, (size - 8) as u32, data_length);
     Ok(size)
 }

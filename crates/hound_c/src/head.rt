@@ -35,7 +35,6 @@ impl Input for Window<'_> {
 pub(crate) struct Found {
     pub(crate) spec_ex: WavSpecEx,
     pub(crate) samples: u32,
-    pub(crate) data_length: u32,
     pub(crate) data_start: usize,
 }
 
@@ -52,19 +51,16 @@ pub(crate) fn find_head(file: &[u8]) -> Result<FileHead, Cause>
         Ok(head) => Ok(head),
         Err(HeadError::Refused(cause)) => Err(cause),
         // No read of a window fails.
-        Err(HeadError::Failed(_)) => Err(Cause::Ended),
+        Err(HeadError::Failed(_)) => unreachable!(),
     }
 }
 
 /// Looks for the data in a file.
 pub(crate) fn find_data_in(file: &[u8]) -> Result<Found, Cause>
-    ensures head { IfOk result (λ f. Head file.now f.spec_ex f.data_length f.data_start) }
     ensures readable { IfOk result (λ f. Readable file.now f.spec_ex f.samples f.data_start) }
     ensures sound { IfOk result (λ f. IsSoundSpec f.spec_ex) }
     ensures start { IfOk result (λ f. IsDataPlace f.data_start) }
     ensures inside { IfOk result (λ f. f.data_start ≤ length file.now) }
-    ensures whole { IfOk result (λ f. data_fault f.spec_ex f.data_length ≡ None) }
-    ensures count { IfOk result (λ f. f.samples ≡ f.data_length / f.spec_ex.bytes_per_sample) }
     ensures unreadable { IfErr result (λ c. Unreadable file.now c) }
 {
     let head = match find_head(file) {
@@ -83,7 +79,6 @@ pub(crate) fn find_data_in(file: &[u8]) -> Result<Found, Cause>
     Ok(Found {
         spec_ex,
         samples,
-        data_length: head.data_length,
         data_start: head.data_start as usize,
     })
 }

@@ -31,7 +31,7 @@ use hound_sample::FloatBits;
 use hound_spec::SampleFormat;
 use reading::{decode_block, read_block};
 use repairing::repair_file;
-use spec::info_of;
+use spec::spec_for_c;
 pub use spec::{HoundInfo, HoundRepair, HoundSpec};
 use writing::{encode_block, file_size, write_file};
 
@@ -44,7 +44,11 @@ pub extern "C" fn hound_info(file: &[u8], info: &mut HoundInfo) -> i32
 {
     match find_data_in(file) {
         Ok(found) => {
-            *info = info_of(found);
+            *info = HoundInfo {
+                spec: spec_for_c(found.spec_ex),
+                samples: found.samples,
+                data_start: found.data_start as u64,
+            };
             0
         }
         Err(cause) => code_of_fault(Fault::Head(cause)),

@@ -1,6 +1,7 @@
 // Blocks of samples that are read.
-ghost use Rattle.std.specs.Prelude.{◌≡◌, ◌+◌, ◌*◌, ◌≤◌, IfOk, IsOk, length, take, drop};
-ghost use Rattle.hound_c.specs.Reading.{Decodes, Reads, read_check};
+ghost use Rattle.std.specs.Prelude.{◌≡◌, ◌≤◌, IfOk, IsOk, None, length};
+ghost use Rattle.hound_reader.specs.Reader.{refusal_at};
+ghost use Rattle.hound_c.specs.Reading.{Decodes, DecodesSamples, Reads, read_check};
 ghost use Rattle.hound_c.specs.Writing.{spec_of};
 
 use crate::fault::Fault;
@@ -28,13 +29,22 @@ fn check_type<S: Decode>(spec_ex: WavSpecEx) -> Result<(), Fault>
     }
 }
 
-// The bytes of so many containers, from one on.
-fn part(bytes: &[u8], first: usize, count: usize, width: usize) -> &[u8]
-    requires { (first + count) * width ≤ length bytes.now }
-    ensures { result.now ≡ take (count * width) (drop (first * width) bytes.now) }
+// Decodes containers into the front of `out`, as many as there are and fit, and returns how many.
+fn decode_front<S: Decode>(spec_ex: WavSpecEx, bytes: &[u8], out: &mut [S]) -> usize
+    requires taken { refusal_at S.decode_refusal spec_ex ≡ None }
+    requires some { 1 ≤ spec_ex.bytes_per_sample }
+    ensures { DecodesSamples S.decode_refusal S.value spec_ex bytes.now result out.old out.new }
 {
-    let start = first * width;
-    &bytes[start..start + count * width]
+    let width = spec_ex.bytes_per_sample as usize;
+    let count = out.len().min(bytes.len() / width);
+    decode_containers(
+        &bytes[..count * width],
+        &mut out[..count],
+        spec_ex.spec.sample_format,
+        spec_ex.bytes_per_sample,
+        spec_ex.spec.bits_per_sample,
+    );
+    count
 }
 
 /// Reads samples from one on into the front of `out`, and returns how many.
@@ -47,26 +57,19 @@ pub(crate) fn read_block<S: Decode>(file: &[u8], first: u64, out: &mut [S]) -> R
     };
     let spec_ex = found.spec_ex;
     check_type::<S>(spec_ex)?;
-    let width = spec_ex.bytes_per_sample as usize;
-    let data = &file[found.data_start..];
     if first >= found.samples as u64 || out.is_empty() {
         return Ok(0);
     }
     let first = first as usize;
+    let width = spec_ex.bytes_per_sample as usize;
+    let data = &file[found.data_start..];
     let stored = (found.samples as usize).min(data.len() / width);
     if first >= stored {
         return Err(Fault::Truncated);
     }
-    let count = out.len().min(stored - first);
-    let from = part(data, first, count, width);
-    decode_containers(
-        from,
-        &mut out[..count],
-        spec_ex.spec.sample_format,
-        spec_ex.bytes_per_sample,
-        spec_ex.spec.bits_per_sample,
-    );
-    Ok(count)
+    let start = first * width;
+    let end = start + (stored - first) * width;
+    Ok(decode_front(spec_ex, &data[start..end], out))
 }
 
 /// Decodes containers of a spec, which lie one after the other, and returns how many.
@@ -80,15 +83,5 @@ pub(crate) fn decode_block<S: Decode>(
 {
     let spec_ex = spec_of(spec);
     check_type::<S>(spec_ex)?;
-    let width = spec_ex.bytes_per_sample as usize;
-    let count = out.len().min(bytes.len() / width);
-    let from = part(bytes, 0, count, width);
-    decode_containers(
-        from,
-        &mut out[..count],
-        spec_ex.spec.sample_format,
-        spec_ex.bytes_per_sample,
-        spec_ex.spec.bits_per_sample,
-    );
-    Ok(count)
+    Ok(decode_front(spec_ex, bytes, out))
 }

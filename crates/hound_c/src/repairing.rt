@@ -1,11 +1,11 @@
 // Files that are repaired.
-ghost use Rattle.std.specs.Prelude.{◌≡◌, ◌<◌, ◌≤◌, IfOk, length};
-ghost use Rattle.hound_c.specs.Repairing.{IsReported, RepairsFile, state_code};
+ghost use Rattle.std.specs.Prelude.{◌≡◌, ◌≤◌, IfOk, length};
+ghost use Rattle.hound_c.specs.Repairing.{RepairsFile, state_code};
 
 use crate::fault::Fault;
 use crate::head::find_head;
 use crate::spec::{HoundRepair, spec_for_c};
-use hound_repair::{Repair, RepairState, Unrepaired, repair_bytes};
+use hound_repair::{RepairState, Unrepaired, repair_bytes};
 
 // The number of how a file was found.
 fn state_code(state: RepairState) -> u32
@@ -15,19 +15,6 @@ fn state_code(state: RepairState) -> u32
         RepairState::Whole => 0,
         RepairState::CutOff => 1,
         RepairState::HasChunksAfterData => 2,
-    }
-}
-
-// What was found, as C has it.
-fn reported(found: Repair) -> HoundRepair
-    requires { 0 < found.spec_ex.bytes_per_sample }
-    ensures { IsReported found result }
-{
-    HoundRepair {
-        spec: spec_for_c(found.spec_ex),
-        frames: found.frames,
-        left_over: found.left_over,
-        state: state_code(found.was),
     }
 }
 
@@ -49,7 +36,12 @@ pub(crate) fn repair_file(
     };
     match repair_bytes(file, used, head) {
         Ok((repair, length)) => {
-            *found = reported(repair);
+            *found = HoundRepair {
+                spec: spec_for_c(repair.spec_ex),
+                frames: repair.frames,
+                left_over: repair.left_over,
+                state: state_code(repair.was),
+            };
             Ok(length)
         }
         Err(Unrepaired::Unsupported) => Err(Fault::OtherPair),

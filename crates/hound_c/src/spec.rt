@@ -2,7 +2,6 @@
 ghost use Rattle.std.specs.Prelude.{◌≡◌, ◌<◌};
 ghost use Rattle.hound_c.specs.Writing.{spec_of};
 
-use crate::head::Found;
 use hound_spec::{SampleFormat, WavSpec, WavSpecEx};
 
 /// A spec.
@@ -75,19 +74,5 @@ pub(crate) fn spec_for_c(spec_ex: WavSpecEx) -> HoundSpec
             SampleFormat::Int => 0,
             SampleFormat::Float => 1,
         },
-    }
-}
-
-/// What was found in a file, for C.
-pub(crate) fn info_of(found: Found) -> HoundInfo
-    requires { 0 < found.spec_ex.bytes_per_sample }
-    ensures spec { spec_of result.spec ≡ found.spec_ex }
-    ensures samples { result.samples ≡ found.samples }
-    ensures start { result.data_start ≡ found.data_start }
-{
-    HoundInfo {
-        spec: spec_for_c(found.spec_ex),
-        samples: found.samples,
-        data_start: found.data_start as u64,
     }
 }

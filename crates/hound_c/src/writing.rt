@@ -28,40 +28,26 @@ pub(crate) fn check_samples<S: Sample + Copy>(
     }
 }
 
-/// Stores bytes at a place.
-pub(crate) fn write_bytes_at(out: &mut [u8], at: usize, bytes: &[u8])
-    requires { at + length bytes.now ≤ length out.old }
-    ensures { out.new ≡ take at out.old ++ (bytes.now ++ drop (at + length bytes.now) out.old) }
-{
-    out[at..at + bytes.len()].copy_from_slice(bytes);
-}
-
-/// Stores the containers of samples at a place.
-pub(crate) fn write_samples_at<S: Sample + Copy>(
+/// Stores the containers of samples at a place, and after data of an odd length the pad byte.
+pub(crate) fn write_data_at<S: Sample + Copy>(
     out: &mut [u8],
     at: usize,
     samples: &[S],
     bits: u16,
     width: u16,
+    data_length: u32,
 )
     requires have { IsOk (all_containers (λ s. S.container s bits width) samples.now) }
     requires width { width ≤ 4 }
-    requires room { at + width * length samples.now ≤ length out.old }
-    ensures { let joined = joined_containers (λ s. S.container s bits width) samples.now in
-        out.new ≡ take at out.old ++ (joined ++ drop (at + width * length samples.now) out.old) }
+    requires room { at + width * length samples.now + data_length % 2 ≤ length out.old }
+    ensures { let body = joined_containers (λ s. S.container s bits width) samples.now in
+        out.new ≡ take at out.old ++ ((body ++ padding data_length)
+        ++ drop (at + (width * length samples.now + data_length % 2)) out.old) }
 {
     let end = at + width as usize * samples.len();
     store_containers(&mut out[at..end], samples, bits, width);
-}
-
-/// Stores the pad byte after data of an odd length.
-pub(crate) fn write_pad_at(out: &mut [u8], at: usize, data_length: u32)
-    requires { at + data_length % 2 ≤ length out.old }
-    ensures { out.new ≡ take at out.old
-        ++ (padding data_length ++ drop (at + data_length % 2) out.old) }
-{
     if data_length % 2 == 1 {
-        write_bytes_at(out, at, &[0]);
+        out[end] = 0;
     }
 }
 
@@ -149,9 +135,8 @@ pub(crate) fn write_file<S: Sample + Copy>(
         return Err(Fault::NoRoom);
     }
     let header = header_of(spec_ex, (size - 8) as u32, data_length);
-    write_bytes_at(out, 0, header.as_slice());
-    write_samples_at(out, data_start, samples, bits, width);
-    write_pad_at(out, data_start + data_length as usize, data_length);
+    out[..data_start].copy_from_slice(header.as_slice());
+    write_data_at(out, data_start, samples, bits, width, data_length);
     Ok(size)
 }
 
@@ -180,6 +165,7 @@ pub(crate) fn encode_block<S: Sample + Copy>(
     if samples.len() > out.len() / width as usize {
         return Err(Fault::NoRoom);
     }
-    write_samples_at(out, 0, samples, bits, width);
-    Ok(samples.len() * width as usize)
+    let end = samples.len() * width as usize;
+    store_containers(&mut out[..end], samples, bits, width);
+    Ok(end)
 }

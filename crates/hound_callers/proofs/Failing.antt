@@ -1,5 +1,5 @@
 -- A flush without a mark met a fault of the medium.
-use Rattle.std.proofs.Common.{◌≡◌, ℕ, zero, suc, ◌<◌, ◌≤◌, Bool, true, false, IsTrue, List, [], ◌∷◌, length, map, slice_index_or, Result, Ok, Err, inl, inr, refl, sym, ◌∙◌, ap, subst, arith}
+use Rattle.std.proofs.Common.{◌≡◌, ℕ, zero, suc, ◌<◌, ◌≤◌, Bool, true, false, IsTrue, List, [], ◌∷◌, length, map, slice_index_or, Option, None, Some, IfSome, Result, Ok, Err, inl, inr, refl, sym, ◌∙◌, ap, subst, arith}
 use Rattle.std.proofs.lemmas.Bool.{false≢true}
 use Rattle.hound.specs.Answers.{IsPublishing, faults_told, mark_of}
 use Rattle.hound.specs.Calls.{Asked, Call, Does, Lead, asked_by_all, publish, put, with_memory}
@@ -15,6 +15,7 @@ use Rattle.hound.specs.declared.session.Begin.TheVariants.{New}
 use Rattle.hound.specs.declared.session.End.{End}
 use Rattle.hound.specs.declared.session.Step.{Step}
 use Rattle.hound.specs.declared.session.Step.TheVariants.{Flush}
+use Rattle.hound_callers.specs.Checkpoints.{IsCheckpoint, IsLast}
 
 -- a fault that was counted stays counted
 stays : (answer : Result (Unit {0}) Error) (f n : ℕ) → n ≡ faults_told answer f → 1 ≤ f → 1 ≤ n
@@ -29,6 +30,13 @@ counts (Ok x) w f n is unmarked told = absurd (false≢true (sym unmarked))
 counts (Err (IoError e)) w f n is unmarked told = omega (arith, told)
 counts (Err UnfinishedSample) w f n is unmarked told = absurd (false≢true (sym unmarked))
 counts (Err e) w f n is unmarked told = absurd is
+
+-- what holds of each checkpoint holds where there is a last one
+pub some_then : {Q : Type 0} (steps : List Step) (marks : List Bool) (n : ℕ) (last : Option ℕ)
+    → IsLast steps marks n last → ((i : ℕ) → IsCheckpoint steps marks i → Q)
+    → IfSome last (λ i. Q)
+some_then steps marks n None is on = tt
+some_then steps marks n (Some i) is on = on i is.1
 
 -- a mark that is there and not true is false
 pub unmarked_at : (marks : List Bool) (i : ℕ) → i < length marks
@@ -82,13 +90,13 @@ module _ {M : Type 0} (tells keeps : Bool) (state : M → MediumState) (told : I
       → IsSession tells keeps state (New s) steps marks end old answer medium
       → (i : ℕ) → i < length steps → slice_index_or steps i Flush ≡ Flush
       → slice_index_or marks i true ≡ false → 1 ≤ (state medium).faults
-  failed s steps marks end answer old medium writable (inl n) i inside is none =
-      elim n.why [
+  failed s steps marks end answer old medium writable (inl (e, is_error, why, marked)) i inside is none =
+      elim why [
         | inl refused ↦ absurd (refused.0 writable)
         | inr fault ↦ omega (arith, (fault.2 told).faults)
       ]
   failed s steps marks end answer old medium writable (inr ran) i inside is none =
-      stays ran.finish.answer (state ran.last.medium).faults (state medium).faults
+      stays ran.finished (state ran.last.medium).faults (state medium).faults
       (ran.ends.publishes told).faults
-      (unmarked ran.first.spec_ex steps ran.calls ran.first ran.last ran.asked ran.lead i inside is
+      (unmarked s steps ran.calls ran.first ran.last ran.asked ran.lead i inside is
       (ap (λ l. slice_index_or l i true) (sym ran.marked) ∙ none))

@@ -150,7 +150,7 @@ pub fn record_through_a_loss<M: Source + Medium>(
 pub fn repair_recording<N: Source + Medium>(left: N) -> result::Result<(N, Repair), (N, Error)>
     requires place { WhereTells N.tells ((N.state left).place ≡ 0) }
     ensures { WhereTells N.tells ((s : WavSpecEx) (file : Begun) (calls : List Call)
-        (recorded : MediumState) (kept : Keeps s file calls recorded) (before after : List Call)
+        (begun recorded : MediumState) (kept : Keeps s file calls begun recorded) (before after : List Call)
         (flush : Call) → IsSoundSpec s → calls ≡ before ++ (flush ∷ after) → HasPublished flush
         → IsLeftAfter (start_of s file) (begins_at after recorded.past) recorded
         (N.state left).contents →

@@ -1,26 +1,32 @@
 // Recorders that make their calls themselves.
-ghost use Rattle.std.specs.Prelude.{◌≡◌, ◌⊎◌, ◌-◌, ◌/◌, List, ◌∷◌, ◌++◌, [], ⊤, Ok, MatchResult, length, map};
+ghost use Rattle.std.specs.Prelude.{◌≡◌, ◌⊎◌, ◌-◌, ◌/◌, ◌≤◌, true, List, ◌∷◌, ◌++◌, [], ⊤, Ok, MatchResult, length, map};
 ghost use Rattle.std.specs.List.{flat_map};
 ghost use Rattle.hound.specs.Answers.{one};
 ghost use Rattle.hound.specs.Calls.{Asked, Begun, Call, Left, Recorded, new_file, publish, write};
 ghost use Rattle.hound.specs.Container.{containers};
 ghost use Rattle.hound.specs.Durables.{Around, within};
 ghost use Rattle.hound.specs.Headline.{HasPublished, Kept, KeptWithin, accepted_by_all};
-ghost use Rattle.hound.specs.Header.{data_start};
+ghost use Rattle.hound.specs.Header.{canonical, data_start};
 ghost use Rattle.hound.specs.Held.{held};
 ghost use Rattle.hound.specs.Many.{containers_in};
 ghost use Rattle.hound.specs.Number.{signed_bytes_of};
 ghost use Rattle.hound.specs.Repairing.{IsNoPad, ReadsFrames};
 ghost use Rattle.hound.specs.Room.{IsSixteen};
+ghost use Rattle.hound.specs.Run.{Ran};
 ghost use Rattle.hound.specs.Sizes.{field};
 ghost use Rattle.hound.specs.State.{MediumState, WhereKeeps, WhereTells};
+ghost use Rattle.hound.specs.Steps.{asked_by, containers_of};
 ghost use Rattle.hound.specs.declared.WavSpecEx.{WavSpecEx};
+ghost use Rattle.hound.specs.declared.session.Begin.TheVariants.{New};
+ghost use Rattle.hound.specs.declared.session.End.TheVariants.{Finalize};
+ghost use Rattle.hound.specs.declared.session.Step.TheVariants.{Whole};
 ghost use Rattle.hound_callers.specs.Recording.{block_asks, recorder_asks};
 
 use crate::twelve::Twelve;
 use hound::{
-    Durable, Error, Medium, Placed, Repair, Sample, Source, WavSpecEx, WavWriter,
-    a_repair_loses_no_published_sample, repair_to_end, what_a_loss_leaves, what_is_kept,
+    Begin, Durable, End, Error, Medium, Placed, Repair, Sample, Source, Step, WavSpecEx, WavWriter,
+    a_repair_loses_no_published_sample, a_run_leaves_its_calls, calls_are_a_run, repair_to_end,
+    run_session, sessions_leave_one_file, what_a_loss_leaves, what_is_kept,
 };
 use std::alloc::Global;
 use std::result;
@@ -144,6 +150,57 @@ pub fn record_twelve_and_repair<M: Source + Medium>(
         return Err((medium, Error::IoError(error)));
     }
     repair_to_end(medium)
+}
+
+/// Records steps into a new file on an empty medium, whatever the results are: if it was begun, what
+/// is left keeps all that the calls of these steps promise.
+pub fn record_steps<M: Source + Medium>(
+    alloc: Global,
+    medium: M,
+    spec_ex: WavSpecEx,
+    steps: &[Step],
+    marks: &mut [bool],
+) -> M
+    requires place { WhereTells M.tells ((M.state medium).place ≡ 0) }
+    requires empty { (M.state medium).contents ≡ [] }
+    requires size { length steps.now ≡ length marks.old }
+    ensures { WhereKeeps M.tells M.keeps (data_start spec_ex ≤ length (M.state result).contents →
+        Kept M.tells M.keeps M.state spec_ex new_file (map (asked_by spec_ex) steps.now ++ publish ∷ []) result) }
+{
+    what_is_kept::<M>();
+    a_run_leaves_its_calls::<M>(steps);
+    let (medium, _) = run_session(alloc, medium, Begin::New(spec_ex), steps, marks, End::Drop);
+    medium
+}
+
+/// Writes a file of one integer into an empty medium by calls of its own: at an Ok it is there, and
+/// nothing else (`exact`), and these calls are a run, with all that a run promises (`run`).
+pub fn pack_one<M: Source + Medium>(
+    medium: M,
+    spec_ex: WavSpecEx,
+    value: i32,
+) -> result::Result<M, (M, Error)>
+    requires place { WhereTells M.tells ((M.state medium).place ≡ 0) }
+    requires empty { (M.state medium).contents ≡ [] }
+    ensures run { MatchResult result (λ left. Ran M.tells M.keeps M.state (New spec_ex) (Whole value ∷ []) (true ∷ []) Finalize medium (Ok tt) left)
+        (λ _. ⊤) }
+    ensures exact { MatchResult result (λ left. WhereTells M.tells ((M.state left).contents ≡ canonical spec_ex (containers_of spec_ex (Whole value ∷ []))))
+        (λ _. ⊤) }
+{
+    let steps = [Step::Whole(value)];
+    calls_are_a_run::<M>(&steps);
+    sessions_leave_one_file::<M>(spec_ex, &[&steps[..]]);
+    let mut writer = match WavWriter::try_new(medium, spec_ex) {
+        Ok(writer) => writer,
+        Err(refused) => return Err(refused),
+    };
+    if let Err(error) = writer.write_sample(value) {
+        return Err((writer.drop_into(), error));
+    }
+    match writer.finalize_into() {
+        (medium, Ok(())) => Ok(medium),
+        (medium, Err(error)) => Err((medium, error)),
+    }
 }
 
 // Writes single samples, whatever the results are.

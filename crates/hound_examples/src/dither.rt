@@ -4,7 +4,7 @@
 // added to it: the sum of two random numbers, each as likely anywhere in one step of 16 bits (TPDF).
 // The error of rounding is then noise that doesn't depend on the music. The random numbers are those of
 // a linear congruential generator, the same at each run.
-use hound::{Error, SampleFormat, WavReader, WavSpec, WavWriter};
+use hound::{Error, SampleFormat, WavReader, WavSpec, WavWriter, change_bits};
 use std::env;
 use std::path::Path;
 use std::process::ExitCode;
@@ -45,10 +45,9 @@ fn dither(rt: &HostRuntime, from: Path<'_>, to: Path<'_>) -> hound::Result<u32> 
         let (count, result) = reader.read_samples(&mut block);
         for sample in block[..count].iter_mut() {
             let noise = i32::from(random.step()) + i32::from(random.step()) - 255;
-            let rounded = ((*sample).clamp(-8388608, 8388607) + noise + 128) >> 8;
-            let fitting = rounded.clamp(-32768, 32767);
-            clipped = clipped.saturating_add(u32::from(rounded != fitting));
-            *sample = fitting;
+            let (dithered, is_clipped) = change_bits(sample.saturating_add(noise), 24, 16);
+            clipped = clipped.saturating_add(u32::from(is_clipped));
+            *sample = dithered;
         }
         writer.write_samples(&block[..count])?;
         result?;

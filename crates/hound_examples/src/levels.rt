@@ -4,7 +4,9 @@
 // tenth, and one call reads it. The root mean square (RMS) and the peak are in decibels relative to full
 // scale (dBFS): 0 is the largest, silence is -inf. Of a file that ends early the last lines are those of
 // the samples before that.
-use hound::WavReader;
+ghost use Rattle.std.specs.Prelude.{◌<◌, ◌≤◌};
+
+use hound::{WavReader, int_to_float};
 use std::env;
 use std::path::Path;
 use std::process::ExitCode;
@@ -20,15 +22,15 @@ pub fn main(rt: HostRuntime) -> hound::Result<ExitCode> {
     let tenth = (spec.sample_rate / 10).max(1) as usize;
     let most = (tenth * channels).min(reader.len() as usize);
     let mut samples = vec![in rt.alloc(); 0i32; most]?;
-    let full = 2f64.powi(i32::from(spec.bits_per_sample) - 1);
+    let bits = spec.bits_per_sample.clamp(1, 32);
     for frame in (0..reader.duration()).step_by(tenth) {
         reader.seek(frame)?;
         let (count, result) = reader.read_samples(&mut samples);
         let seconds = f64::from(frame) / f64::from(spec.sample_rate);
         for channel in 0..channels.min(count) {
-            let (square, peak) = level_of(&samples[channel..count], channels);
-            let rms = 20.0 * (square.sqrt() / full).log10();
-            let peak = 20.0 * (peak / full).log10();
+            let (square, peak) = level_of(&samples[channel..count], channels, bits);
+            let rms = 10.0 * square.log10();
+            let peak = 20.0 * peak.log10();
             println!(rt;
                 "{seconds:.1} s  channel {}  RMS {rms:.2} dBFS, peak {peak:.2} dBFS",
                 channel + 1
@@ -39,13 +41,17 @@ pub fn main(rt: HostRuntime) -> hound::Result<ExitCode> {
     Ok(ExitCode::SUCCESS)
 }
 
-// The mean square of each so many-th sample, and the largest of these, the first one among them.
-fn level_of(samples: &[i32], step: usize) -> (f64, f64) {
+// The mean square of each so many-th sample, and the largest of these, the first one among them; full
+// scale is 1.
+fn level_of(samples: &[i32], step: usize, bits: u16) -> (f64, f64)
+    requires some { 0 < bits }
+    requires most { bits ≤ 32 }
+{
     let mut peak = 0f64;
     let mut squares = 0f64;
     let mut count = 0f64;
     for sample in samples.iter().step_by(step.max(1)) {
-        let sample = f64::from(*sample);
+        let sample = f64::from(int_to_float(*sample, bits));
         peak = peak.max(sample.abs());
         squares += sample * sample;
         count += 1.0;

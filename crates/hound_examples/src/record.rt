@@ -1,11 +1,17 @@
-// record FILE COUNT [durable]: records raw samples, with a checkpoint after each COUNT of them.
+// record FILE COUNT [channels=N] [rate=N] [bits=N] [durable] [append]: records raw samples.
 //
-// As in `arecord -t raw -f S16_LE -r 44100 | record FILE 4410`: the samples on standard input have
-// sixteen bits and one channel. It prints nothing. If the program is killed after the first checkpoint,
-// the file can be read, and has all samples that an Ok `flush` has published. With `durable` each flush
-// syncs the file, so it has them after a loss of power too if the disk keeps what it says it has. Samples
-// that a kill left after those that the header counts come back by `mend FILE --yes`.
-ghost use Rattle.std.specs.Prelude.{◌<◌};
+// As in `arecord -t raw -f S24_3LE -c 2 -r 48000 | record FILE 4800 channels=2 rate=48000 bits=24`: the
+// samples on standard input are little-endian, with 8 (unsigned), 16, 24 (in three bytes) or 32 bits; one
+// channel, 44100 Hz and 16 bits if nothing is said. After each COUNT frames it makes a checkpoint, and
+// prints how many samples the file then has. If the program is killed, the file has all of those, and
+// what comes after them is found by `mend FILE`. With `durable` each checkpoint syncs the file, so it has
+// them after a loss of power too if the disk keeps what it says it has. With `append` it appends to a
+// file that is there, whose channels and bits the input has.
+//
+// After an error it continues: frames that couldn't be written are left out, with a line
+// `lost 4800 samples after 9600`, and a checkpoint that failed has no line. The last line, `recorded
+// 96000 samples`, counts those that were accepted.
+ghost use Rattle.std.specs.Prelude.{◌≤◌, IfOk, length};
 
 use hound::{Error, Medium, Sample, SampleFormat, WavSpec, WavWriter};
 use std::io::{BufReader, ErrorKind};
@@ -15,61 +21,97 @@ use std::{env, io};
 
 pub fn main(rt: HostRuntime) -> hound::Result<ExitCode> {
     let words: Vec<String> = env::args(&rt)?.collect(rt.alloc())?;
-    let words: Vec<&str> = words
-        .iter()
-        .skip(1)
-        .map(|word| word.as_str())
-        .collect(rt.alloc())?;
-    let (file, count, is_durable) = match words.as_slice() {
-        [file, count] => (*file, count.parse::<u32>(), false),
-        [file, count, "durable"] => (*file, count.parse::<u32>(), true),
-        _ => return usage(&rt),
-    };
-    let Ok(count @ 1..) = count else {
+    let [_, file, count, options @ ..] = words.as_slice() else {
         return usage(&rt);
     };
+    let Ok(count @ 1..) = count.parse::<u32>() else {
+        return usage(&rt);
+    };
+    let (mut channels, mut rate, mut bits) = (1, 44100, 16);
+    let (mut is_durable, mut is_appended) = (false, false);
+    for option in options {
+        let (name, number) = match option.split_once("=") {
+            Some((name, number)) => (name, Some(number.parse::<u32>())),
+            None => (option.as_str(), None),
+        };
+        match (name, number) {
+            ("channels", Some(Ok(number @ 1..=65535))) => channels = number as u16,
+            ("rate", Some(Ok(number))) => rate = number,
+            ("bits", Some(Ok(number @ (8 | 16 | 24 | 32)))) => bits = number as u16,
+            ("durable", None) => is_durable = true,
+            ("append", None) => is_appended = true,
+            _ => return usage(&rt),
+        }
+    }
     let spec = WavSpec {
-        channels: 1,
-        sample_rate: 44100,
-        bits_per_sample: 16,
+        channels,
+        sample_rate: rate,
+        bits_per_sample: bits,
         sample_format: SampleFormat::Int,
     };
-    let path = Path::new(file);
-    let mut input = BufReader::new(rt.alloc(), rt.stdin())?;
-    if is_durable {
-        let writer = WavWriter::create_durable(&rt, rt.alloc(), path, spec)?;
-        record(writer, count, &mut input)?;
-    } else {
-        let writer = WavWriter::create(&rt, rt.alloc(), path, spec)?;
-        record(writer, count, &mut input)?;
-    }
-    Ok(ExitCode::SUCCESS)
+    let (alloc, path) = (rt.alloc(), Path::new(file.as_str()));
+    let is_whole = match (is_durable, is_appended) {
+        (false, false) => record(&rt, WavWriter::create(&rt, alloc, path, spec)?, count)?,
+        (false, true) => record(&rt, WavWriter::append(&rt, alloc, path)?, count)?,
+        (true, false) => record(
+            &rt,
+            WavWriter::create_durable(&rt, alloc, path, spec)?,
+            count,
+        )?,
+        (true, true) => record(&rt, WavWriter::append_durable(&rt, alloc, path)?, count)?,
+    };
+    Ok(ExitCode::from(if is_whole { 0 } else { 1 }))
 }
 
 fn usage(rt: &HostRuntime) -> hound::Result<ExitCode> {
-    eprintln!(rt; "usage: record FILE COUNT [durable]")?;
+    eprintln!(rt; "usage: record FILE COUNT [channels=N] [rate=N] [bits=N] [durable] [append]")?;
     Ok(ExitCode::from(2))
 }
 
-// Records the input up to its end; half a sample there is left out.
-fn record<W: Medium, I: io::Read>(
+// Records the input up to its end, with a checkpoint after so many frames, and says whether each call
+// was Ok. Less than a frame at the end of the input is left out.
+fn record<W: Medium>(
+    rt: &HostRuntime,
     mut writer: WavWriter<W>,
     count: u32,
-    input: &mut I,
-) -> hound::Result<()>
-    requires some { 0 < count }
-{
-    writer.flush()?; // The header leaves the buffer.
-    // A `for` is known to end; a `loop` needs a proof.
+) -> hound::Result<bool> {
+    let mut input = BufReader::new(rt.alloc(), rt.stdin())?;
+    let spec = writer.spec_ex();
+    let channels = usize::from(spec.spec.channels.max(1));
+    let mut block = vec![in rt.alloc(); 0i32; count as usize * channels]?;
+    let mut is_whole = writer.flush().is_ok(); // The header leaves the buffer.
+    // Up to a block that isn't full, the last one. A `for` is known to end; a `loop` needs a proof.
     for _ in 0..u64::MAX {
-        match i16::read(input, SampleFormat::Int, 2, 16) {
-            Ok(sample) => writer.write_sample(sample)?,
-            Err(Error::IoError(error)) if error.kind() == ErrorKind::Other => break,
-            Err(error) => return Err(error),
+        let count = read(&mut input, spec.spec.bits_per_sample, &mut block)?;
+        let frames = &block[..count - count % channels];
+        if writer.write_samples(frames).is_err() {
+            println!(rt; "lost {} samples after {}", frames.len(), writer.len())?;
+            is_whole = false;
         }
-        if writer.len() % count == 0 {
-            writer.flush()?;
+        if count < block.len() {
+            break;
+        }
+        match writer.flush() {
+            Ok(()) => println!(rt; "{}", writer.len())?,
+            Err(_) => is_whole = false,
         }
     }
-    writer.finalize()
+    let count = writer.len();
+    is_whole = writer.finalize().is_ok() && is_whole;
+    println!(rt; "recorded {count} samples")?;
+    Ok(is_whole)
+}
+
+// Fills a block with samples of so many bits, up to the end of the input: how many there were.
+fn read<I: io::Read>(input: &mut I, bits: u16, block: &mut [i32]) -> hound::Result<usize>
+    ensures { IfOk result (λ count. count ≤ length block.new) }
+{
+    for at in 0..block.len() {
+        match i32::read(input, SampleFormat::Int, bits / 8, bits) {
+            Ok(sample) => block[at] = sample,
+            Err(Error::IoError(error)) if error.kind() == ErrorKind::Other => return Ok(at),
+            Err(error) => return Err(error),
+        }
+    }
+    Ok(block.len())
 }

@@ -15,3 +15,5 @@ mod losses;
 mod media;
 #[cfg(test)]
 mod repair;
+#[cfg(test)]
+mod scales;

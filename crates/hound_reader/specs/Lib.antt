@@ -13,6 +13,5 @@ pub mod Counting
 pub mod Front
 pub mod Item
 pub mod Items
-pub mod Rows
 pub mod Seeking
 pub mod Taken

@@ -1,7 +1,7 @@
 -- A file that was repaired is whole.
 use Rattle.std.proofs.Common.{◌≡◌, ◌⊎◌, ℕ, zero, suc, ◌+◌, ◌-◌, ◌*◌, ◌/◌, ◌%◌, ◌≤◌, Bool, true, false, IsTrue, cond, ◌&&◌, List, [], ◌++◌, length, drop, inl, inr, refl, sym, ap, ◌∙◌, subst, arith, eqb-true, eq-eqb, length-append, length-drop}
 use Rattle.std.specs.Prelude.{◌==◌, replicate}
-use Rattle.std.proofs.lemmas.Bool.{eqb-false, false≢true}
+use Rattle.std.proofs.lemmas.Bool.{eqb-false}
 use Rattle.std.proofs.lemmas.List.{length-replicate}
 use Rattle.std.proofs.lemmas.Nat.{div-add-mod', div-mul-add, mod-mul-add, mod_below}
 use Rattle.hound_spec.specs.declared.spec.WavSpecEx.{WavSpecEx}
@@ -12,13 +12,12 @@ use Rattle.hound_reader.proofs.Unique.{heads_agree}
 use Rattle.hound_writer.proofs.Heads.{head_behind, head_field, head_inside}
 use Rattle.hound_writer.specs.Sizes.{field, with_sizes}
 use Rattle.hound_repair.specs.Following.{is_followed}
-use Rattle.hound_repair.specs.Held.{are_right, data_held, ends_with_pad, frame_length, frames_held, held, missing_pad, right_length}
-use Rattle.hound_repair.specs.Repairing.{HasRightSizes, LeavesFor, Repairs, UnlessFollowed, found_length, frames_found, state_of}
+use Rattle.hound_repair.specs.Held.{are_right, data_held, ends_with_pad, frame_length, frames_held, held, mended, missing_pad, right_length}
+use Rattle.hound_repair.specs.Repairing.{HasRightSizes, IsFoundAt, LeavesFor, Repairs, UnlessFollowed, found_length, frames_found, state_of}
 use Rattle.hound_repair.specs.declared.sizes.Repair.{Repair}
 use Rattle.hound_repair.specs.declared.sizes.RepairState.{RepairState}
 use Rattle.hound_repair.specs.declared.sizes.RepairState.TheVariants.{Whole, CutOff, HasChunksAfterData}
-use Rattle.hound_repair.proofs.Keeping.{held_frames, not_followed}
-use Rattle.hound_repair.proofs.RightSizes.{same_sizes}
+use Rattle.hound_repair.proofs.RightSizes.{frames_are, length_of, not_followed, same_sizes}
 
 -- the bytes held are all data, or all but the last, which is the pad byte
 pub held_cases : (f len n : ℕ)
@@ -129,35 +128,6 @@ right_again s start len riff n frames len_is riff_is held_is =
     λ i. eq-eqb riff (riff_size start (right_length s len n)) (riff_is ∙ ap (riff_size start) (sym right)) i
     && eq-eqb len (right_length s len n) (sym right) i
 
--- how many bytes are held then
-held_again : (was : RepairState) (found : Repair) (start : ℕ) (old new : MediumState)
-    → (was ≡ HasChunksAfterData → ⊥) → LeavesFor was found start old new → 20 ≤ start
-    → start ≤ length old.contents
-    → ((was ≡ Whole) × (held start new.contents ≡ held start old.contents))
-    ⊎ ((was ≡ CutOff) × (held start new.contents
-    ≡ held start old.contents + length (missing_pad (found_length found) (held start old.contents))))
-held_again Whole found start old new alone leaves behind inside =
-    inl (refl, ap (held start) leaves.stays.contents)
-held_again HasChunksAfterData found start old new alone leaves behind inside = absurd (alone refl)
-held_again CutOff found start old new alone leaves behind inside =
-    let n = found_length found in
-    let c = old.contents in
-    let sizes = with_sizes (start - 4) (riff_size start n) n c in
-    let pad = missing_pad n (held start c) in
-    let same = same_sizes (start - 4) (riff_size start n) n c (omega (arith, behind)) (omega (arith, behind, inside)) in
-    inr (
-      refl,
-      omega (
-        arith,
-        ap (held start) leaves.0,
-        length-drop start (sizes ++ pad),
-        length-append sizes pad,
-        same.long,
-        length-drop start c,
-        inside,
-      ),
-    )
-
 -- what the sizes of a file that isn't followed by chunks are
 sizes_of : (was : RepairState) (found : Repair) (start : ℕ) (contents : List ℕ)
     → (was ≡ HasChunksAfterData → ⊥) → UnlessFollowed was (HasRightSizes found start contents)
@@ -166,36 +136,51 @@ sizes_of Whole found start contents alone right = right
 sizes_of CutOff found start contents alone right = right
 sizes_of HasChunksAfterData found start contents alone right = absurd (alone refl)
 
--- a file that was found whole has the sizes of the frames that it holds
-whole_again : (s : WavSpecEx) (start len riff n : ℕ) (followed : Bool)
-    → Whole ≡ state_of (are_right s start len riff n) followed → len ≡ right_length s len n
-whole_again s start len riff n followed is =
-    eqb-true len (right_length s len n)
-    (second (riff == riff_size start (right_length s len n)) (len == right_length s len n)
-    (by (are_right s start len riff n) followed is))
-  where
-    by : (b x : Bool) → Whole ≡ state_of b x → b ≡ true
-    by true x e = refl
-    by false true e = let h : ⊥ = cc in absurd h
-    by false false e = let h : ⊥ = cc in absurd h
+-- how many bytes a mended file holds
+held_mended : (start n : ℕ) (c : List ℕ) → 20 ≤ start → start ≤ length c
+    → held start (mended start n c) ≡ held start c + length (missing_pad n (held start c))
+held_mended start n c behind inside =
+    let sizes = with_sizes (start - 4) (riff_size start n) n c in
+    let pad = missing_pad n (held start c) in
+    let same = same_sizes (start - 4) (riff_size start n) n c (omega (arith, behind)) (omega (arith, behind, inside)) in
+    omega (
+      arith,
+      length-drop start (sizes ++ pad),
+      length-append sizes pad,
+      same.long,
+      length-drop start c,
+      inside,
+    )
 
-    second : (a b : Bool) → (a && b) ≡ true → b ≡ true
-    second true b e = e
-    second false b e = absurd (false≢true e)
+-- and that they are the frames that were found
+pub frames_mended : (looks : Bool) (contents : List ℕ) (found : Repair) (len start : ℕ)
+    → IsFoundAt looks contents found len start → (found.was ≡ HasChunksAfterData → ⊥)
+    → 1 ≤ frame_length found.spec_ex
+    → frames_held found.spec_ex (found_length found)
+    (held start (mended start (found_length found) contents)) ≡ found.frames
+frames_mended looks contents found len start at apart some =
+    let f = frame_length found.spec_ex in
+    let n = held start contents in
+    let right = length_of looks contents found len start at apart in
+    let more = held_mended start (found_length found) contents
+    (head_behind contents found.spec_ex len start at.head)
+    (head_inside contents found.spec_ex len start at.head) in
+    (λ i. data_held f (right i) ((more ∙ ap (λ k. n + length (missing_pad k n)) right) i) / f)
+    ∙ frames_again f len n some ∙ sym (frames_are looks contents found len start at apart)
 
 module _ (looks again : Bool) (old mid next new : MediumState) (found other : Repair)
     (first : Repairs looks old found mid)
     (alone : IsTrue looks → found.was ≡ HasChunksAfterData → ⊥)
-    (same : next.contents ≡ mid.contents) (second : Repairs again next other new)
-    (sound : 1 ≤ frame_length found.spec_ex) where
+    (sound : 1 ≤ frame_length found.spec_ex) (same : next.contents ≡ mid.contents)
+    (second : Repairs again next other new) where
   abbrev s : WavSpecEx
   s = found.spec_ex
 
   abbrev start : ℕ
   start = first.start
 
-  abbrev n : ℕ
-  n = held start old.contents
+  abbrev all : ℕ
+  all = found_length found
 
   apart : found.was ≡ HasChunksAfterData → ⊥
   apart = not_followed looks _ _ found.was first.is.was alone
@@ -203,63 +188,44 @@ module _ (looks again : Bool) (old mid next new : MediumState) (found other : Re
   right : HasRightSizes found start mid.contents
   right = sizes_of found.was found start mid.contents apart first.sizes
 
-  length_is : right.readable.len ≡ found_length found
-  length_is =
-      sym (head_field mid.contents s right.readable.len start right.readable.head)
-      ∙ right.length_says
-
-  frames_are : found.frames ≡ frames_held s first.len n
-  frames_are = first.is.frames ∙ held_frames found.was s first.len n apart
-
   -- the same frames are held
-  frames_same : frames_held s (found_length found) (held start mid.contents) ≡ found.frames
-  frames_same =
-      let f = frame_length s in
-      let length_of : found_length found ≡ data_held f first.len n / f * f =
-      ap (λ k. k * f) frames_are in
-      elim (held_again found.was found start old mid apart first.leaves
-      (head_behind old.contents s first.len start first.is.head)
-      (head_inside old.contents s first.len start first.is.head)) [
-        | inr (cut, more) ↦
-            ap (λ (x : ℕ × ℕ). data_held f x.0 x.1 / f)
-            (λ i. (length_of i, (more ∙ ap (λ k. n + length (missing_pad k n)) length_of) i))
-            ∙ frames_again f first.len n sound ∙ sym frames_are
-        | inl (whole, stays) ↦
-            let was_right : first.len ≡ right_length s first.len n =
-            whole_again s start first.len (field 4 old.contents) n _ (sym whole ∙ first.is.was) in
-            ap (λ (x : ℕ × ℕ). data_held f x.0 x.1 / f)
-            (λ i. ((length_of ∙ sym was_right) i, stays i)) ∙ sym frames_are
-      ]
+  frames_same : (was : RepairState) → LeavesFor was found start old mid
+      → (was ≡ HasChunksAfterData → ⊥)
+      → frames_held s all (held start mid.contents) ≡ found.frames
+  frames_same HasChunksAfterData leaves not = absurd (not refl)
+  frames_same CutOff leaves not =
+      ap (λ c. frames_held s all (held start c)) leaves.0
+      ∙ frames_mended looks old.contents found first.len start first.is apart sound
+  frames_same Whole leaves not =
+      let says : all ≡ first.len =
+      sym right.length_says ∙ ap (field (start - 4)) leaves.stays.contents
+      ∙ head_field old.contents s first.len start first.is.head in
+      (λ i. frames_held s (says i) (held start (leaves.stays.contents i)))
+      ∙ sym (frames_are looks old.contents found first.len start first.is apart)
 
-  pub whole_then : (other.was ≡ Whole) × (other.spec_ex ≡ s) × (other.frames ≡ found.frames)
+  -- a second repair finds the same frames, and writes nothing
+  pub second_repair : (other.was ≡ Whole) × (other.spec_ex ≡ s) × (other.frames ≡ found.frames)
       × (new.contents ≡ next.contents)
-  whole_then =
+  second_repair =
       let agree =
       heads_agree next.contents other.spec_ex s second.len right.readable.len second.start start
       second.is.head
       (subst (λ c. Head c s right.readable.len start) (sym same) right.readable.head) in
-      let len : second.len ≡ found_length found = agree.1 ∙ length_is in
+      let len : second.len ≡ all = agree.1
+      ∙ sym (head_field mid.contents s right.readable.len start right.readable.head)
+      ∙ right.length_says in
+      let frames = frames_same found.was first.leaves apart in
       let is_right : are_right other.spec_ex second.start second.len (field 4 next.contents)
       (held second.start next.contents) ≡ true =
       (λ i. are_right (agree.0 i) (agree.2 i) (len i) (field 4 (same i)) (held (agree.2 i) (same i)))
-      ∙ right_again s start (found_length found) (field 4 mid.contents) (held start mid.contents)
-      found.frames refl right.riff_says frames_same in
+      ∙ right_again s start all (field 4 mid.contents) (held start mid.contents)
+      found.frames refl right.riff_says frames in
       let was : other.was ≡ Whole =
       second.is.was ∙ ap (λ b. state_of b (again && is_followed second.len (drop second.start next.contents))) is_right in (
         was,
         agree.0,
         second.is.frames
             ∙ (λ i. frames_found (was i) (agree.0 i) (len i) (held (agree.2 i) (same i)))
-            ∙ frames_same,
+            ∙ frames,
         (subst (λ w. LeavesFor w other second.start next new) was second.leaves).stays.contents,
       )
-
--- a second repair finds the same frames, and writes nothing
-pub second_repair : (looks again : Bool) (old mid next new : MediumState) (found other : Repair)
-    → Repairs looks old found mid → (IsTrue looks → found.was ≡ HasChunksAfterData → ⊥)
-    → 1 ≤ frame_length found.spec_ex → next.contents ≡ mid.contents
-    → Repairs again next other new
-    → (other.was ≡ Whole) × (other.spec_ex ≡ found.spec_ex) × (other.frames ≡ found.frames)
-    × (new.contents ≡ next.contents)
-second_repair looks again old mid next new found other first alone sound same second =
-    whole_then looks again old mid next new found other first alone same second sound

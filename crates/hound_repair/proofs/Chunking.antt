@@ -1,11 +1,11 @@
 -- Chunks after the data, one by one.
-use Rattle.std.proofs.Common.{◌≡◌, ℕ, zero, suc, ◌+◌, ◌≤◌, ◌<◌, Bool, true, false, cond, if◌then◌else◌, ◌&&◌, ◌||◌, nat_lt, nat_le, List, [], ◌∷◌, Option, None, Some, length, drop, take, refl, sym, ◌∙◌, ap, arith, length-drop, length-take, eqb-true}
+use Rattle.std.proofs.Common.{◌≡◌, ℕ, min, inl, inr, zero, suc, ◌+◌, ◌≤◌, ◌<◌, Bool, true, false, cond, if◌then◌else◌, ◌&&◌, ◌||◌, nat_lt, nat_le, List, [], ◌∷◌, ◌++◌, Option, None, Some, length, drop, take, refl, sym, ◌∙◌, ap, arith, length-drop, length-take, eqb-true}
 use Rattle.std.specs.Prelude.{◌==◌, bytes_eq, slice_index}
-use Rattle.std.proofs.lemmas.Bool.{false≢true}
+use Rattle.std.proofs.lemmas.Bool.{cases_lt, false≢true}
 use Rattle.std.specs.Cmp.Lexicographic.{same_text}
 use Rattle.std.specs.List.{list_all, list_any}
 use Rattle.std.proofs.lemmas.Bool.Decides.{nat_tests}
-use Rattle.std.proofs.lemmas.List.{get_or-take, drop-take, take-take}
+use Rattle.std.proofs.lemmas.List.{get_or-take, drop-take, take-take, take_all, take_at}
 use Rattle.hound_number.specs.Number.{number}
 use Rattle.hound_spec.specs.Header.{padded}
 use Rattle.hound_repair.specs.Following.{are_at_most, are_chunks, chunk_content, has_known_tag, has_tag, if_some, known_tags, is_printable, said_length}
@@ -106,38 +106,56 @@ pub tag_is : (bytes tag : List ℕ) → tag ≡ take 4 bytes
 unfolding has_known_tag
 tag_is bytes tag is = ap (λ t. list_any (λ known. bytes_eq known t) known_tags) is
 
--- too few bytes for a header
-pub too_short : (bytes : List ℕ) → length bytes < 8 → chunk_content bytes ≡ None
+-- so do the first bytes of a header, where there are fewer than eight too
+pub tag_of_front : (bytes : List ℕ) (n : ℕ) → n ≡ min (length bytes) 8
+    → has_known_tag (take n bytes) ≡ has_known_tag bytes
+unfolding has_known_tag
+tag_of_front bytes n is = tag_is bytes (take 4 (take n bytes)) (elim (cases_lt (length bytes) 8) [
+  | inl few ↦ ap (take 4) (take_all n bytes (omega (arith, is, few)))
+  | inr many ↦ take-take 4 n bytes (omega (arith, is, many))
+])
+
+-- what was read into the front of a buffer
+pub front_read : (n place : ℕ) (given old after contents now : List ℕ) → length old ≡ n
+    → length given ≡ length old → now ≡ contents → given ≡ take (length old) (drop place now)
+    → take n (given ++ after) ≡ take n (drop place contents)
+front_read n place given old after contents now count size same is =
+    take_at given after n (size ∙ count) ∙ is ∙ (λ i. take (count i) (drop place (same i)))
+
+-- the first eight bytes say what the chunk is, and fewer that there is none
+pub content_is : (bytes header : List ℕ) (left n : ℕ) → left ≡ length bytes → n ≡ min left 8
+    → header ≡ take n bytes
+    → (if nat_lt left 8 then None
+    else if has_tag header && nat_le (8 + said_length header) left
+    then Some (padded (said_length header)) else None) ≡ chunk_content bytes
 unfolding chunk_content
-too_short bytes few = first (nat_lt (length bytes) 8) _ (grind (arith, nat_tests))
+content_is bytes header left n all count is =
+    by (nat_lt left 8) _ _ said ∙ ap (λ k. cond (nat_lt k 8) None (cond (has_tag bytes
+    && nat_le (8 + said_length bytes) (length bytes)) (Some (padded (said_length bytes))) None)) all
   where
-    first : (b : Bool) (x : Option ℕ) → b ≡ true → cond b None x ≡ None
-    first true x e = refl
-    first false x e = cc
+    by : (b : Bool) (x y : Option ℕ) → (b ≡ false → x ≡ y) → cond b None x ≡ cond b None y
+    by true x y same = refl
+    by false x y same = same refl
 
--- the first eight bytes say what the chunk is
-module _ (bytes : List ℕ) (long : 8 ≤ length bytes) where
-  at_index : (i : ℕ) → i < 8 → slice_index (take 8 bytes) i ≡ slice_index bytes i
-  at_index i before = get_or-take 8 bytes i 0 before
+    at_index : (i : ℕ) → i < 8 → slice_index (take 8 bytes) i ≡ slice_index bytes i
+    at_index i before = get_or-take 8 bytes i 0 before
 
-  same_tag : has_tag (take 8 bytes) ≡ has_tag bytes
-  same_tag = λ i. is_printable (at_index 0 (omega arith) i)
-      && (is_printable (at_index 1 (omega arith) i)
-      && (is_printable (at_index 2 (omega arith) i) && is_printable (at_index 3 (omega arith) i)))
+    tag : has_tag (take 8 bytes) ≡ has_tag bytes
+    tag = λ i. is_printable (at_index 0 (omega arith) i)
+        && (is_printable (at_index 1 (omega arith) i)
+        && (is_printable (at_index 2 (omega arith) i) && is_printable (at_index 3 (omega arith) i)))
 
-  same_length : said_length (take 8 bytes) ≡ said_length bytes
-  same_length = ap (λ l. number (take 4 l)) (drop-take 4 4 bytes) ∙ ap number (take-take 4 4 (drop 4 bytes) (omega arith))
+    length_said : said_length (take 8 bytes) ≡ said_length bytes
+    length_said = ap (λ l. number (take 4 l)) (drop-take 4 4 bytes)
+        ∙ ap number (take-take 4 4 (drop 4 bytes) (omega arith))
 
-  pub content_is : (header : List ℕ) (left : ℕ) → left ≡ length bytes → header ≡ take 8 bytes
-      → (if has_tag header && nat_le (8 + said_length header) left
-      then Some (padded (said_length header)) else None) ≡ chunk_content bytes
-  unfolding chunk_content
-  content_is header left all is =
-      let tag = ap has_tag is ∙ same_tag in
-      let said = ap said_length is ∙ same_length in
-      (λ i. if tag i && nat_le (8 + said i) (all i) then Some (padded (said i)) else None)
-      ∙ sym (behind (nat_lt (length bytes) 8) _ (grind (arith, nat_tests)))
-    where
-      behind : (b : Bool) (x : Option ℕ) → b ≡ false → cond b None x ≡ x
-      behind false x e = refl
-      behind true x e = cc
+    said : nat_lt left 8 ≡ false
+        → cond (has_tag header && nat_le (8 + said_length header) left) (Some (padded (said_length header))) None
+        ≡ cond (has_tag bytes && nat_le (8 + said_length bytes) (length bytes)) (Some (padded (said_length bytes))) None
+    said many =
+        let long : 8 ≤ left = grind (arith, nat_tests) in
+        let eight : n ≡ 8 = omega (arith, count, long) in
+        let whole : header ≡ take 8 bytes = is ∙ ap (λ k. take k bytes) eight in
+        let tags = ap has_tag whole ∙ tag in
+        let lengths = ap said_length whole ∙ length_said in
+        λ i. cond (tags i && nat_le (8 + lengths i) (all i)) (Some (padded (lengths i))) None

@@ -1,39 +1,21 @@
 -- Files in memory that are repaired where they are.
-use Rattle.std.proofs.Common.{◌≡◌, ℕ, ◌+◌, ◌-◌, ◌≤◌, Bool, true, false, cond, nat_lt, List, ◌++◌, length, take, drop, Some, None, Err, refl, sym, ap, ◌∙◌, arith, append_assoc, length-append}
+use Rattle.std.proofs.Common.{◌≡◌, ℕ, ◌+◌, ◌-◌, ◌≤◌, true, refl, subst, List, ◌++◌, length, take, drop, sym, ap, ◌∙◌, arith, append_assoc, length-append}
 use Rattle.std.proofs.lemmas.List.{drop-drop, drop-take, length-take-le}
 use Rattle.std.proofs.lemmas.Slice.{drop-append-drop}
 use Rattle.std.proofs.Math.Seq.{take-append-add}
 use borrow.Rule.Slice.PartMut.{put_mid}
 use Rattle.hound_number.specs.Number.{bytes_of}
 use Rattle.hound_number.proofs.Mixing.{length-bytes_of}
-use Rattle.hound_spec.specs.FmtChunk.{greatest_u32}
-use Rattle.hound_spec.specs.Header.{riff_size}
-use Rattle.hound_spec.specs.declared.error.Error.{Error}
-use Rattle.hound_spec.specs.declared.spec.WavSpecEx.{WavSpecEx}
-use Rattle.hound_writer.specs.Appending.{FailsCheck, too_long}
-use Rattle.hound_writer.specs.Sizes.{with_sizes}
 use Rattle.hound_medium.specs.State.{MediumState}
-use Rattle.hound_reader.specs.Fmt.{IsSoundSpec}
-use Rattle.hound_repair.specs.Damages.{IsDamage, repair_of}
-use Rattle.hound_repair.specs.Held.{right_length}
-use Rattle.hound_repair.specs.Repairing.{Repairs, size_fault}
+use Rattle.hound_writer.specs.Sizes.{with_sizes}
+use Rattle.hound_repair.specs.Damages.{FindsDamage, IsSoundDamage, repair_of}
+use Rattle.hound_repair.specs.Held.{mended, missing_pad}
+use Rattle.hound_repair.specs.InMemory.{RepairsBytes, as_medium}
+use Rattle.hound_repair.specs.Repairing.{Repairs}
 use Rattle.hound_repair.specs.declared.look.Damage.{Damage}
-use Rattle.hound_repair.specs.declared.sizes.RepairState.{RepairState}
-use Rattle.hound_repair.specs.declared.sizes.RepairState.TheVariants.{Whole, CutOff, HasChunksAfterData}
-use Rattle.hound_repair.proofs.Mending.{repairs_followed, repairs_whole}
-
--- the check of the sizes fails for their length only
-pub only_too_long : (T : Type 0) (e : Error) (s : WavSpecEx) (len start n : ℕ)
-    → FailsCheck {T = T} (Err e) (size_fault s len start n)
-    → size_fault s len start n ≡ Some too_long
-unfolding size_fault
-only_too_long T e s len start n fails =
-    by (nat_lt greatest_u32 (riff_size start (right_length s len n))) fails
-  where
-    by : (b : Bool) → FailsCheck {T = T} (Err e) (cond b (Some too_long) None)
-        → cond b (Some too_long) None ≡ Some too_long
-    by true fails = refl
-    by false fails = absurd fails
+use Rattle.hound_repair.specs.declared.sizes.Repair.{Repair}
+use Rattle.hound_repair.specs.declared.sizes.RepairState.TheVariants.{CutOff}
+use Rattle.hound_repair.proofs.Mending.{length_is, mended_by, repairs_cut}
 
 -- two sizes that were stored in place
 pub two_put : (p riff len : ℕ) (c x y : List ℕ) → 8 ≤ p → p + 4 ≤ length c → x ≡ bytes_of 4 riff
@@ -60,12 +42,18 @@ two_put p riff len c x y behind inside x_is y_is =
     ∙ append_assoc (take 4 c) x (drop 8 (take p c) ++ (bytes_of 4 len ++ drop (p + 4) c))
     ∙ ap (λ l. take 4 c ++ (l ++ (drop 8 (take p c) ++ (bytes_of 4 len ++ drop (p + 4) c)))) x_is
 
--- a file that wasn't cut off is left as it is
-pub repairs_other : (looks : Bool) (old : MediumState) (d : Damage) → IsDamage looks old.contents d
-    → IsSoundSpec d.head.spec_ex → (d.was ≡ CutOff → ⊥) → Repairs looks old (repair_of d) old
-repairs_other looks old d at sound other = by d.was refl
-  where
-    by : (w : RepairState) → d.was ≡ w → Repairs looks old (repair_of d) old
-    by Whole is = repairs_whole looks old d at sound is
-    by CutOff is = absurd (other is)
-    by HasChunksAfterData is = repairs_followed looks old d at sound is
+-- a file that was cut off, with its sizes and the missing bytes
+pub repairs_in_place : (used n : ℕ) (old pad new : List ℕ) (d : Damage) (found : Repair)
+    (looked : MediumState) → IsSoundDamage d → FindsDamage true (as_medium (take used old)) d looked
+    → d.was ≡ CutOff → missing_pad d.sizes.data_length d.held ≡ pad
+    → take n new ≡ with_sizes (d.head.data_start - 4) d.sizes.riff_size d.sizes.data_length (take used old) ++ pad
+    → drop n new ≡ drop n old → found ≡ repair_of d → RepairsBytes used n found old new
+repairs_in_place used n old pad new d found looked sound finds cut missing is rest found_is =
+    let file = take used old in
+    record {
+      repairs = subst (λ f. Repairs true (as_medium file) f (as_medium (take n new))) (sym found_is)
+          (repairs_cut true (as_medium file) (as_medium (take n new)) (repair_of d) _ _ finds.found sound.spec cut
+          (mended_by d sound file pad (take n new) finds.held_is missing is
+          ∙ ap (λ k. mended d.head.data_start k file) (length_is d sound cut)) refl refl);
+      rest = rest;
+    }

@@ -18,18 +18,18 @@ use Rattle.hound_sample.proofs.Containers.{containers_front}
 use Rattle.hound_writer.proofs.Heads.{head_behind, head_inside}
 use Rattle.hound_writer.specs.Sizes.{with_sizes}
 use Rattle.hound_writer.specs.Storing.{IsStored}
-use Rattle.hound_repair.specs.Held.{data_held, ends_with_pad, frame_length, frames_held, held, missing_pad}
+use Rattle.hound_repair.specs.Held.{data_held, ends_with_pad, frame_length, held, missing_pad}
 use Rattle.hound_spec.specs.declared.error.Error.{Error}
 use Rattle.hound_medium.specs.State.{one_more}
 use Rattle.hound_writer.specs.Answers.{IsIoError}
 use Rattle.hound_writer.specs.Appending.{AppendFault, NamesFault, PutsNothing}
-use Rattle.hound_repair.specs.Repairing.{IsNoPad, IsNotRepaired, IsRepairFault, LeavesFor, LeavesHalf, ReadsFrames, Repairs, found_length, frames_found, repair_fault, state_of}
+use Rattle.hound_repair.specs.Repairing.{IsNoPad, IsNotRepaired, IsRepairFault, LeavesFor, LeavesHalf, ReadsFrames, Repairs, found_length, repair_fault}
 use Rattle.hound_repair.specs.declared.sizes.Repair.{Repair}
 use Rattle.hound_repair.specs.declared.sizes.RepairState.{RepairState}
 use Rattle.hound_repair.specs.declared.sizes.RepairState.TheVariants.{Whole, CutOff, HasChunksAfterData}
 use Rattle.hound_repair.proofs.Dividing.{times_le}
 use Rattle.hound_repair.proofs.Joining.{AreWide, concat_front, wide_take}
-use Rattle.hound_repair.proofs.RightSizes.{same_sizes}
+use Rattle.hound_repair.proofs.RightSizes.{held_frames, not_followed, same_sizes}
 
 -- the first of more containers are those of fewer
 pub containers_fewer : (w n m : ℕ) (bytes : List ℕ) → n ≤ m
@@ -75,14 +75,7 @@ frames_kept f len n q some few no_pad = by (n == len + 1) (len % 2 == 1) (len % 
           ]
     ]
 
--- where no chunks follow the data, what is reported is what is held
-pub held_frames : (was : RepairState) (s : WavSpecEx) (len n : ℕ) → (was ≡ HasChunksAfterData → ⊥)
-    → frames_found was s len n ≡ frames_held s len n
-held_frames Whole s len n alone = refl
-held_frames CutOff s len n alone = refl
-held_frames HasChunksAfterData s len n alone = absurd (alone refl)
-
--- and the data stay
+-- the data stay
 data_stay : (was : RepairState) (found : Repair) (start m : ℕ) (old new : MediumState)
     → (was ≡ HasChunksAfterData → ⊥) → LeavesFor was found start old new → 20 ≤ start
     → start ≤ length old.contents → m ≤ held start old.contents
@@ -193,14 +186,6 @@ module _ (looks : Bool) (old new : MediumState) (found : Repair)
             ∙ (λ i. containers w (sym taken i) (concat_front n list i))
             ∙ containers-concat w (take n list) (concat (drop n list)) (wide_take w n list wide);
       }
-
--- chunks that aren't looked for aren't found
-pub not_followed : (looks right followed : Bool) (was : RepairState)
-    → was ≡ state_of right (looks && followed)
-    → (IsTrue looks → was ≡ HasChunksAfterData → ⊥) → was ≡ HasChunksAfterData → ⊥
-not_followed true right followed was is alone here = alone refl here
-not_followed false true followed was is alone here = let e = sym is ∙ here in cc
-not_followed false false followed was is alone here = let e = sym is ∙ here in cc
 
 -- samples that are stored are read first once a file is repaired
 pub keeps_stored : (looks : Bool) (old new : MediumState) (found : Repair) (s : WavSpecEx)

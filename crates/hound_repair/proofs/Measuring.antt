@@ -1,9 +1,10 @@
 -- What a head is found as, by what the file holds.
-use Rattle.std.proofs.Common.{◌≡◌, ℕ, ◌+◌, ◌*◌, ◌/◌, ◌≤◌, ◌<◌, ◌^◌, Bool, true, false, cond, min, nat_lt, Option, Some, None, inl, inr, Err, refl, sym, ap, ◌∙◌, arith}
+use Rattle.std.proofs.Common.{◌≡◌, ℕ, ◌+◌, ◌*◌, ◌/◌, ◌≤◌, ◌<◌, ◌^◌, Bool, true, false, cond, not, min, nat_lt, ◌⊎◌, subst, Option, Some, None, inl, inr, Err, refl, sym, ap, ◌∙◌, arith}
 use Rattle.std.proofs.lemmas.Bool.Decides.{nat_tests}
 use Rattle.std.proofs.lemmas.Bool.{cases_lt}
 use Rattle.std.proofs.Math.Nat.{lt-div-mul-add, le-mul_of_pos_right}
 use Rattle.hound_spec.specs.declared.error.Error.{Error}
+use Rattle.hound_spec.specs.declared.error.Error.TheVariants as errors
 use Rattle.hound_spec.specs.declared.spec.WavSpecEx.{WavSpecEx}
 use Rattle.hound_spec.specs.FmtChunk.{greatest_u32}
 use Rattle.hound_spec.specs.Header.{riff_size}
@@ -16,6 +17,8 @@ use Rattle.hound_reader.specs.Refusals.{ReportsError}
 use Rattle.hound_reader.specs.Sources.{FindsData}
 use Rattle.hound_writer.specs.Appending.{AppendFault, by_bytes, too_long, FailsCheck, NamesFault}
 use Rattle.hound_writer.proofs.Appending.{no_head, walk_puts_nothing}
+use Rattle.hound_reader.specs.declared.chunks.FileHead.{FileHead}
+use Rattle.hound_repair.specs.Damages.{IsNotMeasured}
 use Rattle.hound_repair.specs.Held.{data_held, ends_with_pad, frame_length, right_length}
 use Rattle.hound_repair.specs.Repairing.{IsNotFound, IsRepairFault, repair_fault, size_fault}
 
@@ -93,3 +96,34 @@ walk_fails error e old new begins told finds = record {
   why = no_head (IsRepairFault old.contents) error e old new (λ cause is. inl (cause, refl, is))
       begins told finds;
 }
+
+-- a check that fails has one of two errors
+one_of_two : (s : WavSpecEx) (len start n : ℕ) (fault : AppendFault) (e : Error)
+    → repair_fault s len start n ≡ Some fault → NamesFault e fault
+    → (e ≡ errors.Unsupported) ⊎ (e ≡ errors.TooLong)
+unfolding repair_fault size_fault
+one_of_two s len start n fault e is names =
+    by (is_pair s.spec.sample_format s.spec.bits_per_sample s.bytes_per_sample)
+    (nat_lt greatest_u32 (riff_size start (right_length s len n))) is
+  where
+    unsupported : (e : Error) → NamesFault e (by_bytes Unsupported) → e ≡ errors.Unsupported
+    unsupported errors.Unsupported names = refl
+    unsupported (errors.IoError io) (is, other) = cc
+    unsupported (errors.FormatError text) (reason, is, words) = cc
+    unsupported _ names = absurd names
+
+    by : (a b : Bool) → cond (not a) (Some (by_bytes Unsupported)) (cond b (Some too_long) None) ≡ Some fault
+        → (e ≡ errors.Unsupported) ⊎ (e ≡ errors.TooLong)
+    by true true is = inr (let same : fault ≡ too_long = cc in subst (NamesFault e) same names)
+    by true false is = cc
+    by false b is =
+        inl (unsupported e (let same : fault ≡ by_bytes Unsupported = cc in subst (NamesFault e) same names))
+
+-- so has a head that isn't gone by, where no read can fail
+pub no_other : (head : FileHead) (old new : MediumState) (e : Error) → old.faults ≡ 0
+    → new.faults ≡ 0 → IsNotMeasured head old new e
+    → (e ≡ errors.Unsupported) ⊎ (e ≡ errors.TooLong)
+no_other head old new e none still not = elim not.why [
+  | inl (fault, is, names, same) ↦ one_of_two _ _ _ _ fault e is names
+  | inr (io, more) ↦ absurd (omega (arith, none, still, more))
+]

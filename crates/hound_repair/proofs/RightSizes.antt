@@ -1,18 +1,29 @@
 -- What a file is read as once its sizes are right.
-use Rattle.std.proofs.Common.{◌≡◌, ℕ, ◌+◌, ◌-◌, ◌*◌, ◌/◌, ◌%◌, ◌^◌, ◌≤◌, ◌<◌, not, if◌then◌else◌, List, ◌++◌, length, take, drop, Some, None, sym, ap, ◌∙◌, subst, arith, eq-eqb, length-append, length-drop}
+use Rattle.std.proofs.Common.{◌≡◌, ℕ, ◌+◌, ◌-◌, ◌*◌, ◌/◌, ◌%◌, ◌^◌, ◌≤◌, ◌<◌, Bool, true, false, cond, not, nat_lt, IsTrue, ◌&&◌, if◌then◌else◌, List, ◌++◌, length, take, drop, Some, None, refl, sym, ap, ◌∙◌, subst, arith, eq-eqb, length-append, length-drop}
+use Rattle.std.proofs.lemmas.Bool.Decides.{nat_tests}
 use Rattle.std.proofs.lemmas.List.{take-append-le, drop-append-le}
 use Rattle.std.proofs.lemmas.Nat.{div-mul-add, mod-mul-add}
 use Rattle.std.proofs.Math.Nat.{mul_assoc}
 use Rattle.hound_number.specs.Number.{bytes_of, number}
 use Rattle.hound_spec.specs.declared.spec.WavSpecEx.{WavSpecEx}
+use Rattle.hound_spec.specs.FmtChunk.{greatest_u32}
+use Rattle.hound_spec.specs.Header.{riff_size}
+use Rattle.hound_spec.specs.Writable.{is_pair}
 use Rattle.hound_medium.specs.Bytes.{placed, overlay}
-use Rattle.hound_reader.specs.declared.cause.Cause.TheVariants.{Format}
+use Rattle.hound_reader.specs.declared.cause.Cause.TheVariants.{Format, Unsupported}
 use Rattle.hound_reader.specs.declared.cause.Reason.TheVariants.{DataLength, FrameLength}
 use Rattle.hound_reader.specs.Chunks.{Head, Readable, data_fault}
+use Rattle.hound_reader.specs.Fmt.{IsSoundSpec}
+use Rattle.hound_writer.specs.Appending.{by_bytes, too_long}
 use Rattle.hound_writer.specs.Sizes.{SameButSizes, field, with_sizes}
-use Rattle.hound_writer.proofs.Heads.{head_behind, head_inside, head_with}
+use Rattle.hound_writer.proofs.Heads.{head_behind, head_field, head_inside, head_with}
 use Rattle.hound_writer.proofs.Patching.{data_length_of_sizes, riff_size_of_sizes, sizes_put}
 use Rattle.hound_writer.proofs.Sizes.{same_length, same_riff, same_transitive}
+use Rattle.hound_repair.specs.Held.{frame_length, frames_held, held, mended, missing_pad, right_length}
+use Rattle.hound_repair.specs.Repairing.{HasRightSizes, IsFoundAt, found_length, frames_found, repair_fault, size_fault, state_of}
+use Rattle.hound_repair.specs.declared.sizes.Repair.{Repair}
+use Rattle.hound_repair.specs.declared.sizes.RepairState.{RepairState}
+use Rattle.hound_repair.specs.declared.sizes.RepairState.TheVariants.{Whole, CutOff, HasChunksAfterData}
 
 -- two sizes that were put change nothing else
 pub same_sizes : (p riff n : ℕ) (c : List ℕ) → 8 ≤ p → p + 4 ≤ length c
@@ -96,3 +107,90 @@ frames_read s n start frames c channels width is head =
       frames = no_fault s n whole (ap (λ k. k % s.spec.channels) count ∙ more);
       count = sym count;
     }
+
+-- where no chunks follow the data, what is reported is what is held
+pub held_frames : (was : RepairState) (s : WavSpecEx) (len n : ℕ) → (was ≡ HasChunksAfterData → ⊥)
+    → frames_found was s len n ≡ frames_held s len n
+held_frames Whole s len n alone = refl
+held_frames CutOff s len n alone = refl
+held_frames HasChunksAfterData s len n alone = absurd (alone refl)
+
+-- chunks that aren't looked for aren't found
+pub not_followed : (looks right followed : Bool) (was : RepairState)
+    → was ≡ state_of right (looks && followed)
+    → (IsTrue looks → was ≡ HasChunksAfterData → ⊥) → was ≡ HasChunksAfterData → ⊥
+not_followed true right followed was is alone here = alone refl here
+not_followed false true followed was is alone here = let e = sym is ∙ here in cc
+not_followed false false followed was is alone here = let e = sym is ∙ here in cc
+
+-- a length that passes the check fits
+pub size_fits : (s : WavSpecEx) (len start n : ℕ) → size_fault s len start n ≡ None
+    → riff_size start (right_length s len n) ≤ greatest_u32
+unfolding size_fault
+size_fits s len start n none = by (nat_lt greatest_u32 (riff_size start (right_length s len n))) refl none
+  where
+    by : (b : Bool) → nat_lt greatest_u32 (riff_size start (right_length s len n)) ≡ b
+        → cond b (Some too_long) None ≡ None → riff_size start (right_length s len n) ≤ greatest_u32
+    by true is fault = absurd (cc fault)
+    by false is fault = grind (arith, nat_tests)
+
+pub check_fits : (s : WavSpecEx) (len start n : ℕ) → repair_fault s len start n ≡ None
+    → riff_size start (right_length s len n) ≤ greatest_u32
+unfolding repair_fault
+check_fits s len start n none =
+    by (is_pair s.spec.sample_format s.spec.bits_per_sample s.bytes_per_sample) none
+  where
+    by : (b : Bool) → cond (not b) (Some (by_bytes Unsupported)) (size_fault s len start n) ≡ None
+        → riff_size start (right_length s len n) ≤ greatest_u32
+    by false fault = absurd (cc fault)
+    by true fault = size_fits s len start n fault
+
+-- the sizes of a file with these frames fit, and are right where its fields say them
+module _ (looks : Bool) (contents : List ℕ) (found : Repair) (len start : ℕ)
+    (at : IsFoundAt looks contents found len start)
+    (apart : found.was ≡ HasChunksAfterData → ⊥) where
+  abbrev all : ℕ
+  all = found_length found
+
+  pub frames_are : found.frames ≡ frames_held found.spec_ex len (held start contents)
+  frames_are = at.frames ∙ held_frames found.was found.spec_ex len (held start contents) apart
+
+  pub length_of : all ≡ right_length found.spec_ex len (held start contents)
+  length_of = ap (λ k. k * frame_length found.spec_ex) frames_are
+
+  pub riff_fits : riff_size start all < 2 ^ 32
+  riff_fits = omega (
+    arith,
+    ap (riff_size start) length_of,
+    check_fits found.spec_ex len start (held start contents) at.check,
+  )
+
+  pub length_fits : all < 2 ^ 32
+  length_fits = omega (arith, riff_fits, head_behind contents found.spec_ex len start at.head)
+
+  right_sizes_of : IsSoundSpec found.spec_ex → (new : List ℕ) → Head new found.spec_ex all start
+      → field 4 new ≡ riff_size start all → HasRightSizes found start new
+  right_sizes_of sound new head riff = record {
+    length_says = head_field new found.spec_ex all start head;
+    riff_says = riff;
+    readable = frames_read found.spec_ex all start found.frames new sound.0 sound.1 refl head;
+  }
+
+  pub right_sizes_put : IsSoundSpec found.spec_ex
+      → HasRightSizes found start (mended start all contents)
+  right_sizes_put sound =
+      let s = found.spec_ex in
+      let riff = riff_size start all in
+      let pad = missing_pad all (held start contents) in
+      right_sizes_of sound (mended start all contents)
+      (head_put s len start contents at.head riff all length_fits riff_fits pad)
+      (riff_put s len start contents at.head riff all length_fits riff_fits pad)
+
+  pub right_sizes_there : IsSoundSpec found.spec_ex
+      → field 4 contents ≡ riff_size start (right_length found.spec_ex len (held start contents))
+      → len ≡ right_length found.spec_ex len (held start contents)
+      → HasRightSizes found start contents
+  right_sizes_there sound riff same =
+      right_sizes_of sound contents
+      (subst (λ n. Head contents found.spec_ex n start) (same ∙ sym length_of) at.head)
+      (riff ∙ ap (riff_size start) (sym length_of))

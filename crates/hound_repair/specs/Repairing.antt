@@ -1,5 +1,5 @@
 -- What a file is found as, and what repairing it leaves.
-use Rattle.std.specs.Prelude.{◌≡◌, ℕ, ◌+◌, ◌-◌, ◌*◌, ◌/◌, ◌%◌, ◌≤◌, ◌<◌, ◌⊎◌, Bool, true, false, ◌&&◌, not, nat_lt, if◌then◌else◌, ⊤, List, ◌++◌, length, take, drop, Option, Some, None, Result}
+use Rattle.std.specs.Prelude.{◌≡◌, ℕ, ◌+◌, ◌-◌, ◌*◌, ◌/◌, ◌%◌, ◌≤◌, ◌<◌, ◌⊎◌, Bool, true, false, ◌&&◌, not, nat_lt, if◌then◌else◌, ⊤, List, ◌++◌, length, take, drop, Option, Some, None, Result, MatchResult}
 use Rattle.hound_spec.specs.declared.error.Error.{Error}
 use Rattle.hound_spec.specs.declared.spec.WavSpecEx.{WavSpecEx}
 use Rattle.hound_spec.specs.FmtChunk.{greatest_u32}
@@ -14,9 +14,9 @@ use Rattle.hound_reader.specs.Chunks.{Head, Readable, Refused}
 use Rattle.hound_writer.specs.Answers.{IsIoError}
 use Rattle.hound_writer.specs.Appending.{AppendFault, by_bytes, too_long, NamesFault, PutsNothing}
 use Rattle.hound_writer.specs.Parts.{IsPatched}
-use Rattle.hound_writer.specs.Sizes.{field, with_sizes}
+use Rattle.hound_writer.specs.Sizes.{field}
 use Rattle.hound_repair.specs.Following.{is_followed}
-use Rattle.hound_repair.specs.Held.{are_right, frame_length, frames_held, held, mended, missing_pad, right_length, torn_bytes}
+use Rattle.hound_repair.specs.Held.{are_right, frame_length, frames_held, held, mended, right_length, torn_bytes}
 use Rattle.hound_repair.specs.declared.sizes.Repair.{Repair}
 use Rattle.hound_repair.specs.declared.sizes.RepairState.{RepairState}
 use Rattle.hound_repair.specs.declared.sizes.RepairState.TheVariants.{Whole, CutOff, HasChunksAfterData}
@@ -131,23 +131,23 @@ pub record Repairs (looks : Bool) (old : MediumState) (found : Repair) (new : Me
     pub sizes : UnlessFollowed found.was (HasRightSizes found start new.contents)
     pub faults : new.faults ≡ old.faults
 
--- The contents while the sizes are written, the RIFF size first, and after both the pad byte where it
--- is missing: k low bytes of the data length are new. So many bytes are held from the data on.
-pub record HalfPut (p riff data_length n : ℕ) (old new : List ℕ) : Type 0 where
+-- The contents while a file is mended, for data of this length: the sizes are written, the RIFF size
+-- first, and after both the pad byte where it is missing. k low bytes of the data length are new.
+pub record HalfMended (start data_length : ℕ) (old new : List ℕ) : Type 0 where
   pub sizes : List ℕ
   pub k : ℕ
   pub within : k ≤ 4
-  pub half : IsPatched p riff old data_length k sizes
+  pub half : IsPatched (start - 4) (riff_size start data_length) old data_length k sizes
   pub pad : List ℕ
   pub one : length pad ≤ 1
   pub is : new ≡ sizes ++ pad
-  pub last : 1 ≤ length pad → sizes ≡ with_sizes p riff data_length old
-  pub missing : 1 ≤ length pad → pad ≡ missing_pad data_length n
+  pub last : 1 ≤ length pad → new ≡ mended start data_length old
 
--- the contents while a file is mended, for data of this length
-abbrev pub HalfMended : ℕ → ℕ → List ℕ → List ℕ → Type 0
-HalfMended start data_length old new =
-    HalfPut (start - 4) (riff_size start data_length) data_length (held start old) old new
+-- the file is half mended in each intermediate state
+abbrev pub HalfMendedAtEach : ℕ → ℕ → MediumState → MediumState → Type 0
+HalfMendedAtEach start data_length old new =
+    (k : ℕ) → length old.past ≤ k → k ≤ length new.past →
+    HalfMended start data_length old.contents (moment new.start new.past k)
 
 -- where a pad byte was written at the end, all bytes before it were flushed first
 abbrev pub FlushesBeforePad : MediumState → MediumState → Type 0
@@ -161,8 +161,7 @@ MendsAtEach looks old new =
     (new.past ≡ old.past)
     ⊎ ((found : Repair) × (len : ℕ) × (start : ℕ) × IsFoundAt looks old.contents found len start
     × (found.was ≡ CutOff) × FlushesBeforePad old new
-    × ((k : ℕ) → length old.past ≤ k → k ≤ length new.past →
-    HalfMended start (found_length found) old.contents (moment new.start new.past k)))
+    × HalfMendedAtEach start (found_length found) old new)
 
 -- what is left where the medium failed: all, or a file that is half mended
 abbrev pub LeavesHalf : Bool → MediumState → MediumState → Type 0
@@ -176,6 +175,20 @@ pub record IsNotRepaired (looks : Bool) (old new : MediumState) (e : Error) : Ty
   pub why : ((fault : AppendFault) × IsRepairFault old.contents fault × NamesFault e fault
       × PutsNothing old new × (new.faults ≡ old.faults))
       ⊎ (IsIoError e × LeavesHalf looks old new × (new.faults ≡ one_more old.faults))
+
+-- what a repair of a medium leaves, by its result
+abbrev pub RepairsMedium : {M : Type 0} → Bool → (M → MediumState) → M
+    → Result (M × Repair) (M × Error) → Type 0
+RepairsMedium looks state old result =
+    MatchResult result (λ done. Repairs looks (state old) done.1 (state done.0))
+    (λ refused. IsNotRepaired looks (state old) (state refused.0) refused.1)
+
+-- what each of its intermediate states is
+abbrev pub MendsMedium : {M : Type 0} → Bool → (M → MediumState) → M
+    → Result (M × Repair) (M × Error) → Type 0
+MendsMedium looks state old result =
+    MatchResult result (λ done. MendsAtEach looks (state old) (state done.0))
+    (λ refused. MendsAtEach looks (state old) (state refused.0))
 
 -- the first of these samples, as many as whole frames have
 abbrev pub whole_frames : WavSpecEx → List (List ℕ) → List (List ℕ)

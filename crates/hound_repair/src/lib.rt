@@ -10,9 +10,10 @@ mod file;
 mod laws;
 mod look;
 mod mend;
+mod read_at;
 mod sizes;
 
-pub use bytes::{Unrepaired, repair_bytes};
+pub use bytes::{Unrepaired, repair_bytes, set_sizes};
 pub use file::{find_damage_in_file, repair_file, repair_file_to_end};
 pub use laws::{
     a_half_mended_file_is_repaired, a_repair_keeps_stored_samples, a_second_repair_writes_nothing,

@@ -1,10 +1,9 @@
 // The right sizes, put into a file.
-ghost use Rattle.std.specs.Prelude.{◌≡◌, ◌+◌, ◌-◌, ◌≤◌, true, false, Bool, IfOk, MatchResult, length};
+ghost use Rattle.std.specs.Prelude.{◌≡◌, ◌+◌, ◌≤◌, true, false, IfOk, length};
 ghost use Rattle.hound_reader.specs.Fmt.{IsSoundSpec};
-ghost use Rattle.hound_repair.specs.declared.sizes.RepairState.{RepairState};
 ghost use Rattle.hound_medium.specs.State.{WhereKeeps, WhereTells};
-ghost use Rattle.hound_repair.specs.Damages.{HalfPutAtEach, IsDamage, IsSoundDamage, PutsPad, PutsSizes};
-ghost use Rattle.hound_repair.specs.Repairing.{FlushesBeforePad, IsNotRepaired, MendsAtEach, Repairs};
+ghost use Rattle.hound_repair.specs.Damages.{IsSoundDamage, PutsPad, PutsSizes};
+ghost use Rattle.hound_repair.specs.Repairing.{FlushesBeforePad, HalfMendedAtEach, MendsMedium, RepairsMedium};
 
 use crate::look::{Damage, look};
 use crate::sizes::{Repair, RepairState};
@@ -25,66 +24,22 @@ fn put_pad<M: Medium>(medium: &mut M, end: u64) -> io::Result<()>
 // Puts the right sizes, the RIFF size first, and then the pad byte where it is missing. The medium
 // is flushed after the sizes and after the pad byte.
 fn put_sizes<M: Medium>(medium: &mut M, damage: Damage) -> io::Result<()>
-    requires sound { IsSoundDamage damage.head damage }
+    requires sound { IsSoundDamage damage }
     requires ends { WhereTells M.tells
         (damage.head.data_start + damage.held ≡ length (M.state medium.old).contents) }
     ensures sizes { WhereTells M.tells (PutsSizes damage result (M.state medium.old) (M.state medium.new)) }
-    ensures moments { WhereKeeps M.tells M.keeps (HalfPutAtEach (damage.head.data_start - 4)
-        damage.sizes.riff_size damage.sizes.data_length damage.held (M.state medium.old)
-        (M.state medium.new)) }
+    ensures moments { WhereKeeps M.tells M.keeps (HalfMendedAtEach damage.head.data_start
+        damage.sizes.data_length (M.state medium.old) (M.state medium.new)) }
     ensures order { WhereKeeps M.tells M.keeps
         (FlushesBeforePad (M.state medium.old) (M.state medium.new)) }
 {
     let start = damage.head.data_start;
     let length = damage.sizes.data_length;
     patch_sizes(medium, start - 4, damage.sizes.riff_size, length)?;
-    if damage.held == length as u64 && length % 2 == 1 {
+    if damage.lacks_pad() {
         return put_pad(medium, start + damage.held);
     }
     Ok(())
-}
-
-// Mends a file that was cut off.
-fn mend_cut<M: Medium>(medium: M, damage: Damage) -> result::Result<(M, Repair), (M, Error)>
-    requires sound { IsSoundDamage damage.head damage }
-    requires cut { damage.was ≡ RepairState.CutOff }
-    requires found { WhereTells M.tells ((looks : Bool) × IsDamage looks (M.state medium).contents damage) }
-    ensures sound { IfOk result (λ done. IsSoundSpec done.1.spec_ex) }
-    ensures repaired { WhereTells M.tells ((looks : Bool) → IsDamage looks (M.state medium).contents damage →
-        MatchResult result
-        (λ done. Repairs looks (M.state medium) done.1 (M.state done.0))
-        (λ refused. IsNotRepaired looks (M.state medium) (M.state refused.0) refused.1)) }
-    ensures moments { WhereKeeps M.tells M.keeps ((looks : Bool)
-        → IsDamage looks (M.state medium).contents damage → MatchResult result
-        (λ done. MendsAtEach looks (M.state medium) (M.state done.0))
-        (λ refused. MendsAtEach looks (M.state medium) (M.state refused.0))) }
-{
-    let mut medium = medium;
-    match put_sizes(&mut medium, damage) {
-        Ok(()) => Ok((medium, damage.repair())),
-        Err(error) => Err((medium, Error::IoError(error))),
-    }
-}
-
-// Mends a file that was found like this, if it was cut off.
-fn mend<M: Medium>(medium: M, damage: Damage) -> result::Result<(M, Repair), (M, Error)>
-    requires sound { IsSoundDamage damage.head damage }
-    requires found { WhereTells M.tells ((looks : Bool) × IsDamage looks (M.state medium).contents damage) }
-    ensures sound { IfOk result (λ done. IsSoundSpec done.1.spec_ex) }
-    ensures repaired { WhereTells M.tells ((looks : Bool) → IsDamage looks (M.state medium).contents damage →
-        MatchResult result
-        (λ done. Repairs looks (M.state medium) done.1 (M.state done.0))
-        (λ refused. IsNotRepaired looks (M.state medium) (M.state refused.0) refused.1)) }
-    ensures moments { WhereKeeps M.tells M.keeps ((looks : Bool)
-        → IsDamage looks (M.state medium).contents damage → MatchResult result
-        (λ done. MendsAtEach looks (M.state medium) (M.state done.0))
-        (λ refused. MendsAtEach looks (M.state medium) (M.state refused.0))) }
-{
-    match damage.was {
-        RepairState::CutOff => mend_cut(medium, damage),
-        RepairState::Whole => Ok((medium, damage.repair())),
-        RepairState::HasChunksAfterData => Ok((medium, damage.repair())),
-    }
 }
 
 // Repairs a file: chunks after its data are looked for, or all that it holds is taken for data.
@@ -94,17 +49,20 @@ fn repair_with<M: Source + Medium>(
 ) -> result::Result<(M, Repair), (M, Error)>
     requires { WhereTells M.tells ((M.state medium).place ≡ 0) }
     ensures sound { IfOk result (λ done. IsSoundSpec done.1.spec_ex) }
-    ensures repaired { WhereTells M.tells (MatchResult result
-        (λ done. Repairs looks (M.state medium) done.1 (M.state done.0))
-        (λ refused. IsNotRepaired looks (M.state medium) (M.state refused.0) refused.1)) }
-    ensures moments { WhereKeeps M.tells M.keeps (MatchResult result
-        (λ done. MendsAtEach looks (M.state medium) (M.state done.0))
-        (λ refused. MendsAtEach looks (M.state medium) (M.state refused.0))) }
+    ensures repaired { WhereTells M.tells (RepairsMedium looks M.state medium result) }
+    ensures moments { WhereKeeps M.tells M.keeps (MendsMedium looks M.state medium result) }
 {
-    let (medium, damage) = look(medium, looks);
-    match damage {
-        Ok(damage) => mend(medium, damage),
-        Err(error) => Err((medium, error)),
+    let (medium, damage) = match look(medium, looks) {
+        Ok(found) => found,
+        Err(refused) => return Err(refused),
+    };
+    if damage.was != RepairState::CutOff {
+        return Ok((medium, damage.repair()));
+    }
+    let mut medium = medium;
+    match put_sizes(&mut medium, damage) {
+        Ok(()) => Ok((medium, damage.repair())),
+        Err(error) => Err((medium, Error::IoError(error))),
     }
 }
 
@@ -135,12 +93,8 @@ fn repair_with<M: Source + Medium>(
 pub fn repair<M: Source + Medium>(medium: M) -> result::Result<(M, Repair), (M, Error)>
     requires { WhereTells M.tells ((M.state medium).place ≡ 0) }
     ensures sound { IfOk result (λ done. IsSoundSpec done.1.spec_ex) }
-    ensures repaired { WhereTells M.tells (MatchResult result
-        (λ done. Repairs true (M.state medium) done.1 (M.state done.0))
-        (λ refused. IsNotRepaired true (M.state medium) (M.state refused.0) refused.1)) }
-    ensures moments { WhereKeeps M.tells M.keeps (MatchResult result
-        (λ done. MendsAtEach true (M.state medium) (M.state done.0))
-        (λ refused. MendsAtEach true (M.state medium) (M.state refused.0))) }
+    ensures repaired { WhereTells M.tells (RepairsMedium true M.state medium result) }
+    ensures moments { WhereKeeps M.tells M.keeps (MendsMedium true M.state medium result) }
 {
     repair_with(medium, true)
 }
@@ -150,12 +104,8 @@ pub fn repair<M: Source + Medium>(medium: M) -> result::Result<(M, Repair), (M, 
 pub fn repair_to_end<M: Source + Medium>(medium: M) -> result::Result<(M, Repair), (M, Error)>
     requires { WhereTells M.tells ((M.state medium).place ≡ 0) }
     ensures sound { IfOk result (λ done. IsSoundSpec done.1.spec_ex) }
-    ensures repaired { WhereTells M.tells (MatchResult result
-        (λ done. Repairs false (M.state medium) done.1 (M.state done.0))
-        (λ refused. IsNotRepaired false (M.state medium) (M.state refused.0) refused.1)) }
-    ensures moments { WhereKeeps M.tells M.keeps (MatchResult result
-        (λ done. MendsAtEach false (M.state medium) (M.state done.0))
-        (λ refused. MendsAtEach false (M.state medium) (M.state refused.0))) }
+    ensures repaired { WhereTells M.tells (RepairsMedium false M.state medium result) }
+    ensures moments { WhereKeeps M.tells M.keeps (MendsMedium false M.state medium result) }
 {
     repair_with(medium, false)
 }

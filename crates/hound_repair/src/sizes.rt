@@ -1,11 +1,10 @@
 // The sizes that a file should have, by what it holds.
 ghost use Rattle.std.specs.Prelude.{◌≡◌, ◌+◌, ◌*◌, ◌/◌, ◌%◌, ◌<◌, ◌≤◌, ◌^◌, IfOk};
-ghost use Rattle.hound_spec.specs.FmtChunk.{greatest_u32};
-ghost use Rattle.hound_spec.specs.Header.{riff_size};
 ghost use Rattle.hound_reader.specs.Chunks.{IsDataPlace};
 ghost use Rattle.hound_reader.specs.Fmt.{IsSoundSpec};
 ghost use Rattle.hound_writer.specs.Appending.{FailsCheck};
-ghost use Rattle.hound_repair.specs.Held.{data_held, frame_length, frames_held, right_length, torn_bytes};
+ghost use Rattle.hound_repair.specs.Held.{data_held};
+ghost use Rattle.hound_repair.specs.Damages.{AreRightSizes};
 ghost use Rattle.hound_repair.specs.Repairing.{size_fault};
 
 use hound_reader::FileHead;
@@ -66,50 +65,32 @@ pub(crate) struct Sizes {
     pub(crate) left_over: u32,
 }
 
-// How many of the bytes held are data: all, except a pad byte that the data length shows.
-#[tactic(auto, unfolding(crate::specs::Held::data_held, crate::specs::Held::ends_with_pad))]
-fn data_held(frame: u64, length: u64, held: u64) -> u64
-    requires some { 0 < frame }
-    requires small { length < 2 ^ 32 }
-    requires few { held ≤ 2 ^ 33 }
-    ensures data { result ≡ data_held frame length held }
-    ensures few { result ≤ 2 ^ 33 }
-{
-    if held == length + 1 && length % 2 == 1 && length % frame == 0 {
-        return length;
-    }
-    held
-}
-
 /// The right sizes of a file with this head that holds so many bytes from the data on.
-#[tactic(auto, using(crate::proofs::Dividing::whole_le, crate::proofs::Dividing::times_le), unfolding(crate::specs::Repairing::size_fault))]
+#[tactic(auto, using(crate::proofs::Dividing::whole_le, crate::proofs::Dividing::times_le), unfolding(crate::specs::Repairing::size_fault, crate::specs::Held::data_held, crate::specs::Held::ends_with_pad))]
 pub(crate) fn right_sizes(head: FileHead, held: u64) -> Result<Sizes>
     requires sound { IsSoundSpec head.spec_ex }
     requires start { IsDataPlace head.data_start }
     requires few { held ≤ 2 ^ 33 }
     ensures check { FailsCheck result (size_fault head.spec_ex head.data_length head.data_start held) }
-    ensures riff { IfOk result (λ sizes. sizes.riff_size
-        ≡ riff_size head.data_start (right_length head.spec_ex head.data_length held)) }
-    ensures data { IfOk result (λ sizes. sizes.data_length
-        ≡ right_length head.spec_ex head.data_length held) }
-    ensures frames { IfOk result (λ sizes. sizes.frames
-        ≡ frames_held head.spec_ex head.data_length held) }
-    ensures torn { IfOk result (λ sizes. sizes.left_over
-        ≡ torn_bytes head.spec_ex head.data_length held) }
-    ensures fits { IfOk result (λ sizes. riff_size head.data_start
-        (right_length head.spec_ex head.data_length held) ≤ greatest_u32) }
+    ensures right { IfOk result (AreRightSizes head held) }
 {
     let frame = head.spec_ex.spec.channels as u64 * head.spec_ex.bytes_per_sample as u64;
-    let data = data_held(frame, head.data_length as u64, held);
+    let length = head.data_length as u64;
+    // All that is held is data, except a pad byte that the data length shows.
+    let data = if held == length + 1 && length % 2 == 1 && length % frame == 0 {
+        length
+    } else {
+        held
+    };
     let frames = data / frame;
-    let length = frames * frame;
-    let riff = riff_size(head.data_start, length);
+    let right = frames * frame;
+    let riff = riff_size(head.data_start, right);
     if riff > u32::MAX as u64 {
         return Err(Error::TooLong);
     }
     Ok(Sizes {
         riff_size: riff as u32,
-        data_length: length as u32,
+        data_length: right as u32,
         frames: frames as u32,
         left_over: (data % frame) as u32,
     })

@@ -17,6 +17,7 @@ mod recorded;
 mod repairs;
 mod row;
 mod samples;
+mod scales;
 mod sessions;
 mod sink;
 mod specs;
@@ -87,6 +88,8 @@ fn answer_small(row: &mut Row, name: &str, words: &[&str]) {
         "encode" | "write" | "write_padded" | "decode" | "short" => {
             samples::answer(row, name, words);
         }
+        // to_float VALUE BITS, to_int PATTERN BITS, change VALUE OLD_BITS NEW_BITS
+        "to_float" | "to_int" | "change" => scales::answer(row, name, words),
         _ => row.refuse(),
     }
 }

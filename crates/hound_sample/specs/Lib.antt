@@ -5,4 +5,5 @@ pub mod ItemReads
 pub mod ManyReads
 pub mod Meaning
 pub mod Reads
+pub mod Scale
 pub mod Slices

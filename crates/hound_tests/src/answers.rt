@@ -2,7 +2,7 @@
 ghost use Rattle.std.specs.Borrow.{Bor};
 ghost use Rattle.std.specs.Prelude.{◌≡◌, ◌<◌, ◌≤◌, ℕ, ℤ, List, [], ◌∷◌, length, min, pos, Ok, Err};
 ghost use Rattle.hound.specs.Blocks.{ReadsBlock};
-ghost use Rattle.hound.specs.FirstError.{AnswersAll, AnswersSession, AnswersStep};
+ghost use Rattle.hound.specs.FirstError.{AnswersAll, AnswersSession};
 ghost use Rattle.hound.specs.Reader.{ReaderState, samples_left};
 ghost use Rattle.hound.specs.declared.Error.{Error};
 ghost use Rattle.hound.specs.declared.Error.TheVariants.{OutOfMemory, TooLong, UnfinishedSample};
@@ -14,21 +14,20 @@ use hound::Sample;
 use std::io;
 
 // A sample that is too wide is ignored; the error of a later step is returned; a fault is
-// reported as another error; an unfinished frame is ignored at a flush or at an end; there is no
-// memory for a batch no longer than one before it.
+// reported as another error; an unfinished frame is ignored at a flush or at an end; a batch lacks
+// memory.
 fn wrong_answers()
     ensures passed_over { (first second third : Bor (List Step))
         → second.now ≡ Whole (pos 40000) ∷ [] →
         AnswersAll mono [] (first ∷ second ∷ third ∷ []) (Ok tt) → ⊥ }
-    ensures later_error { AnswersSession stereo [] 0
+    ensures later_error { AnswersSession stereo []
         (Whole (pos 40000) ∷ Whole (pos 11) ∷ Flush ∷ []) (Err UnfinishedSample) → ⊥ }
-    ensures fault_as_too_long { AnswersSession mono [] 0 (Whole (pos 11) ∷ []) (Err TooLong) → ⊥ }
-    ensures unfinished_flush { AnswersSession stereo [] 0
+    ensures fault_as_too_long { AnswersSession mono [] (Whole (pos 11) ∷ []) (Err TooLong) → ⊥ }
+    ensures unfinished_flush { AnswersSession stereo []
         (Whole (pos 11) ∷ Flush ∷ Whole (pos 13) ∷ []) (Ok tt) → ⊥ }
-    ensures unfinished_end { AnswersSession stereo [] 0 (Whole (pos 11) ∷ []) (Ok tt) → ⊥ }
-    ensures smaller_batch { (first second : Bor (List ℤ)) → length second.now ≤ length first.now →
-        AnswersSession mono [] 0 (Batch first ∷ Batch second ∷ []) (Err OutOfMemory) →
-        AnswersStep mono [] 0 (Batch first) (Err OutOfMemory) }
+    ensures unfinished_end { AnswersSession stereo [] (Whole (pos 11) ∷ []) (Ok tt) → ⊥ }
+    ensures batch_memory { (values : Bor (List ℤ)) →
+        AnswersSession mono [] (Batch values ∷ []) (Err OutOfMemory) → ⊥ }
 {}
 
 // An error beside a slice that is full, or beside all samples that are left; an Ok of fewer.

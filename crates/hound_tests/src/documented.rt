@@ -3,7 +3,8 @@
 use crate::helpers::{FOUR_SAMPLES, sixteen, tape_of};
 use hound::{
     Begin, End, FloatBits, Journal, RepairState, SampleFormat, Step, Tape, WavReader, WavSpec,
-    WavSpecEx, WavWriter, repair, run_session, run_sessions,
+    WavSpecEx, WavWriter, change_bits, float_to_int, int_to_float, repair, run_session,
+    run_sessions,
 };
 use std::alloc::Global;
 use std::io::Cursor;
@@ -226,5 +227,33 @@ fn what_runs_leave(rt: HostRuntime) -> Result<(), Fail> {
     assert_eq!(rt; (marks, bytes.len()), ([true, false, true, true], 50));
     let twice = record_twice(rt.alloc(), &[Step::Whole(2), Step::Batch(&[5, -7])])?;
     assert_eq!(rt; twice.len(), 56);
+    Ok(())
+}
+
+#[test]
+fn samples_in_another_scale(rt: HostRuntime) -> Result<(), Fail> {
+    let half = int_to_float(16384, 16); // 0.5
+    assert_eq!(rt; half == 0.5, true);
+    let (sample, is_clipped) = float_to_int(1.0, 16); // 32767, true
+    assert_eq!(rt; (sample, is_clipped), (32767, true));
+    let (sample, is_clipped) = change_bits(0x123480, 24, 16); // 0x1235, false
+    assert_eq!(rt; (sample, is_clipped), (0x1235, false));
+    Ok(())
+}
+
+// Each integer of 16 bits, and each of 24 that is a multiple of 251 from the lowest on.
+#[test]
+fn integers_come_back_from_floats(rt: HostRuntime) -> Result<(), Fail> {
+    let mut changed = 0u32;
+    for sample in -32768..=32767i32 {
+        let back = float_to_int(int_to_float(sample, 16), 16);
+        changed = changed.saturating_add(u32::from(back != (sample, false)));
+    }
+    for step in 0..66_842i32 {
+        let sample = step.wrapping_mul(251).wrapping_sub(8_388_608);
+        let back = float_to_int(int_to_float(sample, 24), 24);
+        changed = changed.saturating_add(u32::from(back != (sample, false)));
+    }
+    assert_eq!(rt; changed, 0);
     Ok(())
 }

@@ -453,20 +453,35 @@ fn a_failed_sync_is_remembered_and_a_write_is_tried_again(rt: HostRuntime) -> Re
     Ok(())
 }
 
+// No sample of 24 bits in four bytes, mono, 44100 Hz, as the original writes it.
+const WIDE: [u8; 68] = [
+    0x52, 0x49, 0x46, 0x46, 0x3c, 0x00, 0x00, 0x00, 0x57, 0x41, 0x56, 0x45, 0x66, 0x6d, 0x74, 0x20,
+    0x28, 0x00, 0x00, 0x00, 0xfe, 0xff, 0x01, 0x00, 0x44, 0xac, 0x00, 0x00, 0x10, 0xb1, 0x02, 0x00,
+    0x04, 0x00, 0x20, 0x00, 0x16, 0x00, 0x18, 0x00, 0x01, 0x00, 0x00, 0x00, 0x01, 0x00, 0x00, 0x00,
+    0x00, 0x00, 0x10, 0x00, 0x80, 0x00, 0x00, 0xaa, 0x00, 0x38, 0x9b, 0x71, 0x64, 0x61, 0x74, 0x61,
+    0x00, 0x00, 0x00, 0x00,
+];
+
 #[test]
 fn a_file_keeps_the_width_of_its_containers(rt: HostRuntime) -> Result<(), Fail> {
     let path = path_of(&rt)?;
     let wide = integers(1, 44100, 24, 4);
     let begun = WavWriter::create_with_spec_ex(&rt, rt.alloc(), path.as_path(), wide)?.spec_ex();
     let found = WavReader::open(&rt, rt.alloc(), path.as_path())?.spec_ex();
+    let created = fs::read(&rt, path.as_path())?;
     let durable = WavWriter::create_durable_with_spec_ex(
         &rt,
         rt.alloc(),
         path.as_path(),
         wide,
     )?.spec_ex();
+    let synced = fs::read(&rt, path.as_path())?;
     fs::remove_file(&rt, path.as_path())?;
     assert_eq!(rt; (begun, found, durable), (wide, wide, wide));
+    assert_eq!(rt;
+        (created.as_slice(), synced.as_slice()),
+        (&WIDE[..], &WIDE[..])
+    );
     Ok(())
 }
 
@@ -475,5 +490,19 @@ fn floats_are_the_patterns_of_their_numbers(rt: HostRuntime) -> Result<(), Fail>
     let half = FloatBits::from(0.5);
     let number = FloatBits(0xbfc0_0000).to_f32();
     assert_eq!(rt; (half, number == -1.5), (FloatBits(0x3f00_0000), true));
+    Ok(())
+}
+
+#[test]
+fn a_state_is_a_sentence_for_a_user(rt: HostRuntime) -> Result<(), Fail> {
+    let [whole, cut_off, followed] = [
+        RepairState::Whole,
+        RepairState::CutOff,
+        RepairState::HasChunksAfterData,
+    ];
+    let said = format!(in rt.alloc(); "{whole}; {cut_off}; {followed}")?;
+    let wanted = "the file is whole; the recording was cut off; \
+        something follows the data, so they weren't cut off";
+    assert_eq!(rt; said.as_str(), wanted);
     Ok(())
 }

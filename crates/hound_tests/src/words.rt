@@ -57,6 +57,7 @@ impl SampleWords {
     ghost use Rattle.hound.specs.ManyReads.{FillsFront, ReadsEach, items_of};
     ghost use Rattle.hound.specs.Meaning.{ReadRefusal, float_refusal, int_meaning, int_refusal, low_short, pattern};
     ghost use Rattle.hound.specs.Reads.{Reads, ReadsContainer, read_error};
+    ghost use Rattle.hound.specs.Scale.{clipped, float_of_int, scaled, with_bits};
     ghost use Rattle.hound.specs.Slices.{all_containers, first_error, joined_containers};
 
     fn read() -> bool
@@ -145,12 +146,12 @@ impl WriterWords {
     ghost use Rattle.hound.specs.Batch.{IsSameFile, batch_bytes, batch_lender, batch_writer, remaining};
     ghost use Rattle.hound.specs.Beginning.{Begins, HasBegun, IsNotBegun};
     ghost use Rattle.hound.specs.Block.{GoesOut, IsLimit, all_out, answer_of, block_length, or_fault};
-    ghost use Rattle.hound.specs.Calls.{Asked, Begun, Call, Lead, Left, OnBatched, Recorded, appended, asked_by_all, found_in, new_file, publish, start_of, write};
+    ghost use Rattle.hound.specs.Calls.{Asked, Begun, Call, Lead, Left, Recorded, appended, asked_by_all, found_in, new_file, publish, start_of, write};
     ghost use Rattle.hound.specs.Counts.{Counts};
     ghost use Rattle.hound.specs.Fields.{IsConsistent, bytes_kept, of_fields};
     ghost use Rattle.hound.specs.Many.{AcceptsEach, AreShort, containers_in, outcome_of, sample_bytes, short_bytes};
     ghost use Rattle.hound.specs.Parts.{HasSize, IsPatched, IsPublishResult, IsStanding, Patches, PatchesAtEach, PutsAt};
-    ghost use Rattle.hound.specs.Publishing.{Checkpoints, Finishes};
+    ghost use Rattle.hound.specs.Publishing.{Checkpoints, Finishes, PublishesTo, place_after};
     ghost use Rattle.hound.specs.Room.{IsSixteen};
     ghost use Rattle.hound.specs.Sizes.{field, with_sizes};
     ghost use Rattle.hound.specs.Storing.{IsStored};
@@ -166,13 +167,12 @@ impl WriterWords {
 struct RepairWords;
 
 impl RepairWords {
-    ghost use Rattle.hound.specs.Damages.{FindsDamage, HalfPutAtEach, IsDamage, IsSoundDamage, MeasuresDamage, PutsPad, PutsSizes, repair_of};
+    ghost use Rattle.hound.specs.Damages.{AreRightSizes, FindsDamage, IsNotMeasured, IsSoundDamage, PutsPad, PutsSizes, repair_of};
     ghost use Rattle.hound.specs.Following.{are_chunks, begins_chunk, chunk_content, ends_with_id3, has_known_tag, has_tag, is_followed, is_printable, said_length};
-    ghost use Rattle.hound.specs.Held.{are_right, data_held, frame_length, frames_held, held, missing_pad, right_length, torn_bytes};
-    ghost use Rattle.hound.specs.InMemory.{IsUnrepaired, RepairsBytes, bytes_fault};
-    ghost use Rattle.hound.specs.Repairing.{Finds, FlushesBeforePad, HalfMended, IsFoundAt, IsNoPad, IsNotFound, IsNotRepaired, Looks, MendsAtEach, ReadsFrames, Repairs, found_length, repair_fault, size_fault, state_of};
+    ghost use Rattle.hound.specs.Held.{are_right, data_held, frame_length, held, missing_pad};
+    ghost use Rattle.hound.specs.InMemory.{IsUnrepaired, RepairsBytes, as_medium};
+    ghost use Rattle.hound.specs.Repairing.{Finds, FlushesBeforePad, HalfMended, HalfMendedAtEach, IsFoundAt, IsNoPad, IsNotFound, IsNotRepaired, Looks, MendsMedium, ReadsFrames, Repairs, RepairsMedium, found_length, repair_fault, size_fault, state_of};
     ghost use Rattle.hound.specs.declared.Repair.{Repair};
-    ghost use Rattle.hound.specs.declared.RepairState.{RepairState};
 
     fn read() -> bool
         ensures { result ≡ result }
@@ -184,7 +184,6 @@ impl RepairWords {
 struct RepairVariants;
 
 impl RepairVariants {
-    ghost use Rattle.hound.specs.Unrepaired.TheVariants.{NoRoom};
     ghost use Rattle.hound.specs.declared.RepairState.TheVariants.{HasChunksAfterData, Whole};
 
     fn read() -> bool
@@ -198,10 +197,10 @@ struct SessionWords;
 
 impl SessionWords {
     ghost use Rattle.hound.specs.FirstError.{IsAnswered};
-    ghost use Rattle.hound.specs.Headline.{HasPublished, Holds, IsLeftAfter, Keeps, Kept, KeptWithin, LosesNothing, accepted_by_all, begins_at};
-    ghost use Rattle.hound.specs.Run.{AppendedSurvives, Begins, EndsAs, IsNotBegun, IsSession, NoFault, Ran, all_calls};
-    ghost use Rattle.hound.specs.Sessions.{AreSessions, RunsAgain, RunsOk, RunsOn, RunsOnce, StopsIn, StopsShort, all_steps};
-    ghost use Rattle.hound.specs.Steps.{Takes, accepted_by_steps, asked_by, batch_containers, containers_of, is_sixteen, wants_memory};
+    ghost use Rattle.hound.specs.Headline.{HasPublished, Holds, IsLeftAfter, Keeps, Kept, KeptWithin, LosesNothing, NoFault, accepted_by_all, begins_at};
+    ghost use Rattle.hound.specs.Run.{AppendedSurvives, Begins, EndsAs, IsNotBegun, IsSession, Ran, all_calls};
+    ghost use Rattle.hound.specs.Sessions.{RunsFrom, RunsOn, RunsOnce, RunsUntil, StopsShort, all_steps};
+    ghost use Rattle.hound.specs.Steps.{Takes, accepted_by_steps, asked_by, batch_containers, containers_of, is_sixteen};
     ghost use Rattle.hound.specs.declared.Begin.{Begin};
     ghost use Rattle.hound.specs.declared.End.{End};
 
@@ -217,7 +216,7 @@ struct SessionVariants;
 impl SessionVariants {
     ghost use Rattle.hound.specs.declared.Begin.TheVariants.{Append, New};
     ghost use Rattle.hound.specs.declared.End.TheVariants.{Finalize};
-    ghost use Rattle.hound.specs.declared.Step.TheVariants.{Batch, Flush, Whole};
+    ghost use Rattle.hound.specs.declared.Step.TheVariants.{Flush};
 
     fn read() -> bool
         ensures { result ≡ result }

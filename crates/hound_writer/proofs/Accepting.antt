@@ -23,6 +23,7 @@ use Rattle.hound_writer.specs.Writer.{WriterState, HasRoom, IsCounted, IsSound, 
 use Rattle.hound_writer.proofs.Answers.{accept_as, on_refused, refused_then, unless_failed}
 use Rattle.hound_sample.proofs.Containers.{containers_append, containers_front}
 use Rattle.hound_writer.proofs.Containers.{count_append, count_bytes, joined_bytes, whole_more}
+use Rattle.hound_writer.proofs.Keeping.{sound_with}
 use Rattle.hound_writer.proofs.Storing.{stored_same, stored_still}
 use Rattle.hound_writer.proofs.Samples.{concat-samples, counts_at, samples_out, samples_same, whole_out}
 use Rattle.hound_writer.proofs.Standing.{inside, stands_front, stands_more}
@@ -55,6 +56,24 @@ drop_overlay_after (b ∷ bs) n p c after =
     drop_overlay_after bs n (suc p) (put_at p b c) (omega (arith, after))
     ∙ drop_put n p b c (omega (arith, after))
 
+-- a call that writes nothing
+pub adds_nothing : {W : Type 0} (state : W → MediumState) (w : WriterState W)
+    → (IsWhole state w → IsCounted state w)
+    → (state w.medium).contents ≡ overlay (state w.medium).start (state w.medium).past
+    → AddsAtEach state w (state w.medium)
+adds_nothing state w counts replays =
+    let old = state w.medium in
+    let end = w.data_start + w.out in
+    record {
+      counts =
+          λ whole. span_still
+          (λ _. Counts w.spec_ex w.data_start (accepted_samples state w)) 0 old old replays refl
+          refl (inl refl) (counts whole);
+      front = λ whole. span_still (λ _ c. take end c ≡ take end old.contents) 0 old old replays refl
+          refl (inl refl) refl;
+      stored = λ _. stored_still w.data_start (concat (accepted_samples state w)) old;
+    }
+
 -- an error before anything changes
 pub accepts_refused : {W : Type 0} (tells keeps : Bool) (state : W → MediumState)
     (w : WriterState W) (memory : Bool) (asked : Result (List (List ℕ)) Refusal) (e : Error)
@@ -67,7 +86,6 @@ pub accepts_refused : {W : Type 0} (tells keeps : Bool) (state : W → MediumSta
     → Accepts tells keeps state memory asked (Err e) w w
 accepts_refused tells keeps state w memory asked e counts replays mark faults answers =
     let old = state w.medium in
-    let end = w.data_start + w.out in
     let nothing : if_marked (mark_of {T = Unit {0}} (Err e)) asked ≡ [] =
     ap (λ m. if_marked m asked) mark in
     record {
@@ -90,15 +108,7 @@ accepts_refused tells keeps state w memory asked e counts replays mark faults an
             ∙ ap (λ l. accepted_samples state w ++ l) (sym nothing);
         counts = counts told;
       };
-      moments = λ told kept. record {
-        counts =
-            λ whole. span_still
-            (λ _. Counts w.spec_ex w.data_start (accepted_samples state w)) 0 old old
-            (replays told kept) refl refl (inl refl) (counts told whole);
-        front = λ whole. span_still (λ _ c. take end c ≡ take end old.contents) 0 old old
-            (replays told kept) refl refl (inl refl) refl;
-        stored = λ _. stored_still w.data_start (concat (accepted_samples state w)) old;
-      };
+      moments = λ told kept. adds_nothing state w (counts told) (replays told kept);
     }
 
 -- whole containers for which there is room fit
@@ -270,15 +280,7 @@ module _ {W : Type 0} (tells keeps : Bool) (state : W → MediumState) (w : Writ
   after_put m out = record w { medium = m; out = out }
 
   sound_put : (m : W) → IsSound (after_put m w.out)
-  sound_put m =
-      record {
-        pair = sound.pair;
-        channels = sound.channels;
-        width = sound.width;
-        whole = sound.whole;
-        after_head = sound.after_head;
-        fits = sound.fits;
-      }
+  sound_put m = sound_with w m w.out w.waiting sound sound.whole sound.fits
 
   module _ (m : W) (bytes : List ℕ) (room : HasRoom w (length bytes))
       (whole_bytes : length bytes % w.spec_ex.bytes_per_sample ≡ 0) where
@@ -333,17 +335,12 @@ module _ {W : Type 0} (tells keeps : Bool) (state : W → MediumState) (w : Writ
 
     -- else all of it
     pub sound_more : IsSound (after_put m (w.out + length bytes))
-    sound_more = record {
-      pair = sound.pair;
-      channels = sound.channels;
-      width = sound.width;
-      whole = ap (λ n. n % width)
-          (let e : w.out + length bytes + length w.waiting ≡ w.out + length bytes = omega
-          (arith, ap length none) in e)
-          ∙ whole_more w.out (length bytes) width (whole_out state w none sound) whole_bytes;
-      after_head = sound.after_head;
-      fits = omega (arith, room, ap length none);
-    }
+    sound_more = sound_with w m (w.out + length bytes) w.waiting sound
+        (ap (λ n. n % width)
+        (let e : w.out + length bytes + length w.waiting ≡ w.out + length bytes = omega
+        (arith, ap length none) in e)
+        ∙ whole_more w.out (length bytes) width (whole_out state w none sound) whole_bytes)
+        (omega (arith, room, ap length none))
 
     pub accepts_all : WhereTells tells
         (PutsAt keeps (w.data_start + w.out) bytes (all_out true) (state w.medium) (state m))

@@ -1,5 +1,6 @@
 -- What holds by the result of a call.
-use Rattle.std.proofs.Common.{◌≡◌, ℕ, ◌+◌, ◌/◌, ◌%◌, nat_le, Bool, true, false, IsTrue, List, length, Result, Ok, Err, OnOk, refl, subst, sym, ◌∙◌}
+use Rattle.std.proofs.Common.{◌≡◌, ℕ, ◌+◌, ◌/◌, ◌%◌, nat_le, Bool, true, false, IsTrue, List, length, Result, Ok, Err, OnOk, refl, subst, sym, ◌∙◌, ◌<◌, arith}
+use Rattle.std.proofs.lemmas.Bool.{false≢true}
 use Rattle.std.specs.List.{concat}
 use Rattle.std.specs.declared.io.Error.{Error as IoFault}
 use Rattle.hound_spec.specs.declared.error.Error.{Error}
@@ -8,7 +9,7 @@ use Rattle.hound_spec.specs.FmtChunk.{greatest_u32}
 use Rattle.hound_spec.specs.Header.{riff_size}
 use Rattle.hound_medium.specs.State.{faults_after}
 use Rattle.hound_sample.specs.Container.{Refusal}
-use Rattle.hound_writer.specs.Answers.{AcceptAnswer, FitAnswer, IsPublishing, OnRefused, OnPublished, UnlessFailed, faults_told}
+use Rattle.hound_writer.specs.Answers.{AcceptAnswer, FitAnswer, IsIoError, IsPublishing, OnRefused, OnPublished, UnlessFailed, faults_told, mark_of}
 use Rattle.hound_writer.specs.Parts.{IsPublishResult}
 use Rattle.hound_writer.specs.Writer.{WriterState, data_length, sample_count}
 
@@ -100,3 +101,37 @@ publishing_as answer w v spec size is = go answer is
     go (Err UnfinishedSample) here = λ frames. here (same ∙ frames)
     go (Err (IoError e)) here = tt
     go (Err e) here = absurd here
+
+-- P, if a call with this mark published all
+pub where_marked : {P : Type 0} (answer : Result (Unit {0}) Error) → mark_of answer ≡ true
+    → OnPublished answer P → P
+where_marked (Ok x) marked here = here
+where_marked (Err UnfinishedSample) marked here = here
+where_marked (Err e) marked here = absurd (false≢true marked)
+
+-- an error of a call that met no fault is no `IoError`
+pub no_io : (e : Error) (f : ℕ) → f < 18446744073709551615 → faults_told {T = Unit {0}} (Err e) f ≡ f
+    → IsIoError e → ⊥
+no_io (IoError e) f small same io = absurd (omega (arith, small, same))
+no_io e f small same io = io
+
+-- what holds of an error that is no fault of the medium
+pub refused_of : {P : Type 0} (e : Error) → (IsIoError e → ⊥) → OnRefused {T = Unit {0}} (Err e) P → P
+refused_of (IoError e) none here = absurd (none tt)
+refused_of e none here = here
+
+-- what holds unless the medium failed holds if it didn't
+pub unless_told : {P : Type 0} (answer : Result (Unit {0}) Error) (f : ℕ) → f < 18446744073709551615
+    → faults_told answer f ≡ f → UnlessFailed answer P → P
+unless_told (Err (IoError e)) f small same here = absurd (omega (arith, small, same))
+unless_told (Ok x) f small same here = here
+unless_told (Err e) f small same here = here
+
+-- a call that publishes and meets no fault has published all
+pub all_marked : {M : Type 0} (answer : Result (Unit {0}) Error) (w : WriterState M) (f : ℕ)
+    → f < 18446744073709551615 → faults_told answer f ≡ f → IsPublishing answer w
+    → mark_of answer ≡ true
+all_marked (Ok x) w f small same is = refl
+all_marked (Err (IoError e)) w f small same is = absurd (omega (arith, small, same))
+all_marked (Err UnfinishedSample) w f small same is = refl
+all_marked (Err e) w f small same is = absurd is

@@ -1,8 +1,13 @@
 -- What bytes are for appending follows from what they are to a reader.
-use Rattle.std.proofs.Common.{◌≡◌, ℕ, List, Option, Some, None, inl, inr, refl, sym, ◌∙◌, ap}
+use Rattle.std.proofs.Common.{◌≡◌, ℕ, ◌/◌, ◌%◌, ◌≤◌, Bool, true, false, not, cond, eqb, le-ltb, List, Option, Some, None, inl, inr, refl, sym, ◌∙◌, ap}
 use Rattle.hound_spec.specs.declared.spec.WavSpecEx.{WavSpecEx}
+use Rattle.hound_spec.specs.FmtChunk.{greatest_u32}
+use Rattle.hound_spec.specs.Header.{riff_size}
+use Rattle.hound_spec.specs.Writable.{IsWritable}
 use Rattle.hound_reader.specs.Answer.{Answer, readable, unreadable, Answers, HasOneAnswer}
-use Rattle.hound_reader.specs.Chunks.{Head}
+use Rattle.hound_reader.specs.Chunks.{Head, data_fault}
+use Rattle.hound_reader.specs.declared.cause.Cause.TheVariants.{Format}
+use Rattle.hound_reader.specs.declared.cause.Reason.TheVariants.{DataLength, FrameLength}
 use Rattle.hound_writer.specs.Appending.{AppendFault, by_bytes, head_fault, AppendAnswer, appendable, faulty, AnswersAppend, HasOneAppendAnswer}
 
 abbrev fault_of : Answer → Option AppendFault
@@ -43,3 +48,24 @@ one_append_answer bytes (a, is, one) =
   where
     same : (b : AppendAnswer) → (c : Answer) × Answers bytes c × (b ≡ append_of c) → b ≡ append_of a
     same b (c, at, from) = from ∙ ap append_of (one c at)
+
+-- a head of whole samples and frames can be appended to, if its size fits
+pub no_head_fault : (s : WavSpecEx) (len h : ℕ) → IsWritable s → data_fault s len ≡ None
+    → riff_size h len ≤ greatest_u32 → head_fault s len h ≡ None
+unfolding head_fault
+no_head_fault s len h writable none fits =
+    let both =
+    go (eqb (len % s.bytes_per_sample) 0)
+    (eqb (len / s.bytes_per_sample % s.spec.channels) 0) none in
+    let a = both.0 in
+    let b = writable.pair in
+    let c = both.1 in
+    let d = le-ltb greatest_u32 (riff_size h len) fits in
+    rw (a, b, c, d) refl
+  where
+    go : (a b : Bool)
+        → cond (not a) (Some (Format DataLength))
+        (cond (not b) (Some (Format FrameLength)) None) ≡ None → (a ≡ true) × (b ≡ true)
+    go true true e = (refl, refl)
+    go true false e = cc
+    go false b e = cc

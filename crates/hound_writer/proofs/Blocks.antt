@@ -15,14 +15,14 @@ use Rattle.hound_writer.specs.Fields.{IsConsistent}
 use Rattle.hound_writer.specs.Parts.{IsStanding, PutsAt}
 use Rattle.hound_writer.specs.Storing.{KeepsStored}
 use Rattle.hound_writer.specs.Writer.{WriterState, HasRoom, IsSound, IsWhole, accepted_samples, data_length, data_end}
-use Rattle.hound_writer.proofs.Accepting.{accepts_all, at_each, data_stays, front, front_at_each, front_stays, grows, reach, rest, room_fits, sound_more, still}
+use Rattle.hound_writer.proofs.Accepting.{accepts_all, adds_nothing, at_each, data_stays, front, front_at_each, front_stays, grows, reach, rest, room_fits, sound_more, still}
 use Rattle.hound_writer.proofs.Containers.{joined_bytes, none_whole, whole_more}
 use Rattle.hound_writer.proofs.Counted.{counts_more}
-use Rattle.hound_writer.proofs.Keeping.{consistent_moved}
+use Rattle.hound_writer.proofs.Keeping.{consistent_moved, sound_with}
 use Rattle.hound_writer.proofs.PutsFrom.{puts_from}
 use Rattle.hound_writer.proofs.Samples.{counts_at, samples_more, samples_parts}
 use Rattle.hound_writer.proofs.Standing.{stands_more}
-use Rattle.hound_writer.proofs.Storing.{joined_samples, puts_stored, stored_still}
+use Rattle.hound_writer.proofs.Storing.{joined_samples, puts_stored}
 
 -- a writer over a medium that stays
 module _ {W : Type 0} (tells keeps : Bool) (state : W → MediumState) (w : WriterState W)
@@ -42,15 +42,10 @@ module _ {W : Type 0} (tells keeps : Bool) (state : W → MediumState) (w : Writ
   more = omega (arith, length-append w.waiting bytes)
 
   sound_longer : IsSound (record w { waiting = w.waiting ++ bytes })
-  sound_longer = record {
-    pair = sound.pair;
-    channels = sound.channels;
-    width = sound.width;
-    whole = ap (λ n. n % width) more
-        ∙ whole_more (data_length w) (length bytes) width sound.whole whole_bytes;
-    after_head = sound.after_head;
-    fits = omega (arith, room, more);
-  }
+  sound_longer = sound_with w w.medium w.out (w.waiting ++ bytes) sound
+      (ap (λ n. n % width) more
+      ∙ whole_more (data_length w) (length bytes) width sound.whole whole_bytes)
+      (omega (arith, room, more))
 
   pub consistent_longer : length w.waiting + length bytes ≤ block_length
       → IsConsistent tells state (record w { waiting = w.waiting ++ bytes }) moved limit
@@ -76,7 +71,6 @@ module _ {W : Type 0} (tells keeps : Bool) (state : W → MediumState) (w : Writ
       (record w { waiting = w.waiting ++ bytes })
   accepts_waiting replays =
       let old = state w.medium in
-      let reach = w.data_start + w.out in
       record {
         adds = record {
           answers =
@@ -99,16 +93,9 @@ module _ {W : Type 0} (tells keeps : Bool) (state : W → MediumState) (w : Writ
               λ whole. counts_at state longer sound_longer known.whole_out old.contents whole
               (known.stands told) refl;
         };
-        moments = λ told kept. record {
-          counts =
-              λ whole. span_still
-              (λ _. Counts w.spec_ex w.data_start (accepted_samples state w)) 0 old old
-              (replays told kept) refl refl (inl refl)
-              (counts_at state w sound known.whole_out old.contents whole (known.stands told) refl);
-          front = λ whole. span_still (λ _ c. take reach c ≡ take reach old.contents) 0 old old
-              (replays told kept) refl refl (inl refl) refl;
-          stored = λ _. stored_still w.data_start (concat (accepted_samples state w)) old;
-        };
+        moments = λ told kept. adds_nothing state w
+            (λ whole. counts_at state w sound known.whole_out old.contents whole
+            (known.stands told) refl) (replays told kept);
       }
 
 -- the buffered samples are written after the bytes in the medium
@@ -135,14 +122,9 @@ module _ {W : Type 0} (tells keeps : Bool) (state : W → MediumState) (w : Writ
   end = w.data_start + w.out
 
   sound_shorter : IsSound (record w { waiting = [] })
-  sound_shorter = record {
-    pair = known.sound.pair;
-    channels = known.sound.channels;
-    width = known.sound.width;
-    whole = ap (λ n. n % wide) (let e : w.out + 0 ≡ w.out = omega arith in e) ∙ known.whole_out;
-    after_head = known.sound.after_head;
-    fits = omega (arith, known.sound.fits);
-  }
+  sound_shorter = sound_with w w.medium w.out [] known.sound
+      (ap (λ n. n % wide) (let e : w.out + 0 ≡ w.out = omega arith in e) ∙ known.whole_out)
+      (omega (arith, known.sound.fits))
 
   -- its samples are the first ones of the writer's
   samples_first : IsWhole state w
@@ -280,15 +262,9 @@ module _ {W : Type 0} (tells keeps : Bool) (state : W → MediumState) (w : Writ
 
   -- what the writer has then
   sound_out : IsSound (after_out true m w)
-  sound_out = record {
-    pair = known.sound.pair;
-    channels = known.sound.channels;
-    width = known.sound.width;
-    whole = ap (λ n. n % wide) (let e : data_length w + 0 ≡ data_length w = omega arith in e)
-        ∙ known.sound.whole;
-    after_head = known.sound.after_head;
-    fits = omega (arith, known.sound.fits);
-  }
+  sound_out = sound_with w m (data_length w) [] known.sound
+      (ap (λ n. n % wide) (let e : data_length w + 0 ≡ data_length w = omega arith in e)
+      ∙ known.sound.whole) (omega (arith, known.sound.fits))
 
   pub consistent_out : (next : ℕ) → IsLimit w.data_start (data_length w) next
       → WhereTells tells
@@ -321,7 +297,6 @@ pub goes_out_nothing : {W : Type 0} (tells keeps : Bool) (state : W → MediumSt
     → length w.waiting ≡ 0 → GoesOut tells keeps state far true w w
 goes_out_nothing tells keeps state far w moved limit known replays none =
     let old = state w.medium in
-    let end = w.data_start + w.out in
     let counts : IsTrue tells → IsWhole state w
     → Counts w.spec_ex w.data_start (accepted_samples state w) old.contents =
     λ told whole. counts_at state w known.sound known.whole_out old.contents whole
@@ -349,15 +324,7 @@ goes_out_nothing tells keeps state far w moved limit known replays none =
         counts = counts told;
       };
       moments = λ told kept. record {
-        adds = record {
-          counts =
-              λ whole. span_still
-              (λ _. Counts w.spec_ex w.data_start (accepted_samples state w)) 0 old old
-              (replays told kept) refl refl (inl refl) (counts told whole);
-          front = λ whole. span_still (λ _ c. take end c ≡ take end old.contents) 0 old old
-              (replays told kept) refl refl (inl refl) refl;
-          stored = λ _. stored_still w.data_start (concat (accepted_samples state w)) old;
-        };
+        adds = adds_nothing state w (counts told) (replays told kept);
         front = span_still (λ _ c. take w.data_start c ≡ take w.data_start old.contents) 0 old old
             (replays told kept) refl refl (inl refl) refl;
         behind = λ i from to. absurd (omega (arith, from, to));

@@ -1,7 +1,6 @@
 -- What one call for samples and an end leave in a medium that was empty: exactly the canonical file.
-use Rattle.std.proofs.Common.{◌≡◌, ℕ, zero, suc, ◌+◌, ◌/◌, ◌≤◌, max, Bool, List, [], ◌++◌, length, take, drop, Ok, IsTrue, refl, sym, ◌∙◌, ap, subst, arith, length-append, length-drop}
+use Rattle.std.proofs.Common.{◌≡◌, ℕ, zero, suc, ◌+◌, ◌/◌, Bool, List, [], ◌++◌, length, take, drop, Ok, IsTrue, refl, sym, ◌∙◌, ap, subst, arith, length-append, length-drop}
 use Rattle.std.proofs.lemmas.List.{take_all}
-use Rattle.std.specs.List.{concat}
 use Rattle.std.specs.Io.{StartsWith}
 use Rattle.hound_spec.specs.declared.spec.WavSpecEx.{WavSpecEx}
 use Rattle.hound_spec.specs.Header.{header, data_start, canonical}
@@ -13,7 +12,7 @@ use Rattle.hound_medium.proofs.Overlays.{overlay_is}
 use Rattle.hound_writer.specs.Accepting.{Accepts}
 use Rattle.hound_writer.specs.Beginning.{Begins}
 use Rattle.hound_writer.specs.Publishing.{Finishes}
-use Rattle.hound_writer.specs.Writer.{WriterState, HasHeader, IsBegun, IsSound, IsWhole, accepted_samples, data_length}
+use Rattle.hound_writer.specs.Writer.{WriterState, HasHeader, IsBegun, IsSound, accepted_samples, data_length}
 use Rattle.hound_writer.proofs.Samples.{samples_out}
 use Rattle.hound_writer.proofs.Sizes.{header_front}
 

@@ -1,10 +1,12 @@
 -- What a writer keeps true between its calls.
-use Rattle.std.proofs.Common.{◌≡◌, ℕ, Bool, true, subst}
+use Rattle.std.proofs.Common.{◌≡◌, ℕ, ◌+◌, ◌%◌, ◌≤◌, Bool, true, List, length, subst}
 use Rattle.std.proofs.lemmas.Bool.{true≢false}
+use Rattle.hound_spec.specs.FmtChunk.{greatest_u32}
+use Rattle.hound_spec.specs.Header.{riff_size}
 use Rattle.hound_medium.specs.State.{MediumState, WhereTells}
 use Rattle.hound_writer.specs.Fields.{IsConsistent}
 use Rattle.hound_writer.specs.Parts.{IsStanding}
-use Rattle.hound_writer.specs.Writer.{WriterState}
+use Rattle.hound_writer.specs.Writer.{WriterState, IsSound}
 
 -- it holds for a writer that is the same
 pub consistent_seen : {W : Type 0} (tells : Bool) (state : W → MediumState) (moved moved_now : Bool)
@@ -14,22 +16,28 @@ consistent_seen tells state moved moved_now limit a b same is known =
     subst (λ m. IsConsistent tells state b m limit) is
     (subst (λ v. IsConsistent tells state v moved limit) same known)
 
+-- a writer of the same file is sound with other whole samples whose size fits, over any medium
+pub sound_with : {W : Type 0} (w : WriterState W) (medium : W) (out : ℕ) (waiting : List ℕ)
+    → IsSound w → (out + length waiting) % w.spec_ex.bytes_per_sample ≡ 0
+    → riff_size w.data_start (out + length waiting) ≤ greatest_u32
+    → IsSound (record w { medium = medium; out = out; waiting = waiting })
+sound_with w medium out waiting sound whole fits = record {
+  pair = sound.pair;
+  channels = sound.channels;
+  width = sound.width;
+  whole = whole;
+  after_head = sound.after_head;
+  fits = fits;
+}
+
 -- over a medium that may have moved, if the head is still there
 pub consistent_moved : {W : Type 0} (tells : Bool) (state : W → MediumState) (w : WriterState W)
     (m : W) (moved : Bool) (limit : ℕ) → IsConsistent tells state w moved limit
     → WhereTells tells (IsStanding w.spec_ex w.data_start w.out (state m).contents)
     → IsConsistent tells state (record w { medium = m }) true limit
 consistent_moved tells state w m moved limit known stands =
-    let s = known.sound in
     record {
-      sound = record {
-        pair = s.pair;
-        channels = s.channels;
-        width = s.width;
-        whole = s.whole;
-        after_head = s.after_head;
-        fits = s.fits;
-      };
+      sound = sound_with w m w.out w.waiting known.sound known.sound.whole known.sound.fits;
       whole_out = known.whole_out;
       whole_waiting = known.whole_waiting;
       block = known.block;

@@ -22,12 +22,12 @@ use Rattle.hound_writer.specs.Counts.{Counts}
 use Rattle.hound_writer.specs.Parts.{HasSize, IsPatched, Patches, PatchesAtEach, PutsAt, IsStanding, IsPublishResult}
 use Rattle.hound_writer.specs.Answers.{IsPublishing}
 use Rattle.hound_durable.specs.Losses.{place_of}
-use Rattle.hound_writer.specs.Publishing.{Checkpoints, Finishes, Publishes, IsHalfPublished, IsOldOrNew, PublishesAtEach, PutsLast}
+use Rattle.hound_writer.specs.Publishing.{PublishesTo, Publishes, IsHalfPublished, IsOldOrNew, PublishesAtEach, PutsLast}
 use Rattle.hound_writer.specs.Sizes.{field}
 use Rattle.hound_writer.specs.Writer.{WriterState, AreFrames, IsPadded, IsSound, IsWhole, accepted_samples, data_length, data_end, sample_count}
-use Rattle.hound_writer.proofs.Answers.{on_published_then, published}
+use Rattle.hound_writer.proofs.Answers.{published}
 use Rattle.hound_writer.proofs.Later.{drop_later}
-use Rattle.hound_writer.proofs.Patching.{patched_field, patched_riff}
+use Rattle.hound_writer.proofs.Patching.{has_size, patched_field, patched_riff}
 use Rattle.hound_writer.proofs.Publishing.{publishes}
 use Rattle.hound_writer.proofs.Storing.{stored_same}
 use Rattle.hound_writer.proofs.Samples.{concat-samples, counts_at, length_out, whole_out}
@@ -182,13 +182,8 @@ publishes_at_each state w none sound stands padded small end patched are_frames 
     let span = patches.span in
     let start : p + 4 ≡ w.data_start = omega (arith, sound.after_head) in
     let all : w.out ≡ data_length w = sym (length_out state w none) in
-    let has : HasSize p old =
-    record {
-      behind = omega (arith, sound.after_head);
-      inside = omega (arith, start, inside w.spec_ex w.data_start w.out old old stands);
-      small =
-          small;
-    } in
+    let has = has_size p old (omega (arith, sound.after_head))
+    (omega (arith, start, inside w.spec_ex w.data_start w.out old old stands)) small in
     let samples : (c : List ℕ) → drop (p + 4) c ≡ drop (p + 4) old
     → take w.out (drop w.data_start c) ≡ take w.out (drop w.data_start old) =
     λ c same. ap (take w.out) ((λ i. drop (sym start i) c) ∙ same ∙ (λ i. drop (start i) old)) in
@@ -305,10 +300,10 @@ module _ {W : Type 0} (tells keeps : Bool) (state : W → MediumState) (w : Writ
       publishes_at_each state w none sound (stands known) (padded known)
       (before known) end patched are_frames told is (moments known kept)
 
-  -- `flush`
-  pub checkpoints : WhereTells tells (OnOk patched ((state end).place ≡ w.data_start + w.out))
-      → Checkpoints tells keeps state told w new
-  checkpoints place = subst (Checkpoints tells keeps state told w) (sym same) record {
+  -- all was published, and the medium left somewhere
+  pub publishes_to : (at : ℕ) → WhereTells tells (OnOk patched ((state end).place ≡ at))
+      → PublishesTo tells keeps state at told w new
+  publishes_to at place = subst (PublishesTo tells keeps state at told w) (sym same) record {
     answers = answers;
     samples = record { spec_ex = refl; data_start = refl; data_length = refl; buffer = refl };
     publishes = published_all;
@@ -317,21 +312,6 @@ module _ {W : Type 0} (tells keeps : Bool) (state : W → MediumState) (w : Writ
         λ known whole.
         ap (λ bytes. containers w.spec_ex.bytes_per_sample (sample_count w) (bytes ++ w.waiting))
         ((published_all known).out whole);
-    place = λ known. on_published_then told
-        (λ at. at ∙ (let all : w.data_start + w.out ≡ data_end w = omega (arith, ap length none) in
-        all))
-        (published ((state end).place ≡ w.data_start + w.out) patched are_frames told is
-        (place known));
-    moments = at_each;
-  }
-
-  -- the end of a writer
-  pub finishes : WhereTells tells (OnOk patched ((state end).place ≡ w.data_start))
-      → Finishes tells keeps state w told end
-  finishes place = record {
-    answers = answers;
-    publishes = published_all;
-    place = λ known. published ((state end).place ≡ w.data_start) patched are_frames told is
-        (place known);
+    place = λ known. published ((state end).place ≡ at) patched are_frames told is (place known);
     moments = at_each;
   }

@@ -17,6 +17,11 @@ use Rattle.hound_writer.specs.Parts.{HasSize, IsPatched, PutsAt, Patches}
 use Rattle.hound_writer.specs.Sizes.{with_sizes, field}
 use Rattle.hound_writer.proofs.Sizes.{same_transitive, same_riff, field_riff, same_length, riff_length}
 
+pub has_size : (p : ℕ) (contents : List ℕ) → 8 ≤ p → p + 4 ≤ length contents → AreBytes contents
+    → HasSize p contents
+has_size p contents behind inside small =
+    record { behind = behind; inside = inside; small = small }
+
 -- both sizes written, one after the other
 pub sizes_put : (p size data_length : ℕ) (c : List ℕ) → 8 ≤ p → p + 4 ≤ length c
     → overlay (overlay c (placed 4 (bytes_of 4 size)))

@@ -21,7 +21,7 @@ use Rattle.hound_writer.specs.Answers.{OnPublished, faults_told}
 use Rattle.hound_writer.specs.Block.{GoesAtEach, GoesOut, StaysAround, after_out}
 use Rattle.hound_writer.specs.Counts.{Counts}
 use Rattle.hound_durable.specs.Losses.{place_of}
-use Rattle.hound_writer.specs.Publishing.{Checkpoints, Finishes, IsHalfPublished, IsOldOrNew, OncePutBefore, Publishes, PublishesAtEach, ReadsAs}
+use Rattle.hound_writer.specs.Publishing.{PublishesTo, Finishes, IsHalfPublished, IsOldOrNew, OncePutBefore, Publishes, PublishesAtEach, ReadsAs}
 use Rattle.hound_writer.specs.Sizes.{ChangesSizesOnly, field}
 use Rattle.hound_writer.specs.Storing.{KeepsStored}
 use Rattle.hound_writer.specs.Writer.{WriterState, IsBegun, IsPadded, IsSound, HasHeader, accepted_samples, data_length, padded_end}
@@ -153,9 +153,9 @@ module _ {W : Type 0} (tells keeps : Bool) (state : W → MediumState) (a : Writ
         stored = goes.adds.stored;
       }
 
-  checkpoints_of : WhereTells tells (AreBytes (state a.medium).contents)
-      → Checkpoints tells keeps state (Err (IoError e)) a (after_out false m a)
-  checkpoints_of small = record {
+  published_of : (at : ℕ) → WhereTells tells (AreBytes (state a.medium).contents)
+      → PublishesTo tells keeps state at (Err (IoError e)) a (after_out false m a)
+  published_of at small = record {
     answers = tt;
     samples = record { spec_ex = refl; data_start = refl; data_length = refl; buffer = refl };
     publishes = publishes_cut;
@@ -165,37 +165,17 @@ module _ {W : Type 0} (tells keeps : Bool) (state : W → MediumState) (a : Writ
     moments = λ told kept. publishes_at_each_cut told kept (small told);
   }
 
-  finishes_of : WhereTells tells (AreBytes (state a.medium).contents)
-      → Finishes tells keeps state a (Err (IoError e)) m
-  finishes_of small =
-      record {
-        answers = tt;
-        publishes = publishes_cut;
-        place = λ _. tt;
-        moments = λ told kept. publishes_at_each_cut told kept (small told);
-      }
-
 -- the same for a writer as contracts see it
-pub checkpoints_cut : {W : Type 0} (tells keeps : Bool) (state : W → MediumState) (far : ℕ)
+pub published_cut : {W : Type 0} (tells keeps : Bool) (state : W → MediumState) (far at : ℕ)
     (a b : WriterState W) (e : IoFault) → far ≤ padded_end a
     → GoesOut tells keeps state far false a b
     → WhereTells tells (AreBytes (state a.medium).contents)
-    → Checkpoints tells keeps state (Err (IoError e)) a b
-checkpoints_cut tells keeps state far a b e within out small =
+    → PublishesTo tells keeps state at (Err (IoError e)) a b
+published_cut tells keeps state far at a b e within out small =
     let further = goes_further tells keeps state far (padded_end a) false a b within out in
-    subst (Checkpoints tells keeps state (Err (IoError e)) a) (sym out.value)
-    (checkpoints_of tells keeps state a b.medium
-    (subst (GoesOut tells keeps state (padded_end a) false a) out.value further) e small)
-
-pub finishes_cut : {W : Type 0} (tells keeps : Bool) (state : W → MediumState) (far : ℕ)
-    (a b : WriterState W) (e : IoFault) → far ≤ padded_end a
-    → GoesOut tells keeps state far false a b
-    → WhereTells tells (AreBytes (state a.medium).contents)
-    → Finishes tells keeps state a (Err (IoError e)) b.medium
-finishes_cut tells keeps state far a b e within out small =
-    let further = goes_further tells keeps state far (padded_end a) false a b within out in
-    finishes_of tells keeps state a b.medium
-    (subst (GoesOut tells keeps state (padded_end a) false a) out.value further) e small
+    subst (PublishesTo tells keeps state at (Err (IoError e)) a) (sym out.value)
+    (published_of tells keeps state a b.medium
+    (subst (GoesOut tells keeps state (padded_end a) false a) out.value further) e at small)
 
 -- what is published once all is written
 module _ {W : Type 0} (tells keeps : Bool) (state : W → MediumState) (a : WriterState W) (m : W)
@@ -364,19 +344,10 @@ module _ {W : Type 0} (tells keeps : Bool) (state : W → MediumState) (a : Writ
                 ((out.file told).accepted whole) (g.stored ((out.file told).whole whole)));
           }
 
-    finishes_after : WhereTells tells (AreBytes (state a.medium).contents)
-        → Finishes tells keeps state b answer end → Finishes tells keeps state a answer end
-    finishes_after small g = record {
-      answers = publishing_as answer b a refl same_length g.answers;
-      publishes = λ told. publishes_later told (g.publishes told);
-      place = g.place;
-      moments = λ told kept. publishes_at_each_later told kept (small told) (g.moments told kept);
-    }
-
-  checkpoints_after : (answer : Result (Unit {0}) Error) (c : WriterState W)
+  published_after : (at : ℕ) (answer : Result (Unit {0}) Error) (c : WriterState W)
       → WhereTells tells (AreBytes (state a.medium).contents)
-      → Checkpoints tells keeps state answer b c → Checkpoints tells keeps state answer a c
-  checkpoints_after answer c small g = record {
+      → PublishesTo tells keeps state at answer b c → PublishesTo tells keeps state at answer a c
+  published_after at answer c small g = record {
     answers = publishing_as answer b a refl same_length g.answers;
     samples =
         record {
@@ -397,22 +368,26 @@ module _ {W : Type 0} (tells keeps : Bool) (state : W → MediumState) (a : Writ
   }
 
 -- the same for a writer as contracts see it
-pub finishes_later : {W : Type 0} (tells keeps : Bool) (state : W → MediumState) (far : ℕ)
-    (a b : WriterState W) (answer : Result (Unit {0}) Error) (end : W) → far ≤ padded_end a
-    → GoesOut tells keeps state far true a b → WhereTells tells (AreBytes (state a.medium).contents)
-    → Finishes tells keeps state b answer end → Finishes tells keeps state a answer end
-finishes_later tells keeps state far a b answer end within out small g =
-    let further = goes_further tells keeps state far (padded_end a) true a b within out in
-    finishes_after tells keeps state a b.medium
-    (subst (GoesOut tells keeps state (padded_end a) true a) out.value further) answer end small
-    (subst (λ v. Finishes tells keeps state v answer end) out.value g)
-
-pub checkpoints_later : {W : Type 0} (tells keeps : Bool) (state : W → MediumState) (far : ℕ)
+pub published_later : {W : Type 0} (tells keeps : Bool) (state : W → MediumState) (far at : ℕ)
     (a b c : WriterState W) (answer : Result (Unit {0}) Error) → far ≤ padded_end a
     → GoesOut tells keeps state far true a b → WhereTells tells (AreBytes (state a.medium).contents)
-    → Checkpoints tells keeps state answer b c → Checkpoints tells keeps state answer a c
-checkpoints_later tells keeps state far a b c answer within out small g =
+    → PublishesTo tells keeps state at answer b c → PublishesTo tells keeps state at answer a c
+published_later tells keeps state far at a b c answer within out small g =
     let further = goes_further tells keeps state far (padded_end a) true a b within out in
-    checkpoints_after tells keeps state a b.medium
-    (subst (GoesOut tells keeps state (padded_end a) true a) out.value further) answer c small
-    (subst (λ v. Checkpoints tells keeps state answer v c) out.value g)
+    published_after tells keeps state a b.medium
+    (subst (GoesOut tells keeps state (padded_end a) true a) out.value further) at answer c small
+    (subst (λ v. PublishesTo tells keeps state at answer v c) out.value g)
+
+-- the same as the end of a writer
+pub finishes_of : {W : Type 0} (tells keeps : Bool) (state : W → MediumState)
+    (answer : Result (Unit {0}) Error) (w new : WriterState W)
+    → PublishesTo tells keeps state new.data_start answer w new
+    → Finishes tells keeps state w answer new.medium
+finishes_of tells keeps state answer w new p = record {
+  answers = p.answers;
+  publishes = p.publishes;
+  place = λ told.
+      subst (λ n. OnPublished answer ((state new.medium).place ≡ n)) p.samples.data_start
+      (p.place told);
+  moments = p.moments;
+}

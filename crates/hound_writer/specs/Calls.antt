@@ -131,7 +131,8 @@ unfoldable pub Recorded : {W : Type 0} → Bool → Bool → (W → MediumState)
     List Asked → WriterState W → Type 0
 Recorded tells keeps state s file asked last = RecordedBy tells keeps state s file asked last
 
--- A medium that such a writer left: its end was the last of the calls.
+-- The medium of a writer to which calls that asked these led; of an end the last of them is the
+-- end's own, to publish.
 pub record LeftBy {W : Type 0} (tells keeps : Bool) (state : W → MediumState) (s : WavSpecEx)
     (file : Begun) (asked : List Asked) (medium : W) : Type 0 where
   pub last : WriterState W

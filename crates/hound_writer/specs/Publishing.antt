@@ -1,5 +1,5 @@
 -- What a call leaves that publishes the accepted samples.
-use Rattle.std.specs.Prelude.{◌≡◌, ◌⊎◌, ℕ, ◌+◌, ◌-◌, ◌<◌, ◌≤◌, max, Bool, List, length, take, drop, Result, OnOk}
+use Rattle.std.specs.Prelude.{◌≡◌, ◌⊎◌, ℕ, ◌+◌, ◌-◌, ◌<◌, ◌≤◌, max, Bool, true, false, List, length, take, drop, Result, OnOk}
 use Rattle.std.specs.List.{concat}
 use Rattle.std.specs.Io.{StartsWith}
 use Rattle.hound_number.specs.Number.{mix}
@@ -120,19 +120,30 @@ pub record PublishesAtEach {W : Type 0} (state : W → MediumState) (w : WriterS
   pub stored : IsWhole state w →
       KeepsStored w.data_start (concat (accepted_samples state w)) (state w.medium) (state end)
 
--- What `flush` does, by its result: it publishes, and the writer continues with the same samples.
--- If all was published the medium is at the end of the accepted data.
-pub record Checkpoints {W : Type 0} (tells keeps : Bool) (state : W → MediumState)
-    (answer : Result (Unit {0}) Error)
-    (old new : WriterState W) : Type 0 where
+-- What a call that publishes does, by its result: the writer keeps the same samples. If all was
+-- published its medium is at this place.
+pub record PublishesTo {W : Type 0} (tells keeps : Bool) (state : W → MediumState) (at : ℕ)
+    (answer : Result (Unit {0}) Error) (old new : WriterState W) : Type 0 where
   pub answers : IsPublishing answer old
   pub samples : KeepsSamples old new
   pub publishes : WhereTells tells (Publishes state old answer new.medium)
   pub whole : WhereTells tells (IsWhole state old → IsWhole state new)
   pub accepted : WhereTells tells
       (IsWhole state old → accepted_samples state new ≡ accepted_samples state old)
-  pub place : WhereTells tells (OnPublished answer ((state new.medium).place ≡ data_end new))
+  pub place : WhereTells tells (OnPublished answer ((state new.medium).place ≡ at))
   pub moments : WhereKeeps tells keeps (PublishesAtEach state old answer new.medium)
+
+-- where the medium is then: at the end of the accepted data if the writer continues, or else where
+-- the data begin
+abbrev pub place_after : {W : Type 0} → Bool → WriterState W → ℕ
+place_after true w = data_end w
+place_after false w = w.data_start
+
+-- What `flush` does, by its result: it publishes, and the writer continues at the end of the data.
+abbrev pub Checkpoints : {W : Type 0} → Bool → Bool → (W → MediumState) →
+    Result (Unit {0}) Error → WriterState W → WriterState W → Type 0
+Checkpoints tells keeps state answer old new =
+    PublishesTo tells keeps state (data_end new) answer old new
 
 -- What the end of a writer does, by its result: it publishes, and leaves the medium where the data
 -- begin.

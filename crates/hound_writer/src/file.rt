@@ -2,6 +2,8 @@
 ghost use Rattle.std.specs.Prelude.{◌≡◌, ◌⊎◌, IfOk, IfErr, MatchResult};
 ghost use Rattle.hound_spec.specs.declared.error.Error.TheVariants.{OutOfMemory, Unsupported};
 ghost use Rattle.hound_spec.specs.Writable.{IsWritable, with_default_width};
+ghost use Rattle.hound_reader.specs.Chunks.{IsDataPlace};
+ghost use Rattle.hound_reader.specs.Fmt.{IsSoundSpec};
 ghost use Rattle.hound_writer.specs.Answers.{IsIoError};
 ghost use Rattle.hound_writer.specs.Beginning.{HasBegun};
 ghost use Rattle.hound_writer.specs.Writer.{IsSound};
@@ -9,7 +11,7 @@ ghost use Rattle.hound_writer.specs.Writer.{IsSound};
 use crate::WavWriter;
 use crate::append::append_at;
 use hound_durable::{Durable, SyncedFile};
-use hound_reader::{error_of, read_until_data};
+use hound_reader::{FileHead, error_of, read_until_data};
 use hound_spec::{Error, Result, WavSpec, WavSpecEx};
 use std::alloc::Global;
 use std::io::Seek;
@@ -53,6 +55,31 @@ fn synced(
     file.sync_all()?;
     sync_folder(rt, alloc, path)?;
     Ok(Durable::new(SyncedFile::new(alloc, file)?))
+}
+
+// A file on disk, opened for reading and writing, and its head. Its place means nothing then.
+fn open_until_data(
+    rt: &impl Files<File = fs::File>,
+    alloc: Global,
+    path: Path<'_>,
+) -> Result<(fs::File, FileHead)>
+    ensures sound { IfOk result (λ found. IsSoundSpec found.1.spec_ex) }
+    ensures start { IfOk result (λ found. IsDataPlace found.1.data_start) }
+{
+    let mut file = fs::OpenOptions::new()
+        .read(true)
+        .write(true)
+        .open(rt, path)?;
+
+    // A pipe or a terminal has no place, and a read of it may block.
+    file.stream_position()?;
+    let Ok(mut reader) = io::BufReader::new(alloc, file) else {
+        return Err(Error::OutOfMemory);
+    };
+    match read_until_data(&mut reader) {
+        Ok(head) => Ok((reader.into_inner(), head)),
+        Err(error) => Err(error_of(error)),
+    }
 }
 
 impl WavWriter<io::BufWriter<fs::File>> {
@@ -117,21 +144,8 @@ impl WavWriter<io::BufWriter<fs::File>> {
     ) -> Result<WavWriter<io::BufWriter<fs::File>>>
         ensures sound { IfOk result (λ w. IsSound w) }
     {
-        let mut file = fs::OpenOptions::new()
-            .read(true)
-            .write(true)
-            .open(rt, path)?;
-
-        // A pipe or a terminal has no place, and a read of it may block.
-        file.stream_position()?;
-        let Ok(mut reader) = io::BufReader::new(alloc, file) else {
-            return Err(Error::OutOfMemory);
-        };
-        let head = match read_until_data(&mut reader) {
-            Ok(head) => head,
-            Err(error) => return Err(error_of(error)),
-        };
-        let writer = buffered(alloc, reader.into_inner())?;
+        let (file, head) = open_until_data(rt, alloc, path)?;
+        let writer = buffered(alloc, file)?;
         match append_at(writer, head) {
             Ok(writer) => Ok(writer),
             Err((_, error)) => Err(error),
@@ -193,21 +207,8 @@ impl WavWriter<Durable<SyncedFile>> {
     ) -> Result<WavWriter<Durable<SyncedFile>>>
         ensures sound { IfOk result (λ w. IsSound w) }
     {
-        let mut file = fs::OpenOptions::new()
-            .read(true)
-            .write(true)
-            .open(rt, path)?;
-
-        // A pipe or a terminal has no place, and a read of it may block.
-        file.stream_position()?;
-        let Ok(mut reader) = io::BufReader::new(alloc, file) else {
-            return Err(Error::OutOfMemory);
-        };
-        let head = match read_until_data(&mut reader) {
-            Ok(head) => head,
-            Err(error) => return Err(error_of(error)),
-        };
-        let writer = synced(rt, alloc, path, reader.into_inner())?;
+        let (file, head) = open_until_data(rt, alloc, path)?;
+        let writer = synced(rt, alloc, path, file)?;
         match append_at(writer, head) {
             Ok(writer) => Ok(writer),
             Err((_, error)) => Err(error),

@@ -103,7 +103,7 @@ impl<W: Medium> Output<W> {
     ghost use Rattle.hound_writer.specs.Fields.{of_fields};
     ghost use Rattle.hound_writer.specs.Many.{containers_in, sample_bytes};
     ghost use Rattle.hound_writer.specs.Parts.{IsStanding, Patches, PatchesAtEach};
-    ghost use Rattle.hound_writer.specs.Publishing.{Checkpoints, Finishes};
+    ghost use Rattle.hound_writer.specs.Publishing.{PublishesTo, place_after};
     ghost use Rattle.hound_writer.specs.Writer.{AreFrames, HasRoom, IsPadded, IsSound, IsWhole, IsCounted, data_end, data_length, padded_end, sample_count};
 
     /// A file whose data begin at this place and have this length, with its medium after them.
@@ -421,8 +421,8 @@ impl<W: Medium> Output<W> {
         Ok(())
     }
 
-    // Publishes, and goes back to the end of the accepted samples.
-    fn publish_and_return(&mut self) -> io::Result<()>
+    // Publishes, and goes back to the end of the accepted samples if the writer continues.
+    fn publish_and_go(&mut self, continues: bool) -> io::Result<()>
         requires { self.old.waiting ≡ [] }
         ensures stays { self.new ≡ record self.old { medium = self.new.medium } }
         ensures sound { IsSound self.old }
@@ -433,19 +433,24 @@ impl<W: Medium> Output<W> {
             (riff_size self.old.data_start self.old.out) self.old.out result
             (W.state self.old.medium) (W.state self.new.medium)) }
         ensures place { WhereTells W.tells (OnOk result ((W.state self.new.medium).place
-            ≡ self.old.data_start + self.old.out)) }
+            ≡ place_after continues self.new)) }
         ensures moments { WhereKeeps W.tells W.keeps
             (PatchesAtEach (self.old.data_start - 4)
             (riff_size self.old.data_start self.old.out) self.old.out result
             (W.state self.old.medium) (W.state self.new.medium)) }
     {
         self.publish()?;
-        self.go_to_end()
+        if continues {
+            return self.go_to_end();
+        }
+        Ok(())
     }
 
-    /// Publishes, and continues.
-    pub(crate) fn flush(&mut self, fault: &mut io::Error) -> Result<()>
-        ensures { Checkpoints W.tells W.keeps W.state result self.old self.new }
+    /// Publishes all accepted samples. The medium is then at their end if the writer continues, or
+    /// else where the data begin.
+    pub(crate) fn publish_all(&mut self, continues: bool, fault: &mut io::Error) -> Result<()>
+        ensures { PublishesTo W.tells W.keeps W.state (place_after continues self.new) result
+            self.old self.new }
     {
         if !self.put_block(fault) {
             return Err(Error::IoError(*fault));
@@ -453,21 +458,7 @@ impl<W: Medium> Output<W> {
         if !self.put_pad(fault) {
             return Err(Error::IoError(*fault));
         }
-        let published = self.publish_and_return();
-        publish_result(published, self.are_frames())
-    }
-
-    /// Publishes for the last time.
-    pub(crate) fn finish(&mut self, fault: &mut io::Error) -> Result<()>
-        ensures { Finishes W.tells W.keeps W.state self.old result self.new.medium }
-    {
-        if !self.put_block(fault) {
-            return Err(Error::IoError(*fault));
-        }
-        if !self.put_pad(fault) {
-            return Err(Error::IoError(*fault));
-        }
-        let published = self.publish();
+        let published = self.publish_and_go(continues);
         publish_result(published, self.are_frames())
     }
 

@@ -205,14 +205,14 @@ impl<W: Medium> WavWriter<W> {
             → Recorded W.tells W.keeps W.state s file asked self.old
             → Recorded W.tells W.keeps W.state s file (asked ++ publish ∷ []) self.new }
     {
-        self.output.flush(&mut self.fault)
+        self.output.publish_all(true, &mut self.fault)
     }
 
     // Publishes for the last time.
     fn finish(&mut self) -> Result<()>
         ensures { Finishes W.tells W.keeps W.state self.old result self.new.medium }
     {
-        self.output.finish(&mut self.fault)
+        self.output.publish_all(false, &mut self.fault)
     }
 
     // The medium, once the writer is done with it.

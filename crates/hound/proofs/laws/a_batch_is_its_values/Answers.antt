@@ -1,7 +1,7 @@
-use Rattle.hound.proofs.OneByOne.{same_samples}
+use Rattle.hound.proofs.Batching.{same_samples}
 use Rattle.hound.proofs.laws.a_batch_is_its_values.Goals as goal
 
 pub returns : goal.returns
-returns g x tells a b c behind whole batch runs =
-    same_samples g.M.Placed.tells g.M.Placed.keeps g.M.Placed.state tells x.args.values a b c whole
-    batch runs
+returns g x tells a b c whole sixteen two batch each =
+    same_samples g.M.Placed.tells g.M.Placed.keeps g.M.Placed.state tells x.args.values.now a b c
+    whole sixteen two batch each

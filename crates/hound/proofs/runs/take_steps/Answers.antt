@@ -1,6 +1,5 @@
-use Rattle.std.proofs.Common.{[], arith, refl, rules, w32}
-use Rattle.std.proofs.Math.Facts.{to_z-of_z}
-use Rattle.hound.proofs.Running.{marked_more, whole_taken}
+use Rattle.std.proofs.Common.{[], arith, refl, rules}
+use Rattle.hound.proofs.Running.{marked_more}
 use Rattle.hound.proofs.runs.take_steps.Goals as goal
 
 pub loop-i-init : goal.loop-i-init
@@ -9,24 +8,6 @@ loop-i-init g c = record {
   within = omega arith;
   runs = ([], refl, refl, (c.args.writer.now.buffer, refl));
 }
-
-pub loop-i-preserved-in-Whole : goal.loop-i-preserved-in-Whole
-loop-i-preserved-in-Whole g c =
-    let W = g.M.Placed in
-    let i = c.loop-i.i in
-    let loop = c.loop-i.invariant in
-    let inside = c.loop-i-test.true in
-    record {
-      size = search rules;
-      within = omega arith;
-      runs = marked_more W.tells W.keeps W.state c.args.steps.now
-          c.loop-i.marks i _ c.write_whole.result c.is_marked.result c.args.writer.now
-          c.loop-i.writer c.write_whole.new.writer
-          inside (omega (arith, loop.size, c.requires, inside)) c.is_marked.ensures loop.runs
-          (whole_taken W.tells W.keeps W.state _ c.in-Whole.value _ c.write_whole.result
-          c.loop-i.writer c.write_whole.new.writer c.in-Whole.is
-          (to_z-of_z {w = w32} (search rules)) c.write_whole.ensures);
-    }
 
 pub loop-i-preserved : goal.loop-i-preserved
 loop-i-preserved g c =
@@ -37,8 +18,8 @@ loop-i-preserved g c =
       size = search rules;
       within = omega arith;
       runs = marked_more g.M.Placed.tells g.M.Placed.keeps g.M.Placed.state c.args.steps.now
-          c.loop-i.marks i _ c.take_step-answer.result c.is_marked-in-loop-i.result c.args.writer.now
+          c.loop-i.marks i _ c.take_step-answer.result c.is_marked.result c.args.writer.now
           c.loop-i.writer c.take_step-answer.new.writer
-          inside (omega (arith, loop.size, c.requires, inside)) c.is_marked-in-loop-i.ensures loop.runs
+          inside (omega (arith, loop.size, c.requires, inside)) c.is_marked.ensures loop.runs
           c.take_step-answer.ensures;
     }

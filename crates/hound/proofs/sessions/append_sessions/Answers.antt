@@ -1,16 +1,19 @@
-use Rattle.std.proofs.Common.{arith, Ok, subst}
-use Rattle.std.proofs.lemmas.List.{take_all}
+use Rattle.std.proofs.Common.{arith, refl}
+use Rattle.hound.specs.declared.session.Begin.TheVariants.{Append}
 use Rattle.hound.specs.Sessions.{RunsOn}
-use Rattle.hound.proofs.Chaining.{is_ok, session_more, session_failed}
+use Rattle.hound.proofs.Running.{is_ok, leads_end, session_failed, session_more}
 use Rattle.hound.proofs.sessions.append_sessions.Goals as goal
+
+pub loop-i-init : goal.loop-i-init
+loop-i-init g c = record { within = omega arith; leads = λ answer medium runs. runs }
 
 pub returns-in-Err : goal.returns-in-Err
 returns-in-Err g c =
     let W = g.M.Placed in
     let again = c.append_session-back in
-    session_failed W.tells W.keeps W.state c.args.sessions.now c.loop-i.i _ again.result.1
-    c.in-Err.error c.args.medium c.loop-i.medium again.result.0 c.loop-i-test.true c.in-Err.is
-    c.loop-i.invariant.runs again.ensures
+    session_failed W.tells W.keeps W.state c.args.sessions.now c.loop-i.i c.args.medium
+    c.loop-i.medium c.loop-i.invariant.leads _ again.result.1 again.result.0 c.loop-i-test.true
+    again.ensures c.in-Err.error c.in-Err.is
 
 pub loop-i-preserved : goal.loop-i-preserved
 loop-i-preserved g c =
@@ -18,13 +21,13 @@ loop-i-preserved g c =
     let again = c.append_session-back in
     record {
       within = omega arith;
-      runs = session_more W.tells W.keeps W.state c.args.sessions.now c.loop-i.i _ again.result.1
-          c.args.medium c.loop-i.medium again.result.0 c.loop-i-test.true
-          (is_ok again.result.1 c.in_default.not-Err) c.loop-i.invariant.runs again.ensures;
+      leads = session_more W.tells W.keeps W.state c.args.sessions.now c.loop-i.i c.args.medium
+          c.loop-i.medium c.loop-i.invariant.leads _ again.result.1 again.result.0
+          c.loop-i-test.true again.ensures (is_ok again.result.1 c.in_default.not-Err);
     }
 
 pub returns : goal.returns
 returns g c =
     let W = g.M.Placed in
-    subst (λ l. RunsOn W.tells W.keeps W.state l c.args.medium (Ok tt) c.loop-i.medium)
-    (take_all c.loop-i.i c.args.sessions.now c.loop-i-test.false) c.loop-i.invariant.runs
+    leads_end (RunsOn W.tells W.keeps W.state Append) c.args.sessions.now c.loop-i.i c.args.medium
+    c.loop-i.medium c.loop-i.invariant.leads c.loop-i-test.false _ _ (refl, refl)

@@ -1,10 +1,9 @@
-use Rattle.std.proofs.Common.{◌≡◌, ◌+◌, ◌*◌, ◌≤◌, Ok, length, take, drop, refl, ◌∙◌, ap, subst, arith, rules, inr}
-use Rattle.hound_sample.specs.Slices.{joined_containers}
+use Rattle.std.proofs.Common.{◌≡◌, ◌*◌, ◌++◌, Ok, length, drop, refl, ◌∙◌, ap, subst, arith, rules, inr}
+use Rattle.std.proofs.lemmas.List.{drop_at, take_at}
 use Rattle.hound_writer.specs.Many.{containers_in}
 use Rattle.hound_sample.proofs.Joined.{joined}
 use Rattle.hound_c.specs.Writing.{Encodes, IsEncodeFault}
 use Rattle.hound_c.proofs.Checks.{failed, passed}
-use Rattle.hound_c.proofs.Puts.{drop_put, take_put}
 use Rattle.hound_c.proofs.writing.encode_block.Goals as goal
 
 pub returns-in-Err-clause-encodes : goal.returns-in-Err-clause-encodes
@@ -21,22 +20,19 @@ returns-clause-encodes g c =
     let s = c.spec_of-spec_ex.result in
     let w = s.bytes_per_sample in
     let values = c.args.samples.now in
-    let out = c.args.out.now in
-    let n = w * length values in
+    let n = length values * w in
+    let rest = drop n c.args.out.now in
     let container = λ (v : g.row.S.Denot). g.S.Sample.container v s.spec.bits_per_sample w in
-    let body = joined_containers container values in
     let (list, list_is) = passed (containers_in g.S.Sample.container s values) (search rules) in
     let j = joined container w (λ _ b e. (g.met.S.Sample.in_width _ _ _ b e).0) values list list_is in
-    let room : 0 + n ≤ length out = search rules in
-    let end : length values * w ≡ 0 + n = omega arith in
+    let body_is = c.store_containers.ensures in
+    let size : length c.store_containers.new.bytes ≡ n = ap length body_is ∙ omega (arith, j.size) in
     let same : s.spec.sample_format ≡ c.args.format = search rules in
-    subst (λ t. Encodes c.args.format g.S.Sample.container t values out c.write_samples_at.new.out (Ok (length values * w)))
+    subst (λ t. Encodes c.args.format g.S.Sample.container t values c.args.out.now (c.store_containers.new.bytes ++ rest) (Ok n))
     c.spec_of-spec_ex.ensures (
       same,
       list,
       list_is,
-      ap (take (length values * w)) c.write_samples_at.ensures
-          ∙ take_put 0 n out body j.size room (length values * w) end ∙ j.bytes,
-      ap (drop (length values * w)) c.write_samples_at.ensures
-          ∙ drop_put 0 n out body j.size room (length values * w) (omega (arith, end)),
+      take_at c.store_containers.new.bytes rest n size ∙ body_is ∙ j.bytes,
+      drop_at c.store_containers.new.bytes rest n size,
     )

@@ -1,17 +1,9 @@
-use Rattle.std.proofs.Common.{◌≡◌, ℕ, ◌-◌, ◌/◌, ◌≤◌, List, [], length, Option, None, Some, IfSome, refl, subst, arith}
-use Rattle.hound.specs.Durables.{Around}
-use Rattle.hound.specs.Counts.{Counts}
-use Rattle.hound.specs.Headline.{LosesNothing}
-use Rattle.hound.specs.Header.{data_start}
-use Rattle.hound.specs.Losses.{SurvivesLoss}
+use Rattle.std.proofs.Common.{length, refl, subst, arith}
 use Rattle.hound.specs.Own.{own}
-use Rattle.hound.specs.Run.{Ran, all_calls}
-use Rattle.hound.specs.Steps.{accepted_by_steps}
 use Rattle.hound.specs.declared.Durable.{Durable}
-use Rattle.hound.specs.declared.session.Begin.TheVariants.{New}
 use Rattle.hound.specs.declared.session.End.TheVariants.{Drop}
 use Rattle.hound_callers.specs.Checkpoints.{IsLast}
-use Rattle.hound_callers.proofs.Failing.{failed, unmarked_at}
+use Rattle.hound_callers.proofs.Failing.{failed, some_then, unmarked_at}
 use Rattle.hound_callers.proofs.callers.record_through_a_loss.Goals as goal
 
 pub returns-clause-none : goal.returns-clause-none
@@ -39,43 +31,26 @@ returns-clause-none g c tells none writable i inside is =
     )
 
 pub returns-clause-survives : goal.returns-clause-survives
-returns-clause-survives g c tells keeps = by c.last_checkpoint.result c.last_checkpoint.ensures
-  where
-    by : (last : Option ℕ)
-        → IsLast c.args.steps.now c.run_durable_session-medium.new.marks (length c.args.steps.now) last
-        → IfSome last (λ i.
-        Around {g = g.M.Placed} (g.M.Placed.state c.args.medium)
-        (g.M.Placed.state c.run_durable_session-medium.result.0) (λ old new. (answer : _)
-        × (run : Ran g.M.Placed.tells g.M.Placed.keeps
-        (λ (d : Durable _ g.M.Placed). own g.M.Placed.keeps (g.M.Placed.state d.inner) d.faults d.flushed)
-        (New c.args.spec_ex) c.args.steps.now c.run_durable_session-medium.new.marks Drop old answer new)
-        × ((sector : ℕ) (contents : List ℕ) → 1 ≤ sector
-        → (data_start c.args.spec_ex - 4) / sector ≡ (data_start c.args.spec_ex - 1) / sector
-        → (let s = g.M.Placed.state c.run_durable_session-medium.result.0 in
-        SurvivesLoss sector s.start s.past s.flushed (length s.past) contents) →
-        Counts c.args.spec_ex (data_start c.args.spec_ex)
-        (accepted_by_steps c.args.spec_ex c.args.steps.now c.run_durable_session-medium.new.marks)
-        contents
-        × LosesNothing c.args.spec_ex (data_start c.args.spec_ex) [] (all_calls run)
-        (g.M.Placed.state c.run_durable_session-medium.result.0) contents)))
-    by None last = tt
-    by (Some i) last =
-        let run = c.run_durable_session-medium in
-        let spec = c.args.spec_ex in
-        let flushed = last.1 in
-        let long = run.ensures.header tells keeps spec refl i flushed.0 flushed.1 flushed.2 in
-        let kept = run.ensures.kept_after_loss tells keeps spec refl c.requires.empty long in (
-          kept.0,
-          kept.1,
-          kept.2,
-          kept.3,
-          (
-            run.result.1,
-            kept.4.0,
-            λ sector contents some one lost. (
-              run.ensures.after_loss tells keeps spec refl c.requires.empty long sector some one
-                  contents lost,
-              kept.4.1 sector contents some one lost,
-            ),
-          ),
-        )
+returns-clause-survives g c tells keeps =
+    let run = c.run_durable_session-medium in
+    let spec = c.args.spec_ex in
+    some_then c.args.steps.now run.new.marks (length c.args.steps.now) c.last_checkpoint.result
+    c.last_checkpoint.ensures
+    (λ i flushed.
+    let long = run.ensures.header tells keeps spec refl i flushed.0 flushed.1 flushed.2 in
+    let (old, new, before, after, kept) = run.ensures.kept_after_loss tells keeps spec refl
+    c.requires.empty long in (
+      old,
+      new,
+      before,
+      after,
+      (
+        run.result.1,
+        kept.0,
+        λ sector contents some one lost. (
+          run.ensures.after_loss tells keeps spec refl c.requires.empty long sector some one contents
+              lost,
+          kept.1 sector contents some one lost,
+        ),
+      ),
+    ))

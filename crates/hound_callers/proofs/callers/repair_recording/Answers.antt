@@ -8,7 +8,7 @@ use Rattle.hound.specs.Repairing.{IsNotRepaired, ReadsFrames, Repairs}
 use Rattle.hound_callers.proofs.callers.repair_recording.Goals as goal
 
 pub returns : goal.returns
-returns g c told s file calls recorded kept before after flush sound same has_all left no_pad =
+returns g c told s file calls begun recorded kept before after flush sound same has_all left no_pad =
     by c.repair_to_end.result (c.repair_to_end.ensures.repaired told)
   where
     by : (r : _) → MatchResult r
@@ -17,7 +17,7 @@ returns g c told s file calls recorded kept before after flush sound same has_al
         → IfOk r (λ (done : _ × Repair). (done.1.spec_ex ≡ s) × ReadsFrames done.1 (start_of s file)
         (found_in file ++ accepted_by_all before) (g.N.Placed.state done.0).contents)
     by (Ok done) repairs =
-        c.a_repair_loses_no_published_sample.ensures s file calls recorded kept before after flush
+        c.a_repair_loses_no_published_sample.ensures s file calls begun recorded kept before after flush
         false (g.N.Placed.state c.args.left) (g.N.Placed.state done.0) done.1 sound same has_all left
         repairs (λ looks here. absurd (false≢true looks)) no_pad
     by (Err x) refused = tt

@@ -1,5 +1,5 @@
 use Rattle.std.specs.Prelude.{⊤}
-use Rattle.std.proofs.Common.{◌≡◌, ◌-◌, List, [], ◌∷◌, ◌++◌, length, false, Ok, Err, MatchResult, inl, subst, sym, ◌∙◌, ap, arith}
+use Rattle.std.proofs.Common.{◌≡◌, ◌-◌, List, [], ◌∷◌, ◌++◌, length, false, Ok, Err, MatchResult, inl, refl, subst, sym, ◌∙◌, ap, arith}
 use Rattle.std.proofs.lemmas.Bool.{false≢true}
 use Rattle.std.proofs.lemmas.List.{take_all}
 use Rattle.hound.specs.Bytes.{moment, overlay}
@@ -48,8 +48,8 @@ returns g c =
           c.drop_into-medium.result,
           kept,
           λ before after flush parts has_all no_pad.
-              c.a_repair_loses_no_published_sample.ensures s new_file kept.left.recorded.calls left kept.promised before after flush
-              false cut (g.M.Placed.state done.0) done.1 kept.promised.at_end.sound parts has_all
+              c.a_repair_loses_no_published_sample.ensures s new_file kept.left.recorded.calls _ left kept.promised before after flush
+              false cut (g.M.Placed.state done.0) done.1 (kept.promised.at_end.sound refl) parts has_all
               (inl (
                 length left.past,
                 (kept.promised.promises.in_order before (flush ∷ []) after parts).1,

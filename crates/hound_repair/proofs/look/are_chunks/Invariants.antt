@@ -7,11 +7,11 @@ use Rattle.hound_repair.proofs.look.are_chunks.Given as goal
 abbrev pub invariant-loop-place : goal.invariant-loop-place
 invariant-loop-place g l = record {
   few : l.place ≤ 2 ^ 35 + 2 ^ 33;
-  same : WhereTells g.S.Placed.tells
-      (IsSame (g.S.Placed.state l.fn.source) (g.S.Placed.state l.source));
-  chunks : WhereTells g.S.Placed.tells
-      (are_chunks (drop l.fn.place (g.S.Placed.state l.fn.source).contents)
-      ≡ are_chunks (drop l.place (g.S.Placed.state l.fn.source).contents));
+  same : WhereTells g.R.ReadAt.tells
+      (IsSame (g.R.ReadAt.state l.fn.source) (g.R.ReadAt.state l.source));
+  chunks : WhereTells g.R.ReadAt.tells
+      (are_chunks (drop l.fn.place (g.R.ReadAt.state l.fn.source).contents)
+      ≡ are_chunks (drop l.place (g.R.ReadAt.state l.fn.source).contents));
 }
 
 abbrev pub decreases-loop-place : goal.decreases-loop-place

@@ -1,35 +1,52 @@
-use Rattle.std.proofs.Common.{inl, subst, sym}
-use Rattle.hound_repair.specs.Damages.{FindsDamage, IsDamage}
-use Rattle.hound_repair.proofs.Halves.{result_after}
-use Rattle.hound_repair.proofs.Mending.{answer_after}
+use Rattle.std.proofs.Common.{inr, ap, subst, sym, ◌∙◌, rules}
+use Rattle.hound_medium.specs.State.{one_more}
+use Rattle.hound_repair.specs.Repairing.{Repairs}
+use Rattle.hound_repair.proofs.Halves.{mends_at_each}
+use Rattle.hound_repair.proofs.Mending.{half_after, put_ok, repairs_kept}
 use Rattle.hound_repair.proofs.mend.repair_with.Goals as goal
 
-pub returns-in-Ok-clause-repaired : goal.returns-in-Ok-clause-repaired
-returns-in-Ok-clause-repaired g c told =
+pub returns-then-ne-clause-repaired : goal.returns-then-ne-clause-repaired
+returns-then-ne-clause-repaired g c told =
     let state = g.M.Placed.state in
-    let finds =
-    subst (λ r. FindsDamage c.args.looks r (state c.args.medium) (state c.look-medium.result.0))
-    c.in-Ok.is (c.look-medium.ensures.finds told) in
-    answer_after state c.args.looks (state c.args.medium) (state c.look-medium.result.0)
-    c.mend.result finds.0 finds.1
-    (c.mend.ensures.repaired told c.args.looks
-    (subst (λ l. IsDamage c.args.looks l c.in-Ok.damage) (sym finds.0.stays.contents) finds.2))
+    let finds = c.in-Ok.ensures.finds told in
+    subst (λ r. Repairs c.args.looks (state c.args.medium) r (state c.in-Ok.found.0)) (sym c.repair.ensures)
+    (repairs_kept c.args.looks _ _ _ _ _ finds.found c.in-Ok.ensures.sound.spec (search rules) finds.puts finds.faults)
 
-pub returns-in-Ok-clause-moments : goal.returns-in-Ok-clause-moments
-returns-in-Ok-clause-moments g c told kept =
+pub returns-in-Ok-put_sizes-clause-repaired : goal.returns-in-Ok-put_sizes-clause-repaired
+returns-in-Ok-put_sizes-clause-repaired g c told =
     let state = g.M.Placed.state in
-    let finds =
-    subst (λ r. FindsDamage c.args.looks r (state c.args.medium) (state c.look-medium.result.0))
-    c.in-Ok.is (c.look-medium.ensures.finds told) in
-    result_after state c.args.looks (state c.args.medium) (state c.look-medium.result.0)
-    c.mend.result finds.0
-    (c.mend.ensures.moments told kept c.args.looks
-    (subst (λ l. IsDamage c.args.looks l c.in-Ok.damage) (sym finds.0.stays.contents) finds.2))
+    let puts = c.in-Ok-put_sizes.ensures.sizes told in
+    subst (λ r. Repairs c.args.looks (state c.args.medium) r (state c.put_sizes.new.medium))
+    (sym c.repair-in-Ok-put_sizes.ensures)
+    (put_ok c.args.looks _ _ _ c.in-Ok.found.1 c.in-Ok.ensures.sound (c.in-Ok.ensures.finds told) (search rules)
+    puts.contents puts.flushed puts.faults)
 
-pub returns-in-Err-clause-moments : goal.returns-in-Err-clause-moments
-returns-in-Err-clause-moments g c told kept =
-    let state = g.M.Placed.state in
-    let finds =
-    subst (λ r. FindsDamage c.args.looks r (state c.args.medium) (state c.look-medium.result.0))
-    c.in-Err.is (c.look-medium.ensures.finds told) in
-    inl finds.puts.stays.past
+pub returns-in-Ok-put_sizes-clause-moments : goal.returns-in-Ok-put_sizes-clause-moments
+returns-in-Ok-put_sizes-clause-moments g c told kept =
+    mends_at_each c.args.looks _ _ (g.M.Placed.state c.put_sizes.new.medium) c.in-Ok.found.1 c.in-Ok.ensures.sound (c.in-Ok.ensures.finds told)
+    (search rules) (c.in-Ok-put_sizes.ensures.order told kept) (c.in-Ok-put_sizes.ensures.moments told kept)
+
+pub returns-in-Err-put_sizes-clause-repaired : goal.returns-in-Err-put_sizes-clause-repaired
+returns-in-Err-put_sizes-clause-repaired g c told =
+    let puts = c.in-Err-put_sizes.ensures.sizes told in
+    let finds = c.in-Ok.ensures.finds told in
+    record {
+      why = inr (
+        tt,
+        inr (
+          _,
+          _,
+          _,
+          finds.found,
+          search rules,
+          half_after c.args.looks _ _ (g.M.Placed.state c.put_sizes.new.medium) c.in-Ok.found.1
+              c.in-Ok.ensures.sound finds (search rules) _ puts.half,
+        ),
+        puts.faults ∙ ap one_more finds.faults,
+      );
+    }
+
+pub returns-in-Err-put_sizes-clause-moments : goal.returns-in-Err-put_sizes-clause-moments
+returns-in-Err-put_sizes-clause-moments g c told kept =
+    mends_at_each c.args.looks _ _ (g.M.Placed.state c.put_sizes.new.medium) c.in-Ok.found.1 c.in-Ok.ensures.sound (c.in-Ok.ensures.finds told)
+    (search rules) (c.in-Err-put_sizes.ensures.order told kept) (c.in-Err-put_sizes.ensures.moments told kept)

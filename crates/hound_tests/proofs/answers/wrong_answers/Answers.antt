@@ -1,38 +1,43 @@
-use Rattle.std.proofs.Common.{ℕ, pos, max, Bool, true, false, IsTrue, List, [], ◌∷◌, length, Ok, Err, sym, subst, arith, inl, inr, ltb-true}
-use Rattle.hound.specs.Answers.{FitAnswer}
-use Rattle.hound.specs.Container.{int_container}
-use Rattle.hound.specs.FirstError.{AnswersSession, AnswersStep}
-use Rattle.hound.specs.Steps.{accepted_by, containers_of}
+use Rattle.std.proofs.Common.{ℕ, ◌+◌, pos, Bool, true, false, nat_le, List, [], ◌∷◌, length, Result, Ok, Err, sym, subst, arith, inl, inr}
+use Rattle.std.proofs.lemmas.Bool.{false≢true}
+use Rattle.std.specs.List.{concat}
+use Rattle.hound.specs.Answers.{AcceptAnswer, FitAnswer}
+use Rattle.hound.specs.Container.{Refusal, int_container, too_wide, unsupported}
+use Rattle.hound.specs.FmtChunk.{greatest_u32}
+use Rattle.hound.specs.Header.{riff_size}
+use Rattle.hound.specs.FirstError.{AnswersSession, AnswersStep, writer_after}
+use Rattle.hound.specs.Steps.{batch_containers, containers_of}
+use Rattle.hound.specs.Writer.{WriterState, data_length}
 use Rattle.hound.specs.declared.Error.TheVariants.{OutOfMemory, TooLong, UnfinishedSample}
 use Rattle.hound.specs.declared.Step.TheVariants.{Whole, Batch}
 use Rattle.hound_tests.specs.Rows.{mono, stereo}
 use Rattle.hound_tests.proofs.answers.wrong_answers.Goals as goal
 
-too_wide : (list : List (List ℕ)) → AnswersSession mono list 0 (Whole (pos 40000) ∷ []) (Ok tt) → ⊥
+wide_taken : (list : List (List ℕ)) → AnswersSession mono list (Whole (pos 40000) ∷ []) (Ok tt) → ⊥
 unfolding int_container
-too_wide list (inl (e, is, step)) = cc
-too_wide list (inr (step, end)) = cc
+wide_taken list (inl (e, is, step)) = cc
+wide_taken list (inr (step, end)) = cc
 
 pub returns-clause-passed_over : goal.returns-clause-passed_over
 returns-clause-passed_over c first second third is (inl (e, told, session)) = cc
 returns-clause-passed_over c first second third is (inr (one, inl (e, told, session))) = cc
 returns-clause-passed_over c first second third is (inr (one, inr (two, three))) =
     let list = containers_of mono first.now in
-    too_wide list (subst (λ steps. AnswersSession mono list 0 steps (Ok tt)) is two)
+    wide_taken list (subst (λ steps. AnswersSession mono list steps (Ok tt)) is two)
 
 pub returns-clause-later_error : goal.returns-clause-later_error
 unfolding int_container
 returns-clause-later_error c (inl (e, is, step)) =
-    let told : AnswersStep stereo [] 0 (Whole (pos 40000)) (Err UnfinishedSample) =
-    subst (λ r. AnswersStep stereo [] 0 (Whole (pos 40000)) r) (sym is) step in
+    let told : AnswersStep stereo [] (Whole (pos 40000)) (Err UnfinishedSample) =
+    subst (λ r. AnswersStep stereo [] (Whole (pos 40000)) r) (sym is) step in
     cc
 returns-clause-later_error c (inr (step, rest)) = cc
 
 pub returns-clause-fault_as_too_long : goal.returns-clause-fault_as_too_long
 unfolding int_container
 returns-clause-fault_as_too_long c (inl (e, is, step)) =
-    let told : AnswersStep mono [] 0 (Whole (pos 11)) (Err TooLong) =
-    subst (λ r. AnswersStep mono [] 0 (Whole (pos 11)) r) (sym is) step in
+    let told : AnswersStep mono [] (Whole (pos 11)) (Err TooLong) =
+    subst (λ r. AnswersStep mono [] (Whole (pos 11)) r) (sym is) step in
     told
 returns-clause-fault_as_too_long c (inr (step, end)) = end
 
@@ -47,18 +52,20 @@ unfolding int_container
 returns-clause-unfinished_end c (inl (e, is, step)) = cc
 returns-clause-unfinished_end c (inr (step, end)) = omega (arith, end)
 
-wants : (fits memory : Bool) → FitAnswer {T = Unit {0}} fits memory (Err OutOfMemory)
-    → IsTrue memory
-wants false memory is = cc
-wants true memory is = is
+-- a writer that needs no memory lacks none
+no_memory : {M : Type 0} (asked : Result (List (List ℕ)) Refusal) (w : WriterState M)
+    → AcceptAnswer {T = Unit {0}} false asked w (Err OutOfMemory) → ⊥
+no_memory (Err too_wide) w answers = cc
+no_memory (Err unsupported) w answers = cc
+no_memory (Ok list) w answers =
+    fits (nat_le (riff_size w.data_start (data_length w + length (concat list))) greatest_u32) answers
+  where
+    fits : (room : Bool) → FitAnswer {T = Unit {0}} room false (Err OutOfMemory) → ⊥
+    fits true answers = false≢true answers
+    fits false answers = cc
 
-pub returns-clause-smaller_batch : goal.returns-clause-smaller_batch
-returns-clause-smaller_batch c first second less (inl (e, is, step)) =
-    subst (λ r. AnswersStep mono [] 0 (Batch first) r) (sym is) step
-returns-clause-smaller_batch c first second less (inr (one, inl (e, is, step))) =
-    let longest = max 0 (length first.now) in
-    let told =
-    subst (λ r. AnswersStep mono (accepted_by mono (Batch first) true) longest (Batch second) r)
-    (sym is) step in
-    absurd (omega (arith, less, ltb-true longest (length second.now) (wants _ _ told)))
-returns-clause-smaller_batch c first second less (inr (one, inr (two, end))) = absurd end
+pub returns-clause-batch_memory : goal.returns-clause-batch_memory
+returns-clause-batch_memory c values (inl (e, is, step)) =
+    no_memory (batch_containers mono values.now) (writer_after mono [])
+    (subst (λ r. AnswersStep mono [] (Batch values) r) (sym is) step)
+returns-clause-batch_memory c values (inr (step, end)) = absurd end

@@ -2,20 +2,16 @@ use Rattle.std.proofs.Common.{◌<◌, ◌^◌, rules, ◌∙◌, ap, refl}
 use Rattle.hound_medium.specs.State.{one_more}
 use Rattle.hound_medium.proofs.Outcomes.{on_ok, on_ok_self}
 use Rattle.hound_medium.proofs.Spans.{span_end_zero, flushed_since}
-use Rattle.hound_writer.specs.Parts.{HasSize, IsPatched}
-use Rattle.hound_writer.proofs.Patching.{cut_first, cut_second, patched, riff_put}
+use Rattle.hound_writer.specs.Parts.{IsPatched}
+use Rattle.hound_writer.proofs.Patching.{cut_first, cut_second, has_size, patched, riff_put}
 use Rattle.hound_writer.proofs.PatchMoments.{patches_none, patches_both, patches_still}
 use Rattle.hound_writer.proofs.patch.patch.Goals as goal
 
 pub returns-in_err-put_riff_size-clause-patches : goal.returns-in_err-put_riff_size-clause-patches
 returns-in_err-put_riff_size-clause-patches g c tells =
     let first = c.in_err-put_riff_size.ensures.puts tells in
-    let has : HasSize c.args.data_len_offset (g.M.Placed.state c.args.medium.now).contents =
-    record {
-      behind = c.requires.behind;
-      inside = c.requires.inside tells;
-      small = g.met.M.Placed.bytes c.args.medium.now tells;
-    } in
+    let has = has_size c.args.data_len_offset _ c.requires.behind (c.requires.inside tells)
+    (g.met.M.Placed.bytes c.args.medium.now tells) in
     cut_first g.M.Placed.keeps c.args.data_len_offset c.args.riff_size c.args.data_length _
     c.from_residual.result _ _ c.from_residual.ensures.0 has first first.faults
 
@@ -24,12 +20,8 @@ pub returns-in_err-put_data_length-clause-patches :
 returns-in_err-put_data_length-clause-patches g c tells =
     let first = c.in_ok-put_riff_size.ensures.puts tells in
     let second = c.in_err-put_data_length.ensures.puts tells in
-    let has : HasSize c.args.data_len_offset (g.M.Placed.state c.args.medium.now).contents =
-    record {
-      behind = c.requires.behind;
-      inside = c.requires.inside tells;
-      small = g.met.M.Placed.bytes c.args.medium.now tells;
-    } in
+    let has = has_size c.args.data_len_offset _ c.requires.behind (c.requires.inside tells)
+    (g.met.M.Placed.bytes c.args.medium.now tells) in
     let fits : c.args.riff_size < 2 ^ 32 = search rules in
     cut_second g.M.Placed.keeps c.args.data_len_offset c.args.riff_size c.args.data_length _ _
     c.from_residual-in_err-put_data_length.result _ _ _
@@ -41,12 +33,8 @@ pub returns-clause-patches : goal.returns-clause-patches
 returns-clause-patches g c tells =
     let first = c.in_ok-put_riff_size.ensures.puts tells in
     let second = c.in_ok-put_data_length.ensures.puts tells in
-    let has : HasSize c.args.data_len_offset (g.M.Placed.state c.args.medium.now).contents =
-    record {
-      behind = c.requires.behind;
-      inside = c.requires.inside tells;
-      small = g.met.M.Placed.bytes c.args.medium.now tells;
-    } in
+    let has = has_size c.args.data_len_offset _ c.requires.behind (c.requires.inside tells)
+    (g.met.M.Placed.bytes c.args.medium.now tells) in
     let fits : c.args.riff_size < 2 ^ 32 = search rules in
     patched g.M.Placed.keeps c.args.data_len_offset c.args.riff_size c.args.data_length _ _
     c.flush.result _ _ _ _ has (g.met.M.Placed.bytes c.put_riff_size.new.medium tells)
@@ -57,12 +45,8 @@ pub returns-in_err-put_riff_size-clause-moments : goal.returns-in_err-put_riff_s
 returns-in_err-put_riff_size-clause-moments g c tells keeps =
     let p = c.args.data_len_offset in
     let old = g.M.Placed.state c.args.medium.now in
-    let has : HasSize p old.contents =
-    record {
-      behind = c.requires.behind;
-      inside = c.requires.inside tells;
-      small = g.met.M.Placed.bytes c.args.medium.now tells;
-    } in
+    let has = has_size p old.contents c.requires.behind (c.requires.inside tells)
+    (g.met.M.Placed.bytes c.args.medium.now tells) in
     patches_none p c.args.riff_size c.args.data_length c.from_residual.result old
     (g.M.Placed.state c.put_riff_size.new.medium)
     (c.put_riff_size.ensures.moments tells keeps p c.args.data_length has) (search rules)
@@ -75,12 +59,8 @@ returns-in_err-put_data_length-clause-moments g c tells keeps =
     let n = c.args.data_length in
     let old = g.M.Placed.state c.args.medium.now in
     let mid = g.M.Placed.state c.put_riff_size.new.medium in
-    let has : HasSize p old.contents =
-    record {
-      behind = c.requires.behind;
-      inside = c.requires.inside tells;
-      small = g.met.M.Placed.bytes c.args.medium.now tells;
-    } in
+    let has = has_size p old.contents c.requires.behind (c.requires.inside tells)
+    (g.met.M.Placed.bytes c.args.medium.now tells) in
     let fits : c.args.riff_size < 2 ^ 32 = search rules in
     let puts = c.in_ok-put_riff_size.ensures.puts tells in
     let first = c.put_riff_size.ensures.moments tells keeps p n has in
@@ -103,12 +83,8 @@ returns-clause-moments g c tells keeps =
     let old = g.M.Placed.state c.args.medium.now in
     let mid = g.M.Placed.state c.put_riff_size.new.medium in
     let done = g.M.Placed.state c.put_data_length.new.medium in
-    let has : HasSize p old.contents =
-    record {
-      behind = c.requires.behind;
-      inside = c.requires.inside tells;
-      small = g.met.M.Placed.bytes c.args.medium.now tells;
-    } in
+    let has = has_size p old.contents c.requires.behind (c.requires.inside tells)
+    (g.met.M.Placed.bytes c.args.medium.now tells) in
     let fits : c.args.riff_size < 2 ^ 32 = search rules in
     let puts_first = c.in_ok-put_riff_size.ensures.puts tells in
     let first = c.put_riff_size.ensures.moments tells keeps p n has in

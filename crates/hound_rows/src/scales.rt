@@ -1,0 +1,43 @@
+// Rows of samples in another scale.
+ghost use Rattle.std.specs.Prelude.{◌<◌, ◌≤◌};
+
+use crate::row::Row;
+use crate::values::Value;
+use hound::{FloatBits, change_bits, float_to_int, int_to_float};
+
+/// `to_float VALUE BITS`, `to_int PATTERN BITS` and `change VALUE OLD_BITS NEW_BITS`
+pub fn answer(row: &mut Row, name: &str, words: &[&str]) {
+    let [value, bits @ ..] = words else {
+        return row.refuse();
+    };
+    let bits = match bits {
+        [bits] => [row.number(bits), 32],
+        [old, new] => [row.number(old), row.number(new)],
+        _ => return row.refuse(),
+    };
+    let [bits @ 1..=32, new_bits @ 1..=32] = bits else {
+        return row.refuse();
+    };
+    match name {
+        "to_float" => {
+            let number = int_to_float(i32::of(row, value), bits);
+            row.line.hex(&FloatBits::from(number).0.to_be_bytes());
+        }
+        "to_int" => {
+            let number = FloatBits::of(row, value).to_f32();
+            show(row, float_to_int(number, bits));
+        }
+        _ => {
+            let sample = i32::of(row, value);
+            show(row, change_bits(sample, bits, new_bits));
+        }
+    }
+}
+
+// The integer, and whether it was clipped.
+fn show(row: &mut Row, found: (i32, bool)) {
+    row.line.shown(found.0);
+    if found.1 {
+        row.line.word("clipped");
+    }
+}

@@ -1,0 +1,30 @@
+-- Samples in another scale: integers of other bits, and floats whose full scale is 1.
+use Rattle.std.specs.Prelude.{ℕ, ℤ, pos, ◌-◌, ◌^◌, ◌+ℤ◌, ◌*ℤ◌, nat_lt, if◌then◌else◌}
+use Rattle.std.specs.Float.{Float, float_to_signed, round_ties_even}
+use Rattle.std.specs.Int.{int_shr, saturate_to_bits, w64}
+use lib.Ieee.{binary32, binary64, div, mul, of_int}
+
+-- the full scale of integers of so many bits: they are from minus this to one less
+abbrev pub full_scale : ℕ → ℤ
+full_scale bits = pos (2 ^ (bits - 1))
+
+-- the integer of so many bits that is nearest to a number
+abbrev pub clipped : ℕ → ℤ → ℤ
+clipped bits v = saturate_to_bits (bits - 1) v
+
+-- an integer of so many bits in full scale 1: as the nearest `f32`, over full scale, which is exact
+abbrev pub float_of_int : ℕ → ℤ → Float
+float_of_int bits v = div binary32 (of_int binary32 v) (of_int binary32 (full_scale bits))
+
+-- a float in full scale 1 in that of so many bits, not clipped: times full scale, which is exact in
+-- `f64`, as the nearest integer, a half as the even one; a NaN is 0
+abbrev pub scaled : ℕ → Float → ℤ
+scaled bits x = float_to_signed w64
+    (round_ties_even binary64 (mul binary64 x (of_int binary64 (full_scale bits))))
+
+-- an integer of so many bits with others, not clipped: more bits are zeros below; of fewer it is the
+-- nearest, a half upwards
+abbrev pub with_bits : ℕ → ℕ → ℤ → ℤ
+with_bits old new v =
+    if nat_lt new old then int_shr (v +ℤ pos (2 ^ (old - new - 1))) (old - new)
+    else (v *ℤ pos (2 ^ (new - old)))
