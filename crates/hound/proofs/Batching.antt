@@ -10,9 +10,11 @@ use Rattle.hound_sample.specs.ContainerLaws.{contained}
 use Rattle.hound_medium.specs.State.{MediumState}
 use Rattle.hound_writer.specs.Accepting.{Accepts}
 use Rattle.hound_writer.specs.Answers.{AcceptAnswer, if_marked, one}
+use Rattle.hound_writer.specs.Batch.{IsSameFile}
 use Rattle.hound_writer.specs.Calls.{write}
 use Rattle.hound_writer.specs.Many.{AcceptsEach, short_bytes}
 use Rattle.hound_writer.specs.Writer.{WriterState, IsWhole, data_length, accepted_samples}
+use Rattle.hound_writer.proofs.Recording.{same_but_memory}
 use Rattle.hound.proofs.Calling.{Went, call_went, went_still, went_then}
 
 -- the bytes of a batch's values are those of its containers, two to each
@@ -76,26 +78,33 @@ module _ {M : Type 0} (tells keeps : Bool) (state : M → MediumState) (told : I
       accepts.adds.answers) first)
       (each_went values mid new (ap (λ x. x.spec.bits_per_sample) first.spec_ex ∙ sixteen) each)
 
-  -- a batch, and its values one by one, from the same writer
-  pub same_samples : (values : List ℤ) (a b c : WriterState M) → IsWhole state a
-      → a.spec_ex.spec.bits_per_sample ≡ 16 → a.spec_ex.bytes_per_sample ≡ 2
+  -- a batch, and its values one by one, from writers of one file
+  pub same_samples : (values : List ℤ) (first a b c : WriterState M) → IsWhole state first
+      → first.spec_ex.spec.bits_per_sample ≡ 16 → first.spec_ex.bytes_per_sample ≡ 2
+      → IsSameFile first a
       → Accepts tells keeps state false
       (Ok (containers a.spec_ex.bytes_per_sample
       (length (short_bytes values) / a.spec_ex.bytes_per_sample) (short_bytes values))) (Ok tt) a b
-      → AcceptsEach tells keeps state int_container values a c
+      → AcceptsEach tells keeps state int_container values first c
       → (accepted_samples state b ≡ accepted_samples state c) × (data_length b ≡ data_length c)
-  same_samples values a b c whole sixteen two batch each =
+  same_samples values first a b c whole sixteen two stays batch each =
       let bytes = short_bytes values in
       let count : length bytes / 2 ≡ length values =
       omega (arith, ap length (joined values), length-joined values) in
+      let width : a.spec_ex.bytes_per_sample ≡ 2 =
+      ap (λ x. x.bytes_per_sample) stays.spec_ex ∙ two in
       let list = containers a.spec_ex.bytes_per_sample (length bytes / a.spec_ex.bytes_per_sample)
       bytes in
       let same : list ≡ map (signed_bytes_of 2) values =
-      (λ i. containers (two i) (length bytes / two i) bytes)
+      (λ i. containers (width i) (length bytes / width i) bytes)
       ∙ (λ i. containers 2 (count i) (joined values i)) ∙ split values in
-      let t = call_went tells keeps state told (Ok tt) a.buffer a b (write (Ok list))
-      (batch, λ no. absurd (false≢true no)) in
-      let l = each_went values a c sixteen each in (
-        t.accepted whole ∙ ap (λ x. accepted_samples state a ++ x) same ∙ sym (l.accepted whole),
+      let t = went_then tells keeps state told [] list first a b
+      (subst (Went tells keeps state told [] first) (same_but_memory first a stays)
+      (went_still tells keeps state told first a.buffer))
+      (call_went tells keeps state told (Ok tt) a.buffer a b (write (Ok list))
+      (batch, λ no. absurd (false≢true no))) in
+      let l = each_went values first c sixteen each in (
+        t.accepted whole ∙ ap (λ x. accepted_samples state first ++ x) same
+            ∙ sym (l.accepted whole),
         omega (arith, t.size, l.size, ap (λ x. length (concat x)) same),
       )

@@ -10,6 +10,7 @@ ghost use Rattle.hound_reader.specs.Fmt.{IsSoundSpec};
 ghost use Rattle.hound_writer.specs.Answers.{mark_of};
 ghost use Rattle.hound_writer.specs.Calls.{Asked, Begun, Call, Lead, Left, asked_by_all, found_in, new_file, publish, start_of};
 ghost use Rattle.hound_writer.specs.Accepting.{Accepts};
+ghost use Rattle.hound_writer.specs.Batch.{IsSameFile};
 ghost use Rattle.hound_writer.specs.Many.{AcceptsEach, short_bytes};
 ghost use Rattle.hound_writer.specs.Publishing.{Finishes};
 ghost use Rattle.hound_writer.specs.Writer.{WriterState, IsWhole, accepted_samples, data_length};
@@ -33,12 +34,14 @@ use hound_spec::WavSpecEx;
 
 /// A batch accepts what its values do one by one: the same samples, and the same count of them.
 ///
-/// It holds over a medium whose bytes are known, from one writer of samples of sixteen bits whose
-/// accepted samples are there, if the `flush` of the batch and each `write_sample` returned Ok.
+/// It holds over a medium whose bytes are known, from writers of one file of samples of sixteen bits
+/// whose accepted samples are there (that of the batch has more memory), if the `flush` of the batch
+/// and each `write_sample` returned Ok.
 pub fn a_batch_is_its_values<M: Medium>(values: &[i16])
-    ensures { WhereTells M.tells ((a b c : WriterState M) → IsWhole M.state a →
-        a.spec_ex.spec.bits_per_sample ≡ 16 → a.spec_ex.bytes_per_sample ≡ 2 →
-        Accepts M.tells M.keeps M.state false (Ok (containers a.spec_ex.bytes_per_sample (length (short_bytes values.now) / a.spec_ex.bytes_per_sample) (short_bytes values.now))) (Ok tt) a b → AcceptsEach M.tells M.keeps M.state int_container values.now a c →
+    ensures { WhereTells M.tells ((first a b c : WriterState M) → IsWhole M.state first →
+        first.spec_ex.spec.bits_per_sample ≡ 16 → first.spec_ex.bytes_per_sample ≡ 2 →
+        IsSameFile first a →
+        Accepts M.tells M.keeps M.state false (Ok (containers a.spec_ex.bytes_per_sample (length (short_bytes values.now) / a.spec_ex.bytes_per_sample) (short_bytes values.now))) (Ok tt) a b → AcceptsEach M.tells M.keeps M.state int_container values.now first c →
         (accepted_samples M.state b ≡ accepted_samples M.state c) × (data_length b ≡ data_length c)) }
 {}
 

@@ -1,14 +1,14 @@
 // Recorders that make their calls themselves.
-ghost use Rattle.std.specs.Prelude.{◌≡◌, ◌⊎◌, ◌-◌, ◌/◌, ◌≤◌, true, List, ◌∷◌, ◌++◌, [], ⊤, Ok, MatchResult, length, map};
+ghost use Rattle.std.specs.Prelude.{◌≡◌, ◌⊎◌, ◌-◌, ◌/◌, ◌≤◌, true, List, ◌∷◌, ◌++◌, [], ⊤, Ok, MatchResult, OnOk, length, map};
 ghost use Rattle.std.specs.List.{flat_map};
 ghost use Rattle.hound.specs.Answers.{one};
 ghost use Rattle.hound.specs.Calls.{Asked, Begun, Call, Left, Recorded, new_file, publish, write};
-ghost use Rattle.hound.specs.Container.{containers};
+ghost use Rattle.hound.specs.Container.{containers, int_container};
 ghost use Rattle.hound.specs.Durables.{Around, within};
 ghost use Rattle.hound.specs.Headline.{HasPublished, Kept, KeptWithin, accepted_by_all};
 ghost use Rattle.hound.specs.Header.{canonical, data_start};
 ghost use Rattle.hound.specs.Held.{held};
-ghost use Rattle.hound.specs.Many.{containers_in};
+ghost use Rattle.hound.specs.Many.{AcceptsEach, containers_in};
 ghost use Rattle.hound.specs.Number.{signed_bytes_of};
 ghost use Rattle.hound.specs.Repairing.{IsNoPad, ReadsFrames};
 ghost use Rattle.hound.specs.Room.{IsSixteen};
@@ -16,6 +16,7 @@ ghost use Rattle.hound.specs.Run.{Ran};
 ghost use Rattle.hound.specs.Sizes.{field};
 ghost use Rattle.hound.specs.State.{MediumState, WhereKeeps, WhereTells};
 ghost use Rattle.hound.specs.Steps.{asked_by, containers_of};
+ghost use Rattle.hound.specs.Writer.{WriterState, IsWhole, accepted_samples, data_length};
 ghost use Rattle.hound.specs.declared.WavSpecEx.{WavSpecEx};
 ghost use Rattle.hound.specs.declared.session.Begin.TheVariants.{New};
 ghost use Rattle.hound.specs.declared.session.End.TheVariants.{Finalize};
@@ -25,8 +26,9 @@ ghost use Rattle.hound_callers.specs.Recording.{block_asks, recorder_asks};
 use crate::twelve::Twelve;
 use hound::{
     Begin, Durable, End, Error, Medium, Placed, Repair, Sample, Source, Step, WavSpecEx, WavWriter,
-    a_repair_loses_no_published_sample, a_run_leaves_its_calls, calls_are_a_run, repair_to_end,
-    run_session, sessions_leave_one_file, what_a_loss_leaves, what_is_kept,
+    a_batch_is_its_values, a_repair_loses_no_published_sample, a_run_leaves_its_calls,
+    calls_are_a_run, repair_to_end, run_session, sessions_leave_one_file, what_a_loss_leaves,
+    what_is_kept,
 };
 use std::alloc::Global;
 use std::result;
@@ -216,14 +218,19 @@ fn record_singles<S: Sample + Copy, M: Medium>(writer: &mut WavWriter<M>, single
     }
 }
 
-// Writes a batch, which is accepted by one call.
-fn record_batch<M: Medium>(
+/// Writes a batch, which is accepted by one call (`recorded`). At an Ok it accepted what its values
+/// would have been accepted as one by one (`same`).
+pub fn record_batch<M: Medium>(
     alloc: Global,
     writer: &mut WavWriter<M>,
     batch: &[i16],
 ) -> hound::Result<()>
     requires { IsSixteen writer.old.spec_ex }
-    ensures { (s : WavSpecEx) (file : Begun) (asked : List Asked)
+    ensures same { WhereTells M.tells (OnOk result (IsWhole M.state writer.old →
+        (each : WriterState M) → AcceptsEach M.tells M.keeps M.state int_container batch.now writer.old each →
+        (accepted_samples M.state writer.new ≡ accepted_samples M.state each)
+        × (data_length writer.new ≡ data_length each))) }
+    ensures recorded { (s : WavSpecEx) (file : Begun) (asked : List Asked)
         → Recorded M.tells M.keeps M.state s file asked writer.old
         → (Recorded M.tells M.keeps M.state s file asked writer.new)
         ⊎ (let bytes = flat_map (signed_bytes_of 2) batch.now in
@@ -233,6 +240,7 @@ fn record_batch<M: Medium>(
     if batch.len() > u32::MAX as usize {
         return Err(Error::TooLong);
     }
+    a_batch_is_its_values::<M>(batch);
     let mut values = writer.get_i16_writer(alloc, batch.len() as u32)?;
     for value in batch {
         values.write_sample(*value);

@@ -10,8 +10,8 @@ use std::num::{
 
 /// An integer of so many bits as a float whose full scale is 1: over `2^(bits - 1)`.
 ///
-/// It is the `f32` that is nearest to the quotient, of two the even one. Up to 24 bits that is the
-/// quotient itself, and `float_to_int` gives the integer back.
+/// It is the `f32` that is nearest to the quotient, of two the even one. Integers of up to 24 bits
+/// come back from `float_to_int` unchanged, as tests show.
 ///
 /// ```
 /// let half = int_to_float(16384, 16); // 0.5

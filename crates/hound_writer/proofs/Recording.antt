@@ -14,6 +14,18 @@ use Rattle.hound_writer.specs.Publishing.{Checkpoints, Finishes}
 use Rattle.hound_writer.specs.Writer.{WriterState, IsWhole, accepted_samples, sample_count}
 use Rattle.hound_writer.specs.Calls.{Asked, put, write, publish, Call, Does, Begun, Lead, Left, Opens, Recorded, asked_by_all, appended, new_file, with_memory}
 
+-- a writer of the same file is the same but for its memory
+pub same_but_memory : {W : Type 0} (a b : WriterState W) → IsSameFile a b
+    → with_memory a b.buffer ≡ b
+same_but_memory a b same = λ i. record {
+  medium = sym same.medium i;
+  spec_ex = sym same.spec_ex i;
+  data_start = sym same.data_start i;
+  out = sym same.out i;
+  waiting = sym same.waiting i;
+  buffer = b.buffer;
+}
+
 module _ {W : Type 0} (tells keeps : Bool) (state : W → MediumState) where
   abbrev pub call_at : Asked → Result (Unit {0}) Error → WriterState W → Call
   call_at asked answer old =
@@ -140,22 +152,14 @@ module _ {W : Type 0} (tells keeps : Bool) (state : W → MediumState) where
       → IsSameFile a b → Recorded tells keeps state s file list a
       → Recorded tells keeps state s file list b
   unfolding Recorded
-  recorded_same s file list a b same r =
-      let is : with_memory a b.buffer ≡ b = λ i. record {
-        medium = sym same.medium i;
-        spec_ex = sym same.spec_ex i;
-        data_start = sym same.data_start i;
-        out = sym same.out i;
-        waiting = sym same.waiting i;
-        buffer = b.buffer;
-      } in record {
-        first = r.first;
-        calls = r.calls;
-        opens = r.opens;
-        lead = subst (Lead tells keeps state r.calls r.first) is
-            (lead_same r.calls r.first a b.buffer r.lead);
-        asked_is = r.asked_is;
-      }
+  recorded_same s file list a b same r = record {
+    first = r.first;
+    calls = r.calls;
+    opens = r.opens;
+    lead = subst (Lead tells keeps state r.calls r.first) (same_but_memory a b same)
+        (lead_same r.calls r.first a b.buffer r.lead);
+    asked_is = r.asked_is;
+  }
 
   -- a writer that has begun a file
   recorded_first : (s : WavSpecEx) (file : Begun) (w : WriterState W)

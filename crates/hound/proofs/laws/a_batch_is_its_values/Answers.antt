@@ -2,6 +2,6 @@ use Rattle.hound.proofs.Batching.{same_samples}
 use Rattle.hound.proofs.laws.a_batch_is_its_values.Goals as goal
 
 pub returns : goal.returns
-returns g x tells a b c whole sixteen two batch each =
-    same_samples g.M.Placed.tells g.M.Placed.keeps g.M.Placed.state tells x.args.values.now a b c
-    whole sixteen two batch each
+returns g x tells first a b c whole sixteen two same batch each =
+    same_samples g.M.Placed.tells g.M.Placed.keeps g.M.Placed.state tells x.args.values.now first
+    a b c whole sixteen two same batch each
