@@ -15,7 +15,7 @@ use Rattle.hound_durable.specs.Losses.{Ascends}
 use Rattle.hound_reader.specs.Chunks.{Head}
 use Rattle.hound_reader.specs.Fmt.{IsSoundSpec}
 use Rattle.hound_writer.specs.Answers.{mark_of}
-use Rattle.hound_writer.specs.Calls.{Asked, Begun, Call, Does, Lead, Left, Opens, appended, found_in, new_file, publish, start_of, with_memory}
+use Rattle.hound_writer.specs.Calls.{Begun, Call, Does, Known, Lead, Left, Opens, appended, found_in, new_file, publish, start_of, with_memory}
 use Rattle.hound_writer.specs.Counts.{Counts}
 use Rattle.hound_writer.specs.Sizes.{ChangesSizesOnly, field}
 use Rattle.hound_writer.specs.Writer.{WriterState, HasHeader, IsBegun, IsCounted, IsSound, IsWhole, accepted_bytes, accepted_samples, data_length}
@@ -315,11 +315,11 @@ module _ {W : Type 0} (tells keeps : Bool) (state : W → MediumState) where
         (promised kept replays)
 
   -- what a writer left holds what its calls promise
-  pub left_holds : (s : WavSpecEx) (file : Begun) (asked : List Asked) (medium : W)
-      → Left tells keeps state s file asked medium
-      → WhereTells tells (Holds tells keeps state s file asked medium)
+  pub left_holds : (s : WavSpecEx) (file : Begun) (known : List Known) (medium : W)
+      → Left tells keeps state s file known medium
+      → WhereTells tells (Holds tells keeps state s file known medium)
   unfolding Left
-  left_holds s file asked medium left told =
+  left_holds s file known medium left told =
       let r = left.recorded in
       record {
         left = left;
@@ -329,11 +329,11 @@ module _ {W : Type 0} (tells keeps : Bool) (state : W → MediumState) where
 
   pub left_kept : ((m : W)
       → WhereKeeps tells keeps ((state m).contents ≡ overlay (state m).start (state m).past))
-      → (s : WavSpecEx) (file : Begun) (asked : List Asked) (medium : W)
-      → Left tells keeps state s file asked medium
-      → WhereKeeps tells keeps (Kept tells keeps state s file asked medium)
+      → (s : WavSpecEx) (file : Begun) (known : List Known) (medium : W)
+      → Left tells keeps state s file known medium
+      → WhereKeeps tells keeps (Kept tells keeps state s file known medium)
   unfolding Left
-  left_kept replays s file asked medium left told kept =
+  left_kept replays s file known medium left told kept =
       let r = left.recorded in
       let first = first_of s file r.first r.opens in
       record {

@@ -6,6 +6,7 @@ pub mod PowerLoss
 pub mod Keeping
 pub mod Recovering
 pub mod Running
+pub mod Knowing
 pub mod Within
 pub mod Whole
 pub mod Batching

@@ -10,7 +10,7 @@ use Rattle.hound_medium.specs.State.{MediumState, WhereKeeps}
 use Rattle.hound_medium.specs.Bytes.{placed, overlay}
 use Rattle.hound_medium.proofs.Overlays.{length-placed}
 use Rattle.hound_writer.specs.Answers.{mark_of}
-use Rattle.hound_writer.specs.Calls.{Call, Lead, Left, Opens, Recorded, asked_by_all, new_file, publish}
+use Rattle.hound_writer.specs.Calls.{Call, Lead, Left, Opens, Recorded, asked_by_all, made, new_file, publish}
 use Rattle.hound_writer.specs.Publishing.{Finishes}
 use Rattle.hound_writer.specs.Writer.{WriterState, IsWhole}
 use Rattle.hound_writer.proofs.Accepting.{length_overlay_max}
@@ -25,6 +25,7 @@ use Rattle.hound.specs.Headline.{NoFault, accepted_by_all, accepted_of}
 use Rattle.hound.specs.Run.{Begins, EndsAs, IsNotBegun, Ran, end_call, file_of, spec_of}
 use Rattle.hound.specs.Steps.{accepted_by_steps, asked_by}
 use Rattle.hound.proofs.Calling.{went}
+use Rattle.hound.proofs.Knowing.{known_steps}
 use Rattle.hound.proofs.Keeping.{first_of, holds_at_end, keeps_promises}
 
 -- a constructor that failed wrote less than the header
@@ -192,14 +193,16 @@ module _ {M : Type 0} (tells keeps : Bool) (state : M → MediumState) (s : WavS
       go (Err e) is = tt
 
   -- it leaves what its calls leave
-  pub run_left : Left tells keeps state s new_file (map (asked_by s) steps ++ publish ∷ []) medium
+  pub run_left : Left tells keeps state s new_file
+      (map (λ step. made (asked_by s step)) steps ++ made publish ∷ []) medium
   unfolding Recorded
   run_left =
-      left_by tells keeps state r.finished s new_file (map (asked_by s) steps) r.last medium r.ends
+      left_by tells keeps state (made publish) r.finished s new_file
+      (map (λ step. made (asked_by s step)) steps) r.last medium (refl, tt) r.ends
       (record {
         first = r.first;
         calls = r.calls;
         opens = (state old, r.begins);
         lead = r.lead;
-        asked_is = r.asked;
+        are_known = known_steps s steps r.calls r.asked;
       })

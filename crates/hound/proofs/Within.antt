@@ -16,7 +16,7 @@ use Rattle.hound_durable.specs.Losses.{Ascends, SurvivesLoss}
 use Rattle.hound_durable.specs.Own.{own, replays_own}
 use Rattle.hound_durable.specs.declared.durable.Durable.{Durable}
 use Rattle.hound_writer.specs.Answers.{mark_of}
-use Rattle.hound_writer.specs.Calls.{Asked, Begun, Call, Left, asked_by_all, found_in, publish, start_of}
+use Rattle.hound_writer.specs.Calls.{Begun, Call, Known, Left, asked_by_all, found_in, publish, start_of}
 use Rattle.hound_writer.specs.Counts.{Counts}
 use Rattle.hound_writer.specs.Writer.{accepted_samples, data_length}
 use Rattle.hound_writer.proofs.Samples.{length_out, samples_out}
@@ -29,6 +29,7 @@ use Rattle.hound.specs.Headline.{HasPublished, KeptWithin, LosesNothing, Promise
 use Rattle.hound.specs.Run.{AppendedSurvives, IsNotBegun, IsSession, Ran, all_calls, end_call}
 use Rattle.hound.specs.Steps.{accepted_by_steps, asked_by}
 use Rattle.hound.proofs.Calling.{begin as where_begun}
+use Rattle.hound.proofs.Knowing.{last_known}
 use Rattle.hound.proofs.Keeping.{all_accepted, left_kept, survives}
 use Rattle.hound.proofs.Whole.{all_lead, part_of_header, steps_accepted}
 
@@ -72,40 +73,27 @@ module _ {M : Type 0} {g : Ghosts M} (d : Durable M g) (told : IsTrue g.tells)
       (survives s start found before end (shown d) (within d).flushed (within d).faults promises asked
       flushed_later flushed_within ascends)
 
--- the last of calls that asked these
-last_call : (calls : List Call) (list : List Asked) (one : Asked)
-    → asked_by_all calls ≡ list ++ one ∷ []
-    → (before : List Call) × (end : Call) × (calls ≡ before ++ (end ∷ [])) × (end.asked ≡ one)
-last_call [] [] one is = cc
-last_call [] (asked ∷ list) one is = cc
-last_call (call ∷ []) [] one is = ([], call, refl, (let e : call.asked ≡ one = cc in e))
-last_call (call ∷ next ∷ calls) [] one is = cc
-last_call (call ∷ calls) (asked ∷ list) one is =
-    let rest : asked_by_all calls ≡ list ++ one ∷ [] = cc in
-    let (before, end, parts, same) = last_call calls list one rest in
-    (call ∷ before, end, ap (λ l. call ∷ l) parts, same)
-
 pub left_within : {M : Type 0} {g : Ghosts M}
     → ((m : M) → WhereKeeps g.tells g.keeps
     ((g.state m).contents ≡ overlay (g.state m).start (g.state m).past))
-    → IsTrue g.tells → IsTrue g.keeps → (s : WavSpecEx) (file : Begun) (asked : List Asked)
-    (d : Durable M g)
-    → Left g.tells g.keeps (λ (d : Durable M g). shown d) s file (asked ++ publish ∷ []) d
-    → KeptWithin g.tells g.keeps (λ (d : Durable M g). shown d) s file (asked ++ publish ∷ []) d
+    → IsTrue g.tells → IsTrue g.keeps → (s : WavSpecEx) (file : Begun) (known : List Known)
+    (one : Known) (d : Durable M g) → one.asked ≡ publish
+    → Left g.tells g.keeps (λ (d : Durable M g). shown d) s file (known ++ one ∷ []) d
+    → KeptWithin g.tells g.keeps (λ (d : Durable M g). shown d) s file (known ++ one ∷ []) d
     (within d)
-left_within {M} {g} replays told kept s file asked d left =
+left_within {M} {g} replays told kept s file known one d publishes left =
     let k =
     left_kept g.tells g.keeps (λ (d : Durable M g). shown d)
     (λ m told kept. replays_own g.keeps (g.state m.inner) m.faults m.flushed kept
-    (replays m.inner told kept)) s file (asked ++ publish ∷ []) d left told kept in
+    (replays m.inner told kept)) s file (known ++ one ∷ []) d left told kept in
     let r = k.left.recorded in
-    let (before, end, parts, is) = last_call r.calls asked publish r.asked_is in
+    let (before, end, parts, is) = last_known known one r.calls r.are_known in
     record {
       left = k.left;
       survives = subst (λ l. SurvivesAtEnd s (start_of s file) (found_in file) l (within d))
           (sym parts)
           (survives_within d told kept (within d) refl s (start_of s file) (found_in file) before end
-          is (subst (λ l. Promises s (start_of s file) (found_in file) l (shown d)) parts
+          (is.0 ∙ publishes) (subst (λ l. Promises s (start_of s file) (found_in file) l (shown d)) parts
           k.promised.promises));
     }
 

@@ -11,7 +11,7 @@ use Rattle.hound_durable.specs.Losses.{Ascends, SurvivesLoss, place_of}
 use Rattle.hound_reader.specs.Chunks.{Head}
 use Rattle.hound_reader.specs.Fmt.{IsSoundSpec}
 use Rattle.hound_writer.specs.Answers.{if_marked, mark_of}
-use Rattle.hound_writer.specs.Calls.{Asked, Begun, Call, LeftBy, appended, found_in, new_file, publish, put, start_of}
+use Rattle.hound_writer.specs.Calls.{Asked, Begun, Call, Known, LeftBy, appended, found_in, new_file, publish, put, start_of}
 use Rattle.hound_writer.specs.Counts.{Counts}
 use Rattle.hound_writer.specs.Sizes.{field}
 use Rattle.hound_writer.specs.Storing.{IsStored}
@@ -205,18 +205,18 @@ pub record Keeps (s : WavSpecEx) (file : Begun) (calls : List Call) (begun mediu
   pub at_end : HoldsAtEnd s file calls begun medium
   pub promises : Promises s (start_of s file) (found_in file) calls medium
 
--- What a writer has left that was asked these, over a medium whose bytes are known: its calls, each
+-- What a writer has left of whose calls these are known, over a medium whose bytes are known: its calls, each
 -- by its contract, led to this medium; and what they leave there.
 pub record Holds {W : Type 0} (tells keeps : Bool) (state : W → MediumState) (s : WavSpecEx)
-    (file : Begun) (asked : List Asked) (medium : W) : Type 0 where
-  pub left : LeftBy tells keeps state s file asked medium
+    (file : Begun) (known : List Known) (medium : W) : Type 0 where
+  pub left : LeftBy tells keeps state s file known medium
   pub at_end : HoldsAtEnd s file left.recorded.calls (state left.recorded.first.medium)
       (state medium)
 
 -- The same over a medium that records every byte written: and all that these calls promise.
 pub record Kept {W : Type 0} (tells keeps : Bool) (state : W → MediumState) (s : WavSpecEx)
-    (file : Begun) (asked : List Asked) (medium : W) : Type 0 where
-  pub left : LeftBy tells keeps state s file asked medium
+    (file : Begun) (known : List Known) (medium : W) : Type 0 where
+  pub left : LeftBy tells keeps state s file known medium
   pub promised : Keeps s file left.recorded.calls (state left.recorded.first.medium) (state medium)
 
 -- What a loss of power at the end leaves of a medium that wrote bytes at ascending places only since
@@ -232,11 +232,11 @@ pub record SurvivesAtEnd (s : WavSpecEx) (start : ℕ) (found : List (List ℕ))
       Counts s start (found ++ accepted_by_all calls) contents
       × LosesNothing s start found calls medium contents
 
--- What a writer over a `Durable` has left that was asked these: its calls, each by its contract, led
+-- What a writer over a `Durable` has left of whose calls these are known: its calls, each by its contract, led
 -- to this durable medium; and what a loss of power leaves of the medium within it.
 pub record KeptWithin {W : Type 0} (tells keeps : Bool) (state : W → MediumState) (s : WavSpecEx)
-    (file : Begun) (asked : List Asked) (durable : W) (medium : MediumState) : Type 0 where
-  pub left : LeftBy tells keeps state s file asked durable
+    (file : Begun) (known : List Known) (durable : W) (medium : MediumState) : Type 0 where
+  pub left : LeftBy tells keeps state s file known durable
   pub survives : SurvivesAtEnd s (start_of s file) (found_in file) left.recorded.calls medium
 
 -- What is left at some point after so many bytes were written: the contents of a state, or what a

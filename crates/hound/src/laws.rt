@@ -1,5 +1,6 @@
 // What holds for every run.
 ghost use Rattle.std.specs.Prelude.{◌≡◌, ◌<◌, ◌≤◌, ◌-◌, ◌/◌, ℕ, Bool, false, IsTrue, List, [], ◌∷◌, ◌++◌, Ok, Result, length, map};
+ghost use Rattle.std.specs.List.{flat_map};
 ghost use Rattle.hound_spec.specs.declared.error.Error.{Error};
 ghost use Rattle.hound_spec.specs.declared.spec.WavSpecEx.{WavSpecEx};
 ghost use Rattle.hound_spec.specs.Header.{canonical};
@@ -8,7 +9,7 @@ ghost use Rattle.hound_durable.specs.Durables.{within};
 ghost use Rattle.hound_sample.specs.Container.{containers, int_container};
 ghost use Rattle.hound_reader.specs.Fmt.{IsSoundSpec};
 ghost use Rattle.hound_writer.specs.Answers.{mark_of};
-ghost use Rattle.hound_writer.specs.Calls.{Asked, Begun, Call, Lead, Left, asked_by_all, found_in, new_file, publish, start_of};
+ghost use Rattle.hound_writer.specs.Calls.{AreKnown, Asked, Begun, Call, IsKnown, Known, Lead, Left, asked_by_all, found_in, made, marked, new_file, publish, start_of};
 ghost use Rattle.hound_writer.specs.Accepting.{Accepts};
 ghost use Rattle.hound_writer.specs.Batch.{IsSameFile};
 ghost use Rattle.hound_writer.specs.Many.{AcceptsEach, short_bytes};
@@ -22,7 +23,7 @@ ghost use Rattle.hound_repair.specs.declared.sizes.RepairState.TheVariants.{HasC
 ghost use Rattle.hound.specs.declared.session.Begin.TheVariants.{New};
 ghost use Rattle.hound.specs.declared.session.Begin.{Begin};
 ghost use Rattle.hound.specs.declared.session.End.{End};
-ghost use Rattle.hound.specs.Headline.{HasPublished, Holds, IsLeftAfter, Keeps, Kept, KeptWithin, accepted_by_all, begins_at};
+ghost use Rattle.hound.specs.Headline.{HasPublished, Holds, IsLeftAfter, Keeps, Kept, KeptWithin, accepted_by_all, accepted_of, begins_at};
 ghost use Rattle.hound.specs.Run.{Begins, EndsAs, Ran};
 ghost use Rattle.hound.specs.Sessions.{RunsOn, all_steps};
 ghost use Rattle.hound.specs.Steps.{asked_by, containers_of};
@@ -66,7 +67,7 @@ pub fn a_run_leaves_its_calls<M: Medium>(steps: &[Step])
     ensures { (spec_ex : WavSpecEx) (marks : List Bool) (end : End) (old medium : M)
         (answer : Result Unit Error)
         → Ran M.tells M.keeps M.state (New spec_ex) steps.now marks end old answer medium →
-        Left M.tells M.keeps M.state spec_ex new_file (map (asked_by spec_ex) steps.now ++ publish ∷ []) medium }
+        Left M.tells M.keeps M.state spec_ex new_file (map (λ step. made (asked_by spec_ex step)) steps.now ++ made publish ∷ []) medium }
 {}
 
 /// Sessions that were all Ok leave the file of one session of all their steps.
@@ -106,18 +107,32 @@ pub fn a_repair_loses_no_published_sample()
 /// every byte written each of its states holds all that they promise: whoever made the calls, with
 /// whatever results.
 pub fn what_is_kept<M: Medium>()
-    ensures at_end { WhereTells M.tells ((s : WavSpecEx) (file : Begun) (asked : List Asked)
-        (medium : M) → Left M.tells M.keeps M.state s file asked medium
-        → Holds M.tells M.keeps M.state s file asked medium) }
-    ensures kept { WhereKeeps M.tells M.keeps ((s : WavSpecEx) (file : Begun) (asked : List Asked)
-        (medium : M) → Left M.tells M.keeps M.state s file asked medium
-        → Kept M.tells M.keeps M.state s file asked medium) }
+    ensures at_end { WhereTells M.tells ((s : WavSpecEx) (file : Begun) (known : List Known)
+        (medium : M) → Left M.tells M.keeps M.state s file known medium
+        → Holds M.tells M.keeps M.state s file known medium) }
+    ensures kept { WhereKeeps M.tells M.keeps ((s : WavSpecEx) (file : Begun) (known : List Known)
+        (medium : M) → Left M.tells M.keeps M.state s file known medium
+        → Kept M.tells M.keeps M.state s file known medium) }
+{}
+
+/// What a caller knows of calls holds of them, one by one (`among`): so a `flush` that was seen to
+/// publish is one of those that [`what_is_kept`] speaks of. Calls whose marks are all known accepted
+/// what these say (`accepted`).
+pub fn what_is_known()
+    ensures among { (before after : List Known) (one : Known) (calls : List Call)
+        → AreKnown (before ++ (one ∷ after)) calls → (first last : List Call) × (call : Call)
+        × (calls ≡ first ++ (call ∷ last)) × AreKnown before first × IsKnown one call
+        × AreKnown after last }
+    ensures accepted { (seen : List (Asked × Bool)) (calls : List Call)
+        → AreKnown (map (λ (one : Asked × Bool). marked one.0 one.1) seen) calls →
+        accepted_by_all calls ≡ flat_map (λ (one : Asked × Bool). accepted_of one.0 one.1) seen }
 {}
 
 /// What a loss of power leaves of the medium within a `Durable` over which a writer was ended: it
 /// counts, and has lost no sample that a flush has published.
 pub fn what_a_loss_leaves<M: Medium>(durable: &Durable<M>)
-    ensures { WhereKeeps M.tells M.keeps ((s : WavSpecEx) (file : Begun) (asked : List Asked)
-        → Left M.tells M.keeps (⟦<Durable<M> as Placed>⟧.state) s file (asked ++ publish ∷ []) durable.now
-        → KeptWithin M.tells M.keeps (⟦<Durable<M> as Placed>⟧.state) s file (asked ++ publish ∷ []) durable.now (within durable.now)) }
+    ensures { WhereKeeps M.tells M.keeps ((s : WavSpecEx) (file : Begun) (known : List Known)
+        (end : Known) → end.asked ≡ publish
+        → Left M.tells M.keeps (⟦<Durable<M> as Placed>⟧.state) s file (known ++ end ∷ []) durable.now
+        → KeptWithin M.tells M.keeps (⟦<Durable<M> as Placed>⟧.state) s file (known ++ end ∷ []) durable.now (within durable.now)) }
 {}

@@ -1,3 +1,4 @@
 pub mod Blocks
 pub mod Failing
 pub mod Asking
+pub mod Publishing

@@ -1,16 +1,35 @@
--- What a recorder asks of its writer.
-use Rattle.std.specs.Prelude.{ℕ, suc, ◌%◌, ◌==◌, Bool, true, false, List, [], ◌∷◌, ◌++◌, Result}
-use Rattle.hound.specs.Calls.{Asked, publish, write}
+-- What a recorder asks of its writer, and what it sees.
+use Rattle.std.specs.Prelude.{◌≡◌, ℕ, suc, ◌%◌, ◌==◌, Bool, true, false, List, [], ◌∷◌, ◌++◌, map, Result, Ok}
+use Rattle.std.specs.List.{flat_map}
+use Rattle.hound.specs.Calls.{Asked, Known, made, marked, publish, write}
 use Rattle.hound.specs.Container.{Refusal}
 
 -- a block is written, and if it is to be published a flush follows
-abbrev pub block_asks : Result (List (List ℕ)) Refusal → Bool → List Asked
-block_asks containers false = write containers ∷ []
-block_asks containers true = write containers ∷ publish ∷ []
+abbrev pub block_asks : Result (List (List ℕ)) Refusal → Bool → List Known
+block_asks containers false = made (write containers) ∷ []
+block_asks containers true = made (write containers) ∷ made publish ∷ []
 
 -- blocks are written in their order, with a flush after every fourth; so many were written before
 abbrev pub recorder_asks : {V : Type 0} → (V → Result (List (List ℕ)) Refusal) → ℕ → List V →
-    List Asked
+    List Known
 recorder_asks containers i [] = []
 recorder_asks containers i (block ∷ blocks) =
     block_asks (containers block) (i % 4 == 3) ++ recorder_asks containers (suc i) blocks
+
+-- blocks were each written and published, and both calls did so
+abbrev pub published_calls : {V : Type 0} → (V → Result (List (List ℕ)) Refusal) → List V →
+    List (Asked × Bool)
+published_calls containers blocks =
+    flat_map (λ block. (write (containers block), true) ∷ (publish, true) ∷ []) blocks
+
+-- what is known of calls whose marks were seen
+abbrev pub seen : List (Asked × Bool) → List Known
+seen calls = map (λ (one : Asked × Bool). marked one.0 one.1) calls
+
+-- each of these blocks has containers, and these are all of them
+abbrev pub HaveContainers : {V : Type 0} → (V → Result (List (List ℕ)) Refusal) → List V →
+    List (List ℕ) → Type 0
+HaveContainers containers [] list = list ≡ []
+HaveContainers containers (block ∷ blocks) list = (first rest : List (List ℕ))
+    × (containers block ≡ Ok first) × HaveContainers containers blocks rest
+    × (list ≡ first ++ rest)

@@ -15,7 +15,7 @@ pub use callers::{
 pub use either::EitherSample;
 pub use example::record_and_read;
 pub use recording::{
-    pack_one, record, record_batch, record_mixed, record_steps, record_twelve,
+    pack_one, record, record_batch, record_checkpoints, record_mixed, record_steps, record_twelve,
     record_twelve_and_repair, record_twelve_through_a_loss,
 };
 pub use twelve::Twelve;

@@ -1,8 +1,8 @@
 // Recorders that make their calls themselves.
-ghost use Rattle.std.specs.Prelude.{◌≡◌, ◌⊎◌, ◌-◌, ◌/◌, ◌≤◌, true, List, ◌∷◌, ◌++◌, [], ⊤, Ok, MatchResult, OnOk, length, map};
+ghost use Rattle.std.specs.Prelude.{◌≡◌, ◌⊎◌, ◌-◌, ◌/◌, ◌<◌, ◌≤◌, ℕ, true, List, ◌∷◌, ◌++◌, [], ⊤, Ok, MatchResult, IsOk, OnErr, OnOk, length, map, take};
 ghost use Rattle.std.specs.List.{flat_map};
 ghost use Rattle.hound.specs.Answers.{one};
-ghost use Rattle.hound.specs.Calls.{Asked, Begun, Call, Left, Recorded, new_file, publish, write};
+ghost use Rattle.hound.specs.Calls.{Begun, Call, Known, Left, Recorded, made, new_file, publish, write};
 ghost use Rattle.hound.specs.Container.{containers, int_container};
 ghost use Rattle.hound.specs.Durables.{Around, within};
 ghost use Rattle.hound.specs.Headline.{HasPublished, Kept, KeptWithin, accepted_by_all};
@@ -21,14 +21,14 @@ ghost use Rattle.hound.specs.declared.WavSpecEx.{WavSpecEx};
 ghost use Rattle.hound.specs.declared.session.Begin.TheVariants.{New};
 ghost use Rattle.hound.specs.declared.session.End.TheVariants.{Finalize};
 ghost use Rattle.hound.specs.declared.session.Step.TheVariants.{Whole};
-ghost use Rattle.hound_callers.specs.Recording.{block_asks, recorder_asks};
+ghost use Rattle.hound_callers.specs.Recording.{HaveContainers, block_asks, published_calls, recorder_asks, seen};
 
 use crate::twelve::Twelve;
 use hound::{
     Begin, Durable, End, Error, Medium, Placed, Repair, Sample, Source, Step, WavSpecEx, WavWriter,
     a_batch_is_its_values, a_repair_loses_no_published_sample, a_run_leaves_its_calls,
     calls_are_a_run, repair_to_end, run_session, sessions_leave_one_file, what_a_loss_leaves,
-    what_is_kept,
+    what_is_kept, what_is_known,
 };
 use std::alloc::Global;
 use std::result;
@@ -39,10 +39,10 @@ fn record_block<S: Sample + Copy, M: Medium>(
     block: &[S],
     publishes: bool,
 )
-    ensures { (s : WavSpecEx) (file : Begun) (asked : List Asked)
-        → Recorded M.tells M.keeps M.state s file asked writer.old
+    ensures { (s : WavSpecEx) (file : Begun) (known : List Known)
+        → Recorded M.tells M.keeps M.state s file known writer.old
         → Recorded M.tells M.keeps M.state s file
-        (asked ++ block_asks (containers_in S.container s block.now) publishes) writer.new }
+        (known ++ block_asks (containers_in S.container s block.now) publishes) writer.new }
 {
     let _ = writer.write_samples(block);
     if publishes {
@@ -82,10 +82,10 @@ pub fn record_twelve<M: Source + Medium>(
 ) -> result::Result<M, (M, Error)>
     requires { WhereTells M.tells ((M.state medium).place ≡ 0) }
     ensures left { MatchResult result (λ left. Left M.tells M.keeps M.state spec_ex new_file
-        (recorder_asks (λ block. containers_in ⟦<Twelve as Sample>⟧.container spec_ex block.now) 0 blocks.now ++ publish ∷ []) left)
+        (recorder_asks (λ block. containers_in ⟦<Twelve as Sample>⟧.container spec_ex block.now) 0 blocks.now ++ made publish ∷ []) left)
         (λ _. ⊤) }
     ensures kept { MatchResult result (λ left. WhereKeeps M.tells M.keeps
-        (Kept M.tells M.keeps M.state spec_ex new_file (recorder_asks (λ block. containers_in ⟦<Twelve as Sample>⟧.container spec_ex block.now) 0 blocks.now ++ publish ∷ []) left))
+        (Kept M.tells M.keeps M.state spec_ex new_file (recorder_asks (λ block. containers_in ⟦<Twelve as Sample>⟧.container spec_ex block.now) 0 blocks.now ++ made publish ∷ []) left))
         (λ _. ⊤) }
 {
     what_is_kept::<M>();
@@ -110,7 +110,7 @@ pub fn record_twelve_through_a_loss<M: Source + Medium>(
     requires past { WhereKeeps M.tells M.keeps ((M.state medium).past ≡ []) }
     requires flushed { WhereKeeps M.tells M.keeps ((M.state medium).flushed ≡ 0) }
     ensures { MatchResult result (λ left. WhereKeeps M.tells M.keeps
-        (Around (M.state medium) (M.state left) (λ _ durable. KeptWithin M.tells M.keeps (⟦<Durable<M> as Placed>⟧.state) spec_ex new_file (recorder_asks (λ block. containers_in ⟦<Twelve as Sample>⟧.container spec_ex block.now) 0 blocks.now ++ publish ∷ []) durable (within durable))))
+        (Around (M.state medium) (M.state left) (λ _ durable. KeptWithin M.tells M.keeps (⟦<Durable<M> as Placed>⟧.state) spec_ex new_file (recorder_asks (λ block. containers_in ⟦<Twelve as Sample>⟧.container spec_ex block.now) 0 blocks.now ++ made publish ∷ []) durable (within durable))))
         (λ _. ⊤) }
 {
     let writer = match record(Durable::new(medium), spec_ex, blocks) {
@@ -120,6 +120,78 @@ pub fn record_twelve_through_a_loss<M: Source + Medium>(
     let (durable, _) = writer.finalize_into();
     what_a_loss_leaves(&durable);
     Ok(durable.into_inner())
+}
+
+// Writes a block and publishes it, and stops at an error.
+fn publish_block<S: Sample + Copy, M: Medium>(
+    writer: &mut WavWriter<M>,
+    block: &[S],
+) -> hound::Result<()>
+    ensures spec { writer.new.spec_ex ≡ writer.old.spec_ex }
+    ensures have { OnOk result (IsOk (containers_in S.container writer.old.spec_ex block.now)) }
+    ensures published { OnOk result ((s : WavSpecEx) (file : Begun) (known : List Known)
+        → Recorded M.tells M.keeps M.state s file known writer.old
+        → Recorded M.tells M.keeps M.state s file
+        (known ++ seen (published_calls (containers_in S.container s) (block.now ∷ []))) writer.new) }
+    ensures stopped { OnErr result ((s : WavSpecEx) (file : Begun) (known : List Known)
+        → Recorded M.tells M.keeps M.state s file known writer.old → (more : List Known)
+        × Recorded M.tells M.keeps M.state s file (known ++ more) writer.new) }
+{
+    writer.write_samples(block)?;
+    writer.flush()
+}
+
+// Writes and publishes blocks until a call fails, and returns how many were published.
+fn publish_blocks<S: Sample + Copy, M: Medium>(writer: &mut WavWriter<M>, blocks: &[&[S]]) -> usize
+    ensures within { result ≤ length blocks.now }
+    ensures have { (list : List (List ℕ)) × HaveContainers
+        (λ block. containers_in S.container writer.old.spec_ex block.now) (take result blocks.now) list }
+    ensures published { (s : WavSpecEx) (file : Begun)
+        → Recorded M.tells M.keeps M.state s file [] writer.old → (more : List Known)
+        × Recorded M.tells M.keeps M.state s file
+        (seen (published_calls (λ block. containers_in S.container s block.now) (take result blocks.now)) ++ more) writer.new }
+{
+    for i in 0..blocks.len() {
+        if publish_block(writer, blocks[i]).is_err() {
+            return i;
+        }
+    }
+    blocks.len()
+}
+
+/// Records blocks of twelve-bit samples over a medium that may lose its power, with a checkpoint
+/// after each, until a call fails, and returns how many blocks were published.
+///
+/// If there are some, a flush among its calls has published exactly the samples of these blocks, and
+/// whatever sectors keep what was written since the medium was flushed, what is left counts, and has
+/// lost no sample that a flush has published. The medium must be new: its place is 0, and nothing has
+/// been written to it yet.
+pub fn record_checkpoints<M: Source + Medium>(
+    medium: M,
+    spec_ex: WavSpecEx,
+    blocks: &[&[Twelve]],
+) -> result::Result<(M, usize), (M, Error)>
+    requires place { WhereTells M.tells ((M.state medium).place ≡ 0) }
+    requires past { WhereKeeps M.tells M.keeps ((M.state medium).past ≡ []) }
+    requires flushed { WhereKeeps M.tells M.keeps ((M.state medium).flushed ≡ 0) }
+    ensures { MatchResult result (λ done. (done.1 ≤ length blocks.now)
+        × WhereKeeps M.tells M.keeps (0 < done.1 →
+        Around (M.state medium) (M.state done.0) (λ _ durable. (known : List Known)
+        × (kept : KeptWithin M.tells M.keeps (⟦<Durable<M> as Placed>⟧.state) spec_ex new_file known durable (within durable))
+        × (before after : List Call) × (flush : Call)
+        × (kept.left.recorded.calls ≡ before ++ (flush ∷ after)) × HasPublished flush
+        × HaveContainers (λ block. containers_in ⟦<Twelve as Sample>⟧.container spec_ex block.now) (take done.1 blocks.now) (accepted_by_all before))))
+        (λ _. ⊤) }
+{
+    what_is_known();
+    let mut writer = match WavWriter::try_new(Durable::new(medium), spec_ex) {
+        Ok(writer) => writer,
+        Err((durable, error)) => return Err((durable.into_inner(), error)),
+    };
+    let published = publish_blocks(&mut writer, blocks);
+    let durable = writer.drop_into();
+    what_a_loss_leaves(&durable);
+    Ok((durable.into_inner(), published))
 }
 
 /// Records blocks of twelve-bit samples as [`record`] does, drops the writer, whatever its end did,
@@ -132,7 +204,7 @@ pub fn record_twelve_and_repair<M: Source + Medium>(
 ) -> result::Result<(M, Repair), (M, Error)>
     requires { WhereTells M.tells ((M.state medium).place ≡ 0) }
     ensures { MatchResult result (λ done. WhereKeeps M.tells M.keeps ((left : M)
-        × (kept : Kept M.tells M.keeps M.state spec_ex new_file (recorder_asks (λ block. containers_in ⟦<Twelve as Sample>⟧.container spec_ex block.now) 0 blocks.now ++ publish ∷ []) left)
+        × (kept : Kept M.tells M.keeps M.state spec_ex new_file (recorder_asks (λ block. containers_in ⟦<Twelve as Sample>⟧.container spec_ex block.now) 0 blocks.now ++ made publish ∷ []) left)
         × ((before after : List Call) (flush : Call) → kept.left.recorded.calls ≡ before ++ (flush ∷ after)
         → HasPublished flush
         → IsNoPad spec_ex (field (data_start spec_ex - 4) (M.state left).contents)
@@ -167,7 +239,7 @@ pub fn record_steps<M: Source + Medium>(
     requires empty { (M.state medium).contents ≡ [] }
     requires size { length steps.now ≡ length marks.old }
     ensures { WhereKeeps M.tells M.keeps (data_start spec_ex ≤ length (M.state result).contents →
-        Kept M.tells M.keeps M.state spec_ex new_file (map (asked_by spec_ex) steps.now ++ publish ∷ []) result) }
+        Kept M.tells M.keeps M.state spec_ex new_file (map (λ step. made (asked_by spec_ex step)) steps.now ++ made publish ∷ []) result) }
 {
     what_is_kept::<M>();
     a_run_leaves_its_calls::<M>(steps);
@@ -208,10 +280,10 @@ pub fn pack_one<M: Source + Medium>(
 // Writes single samples, whatever the results are.
 fn record_singles<S: Sample + Copy, M: Medium>(writer: &mut WavWriter<M>, singles: &[S])
     ensures spec { writer.new.spec_ex ≡ writer.old.spec_ex }
-    ensures recorded { (s : WavSpecEx) (file : Begun) (asked : List Asked)
-        → Recorded M.tells M.keeps M.state s file asked writer.old
+    ensures recorded { (s : WavSpecEx) (file : Begun) (known : List Known)
+        → Recorded M.tells M.keeps M.state s file known writer.old
         → Recorded M.tells M.keeps M.state s file
-        (asked ++ map (λ v. write (one (S.container v s.spec.bits_per_sample s.bytes_per_sample))) singles.now) writer.new }
+        (known ++ map (λ v. made (write (one (S.container v s.spec.bits_per_sample s.bytes_per_sample)))) singles.now) writer.new }
 {
     for sample in singles {
         let _ = writer.write_sample(*sample);
@@ -230,12 +302,12 @@ pub fn record_batch<M: Medium>(
         (each : WriterState M) → AcceptsEach M.tells M.keeps M.state int_container batch.now writer.old each →
         (accepted_samples M.state writer.new ≡ accepted_samples M.state each)
         × (data_length writer.new ≡ data_length each))) }
-    ensures recorded { (s : WavSpecEx) (file : Begun) (asked : List Asked)
-        → Recorded M.tells M.keeps M.state s file asked writer.old
-        → (Recorded M.tells M.keeps M.state s file asked writer.new)
+    ensures recorded { (s : WavSpecEx) (file : Begun) (known : List Known)
+        → Recorded M.tells M.keeps M.state s file known writer.old
+        → (Recorded M.tells M.keeps M.state s file known writer.new)
         ⊎ (let bytes = flat_map (signed_bytes_of 2) batch.now in
         Recorded M.tells M.keeps M.state s file
-        (asked ++ write (Ok (containers s.bytes_per_sample (length bytes / s.bytes_per_sample) bytes)) ∷ []) writer.new) }
+        (known ++ made (write (Ok (containers s.bytes_per_sample (length bytes / s.bytes_per_sample) bytes))) ∷ []) writer.new) }
 {
     if batch.len() > u32::MAX as usize {
         return Err(Error::TooLong);
@@ -261,10 +333,10 @@ pub fn record_mixed<M: Source + Medium>(
     requires place { WhereTells M.tells ((M.state medium).place ≡ 0) }
     requires sixteen { IsSixteen spec_ex }
     ensures { MatchResult result (λ left. WhereKeeps M.tells M.keeps (
-        let asked = map (λ v. write (one (⟦<i8 as Sample>⟧.container v spec_ex.spec.bits_per_sample spec_ex.bytes_per_sample))) singles.now in
+        let asked = map (λ v. made (write (one (⟦<i8 as Sample>⟧.container v spec_ex.spec.bits_per_sample spec_ex.bytes_per_sample)))) singles.now in
         let bytes = flat_map (signed_bytes_of 2) batch.now in
-        (Kept M.tells M.keeps M.state spec_ex new_file (asked ++ publish ∷ []) left)
-        ⊎ (Kept M.tells M.keeps M.state spec_ex new_file ((asked ++ write (Ok (containers spec_ex.bytes_per_sample (length bytes / spec_ex.bytes_per_sample) bytes)) ∷ []) ++ publish ∷ []) left)))
+        (Kept M.tells M.keeps M.state spec_ex new_file (asked ++ made publish ∷ []) left)
+        ⊎ (Kept M.tells M.keeps M.state spec_ex new_file ((asked ++ made (write (Ok (containers spec_ex.bytes_per_sample (length bytes / spec_ex.bytes_per_sample) bytes))) ∷ []) ++ made publish ∷ []) left)))
         (λ _. ⊤) }
 {
     what_is_kept::<M>();

@@ -146,7 +146,7 @@ impl WriterWords {
     ghost use Rattle.hound.specs.Batch.{IsSameFile, batch_bytes, batch_lender, batch_writer, remaining};
     ghost use Rattle.hound.specs.Beginning.{Begins, HasBegun, IsNotBegun};
     ghost use Rattle.hound.specs.Block.{GoesOut, IsLimit, all_out, answer_of, block_length, or_fault};
-    ghost use Rattle.hound.specs.Calls.{Asked, Begun, Call, Lead, Left, Recorded, appended, asked_by_all, found_in, new_file, publish, start_of, write};
+    ghost use Rattle.hound.specs.Calls.{AreKnown, Asked, Begun, Call, Ends, Extends, IsKnown, KeepsCalls, Known, Lead, Left, Recorded, appended, asked_by_all, found_in, made, marked, new_file, publish, start_of, write};
     ghost use Rattle.hound.specs.Counts.{Counts};
     ghost use Rattle.hound.specs.Fields.{IsConsistent, bytes_kept, of_fields};
     ghost use Rattle.hound.specs.Many.{AcceptsEach, AreShort, containers_in, outcome_of, sample_bytes, short_bytes};
@@ -197,7 +197,7 @@ struct SessionWords;
 
 impl SessionWords {
     ghost use Rattle.hound.specs.FirstError.{IsAnswered};
-    ghost use Rattle.hound.specs.Headline.{HasPublished, Holds, IsLeftAfter, Keeps, Kept, KeptWithin, LosesNothing, NoFault, accepted_by_all, begins_at};
+    ghost use Rattle.hound.specs.Headline.{HasPublished, Holds, IsLeftAfter, Keeps, Kept, KeptWithin, LosesNothing, NoFault, accepted_by_all, accepted_of, begins_at};
     ghost use Rattle.hound.specs.Run.{AppendedSurvives, Begins, EndsAs, IsNotBegun, IsSession, Ran, all_calls};
     ghost use Rattle.hound.specs.Sessions.{RunsFrom, RunsOn, RunsOnce, RunsUntil, StopsShort, all_steps};
     ghost use Rattle.hound.specs.Steps.{Takes, accepted_by_steps, asked_by, batch_containers, containers_of, is_sixteen};

@@ -12,7 +12,7 @@ use Rattle.hound_writer.specs.Batch.{IsSameFile}
 use Rattle.hound_writer.specs.Beginning.{Begins}
 use Rattle.hound_writer.specs.Publishing.{Checkpoints, Finishes}
 use Rattle.hound_writer.specs.Writer.{WriterState, IsWhole, accepted_samples, sample_count}
-use Rattle.hound_writer.specs.Calls.{Asked, put, write, publish, Call, Does, Begun, Lead, Left, Opens, Recorded, asked_by_all, appended, new_file, with_memory}
+use Rattle.hound_writer.specs.Calls.{AreKnown, Asked, put, write, publish, Call, Does, Begun, IsKnown, Known, Lead, Left, Opens, Recorded, asked_by_all, appended, new_file, with_memory}
 
 -- a writer of the same file is the same but for its memory
 pub same_but_memory : {W : Type 0} (a b : WriterState W) → IsSameFile a b
@@ -25,6 +25,15 @@ same_but_memory a b same = λ i. record {
   waiting = sym same.waiting i;
   buffer = b.buffer;
 }
+
+-- one call more of which this is known
+known_more : (known : List Known) (calls : List Call) (one : Known) (call : Call)
+    → AreKnown known calls → IsKnown one call → AreKnown (known ++ one ∷ []) (calls ++ call ∷ [])
+known_more [] [] one call are is = (is, tt)
+known_more [] (other ∷ calls) one call are is = absurd are
+known_more (k ∷ known) [] one call are is = absurd are
+known_more (k ∷ known) (other ∷ calls) one call are is =
+    (are.0, known_more known calls one call are.1 is)
 
 module _ {W : Type 0} (tells keeps : Bool) (state : W → MediumState) where
   abbrev pub call_at : Asked → Result (Unit {0}) Error → WriterState W → Call
@@ -108,57 +117,62 @@ module _ {W : Type 0} (tells keeps : Bool) (state : W → MediumState) where
     moments = f.moments;
   }
 
-  pub recorded_more : (asked : Asked) (answer : Result (Unit {0}) Error) (s : WavSpecEx)
-      (file : Begun) (list : List Asked) (b c : WriterState W)
-      (so_far : Recorded tells keeps state s file list b)
+  pub recorded_more : (one : Known) (asked : Asked) (answer : Result (Unit {0}) Error)
+      (s : WavSpecEx) (file : Begun) (known : List Known) (b c : WriterState W)
+      → IsKnown one (call_at asked answer b)
+      → (so_far : Recorded tells keeps state s file known b)
       → Does tells keeps state asked answer b c
-      → Recorded tells keeps state s file (list ++ asked ∷ []) c
+      → Recorded tells keeps state s file (known ++ one ∷ []) c
   unfolding Recorded
-  recorded_more asked answer s file list b c so_far does = record {
+  recorded_more one asked answer s file known b c is so_far does = record {
     first = so_far.first;
     calls = so_far.calls ++ call_at asked answer b ∷ [];
     opens = so_far.opens;
     lead = lead_more so_far.calls asked answer so_far.first b c so_far.lead does;
-    asked_is = asked_more so_far.calls asked answer b ∙ ap (λ l. l ++ asked ∷ []) so_far.asked_is;
+    are_known = known_more known so_far.calls one (call_at asked answer b) so_far.are_known is;
   }
 
   -- the spec of a writer is that of its file
-  pub recorded_spec : (s : WavSpecEx) (file : Begun) (list : List Asked) (w : WriterState W)
-      → Recorded tells keeps state s file list w → w.spec_ex ≡ s
+  pub recorded_spec : (s : WavSpecEx) (file : Begun) (known : List Known) (w : WriterState W)
+      → Recorded tells keeps state s file known w → w.spec_ex ≡ s
   unfolding Recorded
-  recorded_spec s file list w r =
+  recorded_spec s file known w r =
       lead_spec r.calls r.first w r.lead ∙ opens_spec s file r.first r.opens
 
   -- one call for samples more, by their containers in a file of any spec
-  pub recorded_write : (wanted : WavSpecEx → Result (List (List ℕ)) Refusal)
-      (answer : Result (Unit {0}) Error) (s : WavSpecEx) (file : Begun) (list : List Asked)
-      (b c : WriterState W) → Recorded tells keeps state s file list b
+  pub recorded_write : (one : Asked → Known)
+      (wanted : WavSpecEx → Result (List (List ℕ)) Refusal) (answer : Result (Unit {0}) Error)
+      (s : WavSpecEx) (file : Begun) (known : List Known) (b c : WriterState W)
+      → ((asked : Asked) → IsKnown (one asked) (call_at asked answer b))
+      → Recorded tells keeps state s file known b
       → Accepts tells keeps state false (wanted b.spec_ex) answer b c
-      → Recorded tells keeps state s file (list ++ write (wanted s) ∷ []) c
-  recorded_write wanted answer s file list b c so_far accepts =
-      subst (λ x. Recorded tells keeps state s file (list ++ write (wanted x) ∷ []) c)
-      (recorded_spec s file list b so_far)
-      (recorded_more (write (wanted b.spec_ex)) answer s file list b c so_far (accepts, λ no. absurd (false≢true no)))
+      → Recorded tells keeps state s file (known ++ one (write (wanted s)) ∷ []) c
+  recorded_write one wanted answer s file known b c is so_far accepts =
+      subst (λ x. Recorded tells keeps state s file (known ++ one (write (wanted x)) ∷ []) c)
+      (recorded_spec s file known b so_far)
+      (recorded_more (one (write (wanted b.spec_ex))) (write (wanted b.spec_ex)) answer s file known
+      b c (is (write (wanted b.spec_ex))) so_far (accepts, λ no. absurd (false≢true no)))
 
-  pub recorded_flush : (answer : Result (Unit {0}) Error) (s : WavSpecEx) (file : Begun)
-      (list : List Asked) (b c : WriterState W) → Recorded tells keeps state s file list b
+  pub recorded_flush : (one : Known) (answer : Result (Unit {0}) Error) (s : WavSpecEx)
+      (file : Begun) (known : List Known) (b c : WriterState W)
+      → IsKnown one (call_at publish answer b) → Recorded tells keeps state s file known b
       → Checkpoints tells keeps state answer b c
-      → Recorded tells keeps state s file (list ++ publish ∷ []) c
-  recorded_flush answer s file list b c so_far does =
-      recorded_more publish answer s file list b c so_far (flush_left answer b c does)
+      → Recorded tells keeps state s file (known ++ one ∷ []) c
+  recorded_flush one answer s file known b c is so_far does =
+      recorded_more one publish answer s file known b c is so_far (flush_left answer b c does)
 
   -- the same writer with another memory for batches
-  pub recorded_same : (s : WavSpecEx) (file : Begun) (list : List Asked) (a b : WriterState W)
-      → IsSameFile a b → Recorded tells keeps state s file list a
-      → Recorded tells keeps state s file list b
+  pub recorded_same : (s : WavSpecEx) (file : Begun) (known : List Known) (a b : WriterState W)
+      → IsSameFile a b → Recorded tells keeps state s file known a
+      → Recorded tells keeps state s file known b
   unfolding Recorded
-  recorded_same s file list a b same r = record {
+  recorded_same s file known a b same r = record {
     first = r.first;
     calls = r.calls;
     opens = r.opens;
     lead = subst (Lead tells keeps state r.calls r.first) (same_but_memory a b same)
         (lead_same r.calls r.first a b.buffer r.lead);
-    asked_is = r.asked_is;
+    are_known = r.are_known;
   }
 
   -- a writer that has begun a file
@@ -166,7 +180,7 @@ module _ {W : Type 0} (tells keeps : Bool) (state : W → MediumState) where
       → Opens tells keeps state s file w → Recorded tells keeps state s file [] w
   unfolding Recorded
   recorded_first s file w opens =
-      record { first = w; calls = []; opens = opens; lead = (w.buffer, refl); asked_is = refl }
+      record { first = w; calls = []; opens = opens; lead = (w.buffer, refl); are_known = tt }
 
   pub recorded_new : (s : WavSpecEx) (old : MediumState) (w : WriterState W)
       → Begins tells keeps state s old w → Recorded tells keeps state s new_file [] w
@@ -195,15 +209,15 @@ module _ {W : Type 0} (tells keeps : Bool) (state : W → MediumState) where
   recorded_appended Q old (Err e) appends = tt
 
   -- an end, as the last of the calls
-  pub left_by : (answer : Result (Unit {0}) Error) (s : WavSpecEx) (file : Begun)
-      (list : List Asked) (w : WriterState W) (end : W)
+  pub left_by : (one : Known) (answer : Result (Unit {0}) Error) (s : WavSpecEx) (file : Begun)
+      (known : List Known) (w : WriterState W) (end : W) → IsKnown one (call_at publish answer w)
       → Finishes tells keeps state w answer end
-      → Recorded tells keeps state s file list w
-      → Left tells keeps state s file (list ++ publish ∷ []) end
+      → Recorded tells keeps state s file known w
+      → Left tells keeps state s file (known ++ one ∷ []) end
   unfolding Left Recorded
-  left_by answer s file list w end f so_far = record {
+  left_by one answer s file known w end is f so_far = record {
     last = ended w end;
-    recorded = recorded_more publish answer s file list w (ended w end) so_far
+    recorded = recorded_more one publish answer s file known w (ended w end) is so_far
         (end_left answer w end f);
     is = refl;
   }

@@ -1,5 +1,5 @@
 -- A list of calls of a writer, from its constructor on.
-use Rattle.std.specs.Prelude.{◌≡◌, ℕ, ◌≤◌, ◌&&◌, ⊤, nat_lt, Bool, true, false, IsTrue, List, [], ◌∷◌, length, Result, Ok, Err}
+use Rattle.std.specs.Prelude.{◌≡◌, ℕ, ◌≤◌, ◌&&◌, ⊤, nat_lt, Bool, true, false, IsTrue, List, [], ◌∷◌, ◌++◌, length, Option, None, Some, IfSome, Result, Ok, Err}
 use Rattle.std.specs.List.{concat}
 use Rattle.hound_spec.specs.declared.error.Error.{Error}
 use Rattle.hound_spec.specs.declared.error.Error.TheVariants.{IoError}
@@ -8,7 +8,7 @@ use Rattle.hound_spec.specs.Header.{data_start}
 use Rattle.hound_medium.specs.State.{MediumState, WhereTells, WhereKeeps}
 use Rattle.hound_sample.specs.Container.{Refusal}
 use Rattle.hound_writer.specs.Accepting.{Accepts}
-use Rattle.hound_writer.specs.Answers.{IsPublishing}
+use Rattle.hound_writer.specs.Answers.{IsPublishing, mark_of}
 use Rattle.hound_writer.specs.Appending.{Appends}
 use Rattle.hound_writer.specs.Beginning.{Begins}
 use Rattle.hound_writer.specs.Publishing.{Publishes, PublishesAtEach}
@@ -38,6 +38,30 @@ pub record Call : Type 0 where
 abbrev pub asked_by_all : List Call → List Asked
 asked_by_all [] = []
 asked_by_all (call ∷ calls) = call.asked ∷ asked_by_all calls
+
+-- What a caller knows of a call: what it asked, and, where the caller has seen the result, its mark.
+pub record Known : Type 0 where
+  pub asked : Asked
+  pub mark : Option Bool
+
+-- a call whose result wasn't seen
+abbrev pub made : Asked → Known
+made asked = record { asked = asked; mark = None }
+
+-- a call whose result has this mark
+abbrev pub marked : Asked → Bool → Known
+marked asked mark = record { asked = asked; mark = Some mark }
+
+-- this is known of a call
+abbrev pub IsKnown : Known → Call → Type 0
+IsKnown known call =
+    (call.asked ≡ known.asked) × IfSome known.mark (λ mark. mark_of call.answer ≡ mark)
+
+-- these are known of calls, in their order
+abbrev pub AreKnown : List Known → List Call → Type 0
+AreKnown [] [] = ⊤
+AreKnown (one ∷ known) (call ∷ calls) = IsKnown one call × AreKnown known calls
+AreKnown _ _ = ⊥
 
 -- What a call that publishes leaves of the writer; after an end, the writer with its medium only.
 pub record LeavesWriter {W : Type 0} (tells keeps : Bool) (state : W → MediumState)
@@ -117,29 +141,49 @@ Opens tells keeps state s new_file first =
     (old : MediumState) × Begins tells keeps state s old first
 Opens tells keeps state s (appended start found) first = HadData tells state s start found first
 
--- Calls that asked these were made with the writer of such a file, and led to this one.
+-- Calls of which these are known were made with the writer of such a file, and led to this one.
 pub record RecordedBy {W : Type 0} (tells keeps : Bool) (state : W → MediumState) (s : WavSpecEx)
-    (file : Begun) (asked : List Asked) (last : WriterState W) : Type 0 where
+    (file : Begun) (known : List Known) (last : WriterState W) : Type 0 where
   pub first : WriterState W
   pub calls : List Call
   pub opens : Opens tells keeps state s file first
   pub lead : Lead tells keeps state calls first last
-  pub asked_is : asked_by_all calls ≡ asked
+  pub are_known : AreKnown known calls
 
 -- the same as a word, which a caller's proof doesn't open
 unfoldable pub Recorded : {W : Type 0} → Bool → Bool → (W → MediumState) → WavSpecEx → Begun →
-    List Asked → WriterState W → Type 0
-Recorded tells keeps state s file asked last = RecordedBy tells keeps state s file asked last
+    List Known → WriterState W → Type 0
+Recorded tells keeps state s file known last = RecordedBy tells keeps state s file known last
 
--- The medium of a writer to which calls that asked these led; of an end the last of them is the
--- end's own, to publish.
+-- what is known of the calls of the one writer is known of those of the other
+abbrev pub KeepsCalls : {W : Type 0} → Bool → Bool → (W → MediumState) → WriterState W →
+    WriterState W → Type 0
+KeepsCalls tells keeps state old new = (s : WavSpecEx) (file : Begun) (known : List Known) →
+    Recorded tells keeps state s file known old → Recorded tells keeps state s file known new
+
+-- a call appends this to what is known, by the spec of the file
+abbrev pub Extends : {W : Type 0} → Bool → Bool → (W → MediumState) → (WavSpecEx → Known) →
+    WriterState W → WriterState W → Type 0
+Extends tells keeps state one old new = (s : WavSpecEx) (file : Begun) (known : List Known) →
+    Recorded tells keeps state s file known old →
+    Recorded tells keeps state s file (known ++ one s ∷ []) new
+
+-- The medium of a writer to which calls led of which these are known; of an end the last of them is
+-- the end's own, to publish.
 pub record LeftBy {W : Type 0} (tells keeps : Bool) (state : W → MediumState) (s : WavSpecEx)
-    (file : Begun) (asked : List Asked) (medium : W) : Type 0 where
+    (file : Begun) (known : List Known) (medium : W) : Type 0 where
   pub last : WriterState W
-  pub recorded : RecordedBy tells keeps state s file asked last
+  pub recorded : RecordedBy tells keeps state s file known last
   pub is : medium ≡ last.medium
 
 -- the same as a word
 unfoldable pub Left : {W : Type 0} → Bool → Bool → (W → MediumState) → WavSpecEx → Begun →
-    List Asked → W → Type 0
-Left tells keeps state s file asked medium = LeftBy tells keeps state s file asked medium
+    List Known → W → Type 0
+Left tells keeps state s file known medium = LeftBy tells keeps state s file known medium
+
+-- an end appends this to what is known, and leaves the medium
+abbrev pub Ends : {W : Type 0} → Bool → Bool → (W → MediumState) → Known → WriterState W → W →
+    Type 0
+Ends tells keeps state one last medium = (s : WavSpecEx) (file : Begun) (known : List Known) →
+    Recorded tells keeps state s file known last →
+    Left tells keeps state s file (known ++ one ∷ []) medium

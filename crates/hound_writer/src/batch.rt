@@ -6,8 +6,8 @@ ghost use Rattle.hound_spec.specs.declared.error.Error.TheVariants.{OutOfMemory,
 ghost use Rattle.hound_sample.specs.Container.{containers};
 ghost use Rattle.hound_writer.specs.contracts.write.WavWriter.{the_row};
 ghost use Rattle.hound_writer.specs.Accepting.{Accepts};
-ghost use Rattle.hound_spec.specs.declared.spec.WavSpecEx.{WavSpecEx};
-ghost use Rattle.hound_writer.specs.Calls.{Asked, Begun, Recorded, write};
+ghost use Rattle.hound_writer.specs.Answers.{mark_of};
+ghost use Rattle.hound_writer.specs.Calls.{Extends, KeepsCalls, made, marked, write};
 ghost use Rattle.hound_writer.specs.Fields.{bytes_kept};
 ghost use Rattle.hound_writer.specs.Many.{AreShort, short_bytes};
 ghost use Rattle.hound_writer.specs.Room.{IsSixteen};
@@ -60,11 +60,12 @@ impl<W: Medium, B: BatchMemory> SampleWriter16<'_, W, B> {
             (Ok (containers old.spec_ex.bytes_per_sample (length (batch_bytes self.entry) / old.spec_ex.bytes_per_sample) (batch_bytes self.entry)))
             result old self.exit.0.now }
         ensures buffer { self.exit.0.now.buffer ≡ (batch_writer self.entry).buffer }
-        ensures recorded { (s : WavSpecEx) (file : Begun) (asked : List Asked)
-            → Recorded W.tells W.keeps W.state s file asked (batch_writer self.entry)
-            → Recorded W.tells W.keeps W.state s file
-            (asked ++ write (Ok (containers s.bytes_per_sample (length (batch_bytes self.entry) / s.bytes_per_sample) (batch_bytes self.entry))) ∷ [])
-            self.exit.0.now }
+        ensures recorded { Extends W.tells W.keeps W.state
+            (λ s. made (write (Ok (containers s.bytes_per_sample (length (batch_bytes self.entry) / s.bytes_per_sample) (batch_bytes self.entry)))))
+            (batch_writer self.entry) self.exit.0.now }
+        ensures marked { Extends W.tells W.keeps W.state
+            (λ s. marked (write (Ok (containers s.bytes_per_sample (length (batch_bytes self.entry) / s.bytes_per_sample) (batch_bytes self.entry)))) (mark_of result))
+            (batch_writer self.entry) self.exit.0.now }
     {
         let SampleWriter16 {
             parent,
@@ -206,9 +207,8 @@ impl<W: Medium> WavWriter<W> {
         ensures stays { IfOk result (λ batch. IsSameFile self.old (batch_writer batch)) }
         ensures kept { IfOk result (λ batch. length (batch_writer batch).buffer
             ≡ max (length self.old.buffer) (2 * num_samples)) }
-        ensures recorded { IfOk result (λ batch. (s : WavSpecEx) (file : Begun) (asked : List Asked)
-            → Recorded W.tells W.keeps W.state s file asked self.old
-            → Recorded W.tells W.keeps W.state s file asked (batch_writer batch)) }
+        ensures recorded { IfOk result (λ batch.
+            KeepsCalls W.tells W.keeps W.state self.old (batch_writer batch)) }
     {
         if !self.output.has_room(num_samples as u64 * 2) {
             return Err(Error::TooLong);
@@ -244,9 +244,8 @@ impl<'parent, W: Medium, B: BatchMemory> SampleWriter16<'parent, W, B> {
         ensures stays { IsSameFile (batch_writer self.old) (batch_writer self.new) }
         ensures kept { length (batch_writer self.new).buffer
             ≡ length (batch_writer self.old).buffer }
-        ensures recorded { (s : WavSpecEx) (file : Begun) (asked : List Asked)
-            → Recorded W.tells W.keeps W.state s file asked (batch_writer self.old)
-            → Recorded W.tells W.keeps W.state s file asked (batch_writer self.new) }
+        ensures recorded { KeepsCalls W.tells W.keeps W.state (batch_writer self.old)
+            (batch_writer self.new) }
     {
         let index = self.written;
         self.written = index + 1;
@@ -267,9 +266,8 @@ impl<'parent, W: Medium, B: BatchMemory> SampleWriter16<'parent, W, B> {
         ensures stays { IsSameFile (batch_writer self.old) (batch_writer self.new) }
         ensures kept { length (batch_writer self.new).buffer
             ≡ length (batch_writer self.old).buffer }
-        ensures recorded { (s : WavSpecEx) (file : Begun) (asked : List Asked)
-            → Recorded W.tells W.keeps W.state s file asked (batch_writer self.old)
-            → Recorded W.tells W.keeps W.state s file asked (batch_writer self.new) }
+        ensures recorded { KeepsCalls W.tells W.keeps W.state (batch_writer self.old)
+            (batch_writer self.new) }
     {
         self.write_sample(sample);
     }

@@ -51,9 +51,9 @@ impl<W: Medium> WavWriter<W> {
     ghost use Rattle.hound_sample.specs.Container.{containers};
     ghost use Rattle.hound_medium.specs.State.{Goes, WhereTells, WhereKeeps};
     ghost use Rattle.hound_writer.specs.Accepting.{Accepts};
-    ghost use Rattle.hound_writer.specs.Answers.{IsIoError, one};
+    ghost use Rattle.hound_writer.specs.Answers.{IsIoError, mark_of, one};
     ghost use Rattle.hound_writer.specs.Beginning.{Begins, IsNotBegun};
-    ghost use Rattle.hound_writer.specs.Calls.{Asked, Begun, Left, Recorded, new_file, publish, write};
+    ghost use Rattle.hound_writer.specs.Calls.{Ends, Extends, Recorded, made, marked, new_file, publish, write};
     ghost use Rattle.hound_spec.specs.declared.spec.WavSpecEx.{WavSpecEx};
     ghost use Rattle.hound_writer.specs.Fields.{of_fields};
     ghost use Rattle.hound_writer.specs.Many.{containers_in};
@@ -153,9 +153,10 @@ impl<W: Medium> WavWriter<W> {
         ensures accepts { Accepts W.tells W.keeps W.state false
             (one (S.container sample self.old.spec_ex.spec.bits_per_sample self.old.spec_ex.bytes_per_sample)) result self.old self.new }
         ensures buffer { self.new.buffer ≡ self.old.buffer }
-        ensures recorded { (s : WavSpecEx) (file : Begun) (asked : List Asked)
-            → Recorded W.tells W.keeps W.state s file asked self.old
-            → Recorded W.tells W.keeps W.state s file (asked ++ write (one (S.container sample s.spec.bits_per_sample s.bytes_per_sample)) ∷ []) self.new }
+        ensures recorded { Extends W.tells W.keeps W.state
+            (λ s. made (write (one (S.container sample s.spec.bits_per_sample s.bytes_per_sample)))) self.old self.new }
+        ensures marked { Extends W.tells W.keeps W.state
+            (λ s. marked (write (one (S.container sample s.spec.bits_per_sample s.bytes_per_sample))) (mark_of result)) self.old self.new }
     {
         let outcome = self.output.accept_sample(sample, &mut self.fault);
         if let Outcome::Accepted = outcome {
@@ -179,9 +180,10 @@ impl<W: Medium> WavWriter<W> {
         ensures accepts { Accepts W.tells W.keeps W.state false
             (containers_in S.container self.old.spec_ex samples.now) result self.old self.new }
         ensures buffer { self.new.buffer ≡ self.old.buffer }
-        ensures recorded { (s : WavSpecEx) (file : Begun) (asked : List Asked)
-            → Recorded W.tells W.keeps W.state s file asked self.old
-            → Recorded W.tells W.keeps W.state s file (asked ++ write (containers_in S.container s samples.now) ∷ []) self.new }
+        ensures recorded { Extends W.tells W.keeps W.state
+            (λ s. made (write (containers_in S.container s samples.now))) self.old self.new }
+        ensures marked { Extends W.tells W.keeps W.state
+            (λ s. marked (write (containers_in S.container s samples.now)) (mark_of result)) self.old self.new }
     {
         let outcome = self.output.accept_samples(samples, &mut self.fault);
         if let Outcome::Accepted = outcome {
@@ -201,9 +203,10 @@ impl<W: Medium> WavWriter<W> {
     /// a file the system has all bytes then; nothing here syncs them to the disk.
     pub fn flush(&mut self) -> Result<()>
         ensures checkpoints { Checkpoints W.tells W.keeps W.state result self.old self.new }
-        ensures recorded { (s : WavSpecEx) (file : Begun) (asked : List Asked)
-            → Recorded W.tells W.keeps W.state s file asked self.old
-            → Recorded W.tells W.keeps W.state s file (asked ++ publish ∷ []) self.new }
+        ensures recorded { Extends W.tells W.keeps W.state
+            (λ _. made publish) self.old self.new }
+        ensures marked { Extends W.tells W.keeps W.state
+            (λ _. marked publish (mark_of result)) self.old self.new }
     {
         self.output.publish_all(true, &mut self.fault)
     }
@@ -229,9 +232,9 @@ impl<W: Medium> WavWriter<W> {
     /// The errors are those of [`WavWriter::finalize_into`], which also returns the medium.
     pub fn finalize(self) -> Result<()>
         ensures finishes { (end : W) × Finishes W.tells W.keeps W.state self result end }
-        ensures left { (s : WavSpecEx) (file : Begun) (asked : List Asked)
-            → Recorded W.tells W.keeps W.state s file asked self
-            → (end : W) × Left W.tells W.keeps W.state s file (asked ++ publish ∷ []) end }
+        ensures left { (end : W) × Ends W.tells W.keeps W.state (made publish) self end }
+        ensures marked { (end : W)
+            × Ends W.tells W.keeps W.state (marked publish (mark_of result)) self end }
     {
         let (_, result) = self.finalize_into();
         result
@@ -252,9 +255,8 @@ impl<W: Medium> WavWriter<W> {
     /// ```
     pub fn finalize_into(self) -> (W, Result<()>)
         ensures finishes { Finishes W.tells W.keeps W.state self result.1 result.0 }
-        ensures left { (s : WavSpecEx) (file : Begun) (asked : List Asked)
-            → Recorded W.tells W.keeps W.state s file asked self
-            → Left W.tells W.keeps W.state s file (asked ++ publish ∷ []) result.0 }
+        ensures left { Ends W.tells W.keeps W.state (made publish) self result.0 }
+        ensures marked { Ends W.tells W.keeps W.state (marked publish (mark_of result.1)) self result.0 }
     {
         let mut last = self;
         let result = last.finish();
@@ -266,9 +268,7 @@ impl<W: Medium> WavWriter<W> {
     pub fn drop_into(self) -> W
         ensures finishes { (answer : Result Unit Error)
             × Finishes W.tells W.keeps W.state self answer result }
-        ensures left { (s : WavSpecEx) (file : Begun) (asked : List Asked)
-            → Recorded W.tells W.keeps W.state s file asked self
-            → Left W.tells W.keeps W.state s file (asked ++ publish ∷ []) result }
+        ensures left { Ends W.tells W.keeps W.state (made publish) self result }
     {
         let (writer, _) = self.finalize_into();
         writer
@@ -319,17 +319,13 @@ impl<W: Medium> WavWriter<W> {
 impl<W: Medium> Drop for WavWriter<W> {
     ghost use Rattle.std.specs.Prelude.{Result};
     ghost use Rattle.hound_spec.specs.declared.error.Error.{Error};
-    ghost use Rattle.std.specs.Prelude.{List, [], ◌∷◌, ◌++◌};
-    ghost use Rattle.hound_spec.specs.declared.spec.WavSpecEx.{WavSpecEx};
-    ghost use Rattle.hound_writer.specs.Calls.{Asked, Begun, Left, Recorded, publish};
+    ghost use Rattle.hound_writer.specs.Calls.{Ends, made, publish};
     ghost use Rattle.hound_writer.specs.Publishing.{Finishes};
 
     fn drop(self)
         ensures finishes { (answer : Result Unit Error) × (end : W)
             × Finishes W.tells W.keeps W.state self answer end }
-        ensures left { (s : WavSpecEx) (file : Begun) (asked : List Asked)
-            → Recorded W.tells W.keeps W.state s file asked self
-            → (end : W) × Left W.tells W.keeps W.state s file (asked ++ publish ∷ []) end }
+        ensures left { (end : W) × Ends W.tells W.keeps W.state (made publish) self end }
     {
         let _ = self.finalize_into();
     }

@@ -1,7 +1,7 @@
 use Rattle.std.proofs.Common.{◌≡◌, ◌+◌, List, length, take}
 use Rattle.std.specs.List.{flat_map}
 use Rattle.hound.specs.Batch.{IsSameFile, batch_bytes, batch_lender, batch_writer, remaining}
-use Rattle.hound.specs.Calls.{Asked, Begun, Recorded}
+use Rattle.hound.specs.Calls.{Begun, Known, Recorded}
 use Rattle.hound.specs.Number.{signed_bytes_of}
 use Rattle.hound.specs.declared.WavSpecEx.{WavSpecEx}
 use Rattle.hound_callers.proofs.recording.record_batch.Given as goal
@@ -12,7 +12,7 @@ invariant-loop-value g l = record {
   left : remaining l.values + l.value-index ≡ length l.batch;
   written : batch_bytes l.values ≡ flat_map (signed_bytes_of 2) (take l.value-index l.batch);
   stays : IsSameFile l.fn.writer (batch_writer l.values);
-  recorded : (s : WavSpecEx) (file : Begun) (asked : List Asked)
-      → Recorded g.M.Placed.tells g.M.Placed.keeps g.M.Placed.state s file asked l.fn.writer
-      → Recorded g.M.Placed.tells g.M.Placed.keeps g.M.Placed.state s file asked (batch_writer l.values);
+  recorded : (s : WavSpecEx) (file : Begun) (known : List Known)
+      → Recorded g.M.Placed.tells g.M.Placed.keeps g.M.Placed.state s file known l.fn.writer
+      → Recorded g.M.Placed.tells g.M.Placed.keeps g.M.Placed.state s file known (batch_writer l.values);
 }

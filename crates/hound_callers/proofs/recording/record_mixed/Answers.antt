@@ -8,7 +8,7 @@ returns g c told keeps =
     let singles = c.record_singles.ensures.recorded s new_file [] c.in-Ok.ensures.recorded in
     let kept = c.what_is_kept.ensures.kept told keeps s new_file in
     let left = c.finalize_into-medium.ensures.left s new_file in
-    elim (c.record_batch.ensures s new_file _ singles) [
+    elim (c.record_batch.ensures.recorded s new_file _ singles) [
       | inl none ↦ inl (kept _ _ (left _ none))
       | inr all ↦ inr (kept _ _ (left _ all))
     ]

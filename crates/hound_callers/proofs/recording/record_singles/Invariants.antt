@@ -1,15 +1,15 @@
 use Rattle.std.proofs.Common.{◌≡◌, List, ◌++◌, map, take}
 use Rattle.hound.specs.Answers.{one}
-use Rattle.hound.specs.Calls.{Asked, Begun, Recorded, write}
+use Rattle.hound.specs.Calls.{Begun, Known, Recorded, made, write}
 use Rattle.hound.specs.declared.WavSpecEx.{WavSpecEx}
 use Rattle.hound_callers.proofs.recording.record_singles.Given as goal
 
 abbrev pub invariant-loop-sample : goal.invariant-loop-sample
 invariant-loop-sample g l = record {
   spec : l.writer.spec_ex ≡ l.fn.writer.spec_ex;
-  recorded : (s : WavSpecEx) (file : Begun) (asked : List Asked)
-      → Recorded g.M.Placed.tells g.M.Placed.keeps g.M.Placed.state s file asked l.fn.writer
+  recorded : (s : WavSpecEx) (file : Begun) (known : List Known)
+      → Recorded g.M.Placed.tells g.M.Placed.keeps g.M.Placed.state s file known l.fn.writer
       → Recorded g.M.Placed.tells g.M.Placed.keeps g.M.Placed.state s file
-      (asked ++ map (λ v. write (one (g.S.Sample.container v s.spec.bits_per_sample
-      s.bytes_per_sample))) (take l.sample-index l.singles)) l.writer;
+      (known ++ map (λ v. made (write (one (g.S.Sample.container v s.spec.bits_per_sample
+      s.bytes_per_sample)))) (take l.sample-index l.singles)) l.writer;
 }

@@ -3,7 +3,7 @@ use Rattle.std.proofs.Common.{◌≡◌, ◌-◌, List, [], ◌∷◌, ◌++◌,
 use Rattle.std.proofs.lemmas.Bool.{false≢true}
 use Rattle.std.proofs.lemmas.List.{take_all}
 use Rattle.hound.specs.Bytes.{moment, overlay}
-use Rattle.hound.specs.Calls.{Asked, Call, Left, new_file}
+use Rattle.hound.specs.Calls.{Call, Known, Left, new_file}
 use Rattle.hound.specs.Header.{data_start}
 use Rattle.hound.specs.Headline.{HasPublished, Kept, accepted_by_all}
 use Rattle.hound.specs.Held.{held}
@@ -19,14 +19,14 @@ returns g c =
     by _ (c.drop_into-medium.ensures.left c.args.spec_ex new_file _ c.in-Ok.ensures)
     c.repair_to_end.result c.repair_to_end.ensures.repaired
   where
-    by : (asked : List Asked)
-        → Left g.M.Placed.tells g.M.Placed.keeps g.M.Placed.state c.args.spec_ex new_file asked
+    by : (known : List Known)
+        → Left g.M.Placed.tells g.M.Placed.keeps g.M.Placed.state c.args.spec_ex new_file known
         c.drop_into-medium.result
         → (r : _) → WhereTells g.M.Placed.tells (MatchResult r
         (λ (done : _ × Repair). Repairs false (g.M.Placed.state c.go.new.self) done.1 (g.M.Placed.state done.0))
         (λ (refused : _ × Error). IsNotRepaired false (g.M.Placed.state c.go.new.self) (g.M.Placed.state refused.0) refused.1))
         → MatchResult r (λ (done : _ × Repair). WhereKeeps g.M.Placed.tells g.M.Placed.keeps
-        ((left : _) × (kept : Kept g.M.Placed.tells g.M.Placed.keeps g.M.Placed.state c.args.spec_ex new_file asked left)
+        ((left : _) × (kept : Kept g.M.Placed.tells g.M.Placed.keeps g.M.Placed.state c.args.spec_ex new_file known left)
         × ((before after : List Call) (flush : Call) → kept.left.recorded.calls ≡ before ++ (flush ∷ after)
         → HasPublished flush
         → IsNoPad c.args.spec_ex (field (data_start c.args.spec_ex - 4) (g.M.Placed.state left).contents)
@@ -34,13 +34,13 @@ returns g c =
         → (done.1.spec_ex ≡ c.args.spec_ex)
         × ReadsFrames done.1 (data_start c.args.spec_ex) (accepted_by_all before)
         (g.M.Placed.state done.0).contents))) (λ _. ⊤)
-    by asked all (Err e) repairs = tt
-    by asked all (Ok done) repairs = λ told keeps.
+    by known all (Err e) repairs = tt
+    by known all (Ok done) repairs = λ told keeps.
         let s = c.args.spec_ex in
         let left = g.M.Placed.state c.drop_into-medium.result in
         let cut = g.M.Placed.state c.go.new.self in
         let same : cut.contents ≡ left.contents = (c.go.ensures told).stays.contents in
-        let kept = c.what_is_kept.ensures.kept told keeps s new_file asked c.drop_into-medium.result
+        let kept = c.what_is_kept.ensures.kept told keeps s new_file known c.drop_into-medium.result
         all in
         let last : cut.contents ≡ moment left.start left.past (length left.past) =
         same ∙ g.met.M.Medium.replays c.drop_into-medium.result told keeps

@@ -1,4 +1,6 @@
-use Rattle.std.proofs.Common.{subst, sym}
+use Rattle.std.proofs.Common.{refl, subst, sym}
+use Rattle.hound_writer.specs.Answers.{mark_of}
+use Rattle.hound_writer.specs.Calls.{made, marked, publish}
 use Rattle.hound_writer.specs.Publishing.{Finishes}
 use Rattle.hound_writer.proofs.Recording.{left_by}
 use Rattle.hound_writer.proofs.write.WavWriter.finalize_into.Goals as goal
@@ -10,7 +12,14 @@ returns-clause-finishes g c =
     c.finish-result.ensures
 
 pub returns-clause-left : goal.returns-clause-left
-returns-clause-left g c s file asked so_far =
+returns-clause-left g c s file known so_far =
     let W = g.W.Placed in
-    left_by W.tells W.keeps W.state c.finish-result.result s file asked c.args.self
-    c.into_medium.result (returns-clause-finishes g c) so_far
+    left_by W.tells W.keeps W.state (made publish) c.finish-result.result s file known c.args.self
+    c.into_medium.result (refl, tt) (returns-clause-finishes g c) so_far
+
+pub returns-clause-marked : goal.returns-clause-marked
+returns-clause-marked g c s file known so_far =
+    let W = g.W.Placed in
+    left_by W.tells W.keeps W.state (marked publish (mark_of c.finish-result.result))
+    c.finish-result.result s file known c.args.self c.into_medium.result (refl, refl)
+    (returns-clause-finishes g c) so_far

@@ -1,9 +1,18 @@
-use Rattle.std.proofs.Common.{rules}
+use Rattle.std.proofs.Common.{refl, rules}
+use Rattle.hound_writer.specs.Answers.{mark_of}
+use Rattle.hound_writer.specs.Calls.{made, marked, publish}
 use Rattle.hound_writer.proofs.Recording.{recorded_flush}
 use Rattle.hound_writer.proofs.write.WavWriter.flush.Goals as goal
 
 pub returns-clause-recorded : goal.returns-clause-recorded
-returns-clause-recorded g c s file asked so_far =
+returns-clause-recorded g c s file known so_far =
     let W = g.W.Placed in
-    recorded_flush W.tells W.keeps W.state c.publish_all.result s file asked c.args.self.now
-    c.publish_all.new.self so_far (search rules)
+    recorded_flush W.tells W.keeps W.state (made publish) c.publish_all.result s file known
+    c.args.self.now c.publish_all.new.self (refl, tt) so_far (search rules)
+
+pub returns-clause-marked : goal.returns-clause-marked
+returns-clause-marked g c s file known so_far =
+    let W = g.W.Placed in
+    recorded_flush W.tells W.keeps W.state (marked publish (mark_of c.publish_all.result))
+    c.publish_all.result s file known c.args.self.now c.publish_all.new.self (refl, refl) so_far
+    (search rules)

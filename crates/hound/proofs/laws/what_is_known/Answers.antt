@@ -1,0 +1,8 @@
+use Rattle.hound.proofs.Knowing.{among, accepted}
+use Rattle.hound.proofs.laws.what_is_known.Goals as goal
+
+pub returns-clause-among : goal.returns-clause-among
+returns-clause-among c = among
+
+pub returns-clause-accepted : goal.returns-clause-accepted
+returns-clause-accepted c = accepted

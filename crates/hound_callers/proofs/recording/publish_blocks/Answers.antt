@@ -1,0 +1,35 @@
+use Rattle.std.proofs.Common.{◌++◌, ◌∷◌, [], Bor, List, take, arith, sym, ap, ◌∙◌, subst}
+use Rattle.hound.specs.Calls.{Recorded}
+use Rattle.hound.specs.Many.{containers_in}
+use Rattle.hound.specs.declared.WavSpecEx.{WavSpecEx}
+use Rattle.hound_callers.specs.Recording.{published_calls, seen}
+use Rattle.hound_callers.proofs.Publishing.{at_ok, have_more, ok_list, seen_more}
+use Rattle.hound_callers.proofs.recording.publish_blocks.Goals as goal
+
+pub loop-i-preserved : goal.loop-i-preserved
+loop-i-preserved g c =
+    let M = g.M.Placed in
+    let i = c.loop-i.i in
+    let blocks = c.args.blocks.now in
+    let f = λ (s : WavSpecEx) (block : Bor (List g.row.S.Denot)).
+    containers_in g.S.Sample.container s block.now in
+    let s = c.args.writer.now.spec_ex in
+    let ok = c.if-is_err.ensures.negation in
+    let (more, is) = ok_list _ (at_ok c.publish_block.result ok c.publish_block.ensures.have) in
+    let (list, have) = c.loop-i.invariant.have in
+    record {
+      within = omega (arith, c.loop-i-test.true);
+      spec = c.publish_block.ensures.spec ∙ c.loop-i.invariant.spec;
+      have = (
+        list ++ more,
+        have_more (f s) blocks i _ list more c.loop-i-test.true have
+            ((λ j. f (sym c.loop-i.invariant.spec j) (sym c.index-blocks-i.is j)) ∙ is),
+      );
+      published = λ x file first.
+          subst (λ l. Recorded M.tells M.keeps M.state x file l c.publish_block.new.writer)
+          (ap (λ block. seen (published_calls (f x) (take i blocks))
+          ++ seen (published_calls (f x) (block ∷ []))) c.index-blocks-i.is
+          ∙ sym (seen_more (f x) blocks i _ c.loop-i-test.true))
+          (at_ok c.publish_block.result ok c.publish_block.ensures.published x file _
+          (c.loop-i.invariant.published x file first));
+    }
