@@ -1,8 +1,9 @@
 // The recorders of `hound_callers`, each run once.
 use crate::helpers::{empty_tape, integers, read_all, sixteen};
-use hound::{Journal, WavReader, WavSpecEx};
+use hound::{Journal, Step, WavReader, WavSpecEx, WavWriter};
 use hound_callers::{
-    Twelve, record_mixed, record_twelve, record_twelve_and_repair, record_twelve_through_a_loss,
+    Twelve, pack_one, record_batch, record_checkpoints, record_mixed, record_steps, record_twelve,
+    record_twelve_and_repair, record_twelve_through_a_loss,
 };
 use std::alloc::Global;
 use std::test::Fail;
@@ -56,6 +57,70 @@ fn survives(alloc: Global, blocks: &[&[Twelve]]) -> hound::Result<bool> {
     }
 }
 
+// How many samples the first blocks have.
+const SIZES: [usize; 3] = [0, 2, 3];
+
+// Records over a medium whose calls fail from this one on, and returns how many blocks were
+// published, if the file was begun: at least their samples are read, and none that wasn't accepted.
+fn published(
+    alloc: Global,
+    blocks: &[&[Twelve]],
+    fail_from: u64,
+) -> hound::Result<Option<(usize, bool)>> {
+    let mut journal = Journal::new(alloc, Vec::new(alloc))?;
+    journal.fail(fail_from, u64::MAX);
+    let Ok((journal, count)) = record_checkpoints(journal, integers(1, 44100, 16, 2), blocks) else {
+        return Ok(None);
+    };
+    let bytes = journal.bytes_after(alloc, journal.taken())?;
+    let found = read_all::<i16, _>(alloc, WavReader::new(&bytes[..])?)?;
+    let is_prefix = ACCEPTED.starts_with(found.as_slice());
+    Ok(Some((count, is_prefix && found.len() >= SIZES[count.min(2)])))
+}
+
+// Whether this holds wherever the medium fails: none of the blocks is published first, then one, and
+// in the end the two before the sample that is too wide.
+fn publishes(alloc: Global, blocks: &[&[Twelve]]) -> hound::Result<bool> {
+    let mut last = 0;
+    for fail_from in 2..40u64 {
+        if let Some((count, holds)) = published(alloc, blocks, fail_from)? {
+            if !holds || count < last || count > last + 1 {
+                return Ok(false);
+            }
+            last = count;
+        }
+    }
+    Ok(last == 2)
+}
+
+fn takes_a_batch(alloc: Global) -> hound::Result<bool> {
+    let mut writer = WavWriter::new(empty_tape(alloc), sixteen(1))?;
+    record_batch(alloc, &mut writer, &[300, -301])?;
+    let (tape, result) = writer.finalize_into();
+    result?;
+    Ok(holds(alloc, tape.bytes(), &[300, -301]))
+}
+
+fn packs(alloc: Global) -> bool {
+    match pack_one(empty_tape(alloc), integers(1, 44100, 16, 2), -301) {
+        Ok(tape) => holds(alloc, tape.bytes(), &[-301]),
+        Err(_) => false,
+    }
+}
+
+fn takes_steps(alloc: Global) -> bool {
+    let steps = [Step::Whole(7), Step::Flush, Step::Batch(&[300, -301])];
+    let mut marks = [false; 3];
+    let tape = record_steps(
+        alloc,
+        empty_tape(alloc),
+        integers(1, 44100, 16, 2),
+        &steps,
+        &mut marks,
+    );
+    marks == [true; 3] && holds(alloc, tape.bytes(), &[7, 300, -301])
+}
+
 fn mixes(alloc: Global) -> bool {
     let spec_ex = WavSpecEx::from(sixteen(1));
     match record_mixed(alloc, empty_tape(alloc), spec_ex, &[7, -8], &[300, -301]) {
@@ -75,5 +140,20 @@ fn recorders_leave_what_they_accepted(rt: HostRuntime) -> Result<(), Fail> {
         mixes(alloc),
     );
     assert_eq!(rt; found, (true, true, true, true));
+    Ok(())
+}
+
+#[test]
+fn a_recorder_counts_what_it_published(rt: HostRuntime) -> Result<(), Fail> {
+    let blocks: &[&[Twelve]] = &BLOCKS;
+    assert!(rt; publishes(rt.alloc(), blocks)?);
+    Ok(())
+}
+
+#[test]
+fn batches_steps_and_single_calls_are_recorded(rt: HostRuntime) -> Result<(), Fail> {
+    let alloc = rt.alloc();
+    let found = (takes_a_batch(alloc)?, packs(alloc), takes_steps(alloc));
+    assert_eq!(rt; found, (true, true, true));
     Ok(())
 }
