@@ -205,8 +205,8 @@ pub record Keeps (s : WavSpecEx) (file : Begun) (calls : List Call) (begun mediu
   pub at_end : HoldsAtEnd s file calls begun medium
   pub promises : Promises s (start_of s file) (found_in file) calls medium
 
--- What a writer has left of whose calls these are known, over a medium whose bytes are known: its calls, each
--- by its contract, led to this medium; and what they leave there.
+-- What a writer has left in a medium whose bytes are known: calls of which these are known, each by
+-- its contract, led to this medium; and what they leave there.
 pub record Holds {W : Type 0} (tells keeps : Bool) (state : W → MediumState) (s : WavSpecEx)
     (file : Begun) (known : List Known) (medium : W) : Type 0 where
   pub left : LeftBy tells keeps state s file known medium
@@ -232,7 +232,7 @@ pub record SurvivesAtEnd (s : WavSpecEx) (start : ℕ) (found : List (List ℕ))
       Counts s start (found ++ accepted_by_all calls) contents
       × LosesNothing s start found calls medium contents
 
--- What a writer over a `Durable` has left of whose calls these are known: its calls, each by its contract, led
+-- What a writer over a `Durable` has left: calls of which these are known, each by its contract, led
 -- to this durable medium; and what a loss of power leaves of the medium within it.
 pub record KeptWithin {W : Type 0} (tells keeps : Bool) (state : W → MediumState) (s : WavSpecEx)
     (file : Begun) (known : List Known) (durable : W) (medium : MediumState) : Type 0 where
