@@ -1,5 +1,5 @@
 -- What a recorder asks of its writer, and what it sees.
-use Rattle.std.specs.Prelude.{◌≡◌, ℕ, suc, ◌%◌, ◌==◌, Bool, true, false, List, [], ◌∷◌, ◌++◌, map, Result, Ok}
+use Rattle.std.specs.Prelude.{◌≡◌, ◌⊎◌, ℕ, suc, ◌%◌, ◌==◌, Bool, true, false, List, [], ◌∷◌, ◌++◌, map, Result, Ok}
 use Rattle.std.specs.List.{flat_map}
 use Rattle.hound.specs.Calls.{Asked, Known, made, marked, publish, write}
 use Rattle.hound.specs.Container.{Refusal}
@@ -25,6 +25,18 @@ published_calls containers blocks =
 -- what is known of calls whose marks were seen
 abbrev pub seen : List (Asked × Bool) → List Known
 seen calls = map (λ (one : Asked × Bool). marked one.0 one.1) calls
+
+-- The calls of a block that wasn't published: its write had no Ok, or only its flush.
+abbrev pub IsStopped : Result (List (List ℕ)) Refusal → List Known → Type 0
+IsStopped containers calls = (calls ≡ marked (write containers) false ∷ [])
+    ⊎ ((mark : Bool) × (calls ≡ marked (write containers) true ∷ marked publish mark ∷ []))
+
+-- these follow the calls of blocks that were published, where these blocks are left: none if there
+-- are no blocks, and else those of the next one
+abbrev pub StopsAt : {V : Type 0} → (V → Result (List (List ℕ)) Refusal) → List V → List Known →
+    Type 0
+StopsAt containers [] calls = calls ≡ []
+StopsAt containers (block ∷ blocks) calls = IsStopped (containers block) calls
 
 -- each of these blocks has containers, and these are all of them
 abbrev pub HaveContainers : {V : Type 0} → (V → Result (List (List ℕ)) Refusal) → List V →

@@ -1,5 +1,5 @@
 // Recorders that make their calls themselves.
-ghost use Rattle.std.specs.Prelude.{◌≡◌, ◌⊎◌, ◌-◌, ◌/◌, ◌<◌, ◌≤◌, ℕ, true, List, ◌∷◌, ◌++◌, [], ⊤, Ok, MatchResult, IsOk, OnErr, OnOk, length, map, take};
+ghost use Rattle.std.specs.Prelude.{◌≡◌, ◌⊎◌, ◌-◌, ◌/◌, ◌<◌, ◌≤◌, ℕ, true, List, ◌∷◌, ◌++◌, [], ⊤, Ok, MatchResult, IsOk, OnErr, OnOk, drop, length, map, take};
 ghost use Rattle.std.specs.List.{flat_map};
 ghost use Rattle.hound.specs.Answers.{one};
 ghost use Rattle.hound.specs.Calls.{Begun, Call, Known, Left, Recorded, made, new_file, publish, write};
@@ -21,7 +21,7 @@ ghost use Rattle.hound.specs.declared.WavSpecEx.{WavSpecEx};
 ghost use Rattle.hound.specs.declared.session.Begin.TheVariants.{New};
 ghost use Rattle.hound.specs.declared.session.End.TheVariants.{Finalize};
 ghost use Rattle.hound.specs.declared.session.Step.TheVariants.{Whole};
-ghost use Rattle.hound_callers.specs.Recording.{HaveContainers, block_asks, published_calls, recorder_asks, seen};
+ghost use Rattle.hound_callers.specs.Recording.{HaveContainers, IsStopped, StopsAt, block_asks, published_calls, recorder_asks, seen};
 
 use crate::twelve::Twelve;
 use hound::{
@@ -135,6 +135,7 @@ fn publish_block<S: Sample + Copy, M: Medium>(
         (known ++ seen (published_calls (containers_in S.container s) (block.now ∷ []))) writer.new) }
     ensures stopped { OnErr result ((s : WavSpecEx) (file : Begun) (known : List Known)
         → Recorded M.tells M.keeps M.state s file known writer.old → (more : List Known)
+        × IsStopped (containers_in S.container s block.now) more
         × Recorded M.tells M.keeps M.state s file (known ++ more) writer.new) }
 {
     writer.write_samples(block)?;
@@ -148,6 +149,7 @@ fn publish_blocks<S: Sample + Copy, M: Medium>(writer: &mut WavWriter<M>, blocks
         (λ block. containers_in S.container writer.old.spec_ex block.now) (take result blocks.now) list }
     ensures published { (s : WavSpecEx) (file : Begun)
         → Recorded M.tells M.keeps M.state s file [] writer.old → (more : List Known)
+        × StopsAt (λ block. containers_in S.container s block.now) (drop result blocks.now) more
         × Recorded M.tells M.keeps M.state s file
         (seen (published_calls (λ block. containers_in S.container s block.now) (take result blocks.now)) ++ more) writer.new }
 {
@@ -162,10 +164,12 @@ fn publish_blocks<S: Sample + Copy, M: Medium>(writer: &mut WavWriter<M>, blocks
 /// Records blocks of twelve-bit samples over a medium that may lose its power, with a checkpoint
 /// after each, until a call fails, and returns how many blocks were published.
 ///
-/// If there are some, a flush among its calls has published exactly the samples of these blocks, and
-/// whatever sectors keep what was written since the medium was flushed, what is left counts, and has
-/// lost no sample that a flush has published. The medium must be new: its place is 0, and nothing has
-/// been written to it yet.
+/// It asked its writer for nothing else than these blocks and the next one, if there is one, whose
+/// write or flush returned no Ok, and the end. A flush among these calls has published exactly the
+/// samples of the blocks, if there are some; and whatever sectors keep what was written since the
+/// medium was flushed, what is left counts, and has lost no sample that a flush has published.
+///
+/// The medium must be new: its place is 0, and nothing has been written to it yet.
 pub fn record_checkpoints<M: Source + Medium>(
     medium: M,
     spec_ex: WavSpecEx,
@@ -175,12 +179,13 @@ pub fn record_checkpoints<M: Source + Medium>(
     requires past { WhereKeeps M.tells M.keeps ((M.state medium).past ≡ []) }
     requires flushed { WhereKeeps M.tells M.keeps ((M.state medium).flushed ≡ 0) }
     ensures { MatchResult result (λ done. (done.1 ≤ length blocks.now)
-        × WhereKeeps M.tells M.keeps (0 < done.1 →
-        Around (M.state medium) (M.state done.0) (λ _ durable. (known : List Known)
-        × (kept : KeptWithin M.tells M.keeps (⟦<Durable<M> as Placed>⟧.state) spec_ex new_file known durable (within durable))
-        × (before after : List Call) × (flush : Call)
+        × WhereKeeps M.tells M.keeps (
+        Around (M.state medium) (M.state done.0) (λ _ durable. (more : List Known)
+        × StopsAt (λ block. containers_in ⟦<Twelve as Sample>⟧.container spec_ex block.now) (drop done.1 blocks.now) more
+        × (kept : KeptWithin M.tells M.keeps (⟦<Durable<M> as Placed>⟧.state) spec_ex new_file ((seen (published_calls (λ block. containers_in ⟦<Twelve as Sample>⟧.container spec_ex block.now) (take done.1 blocks.now)) ++ more) ++ made publish ∷ []) durable (within durable))
+        × (0 < done.1 → (before after : List Call) × (flush : Call)
         × (kept.left.recorded.calls ≡ before ++ (flush ∷ after)) × HasPublished flush
-        × HaveContainers (λ block. containers_in ⟦<Twelve as Sample>⟧.container spec_ex block.now) (take done.1 blocks.now) (accepted_by_all before))))
+        × HaveContainers (λ block. containers_in ⟦<Twelve as Sample>⟧.container spec_ex block.now) (take done.1 blocks.now) (accepted_by_all before)))))
         (λ _. ⊤) }
 {
     what_is_known();
@@ -226,25 +231,27 @@ pub fn record_twelve_and_repair<M: Source + Medium>(
     repair_to_end(medium)
 }
 
-/// Records steps into a new file on an empty medium, whatever the results are: if it was begun, what
-/// is left keeps all that the calls of these steps promise.
+/// Records steps into a new file, whatever the results are: if it was begun, what is left keeps all
+/// that the calls of these steps promise.
 pub fn record_steps<M: Source + Medium>(
     alloc: Global,
     medium: M,
     spec_ex: WavSpecEx,
     steps: &[Step],
     marks: &mut [bool],
-) -> M
+) -> result::Result<M, (M, Error)>
     requires place { WhereTells M.tells ((M.state medium).place ≡ 0) }
-    requires empty { (M.state medium).contents ≡ [] }
     requires size { length steps.now ≡ length marks.old }
-    ensures { WhereKeeps M.tells M.keeps (data_start spec_ex ≤ length (M.state result).contents →
-        Kept M.tells M.keeps M.state spec_ex new_file (map (λ step. made (asked_by spec_ex step)) steps.now ++ made publish ∷ []) result) }
+    ensures { MatchResult result (λ left. WhereKeeps M.tells M.keeps
+        (Kept M.tells M.keeps M.state spec_ex new_file (map (λ step. made (asked_by spec_ex step)) steps.now ++ made publish ∷ []) left))
+        (λ _. ⊤) }
 {
     what_is_kept::<M>();
     a_run_leaves_its_calls::<M>(steps);
-    let (medium, _) = run_session(alloc, medium, Begin::New(spec_ex), steps, marks, End::Drop);
-    medium
+    match run_session(alloc, medium, Begin::New(spec_ex), steps, marks, End::Drop) {
+        (medium, Ok(())) => Ok(medium),
+        (medium, Err(error)) => Err((medium, error)),
+    }
 }
 
 /// Writes a file of one integer into an empty medium by calls of its own: at an Ok it is there, and

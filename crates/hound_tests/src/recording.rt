@@ -111,14 +111,17 @@ fn packs(alloc: Global) -> bool {
 fn takes_steps(alloc: Global) -> bool {
     let steps = [Step::Whole(7), Step::Flush, Step::Batch(&[300, -301])];
     let mut marks = [false; 3];
-    let tape = record_steps(
+    let recorded = record_steps(
         alloc,
         empty_tape(alloc),
         integers(1, 44100, 16, 2),
         &steps,
         &mut marks,
     );
-    marks == [true; 3] && holds(alloc, tape.bytes(), &[7, 300, -301])
+    match recorded {
+        Ok(tape) => marks == [true; 3] && holds(alloc, tape.bytes(), &[7, 300, -301]),
+        Err(_) => false,
+    }
 }
 
 fn mixes(alloc: Global) -> bool {
