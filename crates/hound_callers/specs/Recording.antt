@@ -16,7 +16,7 @@ recorder_asks containers i [] = []
 recorder_asks containers i (block ∷ blocks) =
     block_asks (containers block) (i % 4 == 3) ++ recorder_asks containers (suc i) blocks
 
--- blocks were each written and published, and both calls did so
+-- the marks of the calls of blocks that were published: a write and a flush of each
 abbrev pub published_calls : {V : Type 0} → (V → Result (List (List ℕ)) Refusal) → List V →
     List (Asked × Bool)
 published_calls containers blocks =
@@ -26,13 +26,14 @@ published_calls containers blocks =
 abbrev pub seen : List (Asked × Bool) → List Known
 seen calls = map (λ (one : Asked × Bool). marked one.0 one.1) calls
 
--- The calls of a block that wasn't published: its write had no Ok, or only its flush.
+-- The calls of a block at which a recorder stops: a write that accepted nothing, or a write that
+-- accepted the block and a flush.
 abbrev pub IsStopped : Result (List (List ℕ)) Refusal → List Known → Type 0
 IsStopped containers calls = (calls ≡ marked (write containers) false ∷ [])
     ⊎ ((mark : Bool) × (calls ≡ marked (write containers) true ∷ marked publish mark ∷ []))
 
--- these follow the calls of blocks that were published, where these blocks are left: none if there
--- are no blocks, and else those of the next one
+-- the calls with which a recorder stops where these blocks are left: none if there are no blocks, or
+-- else those of the next one
 abbrev pub StopsAt : {V : Type 0} → (V → Result (List (List ℕ)) Refusal) → List V → List Known →
     Type 0
 StopsAt containers [] calls = calls ≡ []

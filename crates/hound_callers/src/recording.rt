@@ -164,12 +164,11 @@ fn publish_blocks<S: Sample + Copy, M: Medium>(writer: &mut WavWriter<M>, blocks
 /// Records blocks of twelve-bit samples over a medium that may lose its power, with a checkpoint
 /// after each, until a call fails, and returns how many blocks were published.
 ///
-/// It asked its writer for nothing else than these blocks and the next one, if there is one, whose
-/// write or flush returned no Ok, and the end. A flush among these calls has published exactly the
-/// samples of the blocks, if there are some; and whatever sectors keep what was written since the
-/// medium was flushed, what is left counts, and has lost no sample that a flush has published.
-///
-/// The medium must be new: its place is 0, and nothing has been written to it yet.
+/// Its calls are the write and the flush of each of these blocks, all with an Ok, then those of the
+/// next block, if there is one, and the end. One of these flushes has published exactly the samples
+/// of the blocks, if there are some; and whatever sectors keep what was written since the medium was
+/// flushed, what is left counts, and has lost no sample that a flush has published. The medium must
+/// be new: its place is 0, and nothing has been written to it yet.
 pub fn record_checkpoints<M: Source + Medium>(
     medium: M,
     spec_ex: WavSpecEx,
