@@ -36,8 +36,8 @@ use hound_spec::WavSpecEx;
 /// A batch accepts what its values do one by one: the same samples, and the same count of them.
 ///
 /// It holds over a medium whose bytes are known, from writers of one file of samples of sixteen bits
-/// whose accepted samples are there (that of the batch has more memory), if the `flush` of the batch
-/// and each `write_sample` returned Ok.
+/// whose accepted samples are there (that of the batch has other memory), if the `flush` of the
+/// batch and each `write_sample` returned Ok.
 pub fn a_batch_is_its_values<M: Medium>(values: &[i16])
     ensures { WhereTells M.tells ((first a b c : WriterState M) → IsWhole M.state first →
         first.spec_ex.spec.bits_per_sample ≡ 16 → first.spec_ex.bytes_per_sample ≡ 2 →
