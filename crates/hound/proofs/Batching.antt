@@ -4,16 +4,10 @@ use Rattle.std.proofs.lemmas.Bool.{false≢true}
 use Rattle.std.proofs.lemmas.Bool.Decides.{nat_tests}
 use Rattle.std.proofs.lemmas.List.{take_at, drop_at}
 use Rattle.std.specs.List.{concat, flat_map}
-use Rattle.hound_number.specs.Number.{signed_bytes_of}
-use Rattle.hound_sample.specs.Container.{Refusal, containers, int_bytes, int_container}
-use Rattle.hound_sample.specs.ContainerLaws.{contained}
-use Rattle.hound_medium.specs.State.{MediumState}
-use Rattle.hound_writer.specs.Accepting.{Accepts}
-use Rattle.hound_writer.specs.Answers.{AcceptAnswer, if_marked, one}
-use Rattle.hound_writer.specs.Batch.{IsSameFile}
-use Rattle.hound_writer.specs.Calls.{write}
-use Rattle.hound_writer.specs.Many.{AcceptsEach, short_bytes}
-use Rattle.hound_writer.specs.Writer.{WriterState, IsWhole, data_length, accepted_samples}
+use Rattle.hound_number.specs.{signed_bytes_of}
+use Rattle.hound_sample.specs.{Refusal, containers, int_bytes, int_container, contained}
+use Rattle.hound_medium.specs.{MediumState}
+use Rattle.hound_writer.specs.{Accepts, AcceptAnswer, if_marked, one, AcceptsEach, short_bytes, IsSameFile, write, WriterState, IsWhole, data_length, accepted_samples}
 use Rattle.hound_writer.proofs.Recording.{same_but_memory}
 use Rattle.hound.proofs.Calling.{Went, call_went, went_still, went_then}
 

@@ -3,18 +3,10 @@ use Rattle.std.proofs.Common.{◌≡◌, ℕ, ◌+◌, ◌%◌, ◌≤◌, ◌�
 use Rattle.std.proofs.lemmas.Bool.{cases_lt}
 use Rattle.std.proofs.lemmas.List.{append-nil}
 use Rattle.std.specs.List.{concat}
-use Rattle.hound_spec.specs.declared.error.Error.{Error}
-use Rattle.hound_spec.specs.Header.{data_start}
-use Rattle.hound_medium.specs.Bytes.{moment, overlay}
-use Rattle.hound_medium.specs.State.{MediumState}
-use Rattle.hound_medium.specs.Spans.{Span}
+use Rattle.hound_spec.specs.{Error, data_start}
+use Rattle.hound_medium.specs.{moment, overlay, MediumState, Span}
 use Rattle.hound_medium.proofs.Spans.{moment_last}
-use Rattle.hound_writer.specs.Answers.{UnlessFailed, faults_told, mark_of}
-use Rattle.hound_writer.specs.Calls.{Asked, Call, Does, Lead, publish, put, with_memory}
-use Rattle.hound_writer.specs.Counts.{Counts}
-use Rattle.hound_writer.specs.Sizes.{ChangesSizesOnly}
-use Rattle.hound_writer.specs.Storing.{IsStored, KeepsStored}
-use Rattle.hound_writer.specs.Writer.{WriterState, HasHeader, IsBegun, IsCounted, IsWhole, accepted_samples, data_length, padded_end}
+use Rattle.hound_writer.specs.{UnlessFailed, faults_told, mark_of, IsStored, KeepsStored, Asked, Call, Does, Lead, publish, put, with_memory, Counts, ChangesSizesOnly, WriterState, HasHeader, IsBegun, IsCounted, IsWhole, accepted_samples, data_length, padded_end}
 use Rattle.hound_writer.proofs.Answers.{unless_failed, unless_then, unless_told, where_marked}
 use Rattle.hound_writer.proofs.Fresh.{begun_front}
 use Rattle.hound_writer.proofs.Sizes.{sizes_front, sizes_then, take_front}

@@ -5,20 +5,13 @@ use Rattle.std.proofs.lemmas.Nat.{mul-le}
 use Rattle.std.proofs.Math.Nat.{div-mul-le_self}
 use Rattle.std.specs.List.{concat, AllByRecursion}
 use Rattle.std.specs.Io.{StartsWith}
-use Rattle.hound_spec.specs.declared.spec.WavSpecEx.{WavSpecEx}
-use Rattle.hound_spec.specs.Header.{canonical, data_start}
+use Rattle.hound_spec.specs.{WavSpecEx, canonical, data_start}
 use Rattle.hound_spec.proofs.HeaderLemmas.{length-canonical}
-use Rattle.hound_medium.specs.Bytes.{moment, overlay}
-use Rattle.hound_medium.specs.State.{MediumState, WhereKeeps, WhereTells}
+use Rattle.hound_medium.specs.{moment, overlay, MediumState, WhereKeeps, WhereTells}
 use Rattle.hound_medium.proofs.Spans.{moment_last}
-use Rattle.hound_durable.specs.Losses.{Ascends}
-use Rattle.hound_reader.specs.Chunks.{Head}
-use Rattle.hound_reader.specs.Fmt.{IsSoundSpec}
-use Rattle.hound_writer.specs.Answers.{mark_of}
-use Rattle.hound_writer.specs.Calls.{Begun, Call, Does, Known, Lead, Left, Opens, appended, found_in, new_file, publish, start_of, with_memory}
-use Rattle.hound_writer.specs.Counts.{Counts}
-use Rattle.hound_writer.specs.Sizes.{ChangesSizesOnly, field}
-use Rattle.hound_writer.specs.Writer.{WriterState, HasHeader, IsBegun, IsCounted, IsSound, IsWhole, accepted_bytes, accepted_samples, data_length}
+use Rattle.hound_durable.specs.{Ascends}
+use Rattle.hound_reader.specs.{Head, IsSoundSpec}
+use Rattle.hound_writer.specs.{mark_of, Begun, Call, Does, Known, Lead, Left, Opens, appended, found_in, new_file, publish, start_of, with_memory, Counts, ChangesSizesOnly, field, WriterState, HasHeader, IsBegun, IsCounted, IsSound, IsWhole, accepted_bytes, accepted_samples, data_length}
 use Rattle.hound_writer.proofs.Containers.{none_whole}
 use Rattle.hound_writer.proofs.Fresh.{none_accepted, zero_div}
 use Rattle.hound_writer.proofs.Publishing.{reads_all}

@@ -3,18 +3,14 @@
 use Rattle.std.proofs.Common.{◌≡◌, ℕ, ◌+◌, ◌-◌, ◌<◌, ◌≤◌, min, Bool, ◌⊎◌, List, [], ◌∷◌, ◌++◌, length, Result, IsTrue, refl, sym, ◌∙◌, ap, subst, arith, inl, inr}
 use Rattle.std.proofs.lemmas.Bool.{cases_lt}
 use Rattle.std.specs.List.{concat, AllByRecursion}
-use Rattle.hound_number.specs.Number.{number}
-use Rattle.hound_spec.specs.declared.error.Error.{Error}
-use Rattle.hound_medium.specs.Bytes.{moment, overlay}
-use Rattle.hound_medium.specs.State.{MediumState}
+use Rattle.hound_number.specs.{number}
+use Rattle.hound_spec.specs.{Error}
+use Rattle.hound_medium.specs.{moment, overlay, MediumState}
 use Rattle.hound_medium.proofs.Overlays.{front_part}
 use Rattle.hound_medium.proofs.Spans.{moment_last}
-use Rattle.hound_durable.specs.Losses.{place_of}
+use Rattle.hound_durable.specs.{place_of}
 use Rattle.hound_durable.proofs.Ascending.{place_before}
-use Rattle.hound_writer.specs.Calls.{Asked, Call, Does, Lead, publish, put, with_memory}
-use Rattle.hound_writer.specs.Publishing.{IsOldOrNew, IsOutside}
-use Rattle.hound_writer.specs.Sizes.{field}
-use Rattle.hound_writer.specs.Writer.{WriterState, IsWhole, accepted_samples, data_length}
+use Rattle.hound_writer.specs.{Asked, Call, Does, Lead, publish, put, with_memory, IsOldOrNew, IsOutside, field, WriterState, IsWhole, accepted_samples, data_length}
 use Rattle.hound.specs.Headline.{HasPublished, IsUncut, NeverLess, PublishedByFlushes, accepted_by_all, begins_at}
 use Rattle.hound_writer.proofs.Answers.{where_marked}
 use Rattle.hound.proofs.Calling.{begin, call_went, later, lead_parts, length-concat-append, made, went}

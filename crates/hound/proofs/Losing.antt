@@ -3,17 +3,16 @@ use Rattle.std.proofs.Common.{◌≡◌, ℕ, zero, suc, ◌+◌, ◌-◌, ◌/�
 use Rattle.std.proofs.lemmas.Bool.{cases_lt}
 use Rattle.std.proofs.lemmas.List.{length-take-le, take-take, get_or-take, get_or-drop, ext_get_or}
 use Rattle.std.proofs.lemmas.Slice.{between_is}
-use Rattle.hound_number.specs.Number.{number}
-use Rattle.hound_spec.specs.declared.spec.WavSpecEx.{WavSpecEx}
-use Rattle.hound_medium.specs.Bytes.{moment, put_at, overlay}
+use Rattle.hound_number.specs.{number}
+use Rattle.hound_spec.specs.{WavSpecEx}
+use Rattle.hound_medium.specs.{moment, put_at, overlay}
 use Rattle.hound_medium.proofs.Overlays.{front_part, length-put_at, overlay-append, overlay_more, take_overlay_before}
 use Rattle.hound_medium.proofs.Inside.{drop_behind}
-use Rattle.hound_reader.specs.Chunks.{Head}
-use Rattle.hound_writer.specs.Sizes.{ChangesSizesOnly, field}
-use Rattle.hound_writer.specs.Storing.{IsStored}
+use Rattle.hound_reader.specs.{Head}
+use Rattle.hound_writer.specs.{ChangesSizesOnly, field, IsStored}
 use Rattle.hound_writer.proofs.Counted.{samples_le}
 use Rattle.hound_writer.proofs.Heads.{head_with}
-use Rattle.hound_durable.specs.Losses.{Ascends, SurvivesLoss, place_of}
+use Rattle.hound_durable.specs.{Ascends, SurvivesLoss, place_of}
 
 -- A part of what a loss of power leaves, if the states that its sectors are from have it all.
 pub part_survives : (p n sector f k : ℕ) (d start : List ℕ) (past : List (ℕ × ℕ)) (c : List ℕ)

@@ -5,16 +5,12 @@ use Rattle.std.proofs.lemmas.Grind.{flat_map-append}
 use Rattle.std.proofs.lemmas.List.{length-take-le, take-take, take-append-le}
 use Rattle.std.proofs.lemmas.Nat.{div-add-mod', div_below, div-mul-add, mod-mul-add, mod_below, mul-le}
 use Rattle.std.specs.List.{concat, AllByRecursion}
-use Rattle.hound_spec.specs.declared.spec.WavSpecEx.{WavSpecEx}
-use Rattle.hound_sample.specs.Container.{containers}
-use Rattle.hound_medium.specs.Bytes.{moment}
-use Rattle.hound_medium.specs.State.{MediumState}
-use Rattle.hound_reader.specs.Chunks.{Head}
+use Rattle.hound_spec.specs.{WavSpecEx}
+use Rattle.hound_sample.specs.{containers}
+use Rattle.hound_medium.specs.{moment, MediumState}
+use Rattle.hound_reader.specs.{Head}
 use Rattle.hound_reader.proofs.WrittenLemmas.{containers-concat, length-concat}
-use Rattle.hound_writer.specs.Answers.{mark_of}
-use Rattle.hound_writer.specs.Calls.{Call}
-use Rattle.hound_writer.specs.Counts.{Counts}
-use Rattle.hound_writer.specs.Sizes.{ChangesSizesOnly, field}
+use Rattle.hound_writer.specs.{mark_of, Call, Counts, ChangesSizesOnly, field}
 use Rattle.hound_writer.proofs.Containers.{containers_front}
 use Rattle.hound_writer.proofs.Counted.{counts_more, counts_standing}
 use Rattle.hound_writer.proofs.Heads.{head_behind}

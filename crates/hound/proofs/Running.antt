@@ -1,16 +1,13 @@
 -- One step more, and one session more.
 use Rattle.std.proofs.Common.{◌≡◌, ℕ, ℤ, ◌+◌, ◌<◌, List, [], ◌∷◌, ◌++◌, length, get_or, set, take, map, Bool, Result, sym, ◌∙◌, ap, subst, ◌≤◌, Bor, drop, Ok, Err, refl, inl, inr}
 use Rattle.std.proofs.lemmas.List.{map-append, take_more, take_more_set, drop_all, drop_more}
-use Rattle.hound_spec.specs.declared.error.Error.{Error}
-use Rattle.hound_medium.specs.State.{MediumState}
-use Rattle.hound_writer.specs.Answers.{mark_of}
-use Rattle.hound_writer.specs.Calls.{Call, Lead, asked_by_all}
-use Rattle.hound_writer.specs.Writer.{WriterState}
+use Rattle.hound_spec.specs.{Error}
+use Rattle.hound_medium.specs.{MediumState}
+use Rattle.hound_writer.specs.{mark_of, Call, Lead, asked_by_all, WriterState, Finishes}
 use Rattle.hound_writer.proofs.Recording.{asked_more, call_at, lead_more, lead_spec}
-use Rattle.hound_writer.specs.Publishing.{Finishes}
 use Rattle.hound.specs.declared.session.Step.{Step}
 use Rattle.hound.specs.declared.session.Step.TheVariants.{Whole}
-use Rattle.hound.specs.Steps.{Takes, asked_by}
+use Rattle.hound.specs.Run.{Takes, asked_by}
 use Rattle.hound.specs.declared.session.Begin.TheVariants.{Append}
 use Rattle.hound.specs.Sessions.{RunsOn, RunsOnce, RunsUntil}
 

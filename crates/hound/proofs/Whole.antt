@@ -2,17 +2,11 @@
 use Rattle.std.proofs.Common.{◌≡◌, ℕ, ◌+◌, ◌<◌, ◌≤◌, max, Bool, List, [], ◌∷◌, ◌++◌, length, take, map, Result, Ok, Err, OnOk, IsTrue, inl, inr, refl, sym, ◌∙◌, ap, subst, arith, length-append}
 use Rattle.std.proofs.lemmas.List.{take_all, length-take-le}
 use Rattle.std.specs.Io.{StartsWith}
-use Rattle.hound_spec.specs.declared.error.Error.{Error}
-use Rattle.hound_spec.specs.declared.spec.WavSpecEx.{WavSpecEx}
-use Rattle.hound_spec.specs.Header.{header, data_start, canonical}
+use Rattle.hound_spec.specs.{Error, WavSpecEx, header, data_start, canonical}
 use Rattle.hound_spec.proofs.HeaderLemmas.{data_start_least, length-canonical, length-header}
-use Rattle.hound_medium.specs.State.{MediumState, WhereKeeps}
-use Rattle.hound_medium.specs.Bytes.{placed, overlay}
+use Rattle.hound_medium.specs.{MediumState, WhereKeeps, placed, overlay}
 use Rattle.hound_medium.proofs.Overlays.{length-placed}
-use Rattle.hound_writer.specs.Answers.{mark_of}
-use Rattle.hound_writer.specs.Calls.{Call, Lead, Left, Opens, Recorded, asked_by_all, made, new_file, publish}
-use Rattle.hound_writer.specs.Publishing.{Finishes}
-use Rattle.hound_writer.specs.Writer.{WriterState, IsWhole}
+use Rattle.hound_writer.specs.{mark_of, Call, Lead, Left, Opens, Recorded, asked_by_all, made, new_file, publish, Finishes, WriterState, IsWhole}
 use Rattle.hound_writer.proofs.Accepting.{length_overlay_max}
 use Rattle.hound_writer.proofs.Fresh.{only_header}
 use Rattle.hound_writer.proofs.Recording.{end_left, ended, lead_more, left_by}
@@ -22,15 +16,14 @@ use Rattle.hound.specs.declared.session.Begin.TheVariants.{New, Append}
 use Rattle.hound.specs.declared.session.End.{End}
 use Rattle.hound.specs.declared.session.End.TheVariants.{Finalize}
 use Rattle.hound.specs.Headline.{NoFault, accepted_by_all, accepted_of}
-use Rattle.hound.specs.Run.{Begins, EndsAs, IsNotBegun, Ran, end_call, file_of, spec_of}
-use Rattle.hound.specs.Steps.{accepted_by_steps, asked_by}
+use Rattle.hound.specs.Run.{BeginsAs, EndsAs, IsNotBegunAs, Ran, end_call, file_of, begun_spec, accepted_by_steps, asked_by}
 use Rattle.hound.proofs.Calling.{went}
 use Rattle.hound.proofs.Knowing.{known_steps}
 use Rattle.hound.proofs.Keeping.{first_of, holds_at_end, keeps_promises}
 
 -- a constructor that failed wrote less than the header
 pub part_of_header : {M : Type 0} (tells keeps : Bool) (state : M → MediumState) (s : WavSpecEx)
-    (old back : M) (e : Error) → IsTrue tells → IsNotBegun tells keeps state (New s) old back e
+    (old back : M) (e : Error) → IsTrue tells → IsNotBegunAs tells keeps state (New s) old back e
     → (count : ℕ) × (count < data_start s)
     × (length (state back).contents
     ≤ max (length (state old).contents) ((state old).place + count))
@@ -77,18 +70,18 @@ calls_accept s (step ∷ steps) (call ∷ calls) asked =
     λ i. accepted_of (one i) (mark_of call.answer) ++ calls_accept s steps calls rest i
 
 module _ {M : Type 0} (tells keeps : Bool) (state : M → MediumState) where
-  run_spec : (begin : Begin) (old : M) (w : WriterState M) → Begins tells keeps state begin old w
-      → w.spec_ex ≡ spec_of begin w
+  run_spec : (begin : Begin) (old : M) (w : WriterState M) → BeginsAs tells keeps state begin old w
+      → w.spec_ex ≡ begun_spec begin w
   run_spec (New s) old w begins = begins.begun.spec
   run_spec Append old w begins = refl
 
-  run_behind : (begin : Begin) (old : M) (w : WriterState M) → Begins tells keeps state begin old w
+  run_behind : (begin : Begin) (old : M) (w : WriterState M) → BeginsAs tells keeps state begin old w
       → 4 ≤ w.data_start
   run_behind (New s) old w begins = omega (arith, begins.begun.sound.after_head)
   run_behind Append old w begins = omega (arith, begins.sound.after_head)
 
-  run_opens : (begin : Begin) (old : M) (w : WriterState M) → Begins tells keeps state begin old w
-      → IsWhole state w → Opens tells keeps state (spec_of begin w) (file_of state begin w) w
+  run_opens : (begin : Begin) (old : M) (w : WriterState M) → BeginsAs tells keeps state begin old w
+      → IsWhole state w → Opens tells keeps state (begun_spec begin w) (file_of state begin w) w
   run_opens (New s) old w begins whole = (state old, begins)
   run_opens Append old w begins whole = record {
     old = state old;
@@ -112,7 +105,7 @@ module _ {M : Type 0} (tells keeps : Bool) (state : M → MediumState) where
 
   pub ran : (begin : Begin) (steps : List Step) (marks : List Bool) (end : End) (old : M)
       (answer finished : Result (Unit {0}) Error) (medium : M) (first last : WriterState M)
-      (calls : List Call) → Begins tells keeps state begin old first
+      (calls : List Call) → BeginsAs tells keeps state begin old first
       → Lead tells keeps state calls first last
       → asked_by_all calls ≡ map (asked_by first.spec_ex) steps
       → marks ≡ map (λ (call : Call). mark_of call.answer) calls
@@ -125,7 +118,7 @@ module _ {M : Type 0} (tells keeps : Bool) (state : M → MediumState) where
       let all = calls ++ (end_call state last finished ∷ []) in
       let w = ended tells keeps state last medium in
       let leads = all_lead calls first last finished medium lead ends in
-      let s = spec_of begin first in
+      let s = begun_spec begin first in
       let file = file_of state begin first in
       record {
         first = first;

@@ -4,28 +4,16 @@ use Rattle.std.specs.List.{concat}
 use Rattle.std.proofs.lemmas.Grind.{flat_map-append}
 use Rattle.std.proofs.lemmas.List.{append-nil, length-take-le, take_all}
 use Rattle.std.specs.Io.{StartsWith}
-use Rattle.hound_number.specs.Number.{AreBytes}
-use Rattle.hound_spec.specs.declared.error.Error.{Error}
-use Rattle.hound_spec.specs.declared.spec.WavSpecEx.{WavSpecEx}
-use Rattle.hound_spec.specs.Header.{data_start, header, canonical, riff_size}
-use Rattle.hound_spec.specs.declared.error.Error.TheVariants.{IoError, Unsupported}
-use Rattle.hound_spec.specs.FmtChunk.{greatest_u32}
-use Rattle.hound_spec.specs.Writable.{IsWritable}
+use Rattle.hound_number.specs.{AreBytes}
+use Rattle.hound_spec.specs.{Error, WavSpecEx, data_start, header, canonical, riff_size, IsWritable, IoError, Unsupported, greatest_u32}
 use Rattle.hound_spec.proofs.HeaderLemmas.{length-canonical, length-header, data_start_least}
-use Rattle.hound_sample.specs.Container.{Refusal, containers}
-use Rattle.hound_medium.specs.State.{MediumState, one_more}
+use Rattle.hound_sample.specs.{Refusal, containers}
+use Rattle.hound_medium.specs.{MediumState, one_more}
 use Rattle.hound_medium.proofs.Torn.{number_at_small}
 use Rattle.hound_reader.proofs.Exists.{one_answer}
 use Rattle.hound_reader.proofs.Unique.{heads_agree}
-use Rattle.hound_writer.specs.Accepting.{Accepts}
-use Rattle.hound_writer.specs.Answers.{AcceptAnswer, IsPublishing, IsIoError, mark_of}
-use Rattle.hound_writer.specs.Calls.{Does, Asked, publish, put}
-use Rattle.hound_writer.specs.Writer.{WriterState, data_length, HasHeader, IsWhole, IsBegun, accepted_samples, padded_end}
+use Rattle.hound_writer.specs.{Accepts, AcceptAnswer, IsPublishing, IsIoError, mark_of, Does, Asked, publish, put, WriterState, data_length, HasHeader, IsWhole, IsBegun, accepted_samples, padded_end, field, Appends, IsAppendFault, AppendFault, appendable, faulty, Begins, Finishes, ReadsAs}
 use Rattle.hound_writer.proofs.Answers.{accept_as, all_marked, where_marked, no_io, publishing_as, refused_of}
-use Rattle.hound_writer.specs.Appending.{Appends, IsAppendFault, AppendFault, appendable, faulty}
-use Rattle.hound_writer.specs.Beginning.{Begins as BeginsFile}
-use Rattle.hound_writer.specs.Publishing.{Finishes, ReadsAs}
-use Rattle.hound_writer.specs.Sizes.{field}
 use Rattle.hound_writer.proofs.Accepting.{length_overlay_max}
 use Rattle.hound_writer.proofs.AppendAnswers.{no_head_fault, one_append_answer}
 use Rattle.hound_writer.proofs.Fresh.{none_accepted}
@@ -33,12 +21,11 @@ use Rattle.hound_writer.proofs.Heads.{head_field, head_inside}
 use Rattle.hound_writer.proofs.Samples.{length_out, samples_out}
 use Rattle.hound.specs.declared.session.Step.{Step}
 use Rattle.hound.specs.declared.session.Step.TheVariants.{Whole, Bits, Batch, Flush}
-use Rattle.hound.specs.FirstError.{AnswersStep, writer_after, AnswersAll, AnswersSession, IsAnswered}
-use Rattle.hound.specs.Steps.{Takes, asked_by, accepted_by, containers_of}
+use Rattle.hound.specs.Sessions.{AnswersStep, writer_after, AnswersAll, AnswersSession, IsAnswered, RunsFrom, RunsOn, RunsOnce, RunsUntil, StopsAt, StopsShort, all_steps}
+use Rattle.hound.specs.Run.{Takes, asked_by, accepted_by, containers_of}
 use Rattle.hound.specs.declared.session.Begin.{Begin}
 use Rattle.hound.specs.declared.session.Begin.TheVariants.{New, Append}
 use Rattle.hound.specs.Headline.{NoFault, accepted_of}
-use Rattle.hound.specs.Sessions.{RunsFrom, RunsOn, RunsOnce, RunsUntil, StopsAt, StopsShort, all_steps}
 use Rattle.hound.proofs.Calling.{call_faults, call_reach, call_went, length-concat-append}
 use Rattle.hound.proofs.Later.{grows_told, no_fault_parts}
 
@@ -107,7 +94,7 @@ module _ {M : Type 0} (tells keeps : Bool) (state : M → MediumState) (told : I
 
   -- the writer of a new file
   on_new : (old : M) (w : WriterState M) → state old ≡ start → (state old).place ≡ 0
-      → BeginsFile tells keeps state s (state old) w → OnFile [] w
+      → Begins tells keeps state s (state old) w → OnFile [] w
   on_new old w same place b =
       let begun = b.begun in
       let file = b.file told in

@@ -2,23 +2,15 @@
 use Rattle.std.proofs.Common.{◌≡◌, ◌⊎◌, ℕ, zero, suc, ◌-◌, ◌/◌, ◌<◌, ◌≤◌, true, false, Bool, List, [], ◌∷◌, ◌++◌, length, take, drop, map, replicate, slice_index_or, Result, IsTrue, inl, inr, refl, sym, ◌∙◌, ap, subst, arith, append_assoc, length-append}
 use Rattle.std.proofs.lemmas.Bool.{cond-true, false≢true}
 use Rattle.std.proofs.lemmas.List.{length-take-le}
-use Rattle.hound_spec.specs.declared.error.Error.{Error}
-use Rattle.hound_spec.specs.declared.spec.WavSpecEx.{WavSpecEx}
-use Rattle.hound_spec.specs.Header.{header, data_start}
+use Rattle.hound_spec.specs.{Error, WavSpecEx, header, data_start}
 use Rattle.hound_spec.proofs.HeaderLemmas.{length-header}
-use Rattle.hound_sample.specs.Container.{containers}
-use Rattle.hound_medium.specs.Bytes.{overlay, placed}
-use Rattle.hound_medium.specs.State.{MediumState, WhereKeeps}
+use Rattle.hound_sample.specs.{containers}
+use Rattle.hound_medium.specs.{overlay, placed, MediumState, WhereKeeps}
 use Rattle.hound_medium.specs.declared.medium.Placed.{Ghosts}
 use Rattle.hound_medium.proofs.Overlays.{length-placed}
-use Rattle.hound_durable.specs.Durables.{within}
-use Rattle.hound_durable.specs.Losses.{Ascends, SurvivesLoss}
-use Rattle.hound_durable.specs.Own.{own, replays_own}
+use Rattle.hound_durable.specs.{within, Ascends, SurvivesLoss, own, replays_own}
 use Rattle.hound_durable.specs.declared.durable.Durable.{Durable}
-use Rattle.hound_writer.specs.Answers.{mark_of}
-use Rattle.hound_writer.specs.Calls.{Begun, Call, Known, Left, asked_by_all, found_in, publish, start_of}
-use Rattle.hound_writer.specs.Counts.{Counts}
-use Rattle.hound_writer.specs.Writer.{accepted_samples, data_length}
+use Rattle.hound_writer.specs.{mark_of, Begun, Call, Known, Left, asked_by_all, found_in, publish, start_of, Counts, accepted_samples, data_length}
 use Rattle.hound_writer.proofs.Samples.{length_out, samples_out}
 use Rattle.hound.specs.declared.session.Step.{Step}
 use Rattle.hound.specs.declared.session.Step.TheVariants.{Flush}
@@ -26,8 +18,7 @@ use Rattle.hound.specs.declared.session.Begin.{Begin}
 use Rattle.hound.specs.declared.session.Begin.TheVariants.{New, Append}
 use Rattle.hound.specs.declared.session.End.{End}
 use Rattle.hound.specs.Headline.{HasPublished, KeptWithin, LosesNothing, Promises, SurvivesAtEnd, begins_at}
-use Rattle.hound.specs.Run.{AppendedSurvives, IsNotBegun, IsSession, Ran, all_calls, end_call}
-use Rattle.hound.specs.Steps.{accepted_by_steps, asked_by}
+use Rattle.hound.specs.Run.{AppendedSurvives, IsNotBegunAs, IsSession, Ran, all_calls, end_call, accepted_by_steps, asked_by}
 use Rattle.hound.proofs.Calling.{begin as where_begun}
 use Rattle.hound.proofs.Knowing.{last_known}
 use Rattle.hound.proofs.Keeping.{all_accepted, left_kept, survives}
@@ -176,7 +167,7 @@ module _ {M : Type 0} {g : Ghosts M} (told : IsTrue g.tells) (kept : IsTrue g.ke
       × LosesNothing s (data_start s) [] (all_calls r) m contents)
   survived begin s is_new long (inl (e, is_error, why, unmarked)) =
       let part = part_of_header g.tells g.keeps of_durable s old d e told
-      (subst (λ b. IsNotBegun g.tells g.keeps of_durable b old d e) is_new why) in
+      (subst (λ b. IsNotBegunAs g.tells g.keeps of_durable b old d e) is_new why) in
       absurd (omega (
         arith,
         long,
@@ -227,7 +218,7 @@ module _ {M : Type 0} {g : Ghosts M} (told : IsTrue g.tells) (kept : IsTrue g.ke
       → IsSession g.tells g.keeps of_durable begin steps marks end old answer d
       → (m.past ≡ []) ⊎ ((r : Run Append) × AppendedSurvives (shown old).contents (all_calls r) m)
   appended_survives begin is_append (inl (e, is_error, not, unmarked)) =
-      let why = subst (λ b. IsNotBegun g.tells g.keeps of_durable b old d e) is_append not in
+      let why = subst (λ b. IsNotBegunAs g.tells g.keeps of_durable b old d e) is_append not in
       inl (ap (λ (m : MediumState). m.past) is ∙ sym (same_past d told kept)
       ∙ (why told).puts.stays.past ∙ unused)
   appended_survives begin is_append (inr ran) =

@@ -3,19 +3,11 @@
 use Rattle.std.specs.Prelude.{◌≡◌, ℕ, ◌+◌, ◌-◌, ◌/◌, ◌<◌, ◌≤◌, ◌⊎◌, max, Bool, true, List, [], ◌∷◌, ◌++◌, length}
 use Rattle.std.specs.List.{concat, flat_map, AllByRecursion}
 use Rattle.std.specs.Io.{StartsWith}
-use Rattle.hound_spec.specs.declared.spec.WavSpecEx.{WavSpecEx}
-use Rattle.hound_spec.specs.Header.{canonical, data_start}
-use Rattle.hound_medium.specs.Bytes.{moment}
-use Rattle.hound_medium.specs.State.{MediumState}
-use Rattle.hound_durable.specs.Losses.{Ascends, SurvivesLoss, place_of}
-use Rattle.hound_reader.specs.Chunks.{Head}
-use Rattle.hound_reader.specs.Fmt.{IsSoundSpec}
-use Rattle.hound_writer.specs.Answers.{if_marked, mark_of}
-use Rattle.hound_writer.specs.Calls.{Asked, Begun, Call, Known, LeftBy, appended, found_in, new_file, publish, put, start_of}
-use Rattle.hound_writer.specs.Counts.{Counts}
-use Rattle.hound_writer.specs.Sizes.{field}
-use Rattle.hound_writer.specs.Storing.{IsStored}
-use Rattle.hound_writer.specs.Writer.{HasHeader}
+use Rattle.hound_spec.specs.{WavSpecEx, canonical, data_start}
+use Rattle.hound_medium.specs.{moment, MediumState}
+use Rattle.hound_durable.specs.{Ascends, SurvivesLoss, place_of}
+use Rattle.hound_reader.specs.{Head, IsSoundSpec}
+use Rattle.hound_writer.specs.{if_marked, mark_of, IsStored, Asked, Begun, Call, Known, LeftBy, appended, found_in, new_file, publish, put, start_of, Counts, field, HasHeader}
 
 -- what a call accepted, by what it asked and its mark
 abbrev pub accepted_of : Asked → Bool → List (List ℕ)

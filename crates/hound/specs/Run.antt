@@ -1,38 +1,75 @@
--- A run of a writer: how it begins, its steps as calls, and how it ends.
-use Rattle.std.specs.Prelude.{◌≡◌, ℕ, ◌+◌, ◌/◌, ◌≤◌, ◌⊎◌, replicate, Bool, false, List, [], ◌∷◌, ◌++◌, length, drop, map, Result, Ok, Err}
-use Rattle.hound_spec.specs.declared.error.Error.{Error}
-use Rattle.hound_spec.specs.declared.spec.WavSpecEx.{WavSpecEx}
-use Rattle.hound_medium.specs.State.{MediumState, WhereTells, WhereKeeps}
-use Rattle.hound_sample.specs.Container.{containers}
-use Rattle.hound_reader.specs.Chunks.{Head}
-use Rattle.hound_writer.specs.Answers.{mark_of}
-use Rattle.hound_writer.specs.Appending.{Appends, IsNotAppended}
-use Rattle.hound_writer.specs.Beginning.{Begins as BeginsFile, IsNotBegun as IsNoFile}
-use Rattle.hound_writer.specs.Calls.{Begun, Call, Lead, appended, asked_by_all, found_in, new_file, publish, start_of}
-use Rattle.hound_writer.specs.Publishing.{Finishes}
-use Rattle.hound_writer.specs.Sizes.{ChangesSizesOnly}
-use Rattle.hound_writer.specs.Writer.{WriterState, IsWhole, accepted_samples}
+-- A run of a writer: how it begins, its steps as calls, the containers of each, and how it ends.
+use Rattle.std.specs.Prelude.{ℤ, ◌&&◌, ◌==◌, Bool, true, false, if◌then◌else◌, List, [], ◌∷◌, ◌++◌, Result, Err, ℕ, ◌≡◌, ◌+◌, ◌/◌, ◌≤◌, ◌⊎◌, replicate, length, drop, map, Ok}
+use Rattle.std.specs.List.{flat_map}
+use Rattle.hound_spec.specs.{Error, SampleFormat, Int, Float, WavSpec, WavSpecEx}
+use Rattle.hound_sample.specs.{Refusal, unsupported, int_container, pattern_container, containers}
+use Rattle.hound_medium.specs.{MediumState, WhereTells, WhereKeeps}
+use Rattle.hound_writer.specs.{one, containers_in, mark_of, Asked, Does, publish, write, Begun, Call, Lead, appended, asked_by_all, found_in, new_file, start_of, WriterState, ChangesSizesOnly, IsWhole, accepted_samples, Appends, IsNotAppended, Begins, IsNotBegun, Finishes}
+use Rattle.hound.specs.Headline.{accepted_of, HoldsAtEnd, Promises, SurvivesAtEnd}
 use Rattle.hound.specs.declared.session.Step.{Step}
+use Rattle.hound.specs.declared.session.Step.TheVariants.{Whole, Bits, Batch, Flush}
+use Rattle.hound_reader.specs.{Head}
 use Rattle.hound.specs.declared.session.Begin.{Begin}
 use Rattle.hound.specs.declared.session.Begin.TheVariants.{New, Append}
 use Rattle.hound.specs.declared.session.End.{End}
 use Rattle.hound.specs.declared.session.End.TheVariants.{Finalize, Drop}
-use Rattle.hound.specs.Headline.{HoldsAtEnd, Promises, SurvivesAtEnd}
-use Rattle.hound.specs.Steps.{asked_by}
+
+abbrev pub is_int : SampleFormat → Bool
+is_int Int = true
+is_int Float = false
+
+-- whether samples are integers of sixteen bits, which batches are for
+abbrev pub is_sixteen : WavSpec → Bool
+is_sixteen spec = is_int spec.sample_format && spec.bits_per_sample == 16
+
+-- the containers of a batch, those of its values by their table, or why it has none
+abbrev pub batch_containers : WavSpecEx → List ℤ → Result (List (List ℕ)) Refusal
+batch_containers s values =
+    if is_sixteen s.spec then containers_in int_container s values else Err unsupported
+
+-- what a step asks of a writer: to accept its containers, one for each value of a batch, or to publish
+abbrev pub asked_by : WavSpecEx → Step → Asked
+asked_by s (Whole value) =
+    write (one (int_container value s.spec.bits_per_sample s.bytes_per_sample))
+asked_by s (Bits bits) =
+    write (one (pattern_container bits.0 s.spec.bits_per_sample s.bytes_per_sample))
+asked_by s (Batch values) = write (batch_containers s values.now)
+asked_by s Flush = publish
+
+-- what a step does to its writer, by its result: what its call does
+abbrev pub Takes : {M : Type 0} → Bool → Bool → (M → MediumState) → Step →
+    Result (Unit {0}) Error → WriterState M → WriterState M → Type 0
+Takes tells keeps state step answer old new =
+    Does tells keeps state (asked_by old.spec_ex step) answer old new
+
+-- what a step accepted, by its mark
+abbrev pub accepted_by : WavSpecEx → Step → Bool → List (List ℕ)
+accepted_by s step mark = accepted_of (asked_by s step) mark
+
+-- what steps accepted, by their marks
+abbrev pub accepted_by_steps : WavSpecEx → List Step → List Bool → List (List ℕ)
+accepted_by_steps s [] marks = []
+accepted_by_steps s (step ∷ steps) [] = []
+accepted_by_steps s (step ∷ steps) (mark ∷ marks) =
+    accepted_by s step mark ++ accepted_by_steps s steps marks
+
+-- the containers of steps that were all accepted
+abbrev pub containers_of : WavSpecEx → List Step → List (List ℕ)
+containers_of s steps = flat_map (λ step. accepted_by s step true) steps
 
 -- how a run begins: with a new file, or after the data of the existing one
-abbrev pub Begins : {M : Type 0} → Bool → Bool → (M → MediumState) → Begin → M → WriterState M →
+abbrev pub BeginsAs : {M : Type 0} → Bool → Bool → (M → MediumState) → Begin → M → WriterState M →
     Type 0
-Begins tells keeps state (New spec_ex) medium w =
-    BeginsFile tells keeps state spec_ex (state medium) w
-Begins tells keeps state Append medium w = Appends tells state (state medium) w
+BeginsAs tells keeps state (New spec_ex) medium w =
+    Begins tells keeps state spec_ex (state medium) w
+BeginsAs tells keeps state Append medium w = Appends tells state (state medium) w
 
 -- why it doesn't begin, with the medium as it is then
-abbrev pub IsNotBegun : {M : Type 0} → Bool → Bool → (M → MediumState) → Begin → M → M → Error →
+abbrev pub IsNotBegunAs : {M : Type 0} → Bool → Bool → (M → MediumState) → Begin → M → M → Error →
     Type 0
-IsNotBegun tells keeps state (New spec_ex) medium back e =
-    IsNoFile tells keeps state spec_ex medium back e
-IsNotBegun tells keeps state Append medium back e =
+IsNotBegunAs tells keeps state (New spec_ex) medium back e =
+    IsNotBegun tells keeps state spec_ex medium back e
+IsNotBegunAs tells keeps state Append medium back e =
     WhereTells tells (IsNotAppended (state medium) (state back) e)
 
 -- the result of a run by that of its end: Ok at a drop, which publishes too
@@ -41,9 +78,9 @@ EndsAs Finalize answer finished = answer ≡ finished
 EndsAs Drop answer finished = answer ≡ Ok tt
 
 -- the spec and the file of a run as its writer began it
-abbrev pub spec_of : {M : Type 0} → Begin → WriterState M → WavSpecEx
-spec_of (New spec_ex) first = spec_ex
-spec_of Append first = first.spec_ex
+abbrev pub begun_spec : {M : Type 0} → Begin → WriterState M → WavSpecEx
+begun_spec (New spec_ex) first = spec_ex
+begun_spec Append first = first.spec_ex
 
 abbrev pub file_of : {M : Type 0} → (M → MediumState) → Begin → WriterState M → Begun
 file_of state (New spec_ex) first = new_file
@@ -65,19 +102,19 @@ pub record Ran {M : Type 0} (tells keeps : Bool) (state : M → MediumState) (be
   pub last : WriterState M
   pub calls : List Call
   pub finished : Result (Unit {0}) Error
-  pub begins : Begins tells keeps state begin old first
+  pub begins : BeginsAs tells keeps state begin old first
   pub lead : Lead tells keeps state calls first last
-  pub asked : asked_by_all calls ≡ map (asked_by (spec_of begin first)) steps
+  pub asked : asked_by_all calls ≡ map (asked_by (begun_spec begin first)) steps
   pub marked : marks ≡ map (λ (call : Call). mark_of call.answer) calls
   pub ends : Finishes tells keeps state last finished medium
   pub told : EndsAs end answer finished
   pub front : WhereTells tells (ChangesSizesOnly first.data_start (state first.medium).contents
       (state medium).contents)
   pub holds : WhereTells tells (IsWhole state first →
-      HoldsAtEnd (spec_of begin first) (file_of state begin first)
+      HoldsAtEnd (begun_spec begin first) (file_of state begin first)
       (calls ++ (end_call state last finished ∷ [])) (state first.medium) (state medium))
   pub promises : WhereKeeps tells keeps (IsWhole state first →
-      let s = spec_of begin first in let file = file_of state begin first in
+      let s = begun_spec begin first in let file = file_of state begin first in
       Promises s (start_of s file) (found_in file)
       (calls ++ (end_call state last finished ∷ [])) (state medium))
 
@@ -92,7 +129,7 @@ all_calls {state = state} run = run.calls ++ (end_call state run.last run.finish
 abbrev pub IsSession : {M : Type 0} → Bool → Bool → (M → MediumState) → Begin → List Step →
     List Bool → End → M → Result (Unit {0}) Error → M → Type 0
 IsSession tells keeps state begin steps marks end old answer medium =
-    ((e : Error) × (answer ≡ Err e) × IsNotBegun tells keeps state begin old medium e
+    ((e : Error) × (answer ≡ Err e) × IsNotBegunAs tells keeps state begin old medium e
     × (marks ≡ replicate (length steps) false))
     ⊎ Ran tells keeps state begin steps marks end old answer medium
 

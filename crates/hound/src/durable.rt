@@ -1,18 +1,15 @@
 // A whole run over a medium that a loss of power may tear.
 ghost use Rattle.std.specs.Prelude.{◌≡◌, ◌⊎◌, ◌<◌, false, true, slice_index_or, ◌-◌, ◌/◌, ◌≤◌, ℕ, List, [], OnOk, length};
 ghost use Rattle.std.specs.Io.{StartsWith};
-ghost use Rattle.hound_spec.specs.declared.spec.WavSpecEx.{WavSpecEx};
-ghost use Rattle.hound_spec.specs.Header.{canonical, data_start};
-ghost use Rattle.hound_medium.specs.State.{WhereTells, WhereKeeps};
-ghost use Rattle.hound_durable.specs.Losses.{SurvivesLoss};
-ghost use Rattle.hound_writer.specs.Counts.{Counts};
+ghost use Rattle.hound_spec.specs.{WavSpecEx, canonical, data_start};
+ghost use Rattle.hound_medium.specs.{WhereTells, WhereKeeps};
+ghost use Rattle.hound_durable.specs.{SurvivesLoss, Around};
+ghost use Rattle.hound_writer.specs.{Counts};
 ghost use Rattle.hound.specs.declared.session.Begin.TheVariants.{New, Append};
 ghost use Rattle.hound.specs.declared.session.End.TheVariants.{Finalize};
 ghost use Rattle.hound.specs.declared.session.Step.TheVariants.{Flush};
 ghost use Rattle.hound.specs.Headline.{LosesNothing};
-ghost use Rattle.hound.specs.Run.{AppendedSurvives, IsSession, Ran, all_calls};
-ghost use Rattle.hound.specs.Steps.{accepted_by_steps};
-ghost use Rattle.hound_durable.specs.Durables.{Around};
+ghost use Rattle.hound.specs.Run.{AppendedSurvives, IsSession, Ran, all_calls, accepted_by_steps};
 
 use crate::runs::run_session;
 use crate::session::{Begin, End, Step};

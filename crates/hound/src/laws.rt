@@ -1,32 +1,19 @@
 // What holds for every run.
 ghost use Rattle.std.specs.Prelude.{◌≡◌, ◌<◌, ◌≤◌, ◌-◌, ◌/◌, ℕ, Bool, false, IsTrue, List, [], ◌∷◌, ◌++◌, Ok, Result, length, map};
 ghost use Rattle.std.specs.List.{flat_map};
-ghost use Rattle.hound_spec.specs.declared.error.Error.{Error};
-ghost use Rattle.hound_spec.specs.declared.spec.WavSpecEx.{WavSpecEx};
-ghost use Rattle.hound_spec.specs.Header.{canonical};
-ghost use Rattle.hound_medium.specs.State.{MediumState, WhereKeeps, WhereTells};
-ghost use Rattle.hound_durable.specs.Durables.{within};
-ghost use Rattle.hound_sample.specs.Container.{containers, int_container};
-ghost use Rattle.hound_reader.specs.Fmt.{IsSoundSpec};
-ghost use Rattle.hound_writer.specs.Answers.{mark_of};
-ghost use Rattle.hound_writer.specs.Calls.{AreKnown, Asked, Begun, Call, IsKnown, Known, Lead, Left, asked_by_all, found_in, made, marked, new_file, publish, start_of};
-ghost use Rattle.hound_writer.specs.Accepting.{Accepts};
-ghost use Rattle.hound_writer.specs.Batch.{IsSameFile};
-ghost use Rattle.hound_writer.specs.Many.{AcceptsEach, short_bytes};
-ghost use Rattle.hound_writer.specs.Publishing.{Finishes};
-ghost use Rattle.hound_writer.specs.Writer.{WriterState, IsWhole, accepted_samples, data_length};
-ghost use Rattle.hound_writer.specs.Sizes.{field};
-ghost use Rattle.hound_repair.specs.Held.{held};
-ghost use Rattle.hound_repair.specs.Repairing.{IsNoPad, ReadsFrames, Repairs};
-ghost use Rattle.hound_repair.specs.declared.sizes.Repair.{Repair};
-ghost use Rattle.hound_repair.specs.declared.sizes.RepairState.TheVariants.{HasChunksAfterData};
+ghost use Rattle.hound_spec.specs.{Error, WavSpecEx, canonical};
+ghost use Rattle.hound_medium.specs.{MediumState, WhereKeeps, WhereTells};
+ghost use Rattle.hound_durable.specs.{within};
+ghost use Rattle.hound_sample.specs.{containers, int_container};
+ghost use Rattle.hound_reader.specs.{IsSoundSpec};
+ghost use Rattle.hound_writer.specs.{mark_of, Accepts, AcceptsEach, short_bytes, AreKnown, Asked, Begun, Call, IsKnown, Known, Lead, Left, asked_by_all, found_in, made, marked, new_file, publish, start_of, IsSameFile, Finishes, WriterState, IsWhole, accepted_samples, data_length, field};
+ghost use Rattle.hound_repair.specs.{held, IsNoPad, ReadsFrames, Repairs, Repair, HasChunksAfterData};
 ghost use Rattle.hound.specs.declared.session.Begin.TheVariants.{New};
 ghost use Rattle.hound.specs.declared.session.Begin.{Begin};
 ghost use Rattle.hound.specs.declared.session.End.{End};
 ghost use Rattle.hound.specs.Headline.{HasPublished, Holds, IsLeftAfter, Keeps, Kept, KeptWithin, accepted_by_all, accepted_of, begins_at};
-ghost use Rattle.hound.specs.Run.{Begins, EndsAs, Ran};
+ghost use Rattle.hound.specs.Run.{BeginsAs, EndsAs, Ran, asked_by, containers_of};
 ghost use Rattle.hound.specs.Sessions.{RunsOn, all_steps};
-ghost use Rattle.hound.specs.Steps.{asked_by, containers_of};
 
 use crate::session::Step;
 use hound_durable::Durable;
@@ -54,7 +41,7 @@ pub fn a_batch_is_its_values<M: Medium>(values: &[i16])
 pub fn calls_are_a_run<M: Medium>(steps: &[Step])
     ensures { (begin : Begin) (end : End) (old medium : M) (first last : WriterState M)
         (calls : List Call) (answer finished : Result Unit Error)
-        → Begins M.tells M.keeps M.state begin old first
+        → BeginsAs M.tells M.keeps M.state begin old first
         → Lead M.tells M.keeps M.state calls first last
         → asked_by_all calls ≡ map (asked_by first.spec_ex) steps.now
         → Finishes M.tells M.keeps M.state last finished medium → EndsAs end answer finished →

@@ -1,19 +1,13 @@
 // Whole runs.
 ghost use Rattle.std.specs.Prelude.{◌≡◌, ◌≤◌, Ok, OnOk, List, Result, [], length, map, MatchResult};
 ghost use Rattle.std.specs.Io.{StartsWith};
-ghost use Rattle.hound_spec.specs.declared.error.Error.{Error};
-ghost use Rattle.hound_spec.specs.declared.spec.WavSpecEx.{WavSpecEx};
-ghost use Rattle.hound_spec.specs.Writable.{IsWritable};
-ghost use Rattle.hound_spec.specs.Header.{canonical, data_start};
-ghost use Rattle.hound_medium.specs.State.{WhereTells};
-ghost use Rattle.hound_writer.specs.Answers.{mark_of};
-ghost use Rattle.hound_writer.specs.Calls.{Call, Lead, asked_by_all};
-ghost use Rattle.hound_writer.specs.Publishing.{Finishes};
+ghost use Rattle.hound_spec.specs.{Error, WavSpecEx, IsWritable, canonical, data_start};
+ghost use Rattle.hound_medium.specs.{WhereTells};
+ghost use Rattle.hound_writer.specs.{mark_of, Call, Lead, asked_by_all, Finishes};
 ghost use Rattle.hound.specs.declared.session.Begin.TheVariants.{New};
 ghost use Rattle.hound.specs.declared.session.End.TheVariants.{Finalize};
 ghost use Rattle.hound.specs.Headline.{NoFault};
-ghost use Rattle.hound.specs.Run.{Begins, EndsAs, IsNotBegun, IsSession, Ran};
-ghost use Rattle.hound.specs.Steps.{accepted_by_steps, asked_by};
+ghost use Rattle.hound.specs.Run.{BeginsAs, EndsAs, IsNotBegunAs, IsSession, Ran, accepted_by_steps, asked_by};
 
 use crate::session::{Begin, End, Step};
 use crate::steps::take_step;
@@ -34,14 +28,14 @@ fn is_marked(answer: &Result<()>) -> bool
     }
 }
 
-// Begins a new file, or appends to the existing one.
+// BeginsAs a new file, or appends to the existing one.
 pub(crate) fn begin_writer<M: Source + Medium>(
     medium: M,
     begin: Begin,
 ) -> result::Result<WavWriter<M>, (M, Error)>
     requires { WhereTells M.tells ((M.state medium).place ≡ 0) }
-    ensures { MatchResult result (Begins M.tells M.keeps M.state begin medium)
-        (λ refused. IsNotBegun M.tells M.keeps M.state begin medium refused.0 refused.1) }
+    ensures { MatchResult result (BeginsAs M.tells M.keeps M.state begin medium)
+        (λ refused. IsNotBegunAs M.tells M.keeps M.state begin medium refused.0 refused.1) }
 {
     match begin {
         Begin::New(spec_ex) => WavWriter::try_new(medium, spec_ex),

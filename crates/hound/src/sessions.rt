@@ -1,16 +1,13 @@
 // Sessions one after the other over one medium.
 ghost use Rattle.std.specs.Prelude.{◌≡◌, ◌<◌, [], Err, Result, OnOk, IfErr, length, MatchResult};
 ghost use Rattle.std.specs.Io.{StartsWith};
-ghost use Rattle.hound_spec.specs.declared.error.Error.{Error};
-ghost use Rattle.hound_spec.specs.Header.{canonical};
-ghost use Rattle.hound_spec.specs.Writable.{IsWritable};
-ghost use Rattle.hound_medium.specs.State.{WhereTells};
-ghost use Rattle.hound_writer.specs.Publishing.{Finishes};
+ghost use Rattle.hound_spec.specs.{Error, canonical, IsWritable};
+ghost use Rattle.hound_medium.specs.{WhereTells};
+ghost use Rattle.hound_writer.specs.{Finishes};
 ghost use Rattle.hound.specs.declared.session.Begin.TheVariants.{Append, New};
-ghost use Rattle.hound.specs.FirstError.{IsAnswered};
+ghost use Rattle.hound.specs.Sessions.{IsAnswered, RunsFrom, RunsOn, RunsOnce, RunsUntil, StopsShort, all_steps};
 ghost use Rattle.hound.specs.Headline.{NoFault};
-ghost use Rattle.hound.specs.Sessions.{RunsFrom, RunsOn, RunsOnce, RunsUntil, StopsShort, all_steps};
-ghost use Rattle.hound.specs.Steps.{containers_of};
+ghost use Rattle.hound.specs.Run.{containers_of};
 
 use crate::runs::begin_writer;
 use crate::session::{Begin, Step};

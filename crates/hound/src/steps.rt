@@ -1,7 +1,7 @@
 // Steps taken with a writer.
 ghost use Rattle.std.specs.Prelude.{◌≡◌, false};
-ghost use Rattle.hound_writer.specs.Accepting.{Accepts};
-ghost use Rattle.hound.specs.Steps.{Takes, is_sixteen, batch_containers};
+ghost use Rattle.hound_writer.specs.{Accepts};
+ghost use Rattle.hound.specs.Run.{Takes, is_sixteen, batch_containers};
 
 use crate::session::Step;
 use hound_medium::Medium;

@@ -1,6 +1,6 @@
 // The workload of batches.
 ghost use Rattle.std.specs.Prelude.{◌≡◌};
-ghost use Rattle.hound.specs.Room.{IsSixteen};
+ghost use Rattle.hound.specs.{IsSixteen};
 
 use crate::pattern::{Pattern, Sixteen};
 use hound::{Medium, Result, WavWriter};

@@ -1,6 +1,6 @@
 -- Samples that are checked.
 use Rattle.std.proofs.Common.{◌≡◌, Result, Ok, Err, refl, subst}
-use Rattle.hound_sample.specs.Container.{Refusal, too_wide, unsupported}
+use Rattle.hound_sample.specs.{Refusal, too_wide, unsupported}
 use Rattle.hound_c.specs.Writing.{check_of}
 use Rattle.hound_c.specs.declared.fault.Fault.{Fault}
 use Rattle.hound_c.specs.declared.fault.Fault.TheVariants.{Wider, OtherPair}

@@ -1,7 +1,6 @@
 // What is before the data.
 ghost use Rattle.std.specs.Prelude.{◌≡◌, ◌≤◌, ◌/◌, IfOk, IfErr, None, Some, length};
-ghost use Rattle.hound_reader.specs.Chunks.{Head, IsDataPlace, Readable, Refused, Unreadable, data_fault};
-ghost use Rattle.hound_reader.specs.Fmt.{IsSoundSpec};
+ghost use Rattle.hound_reader.specs.{Head, IsDataPlace, Readable, Refused, Unreadable, data_fault, IsSoundSpec};
 
 use hound_number::Input;
 use hound_reader::{Cause, FileHead, HeadError, Reason, read_until_data};

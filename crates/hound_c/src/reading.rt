@@ -1,6 +1,6 @@
 // Blocks of samples that are read.
 ghost use Rattle.std.specs.Prelude.{◌≡◌, ◌≤◌, IfOk, IsOk, None, length};
-ghost use Rattle.hound_reader.specs.Reader.{refusal_at};
+ghost use Rattle.hound_reader.specs.{refusal_at};
 ghost use Rattle.hound_c.specs.Reading.{Decodes, DecodesSamples, Reads, read_check};
 ghost use Rattle.hound_c.specs.Writing.{spec_of};
 

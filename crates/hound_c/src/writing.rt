@@ -1,8 +1,7 @@
 // Whole files that are written.
 ghost use Rattle.std.specs.Prelude.{◌≡◌, ◌+◌, ◌*◌, ◌%◌, ◌^◌, ◌≤◌, ◌++◌, IsOk, IfOk, IfErr, length, take, drop};
-ghost use Rattle.hound_spec.specs.FmtChunk.{greatest_u32};
-ghost use Rattle.hound_spec.specs.Header.{data_start, padded, padding, riff_size};
-ghost use Rattle.hound_sample.specs.Slices.{all_containers, joined_containers};
+ghost use Rattle.hound_spec.specs.{greatest_u32, data_start, padded, padding, riff_size};
+ghost use Rattle.hound_sample.specs.{all_containers, joined_containers};
 ghost use Rattle.hound_c.specs.Writing.{Encodes, IsSizeFault, Sizes, Writes, check_of, spec_of};
 
 use crate::fault::Fault;

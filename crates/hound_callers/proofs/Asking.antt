@@ -2,7 +2,7 @@
 use Rattle.std.proofs.Common.{◌≡◌, ℕ, zero, suc, ◌+◌, ◌%◌, ◌<◌, List, [], ◌∷◌, ◌++◌, length, take, get_or, Result, sym, ◌∙◌, ap, arith, append_assoc}
 use Rattle.std.proofs.lemmas.List.{append-nil}
 use Rattle.std.specs.Prelude.{◌==◌}
-use Rattle.hound.specs.Container.{Refusal}
+use Rattle.hound.specs.{Refusal}
 use Rattle.hound_callers.specs.Recording.{block_asks, recorder_asks}
 
 asks_from : {V : Type 0} (containers : V → Result (List (List ℕ)) Refusal) (n : ℕ)

@@ -2,14 +2,7 @@
 use Rattle.std.proofs.Common.{◌≡◌, ℕ, ◌+◌, Bool, false, IsTrue, List, [], ◌∷◌, ◌++◌, take, drop, Result, Ok, Err, OnOk, refl, sym, ◌∙◌, ap, append_assoc}
 use Rattle.std.proofs.lemmas.List.{append-nil}
 use Rattle.std.proofs.Math.Seq.{take-add}
-use Rattle.hound.specs.Accepting.{Accepts}
-use Rattle.hound.specs.Container.{Refusal}
-use Rattle.hound.specs.Many.{containers_in}
-use Rattle.hound.specs.Slices.{all_containers, and_more}
-use Rattle.hound.specs.Publishing.{Checkpoints, ReadsAs}
-use Rattle.hound.specs.State.{MediumState}
-use Rattle.hound.specs.Writer.{WriterState, IsWhole, accepted_samples}
-use Rattle.hound.specs.declared.Error.{Error}
+use Rattle.hound.specs.{Accepts, Refusal, containers_in, all_containers, and_more, Checkpoints, ReadsAs, MediumState, WriterState, IsWhole, accepted_samples, Error}
 
 -- the containers of values and of those after them
 all_append : {V : Type 0} (container : V → Result (List ℕ) Refusal) (before after : List V)

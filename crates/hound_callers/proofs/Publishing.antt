@@ -4,10 +4,7 @@ use Rattle.std.proofs.lemmas.Bool.{false≢true}
 use Rattle.std.proofs.lemmas.Grind.{flat_map-append}
 use Rattle.std.proofs.lemmas.List.{append-nil, map-append, take_more}
 use Rattle.std.specs.List.{flat_map}
-use Rattle.hound.specs.Answers.{if_marked}
-use Rattle.hound.specs.Calls.{AreKnown, Asked, Call, IsKnown, Known, marked, publish, write}
-use Rattle.hound.specs.Container.{Refusal}
-use Rattle.hound.specs.Headline.{HasPublished, accepted_by_all, accepted_of}
+use Rattle.hound.specs.{if_marked, AreKnown, Asked, Call, IsKnown, Known, marked, publish, write, Refusal, HasPublished, accepted_by_all, accepted_of}
 use Rattle.hound_callers.specs.Recording.{HaveContainers, published_calls, seen}
 
 pub at_ok : {T E P : Type 0} (r : Result T E) → is_ok r ≡ true → OnOk r P → P

@@ -1,9 +1,6 @@
 -- The tables of a sample type that reads either format.
 use Rattle.std.specs.Prelude.{◌≡◌, ℕ, ℤ, pos, ◌≤◌, ⊤, List, length, Option, Result, Ok}
-use Rattle.hound.specs.Container.{Refusal, int_container, pattern_container}
-use Rattle.hound.specs.Meaning.{ReadRefusal, float_refusal, int_meaning, int_refusal, low_short, pattern}
-use Rattle.hound.specs.ContainerLaws.{int_container-in_width, pattern_container-in_width}
-use Rattle.hound.specs.declared.SampleFormat.{SampleFormat}
+use Rattle.hound.specs.{Refusal, int_container, pattern_container, ReadRefusal, float_refusal, int_meaning, int_refusal, low_short, pattern, int_container-in_width, pattern_container-in_width, SampleFormat}
 use Rattle.hound.specs.declared.SampleFormat.TheVariants.{Int, Float}
 use Rattle.hound_callers.specs.declared.either.EitherSample.{EitherSample}
 use Rattle.hound_callers.specs.declared.either.EitherSample.TheVariants.{Whole, Bits}

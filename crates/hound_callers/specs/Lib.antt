@@ -1,4 +1,3 @@
 pub mod Twelve
 pub mod Either
-pub mod Checkpoints
 pub mod Recording

@@ -1,8 +1,8 @@
--- What a recorder asks of its writer, and what it sees.
-use Rattle.std.specs.Prelude.{◌≡◌, ◌⊎◌, ℕ, suc, ◌%◌, ◌==◌, Bool, true, false, List, [], ◌∷◌, ◌++◌, map, Result, Ok}
+-- What a recorder asks of its writer, and what it sees; the checkpoints of a session.
+use Rattle.std.specs.Prelude.{◌≡◌, ◌⊎◌, ℕ, suc, ◌%◌, ◌==◌, Bool, true, false, List, [], ◌∷◌, ◌++◌, map, Result, Ok, ◌+◌, ◌<◌, ◌≤◌, length, slice_index_or, Option, None, Some}
 use Rattle.std.specs.List.{flat_map}
-use Rattle.hound.specs.Calls.{Asked, Known, made, marked, publish, write}
-use Rattle.hound.specs.Container.{Refusal}
+use Rattle.hound.specs.{Asked, Known, made, marked, publish, write, Refusal, Step}
+use Rattle.hound.specs.declared.session.Step.TheVariants.{Flush}
 
 -- a block is written, and if it is to be published a flush follows
 abbrev pub block_asks : Result (List (List ℕ)) Refusal → Bool → List Known
@@ -46,3 +46,19 @@ HaveContainers containers [] list = list ≡ []
 HaveContainers containers (block ∷ blocks) list = (first rest : List (List ℕ))
     × (containers block ≡ Ok first) × HaveContainers containers blocks rest
     × (list ≡ first ++ rest)
+
+-- the step with this number is a flush with a mark: it published all that was accepted
+abbrev pub IsCheckpoint : List Step → List Bool → ℕ → Type 0
+IsCheckpoint steps marks i =
+    (i < length steps) × (slice_index_or steps i Flush ≡ Flush)
+    × (slice_index_or marks i false ≡ true)
+
+-- no step from one to before another is a checkpoint
+abbrev pub HasNone : List Step → List Bool → ℕ → ℕ → Type 0
+HasNone steps marks from to = (i : ℕ) → from ≤ i → i < to → IsCheckpoint steps marks i → ⊥
+
+-- of the first n steps this one is the last checkpoint, or there is none
+abbrev pub IsLast : List Step → List Bool → ℕ → Option ℕ → Type 0
+IsLast steps marks n None = HasNone steps marks 0 n
+IsLast steps marks n (Some i) =
+    (i < n) × IsCheckpoint steps marks i × HasNone steps marks (i + 1) n

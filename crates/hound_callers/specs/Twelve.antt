@@ -2,10 +2,7 @@
 use Rattle.std.proofs.Common.{◌≡◌, ℕ, ℤ, pos, ◌%◌, ◌≤◌, ◌-ℤ◌, Bool, true, false, cond, ◌&&◌, eqb, List, length, Option, None, Some, Result, Ok, Err, refl, ap, arith}
 use Rattle.std.specs.Prelude.{◌==◌, nat_lt, if◌then◌else◌}
 use Rattle.std.proofs.lemmas.Bool.{and_parts, eqb-true}
-use Rattle.hound.specs.Number.{twos_complement, signed_bytes_of}
-use Rattle.hound.specs.Container.{Refusal, too_wide, unsupported, fits}
-use Rattle.hound.specs.Meaning.{ReadRefusal, other_format, wider, other_pair, int_meaning}
-use Rattle.hound.specs.declared.SampleFormat.{SampleFormat}
+use Rattle.hound.specs.{twos_complement, signed_bytes_of, Refusal, too_wide, unsupported, fits, ReadRefusal, other_format, wider, other_pair, int_meaning, SampleFormat}
 use Rattle.hound.specs.declared.SampleFormat.TheVariants.{Int, Float}
 
 -- the lowest twelve bits, as a signed number

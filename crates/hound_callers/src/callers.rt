@@ -1,36 +1,11 @@
 // Functions of a user of the library, whose contracts follow from its public ones.
 ghost use Rattle.std.specs.Prelude.{◌≡◌, ℕ, suc, ◌+◌, ◌-◌, ◌/◌, ◌<◌, ◌≤◌, ◌++◌, Bool, false, true, List, length, drop, [], ◌∷◌, slice_index_or, None, Ok, Result, IfOk, IfSome, OnOk};
 ghost use Rattle.std.specs.List.{concat};
-ghost use Rattle.hound.specs.Calls.{Asked, Begun, Call, found_in, start_of};
-ghost use Rattle.hound.specs.Fmt.{IsSoundSpec};
-ghost use Rattle.hound.specs.Batch.{IsSameFile};
-ghost use Rattle.hound.specs.Container.{containers};
-ghost use Rattle.hound.specs.Containers.{AreContainers};
-ghost use Rattle.hound.specs.Counts.{Counts};
-ghost use Rattle.hound.specs.Header.{canonical, data_start};
-ghost use Rattle.hound.specs.Durables.{Around};
-ghost use Rattle.hound.specs.Headline.{HasPublished, IsLeftAfter, Keeps, LosesNothing, accepted_by_all, begins_at};
-ghost use Rattle.hound.specs.Held.{held};
-ghost use Rattle.hound.specs.Losses.{SurvivesLoss};
-ghost use Rattle.hound.specs.Many.{containers_in};
-ghost use Rattle.hound.specs.Publishing.{ReadsAs};
-ghost use Rattle.hound.specs.Reader.{samples_left};
-ghost use Rattle.hound.specs.Refusals.{OpensAs};
-ghost use Rattle.hound.specs.Repairing.{IsNoPad, ReadsFrames};
-ghost use Rattle.hound.specs.Room.{IsSixteen};
-ghost use Rattle.hound.specs.Run.{IsSession, Ran, all_calls};
-ghost use Rattle.hound.specs.Sizes.{field};
-ghost use Rattle.hound.specs.State.{MediumState, WhereKeeps, WhereTells};
-ghost use Rattle.hound.specs.Steps.{accepted_by_steps};
-ghost use Rattle.hound.specs.declared.Error.{Error};
+ghost use Rattle.hound.specs.{Asked, Begun, Call, found_in, start_of, IsSoundSpec, IsSameFile, containers, AreContainers, Counts, canonical, data_start, Around, HasPublished, IsLeftAfter, Keeps, LosesNothing, accepted_by_all, begins_at, held, SurvivesLoss, containers_in, ReadsAs, samples_left, OpensAs, IsNoPad, ReadsFrames, IsSixteen, IsSession, Ran, all_calls, accepted_by_steps, field, MediumState, WhereKeeps, WhereTells, Error, End, IsWritable, IsWhole, accepted_samples, sample_count, WavSpecEx};
 ghost use Rattle.hound.specs.declared.session.Begin.TheVariants.{New};
-ghost use Rattle.hound.specs.declared.session.End.{End};
 ghost use Rattle.hound.specs.declared.session.End.TheVariants.{Drop};
 ghost use Rattle.hound.specs.declared.session.Step.TheVariants.{Flush};
-ghost use Rattle.hound.specs.Writable.{IsWritable};
-ghost use Rattle.hound.specs.Writer.{IsWhole, accepted_samples, sample_count};
-ghost use Rattle.hound.specs.declared.WavSpecEx.{WavSpecEx};
-ghost use Rattle.hound_callers.specs.Checkpoints.{IsLast};
+ghost use Rattle.hound_callers.specs.Recording.{IsLast};
 
 use hound::{
     Begin, Durable, End, Error, Medium, Placed, Repair, Sample, Source, Step, WavReader, WavSpecEx,

@@ -1,23 +1,7 @@
 // Recorders that make their calls themselves.
 ghost use Rattle.std.specs.Prelude.{◌≡◌, ◌⊎◌, ◌-◌, ◌/◌, ◌<◌, ◌≤◌, ℕ, true, List, ◌∷◌, ◌++◌, [], ⊤, Ok, MatchResult, IsOk, OnErr, OnOk, drop, length, map, take};
 ghost use Rattle.std.specs.List.{flat_map};
-ghost use Rattle.hound.specs.Answers.{one};
-ghost use Rattle.hound.specs.Calls.{Begun, Call, Known, Left, Recorded, made, new_file, publish, write};
-ghost use Rattle.hound.specs.Container.{containers, int_container};
-ghost use Rattle.hound.specs.Durables.{Around, within};
-ghost use Rattle.hound.specs.Headline.{HasPublished, Kept, KeptWithin, accepted_by_all};
-ghost use Rattle.hound.specs.Header.{canonical, data_start};
-ghost use Rattle.hound.specs.Held.{held};
-ghost use Rattle.hound.specs.Many.{AcceptsEach, containers_in};
-ghost use Rattle.hound.specs.Number.{signed_bytes_of};
-ghost use Rattle.hound.specs.Repairing.{IsNoPad, ReadsFrames};
-ghost use Rattle.hound.specs.Room.{IsSixteen};
-ghost use Rattle.hound.specs.Run.{Ran};
-ghost use Rattle.hound.specs.Sizes.{field};
-ghost use Rattle.hound.specs.State.{MediumState, WhereKeeps, WhereTells};
-ghost use Rattle.hound.specs.Steps.{asked_by, containers_of};
-ghost use Rattle.hound.specs.Writer.{WriterState, IsWhole, accepted_samples, data_length};
-ghost use Rattle.hound.specs.declared.WavSpecEx.{WavSpecEx};
+ghost use Rattle.hound.specs.{one, Begun, Call, Known, Left, Recorded, made, new_file, publish, write, containers, int_container, Around, within, HasPublished, Kept, KeptWithin, accepted_by_all, canonical, data_start, held, AcceptsEach, containers_in, signed_bytes_of, IsNoPad, ReadsFrames, IsSixteen, Ran, asked_by, containers_of, field, MediumState, WhereKeeps, WhereTells, WriterState, IsWhole, accepted_samples, data_length, WavSpecEx};
 ghost use Rattle.hound.specs.declared.session.Begin.TheVariants.{New};
 ghost use Rattle.hound.specs.declared.session.End.TheVariants.{Finalize};
 ghost use Rattle.hound.specs.declared.session.Step.TheVariants.{Whole};

@@ -3,27 +3,17 @@ use Rattle.std.proofs.Common.{◌≡◌, ℕ, zero, suc, ◌+◌, ◌*◌, ◌<�
 use Rattle.std.specs.Io.{StartsWith}
 use Rattle.std.specs.Io.KnownBytes.{Appends, Keeps}
 use Rattle.std.proofs.Transfers.{starts_with_of_eq, starts_with_trans}
-use Rattle.hound_number.specs.Input.{Known}
-use Rattle.hound_sample.specs.Meaning.{ReadRefusal, other_format, wider, other_pair, float_refusal, int_meaning, int_refusal, pattern}
-use Rattle.hound_reader.specs.Reader.{ReaderState, meaning_at, refusal_at}
-use Rattle.hound_reader.specs.Items.{GivesItems}
-use Rattle.hound_sample.specs.ManyReads.{items_of}
+use Rattle.hound_number.specs.{WhereKnown}
+use Rattle.hound_sample.specs.{ReadRefusal, other_format, wider, other_pair, float_refusal, int_meaning, int_refusal, pattern, items_of, Reads, error_of_read}
+use Rattle.hound_reader.specs.{ReaderState, meaning_at, refusal_at, GivesItems, IsRefusal, Readable, Unreadable}
 use Rattle.std.specs.List.{flat_map}
-use Rattle.hound_sample.specs.Reads.{Reads, error_of_read}
-use Rattle.hound_reader.specs.Refusals.{IsRefusal}
-use Rattle.hound_reader.specs.Chunks.{Readable, Unreadable}
 use Rattle.hound_reader.specs.declared.cause.Cause.TheVariants as causes
-use Rattle.hound_spec.specs.declared.error.Error.{Error}
+use Rattle.hound_spec.specs.{Error, SampleFormat, Float, Int, WavSpec, WavSpecEx}
 use Rattle.hound_spec.specs.declared.error.Error.TheVariants as errors
-use Rattle.hound_spec.specs.declared.spec.SampleFormat.{SampleFormat}
-use Rattle.hound_spec.specs.declared.spec.SampleFormat.TheVariants.{Float, Int}
-use Rattle.hound_spec.specs.declared.spec.WavSpec.{WavSpec}
-use Rattle.hound_spec.specs.declared.spec.WavSpecEx.{WavSpecEx}
-use Rattle.hound_text.specs.Writing.{integer_line, pattern_line}
+use Rattle.hound_text.specs.{integer_line, pattern_line}
 use Rattle.hound_commands.proofs.Outputs.{appends-kept, appends-none, gets-more, gets-none, gets-stopped, gets-then, gets-written}
-use Rattle.hound_commands.specs.Failing.{failure_of}
-use Rattle.hound_commands.specs.Output.{GetsBeginning, GetsBuffered}
-use Rattle.hound_commands.specs.Showing.{AreShowable, Shows, ShowsSamples, ShowsUntil, StopsAt, StopsSamples, spec_line, line_for, refusal_for, sample_line, sample_lines, show_refusal}
+use Rattle.hound_commands.specs.Commands.{failure_of}
+use Rattle.hound_commands.specs.Showing.{GetsBeginning, GetsBuffered, AreShowable, Shows, ShowsSamples, ShowsUntil, StopsAt, StopsSamples, spec_line, line_for, refusal_for, sample_line, sample_lines, show_refusal}
 use Rattle.hound_commands.specs.declared.failure.Failure.{Failure}
 use Rattle.hound_commands.specs.declared.failure.Failure.TheVariants.{BadNumber, InputOrOutput, Refused}
 
@@ -46,7 +36,7 @@ lines-more s (suc k) xs =
 -- So many samples of what was left were read, this is the text of them after `first`, and the others
 -- are left.
 abbrev pub ReadAs : WavSpecEx → ℕ → Option (List ℕ) → Option (List ℕ) → List ℕ → List ℕ → Type 0
-ReadAs s k left now first text = Known left now (λ xs ys. (ys ≡ drop (k * s.bytes_per_sample) xs)
+ReadAs s k left now first text = WhereKnown left now (λ xs ys. (ys ≡ drop (k * s.bytes_per_sample) xs)
     × AreShowable s k xs × (text ≡ first ++ sample_lines s k xs))
 
 -- and the output and its buffer got it
@@ -336,7 +326,7 @@ fault_stops (Some xs) out = ([], inl (tt, refl), appends-none out)
 
 -- the head of a readable file was taken, and the samples are left
 abbrev Opened : Option (List ℕ) → Option (List ℕ) → WavSpecEx → ℕ → Type 0
-Opened input left s n = Known input left (λ xs ys. (h : ℕ) × Readable xs s n h × (ys ≡ drop h xs))
+Opened input left s n = WhereKnown input left (λ xs ys. (h : ℕ) × Readable xs s n h × (ys ≡ drop h xs))
 
 -- all samples are shown, and the buffer was written
 pub file_shown : (input left : Option (List ℕ)) (s : WavSpecEx) (n : ℕ) (spec : WavSpec)

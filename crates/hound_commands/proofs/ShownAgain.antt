@@ -4,25 +4,14 @@ use Rattle.std.proofs.Common.{◌≡◌, ℕ, ℤ, ◌+◌, ◌%◌, ◌≤◌, 
 use Rattle.std.proofs.lemmas.List.Folds.{concat-append}
 use Rattle.std.specs.Int.{w32}
 use Rattle.std.specs.List.{AllByRecursion, concat, flat_map}
-use Rattle.hound_reader.specs.Answer.{HasOneFileAnswer, readable}
-use Rattle.hound_reader.specs.Chunks.{Readable}
-use Rattle.hound_sample.specs.Container.{Refusal, containers, int_container}
-use Rattle.hound_reader.specs.Containers.{AreContainers}
-use Rattle.hound_spec.specs.FmtChunk.{greatest_u32}
-use Rattle.hound_spec.specs.Header.{canonical, data_start, riff_size}
-use Rattle.hound_sample.specs.Meaning.{int_meaning}
-use Rattle.hound_spec.specs.Writable.{IsWritable, with_default_width}
-use Rattle.hound_spec.specs.declared.error.Error.{Error}
+use Rattle.hound_reader.specs.{HasOneFileAnswer, readable, Readable, AreContainers}
+use Rattle.hound_sample.specs.{Refusal, containers, int_container, int_meaning}
+use Rattle.hound_spec.specs.{greatest_u32, canonical, data_start, riff_size, IsWritable, with_default_width, Error, Int, WavSpec, WavSpecEx}
 use Rattle.hound_spec.specs.declared.error.Error.TheVariants as errors
-use Rattle.hound_spec.specs.declared.spec.SampleFormat.TheVariants.{Int}
-use Rattle.hound_spec.specs.declared.spec.WavSpec.{WavSpec}
-use Rattle.hound_spec.specs.declared.spec.WavSpecEx.{WavSpecEx}
-use Rattle.hound_text.specs.Text.{SayNumbers, SaysNumbers, words}
-use Rattle.hound_text.specs.Writing.{integer_line}
+use Rattle.hound_text.specs.{SayNumbers, SaysNumbers, words, integer_line}
 use Rattle.hound_commands.proofs.PackAnswers.{each_width, have-bytes, parts}
 use Rattle.hound_commands.proofs.ShowAnswers.{integers_line}
-use Rattle.hound_commands.specs.Commands.{IsNotPacked, Packs}
-use Rattle.hound_commands.specs.Packing.{HasRoom, IsPackFailure, IsPacked, containers_of}
+use Rattle.hound_commands.specs.Commands.{IsNotPacked, Packs, HasRoom, IsPackFailure, IsPacked, containers_of}
 use Rattle.hound_commands.specs.Showing.{IsShown, Shows, sample_line, sample_lines, spec_line}
 use Rattle.hound_commands.specs.declared.failure.Failure.{Failure}
 use Rattle.hound_commands.specs.declared.failure.Failure.TheVariants.{BadNumber, InputOrOutput, Refused}

@@ -1,23 +1,24 @@
--- What `show` writes of a file: the line of its spec, and then a line for each sample.
-use Rattle.std.specs.Prelude.{◌≡◌, ℕ, ◌*◌, ◌<◌, ◌≤◌, ◌⊎◌, ⊤, IfSome, List, [], ◌∷◌, ◌++◌, codes, decimal, drop, length, Option, None, Some}
+-- What `show` writes of a file: the line of its spec, and then a line for each sample; and how much of a
+-- text an output got.
+use Rattle.std.specs.Prelude.{◌≡◌, ℕ, List, ◌++◌, Option, ◌*◌, ◌<◌, ◌≤◌, ◌⊎◌, ⊤, IfSome, [], ◌∷◌, codes, decimal, drop, length, None, Some}
 use Rattle.std.specs.Io.{StartsWith}
 use Rattle.std.specs.Io.KnownBytes.{Appends}
 use Rattle.std.specs.List.{flat_map}
-use Rattle.hound_reader.specs.declared.cause.Cause.{Cause}
-use Rattle.hound_reader.specs.Chunks.{Readable, Unreadable}
-use Rattle.hound_sample.specs.Container.{containers}
-use Rattle.hound_sample.specs.Meaning.{ReadRefusal, float_refusal, int_meaning, int_refusal, pattern}
-use Rattle.hound_sample.specs.Reads.{error_of_read}
-use Rattle.hound_reader.specs.Refusals.{Names}
-use Rattle.hound_spec.specs.declared.error.Error.{Error}
-use Rattle.hound_spec.specs.declared.spec.SampleFormat.{SampleFormat}
-use Rattle.hound_spec.specs.declared.spec.SampleFormat.TheVariants.{Float, Int}
-use Rattle.hound_spec.specs.declared.spec.WavSpec.{WavSpec}
-use Rattle.hound_spec.specs.declared.spec.WavSpecEx.{WavSpecEx}
-use Rattle.hound_commands.specs.Output.{GetsBuffered}
+use Rattle.hound_reader.specs.{Cause, Readable, Unreadable, Names}
+use Rattle.hound_sample.specs.{containers, ReadRefusal, float_refusal, int_meaning, int_refusal, pattern, error_of_read}
+use Rattle.hound_spec.specs.{Error, SampleFormat, Float, Int, WavSpec, WavSpecEx}
 use Rattle.hound_commands.specs.declared.failure.Failure.{Failure}
 use Rattle.hound_commands.specs.declared.failure.Failure.TheVariants.{BadNumber, InputOrOutput, Refused}
-use Rattle.hound_text.specs.Writing.{integer_line, pattern_line}
+use Rattle.hound_text.specs.{integer_line, pattern_line}
+
+-- the output got a beginning of a text, and no other byte
+abbrev pub GetsBeginning : Option (List ℕ) → Option (List ℕ) → List ℕ → Type 0
+GetsBeginning old new text = (part : List ℕ) × StartsWith text part × Appends old new part
+
+-- the output got a text but for its end, which is buffered
+abbrev pub GetsBuffered : Option (List ℕ) → Option (List ℕ) → List ℕ → List ℕ → Type 0
+GetsBuffered old new buffered text =
+    (written : List ℕ) × (text ≡ written ++ buffered) × Appends old new written
 
 -- the word of a format
 abbrev pub format_word : SampleFormat → List ℕ

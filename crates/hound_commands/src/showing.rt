@@ -1,10 +1,9 @@
 // A file to lines.
 ghost use Rattle.std.specs.Prelude.{◌≡◌, ◌+◌, ◌<◌, ◌≤◌, ◌++◌, ℕ, [], List, IfErr, OnErr, OnOk, length};
 ghost use Rattle.std.specs.List.{flat_map};
-ghost use Rattle.hound_reader.specs.Reader.{meaning_at, refusal_at};
-ghost use Rattle.hound_commands.specs.Output.{GetsBeginning, GetsBuffered};
-ghost use Rattle.hound_commands.specs.Showing.{Shows, ShowsSamples, ShowsUntil, StopsSamples, sample_line, show_refusal, spec_line};
-ghost use Rattle.hound_text.specs.Writing.{integer_line, pattern_line};
+ghost use Rattle.hound_reader.specs.{meaning_at, refusal_at};
+ghost use Rattle.hound_commands.specs.Showing.{GetsBeginning, GetsBuffered, Shows, ShowsSamples, ShowsUntil, StopsSamples, sample_line, show_refusal, spec_line};
+ghost use Rattle.hound_text.specs.{integer_line, pattern_line};
 
 use crate::failure::Failure;
 use hound_reader::WavReader;

@@ -3,10 +3,9 @@ use Rattle.std.proofs.Common.{◌≡◌, ℕ, zero, suc, ◌+◌, ◌-◌, ◌<�
 use Rattle.std.proofs.lemmas.Bool.{cases_lt}
 use Rattle.std.proofs.lemmas.List.{get_or_append_left}
 use Rattle.std.proofs.Math.Seq.{get_or-append_right}
-use Rattle.hound_medium.specs.Bytes.{placed}
+use Rattle.hound_medium.specs.{placed}
 use Rattle.hound_medium.proofs.Overlays.{length-placed}
-use Rattle.hound_durable.specs.Losses.{place_of, Ascends}
-use Rattle.hound_durable.specs.Own.{IsBelow}
+use Rattle.hound_durable.specs.Losses.{place_of, Ascends, IsBelow}
 
 -- each of the bytes of one put went to the next place
 pub place_placed : (at : ℕ) (bytes : List ℕ) (j : ℕ) → j < length bytes

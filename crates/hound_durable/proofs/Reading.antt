@@ -2,9 +2,9 @@
 use Rattle.std.proofs.Common.{ℕ, List, Result, Bool, true, false, refl}
 use Rattle.std.specs.Io.KnownBytes.{ReadConsumes}
 use Rattle.std.specs.Prelude.{Ok, Err}
-use Rattle.hound_medium.specs.State.{MediumState, Gets, WhereTells}
+use Rattle.hound_medium.specs.{MediumState, Gets, WhereTells}
 use Rattle.hound_medium.proofs.Reading.{get_consumes}
-use Rattle.hound_durable.specs.Own.{left_of}
+use Rattle.hound_durable.specs.Losses.{left_of}
 
 -- what `get` does to what is left, as the contract of `read` says it
 pub get_consumes_left : {E : Type 0} (tells : Bool) (buf : List ℕ) (result : Result ℕ E)

@@ -1,6 +1,6 @@
 -- What contracts see of a durable medium besides its own state: that of the medium within it.
 use Rattle.std.specs.Prelude.{◌≡◌, ℕ}
-use Rattle.hound_medium.specs.State.{MediumState}
+use Rattle.hound_medium.specs.{MediumState}
 use Rattle.hound_medium.specs.declared.medium.Placed.{Ghosts}
 use Rattle.hound_durable.specs.declared.durable.Durable.{Durable}
 

@@ -3,9 +3,8 @@ ghost use Rattle.std.specs.Prelude.{◌≡◌, ◌⊎◌, ◌+◌, ◌^◌, ◌<
 ghost use Rattle.std.specs.Int.{FitsUnsigned, w64};
 ghost use Rattle.std.specs.Io.{ReadsAtMost};
 ghost use Rattle.std.specs.Io.KnownBytes.{ReadConsumes};
-ghost use Rattle.hound_medium.specs.State.{Goes, Shifts, Gets, Puts, Flushes, Stays, WhereTells, WhereKeeps, one_more, faults_after};
-ghost use Rattle.hound_durable.specs.Losses.{Ascends};
-ghost use Rattle.hound_durable.specs.Own.{IsBelow, IsItsFault, IsLastBefore, LeadsBack, OnlySyncs, own, left_of, replays_own, left_own};
+ghost use Rattle.hound_medium.specs.{Goes, Shifts, Gets, Puts, Flushes, Stays, WhereTells, WhereKeeps, one_more, faults_after};
+ghost use Rattle.hound_durable.specs.Losses.{Ascends, IsBelow, IsItsFault, IsLastBefore, LeadsBack, OnlySyncs, own, left_of, replays_own, left_own};
 
 use hound_medium::{Medium, Placed, Source};
 use std::io;

@@ -1,7 +1,7 @@
 // Files on disk whose flush returns once the disk has the bytes, which contracts don't know.
 ghost use Rattle.std.specs.Prelude.{◌≡◌, false, IfErr};
 ghost use Rattle.std.proofs.lemmas.Bool.{false≢true};
-ghost use Rattle.hound_medium.specs.State.{unknown};
+ghost use Rattle.hound_medium.specs.{unknown};
 
 use hound_medium::{Medium, Placed};
 use hound_spec::{Error, Result};

@@ -1,6 +1,6 @@
 // What holds for every durable medium.
 ghost use Rattle.std.specs.Prelude.{◌≡◌, ◌≤◌, length};
-ghost use Rattle.hound_medium.specs.State.{WhereTells, WhereKeeps};
+ghost use Rattle.hound_medium.specs.{WhereTells, WhereKeeps};
 ghost use Rattle.hound_durable.specs.Durables.{within, synced};
 ghost use Rattle.hound_durable.specs.Losses.{Ascends};
 

@@ -1,6 +1,6 @@
 // What a loss of power may leave, evaluated by the prover.
 ghost use Rattle.std.specs.Prelude.{◌∷◌, []};
-ghost use Rattle.hound_durable.specs.Losses.{Ascends, SurvivesLoss};
+ghost use Rattle.hound_durable.specs.{Ascends, SurvivesLoss};
 
 use std::test::Fail;
 

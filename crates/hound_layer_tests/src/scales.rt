@@ -1,7 +1,7 @@
 // The definitions of samples in another scale at worked numbers, evaluated by the prover.
 ghost use Rattle.std.specs.Prelude.{◌≡◌, ◌∷◌, [], pos, negsuc, map, from_bits, to_bits};
 ghost use lib.Ieee.{binary32};
-ghost use Rattle.hound_sample.specs.Scale.{clipped, float_of_int, scaled, with_bits};
+ghost use Rattle.hound_sample.specs.{clipped, float_of_int, scaled, with_bits};
 
 // A half goes up, and the largest is clipped, as sox has it.
 fn the_definition_gives_other_bits()

@@ -1,7 +1,7 @@
 -- Bytes written inside contents, over older bytes.
 use Rattle.std.proofs.Common.{◌≡◌, ℕ, ◌+◌, ◌-◌, ◌≤◌, List, ◌++◌, length, take, drop, sym, ◌∙◌, ap, arith, append_assoc, length-append, length-drop}
 use Rattle.std.proofs.lemmas.List.{drop_at, take-take, drop-drop, take-append-le, length-take-le}
-use Rattle.hound_medium.specs.Bytes.{placed, overlay}
+use Rattle.hound_medium.specs.State.{placed, overlay}
 use Rattle.hound_medium.proofs.Overlays.{overlay_is}
 
 module _ (c : List ℕ) (at : ℕ) (bs : List ℕ) (inside : at + length bs ≤ length c) where

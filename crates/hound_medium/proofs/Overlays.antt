@@ -4,8 +4,8 @@ use Rattle.std.proofs.lemmas.List.{append-nil, length-replicate, take_more, leng
 use Rattle.std.proofs.Math.Seq.{drop-nil}
 use Rattle.std.proofs.Math.ListN.{drop_of_length-le}
 use Rattle.std.proofs.lemmas.Slice.{between_is}
-use Rattle.hound_medium.specs.Bytes.{put_at, placed, overlay}
-use Rattle.hound_number.specs.Number.{AreBytes}
+use Rattle.hound_medium.specs.State.{put_at, placed, overlay}
+use Rattle.hound_number.specs.{AreBytes}
 
 -- the places continue after the first list
 pub placed-append : (p : ℕ) (xs ys : List ℕ)

@@ -3,9 +3,7 @@ use Rattle.std.proofs.Common.{◌≡◌, ℕ, ◌+◌, ◌-◌, ◌≤◌, List,
 use Rattle.std.proofs.lemmas.Bool.{cases_lt}
 use Rattle.std.proofs.lemmas.List.{append-nil, take-append-le, take_all}
 use Rattle.std.proofs.Math.Seq.{take-append-add}
-use Rattle.hound_medium.specs.Bytes.{placed, overlay, moment}
-use Rattle.hound_medium.specs.State.{MediumState, Flushes, Stays}
-use Rattle.hound_medium.specs.Spans.{Span, FlushedSince}
+use Rattle.hound_medium.specs.State.{placed, overlay, moment, MediumState, Flushes, Stays, Span, FlushedSince}
 use Rattle.hound_medium.proofs.Overlays.{overlay-append, length-placed, take-placed}
 
 -- an intermediate state of a past stays what it was, however the past continues

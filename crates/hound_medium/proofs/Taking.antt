@@ -2,8 +2,7 @@
 use Rattle.std.proofs.Common.{◌≡◌, ℕ, ◌+◌, ◌≤◌, Bool, List, ◌++◌, length, take, drop, sym, ◌∙◌, ap, arith, append_assoc}
 use Rattle.std.proofs.lemmas.List.{length-take-le}
 use Rattle.std.proofs.Math.Seq.{take-add}
-use Rattle.hound_medium.specs.Bytes.{placed, overlay}
-use Rattle.hound_medium.specs.State.{MediumState, PutsFirst}
+use Rattle.hound_medium.specs.State.{placed, overlay, MediumState, PutsFirst}
 use Rattle.hound_medium.proofs.Overlays.{placed-append, overlay-append}
 
 -- a first bytes, and then n of those that are left

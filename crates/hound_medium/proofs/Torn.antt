@@ -4,9 +4,9 @@ use Rattle.std.proofs.lemmas.List.{drop-drop, length-take-le, get_or-take, get_o
 use Rattle.std.proofs.lemmas.Bool.{cases_lt}
 use Rattle.std.proofs.Math.Seq.{take-append-add}
 use Rattle.std.proofs.lemmas.Slice.{between_is}
-use Rattle.hound_number.specs.Number.{bytes_of, number, mix, AreBytes}
+use Rattle.hound_number.specs.{bytes_of, number, mix, AreBytes}
 use Rattle.hound_number.proofs.Mixing.{bytes_of-number, length-bytes_of, number_small}
-use Rattle.hound_medium.specs.Bytes.{placed, overlay}
+use Rattle.hound_medium.specs.State.{placed, overlay}
 use Rattle.hound_medium.proofs.Inside.{drop_to}
 
 module _ (p : ℕ) (c : List ℕ) (inside : p + 4 ≤ length c) where

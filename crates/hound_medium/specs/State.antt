@@ -1,6 +1,26 @@
--- What contracts see of a medium, and what each call does to it.
-use Rattle.std.specs.Prelude.{◌≡◌, ℕ, ℤ, pos, negsuc, ◌+◌, ◌-◌, ◌^◌, ◌<◌, ◌≤◌, min, List, [], ◌++◌, length, take, drop, Ok, Err, Result, OnOk, OnErr, MatchResult, Bool, IsTrue}
-use Rattle.hound_medium.specs.Bytes.{placed, overlay}
+-- What contracts see of a medium, what each call does to it, and what holds in each intermediate state.
+use Rattle.std.specs.Prelude.{ℕ, zero, suc, List, [], ◌∷◌, take, ◌≡◌, ℤ, pos, negsuc, ◌+◌, ◌-◌, ◌^◌, ◌<◌, ◌≤◌, min, ◌++◌, length, drop, Ok, Err, Result, OnOk, OnErr, MatchResult, Bool, IsTrue, ◌⊎◌}
+
+-- the contents with this byte at this place; zeros fill a gap after the old end
+abbrev pub put_at : ℕ → ℕ → List ℕ → List ℕ
+put_at zero b [] = b ∷ []
+put_at zero b (x ∷ xs) = b ∷ xs
+put_at (suc n) b [] = 0 ∷ put_at n b []
+put_at (suc n) b (x ∷ xs) = x ∷ put_at n b xs
+
+-- each of the bytes with its place: the first at p, each further one at the next place
+abbrev pub placed : ℕ → List ℕ → List (ℕ × ℕ)
+placed p [] = []
+placed p (b ∷ bs) = (p, b) ∷ placed (suc p) bs
+
+-- the contents after bytes were written at their places, in order
+abbrev pub overlay : List ℕ → List (ℕ × ℕ) → List ℕ
+overlay c [] = c
+overlay c (e ∷ es) = overlay (put_at e.0 e.1 c) es
+
+-- the contents after the first k of the bytes written
+abbrev pub moment : List ℕ → List (ℕ × ℕ) → ℕ → List ℕ
+moment start past k = overlay start (take k past)
 
 -- A medium as contracts see it: its bytes, the place of the next one to be read or written, and how
 -- many calls failed. If it records its past, also the bytes that it began with, each byte written
@@ -42,9 +62,9 @@ faults_after (Ok x) faults = faults
 faults_after (Err e) faults = one_more faults
 
 -- the place after a call that goes to one: at an Err the old place
-abbrev pub place_after : {T E : Type 0} → Result T E → ℕ → ℕ → ℕ
-place_after (Ok x) to place = to
-place_after (Err e) to place = place
+abbrev pub place_reached : {T E : Type 0} → Result T E → ℕ → ℕ → ℕ
+place_reached (Ok x) to place = to
+place_reached (Err e) to place = place
 
 -- the new place is the old one moved by a signed number
 abbrev pub IsMoved : ℕ → ℤ → ℕ → Type 0
@@ -65,7 +85,7 @@ pub record Stays (old new : MediumState) : Type 0 where
 -- what `go` does
 pub record Goes {T E : Type 0} (to : ℕ) (result : Result T E) (old new : MediumState) : Type 0 where
   pub stays : Stays old new
-  pub place : new.place ≡ place_after result to old.place
+  pub place : new.place ≡ place_reached result to old.place
   pub flushed : new.flushed ≡ old.flushed
   pub faults : new.faults ≡ faults_after result old.faults
 
@@ -122,3 +142,17 @@ pub record PutsAll {T E : Type 0} (keeps : Bool) (bytes : List ℕ) (result : Re
   pub part : OnErr result (count < length bytes)
   pub takes : PutsFirst keeps bytes count old new
   pub faults : new.faults ≡ faults_after result old.faults
+
+-- the last Ok flush is the same one, or a later one
+abbrev pub FlushedSince : MediumState → MediumState → Type 0
+FlushedSince old new = (new.flushed ≡ old.flushed) ⊎ (length old.past ≤ new.flushed)
+
+-- From old to new, bytes were written, and after each number k of bytes, both ends included, the
+-- contents are at a level. It is 0 up to `split` bytes, and one more after each later byte.
+pub record Span (At : ℕ → List ℕ → Type 0) (split : ℕ) (old new : MediumState) : Type 0 where
+  pub start : new.start ≡ old.start
+  pub added : List (ℕ × ℕ)
+  pub past : new.past ≡ old.past ++ added
+  pub flushed : FlushedSince old new
+  pub each : (k : ℕ) → length old.past ≤ k → k ≤ length new.past
+      → At (k - split) (moment new.start new.past k)

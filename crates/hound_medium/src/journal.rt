@@ -4,9 +4,8 @@ ghost use Rattle.std.specs.Int.{FitsUnsigned, w64};
 ghost use Rattle.std.specs.IoError.{error_kind};
 ghost use Rattle.std.specs.Io.{ReadsAtMost};
 ghost use Rattle.std.specs.Io.KnownBytes.{ReadConsumes};
-ghost use Rattle.hound_number.specs.Number.{AreBytes};
-ghost use Rattle.hound_medium.specs.Bytes.{overlay, moment};
-ghost use Rattle.hound_medium.specs.State.{Goes, Shifts, Gets, Puts, Flushes, one_more, faults_after};
+ghost use Rattle.hound_number.specs.{AreBytes};
+ghost use Rattle.hound_medium.specs.State.{overlay, moment, Goes, Shifts, Gets, Puts, Flushes, one_more, faults_after};
 
 use crate::bytes::copy_from;
 use crate::past::{put_and_keep, replay};

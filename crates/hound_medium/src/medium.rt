@@ -1,9 +1,8 @@
 // The traits that readers and writers are generic over, the same for a `&mut`, and the loop over
 // `put`.
 ghost use Rattle.std.specs.Prelude.{◌≡◌, ◌+◌, ◌<◌, ◌≤◌, Bool, IsTrue, false, length, drop, Some, IfOk};
-ghost use Rattle.hound_number.specs.Number.{AreBytes};
-ghost use Rattle.hound_medium.specs.Bytes.{overlay};
-ghost use Rattle.hound_medium.specs.State.{MediumState, Goes, Shifts, Gets, Puts, Flushes, WhereTells, WhereKeeps, PutsAll};
+ghost use Rattle.hound_number.specs.{AreBytes};
+ghost use Rattle.hound_medium.specs.State.{overlay, MediumState, Goes, Shifts, Gets, Puts, Flushes, WhereTells, WhereKeeps, PutsAll};
 
 use std::io;
 

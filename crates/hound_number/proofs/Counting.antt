@@ -1,6 +1,6 @@
 -- Counts of failed reads, step after step.
 use Rattle.std.proofs.Common.{◌∙◌, Option, Some, None}
-use Rattle.hound_number.specs.Input.{Account, NoneFailed}
+use Rattle.hound_number.specs.Io.{Account, NoneFailed}
 
 pub NoneFailed-trans : {K : Type 0} (o m n : Option (Account K)) → NoneFailed o m → NoneFailed m n
     → NoneFailed o n

@@ -4,8 +4,7 @@ ghost use Rattle.std.specs.Io.{ReadsAtMost};
 ghost use Rattle.std.specs.IoError.{error_kind};
 ghost use Rattle.std.specs.declared.io.ErrorKind.TheVariants.{Other};
 ghost use Rattle.std.specs.Io.KnownBytes.{Consumes, IsAtEnd, ReadConsumes};
-ghost use Rattle.hound_number.specs.Input.{Account, CountsRead, CountsReads, IfEnded};
-ghost use Rattle.hound_number.specs.Ending.{ReportsEnding};
+ghost use Rattle.hound_number.specs.Io.{Account, CountsRead, CountsReads, IfEnded, ReportsEnding};
 
 use std::io;
 use std::io::ErrorKind;

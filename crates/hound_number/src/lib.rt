@@ -9,7 +9,7 @@ mod laws;
 
 ghost use Rattle.std.specs.Prelude.{◌≡◌, ◌+◌, ◌≤◌, ◌+ℤ◌, ◌-ℤ◌, pos, length, slice_range};
 ghost use Rattle.hound_number.specs.Number.{bytes_of, number, signed_bytes_of, signed_number};
-ghost use Rattle.hound_number.specs.Writing.{Writes};
+ghost use Rattle.hound_number.specs.Io.{Writes};
 
 pub use input::{Input, ReadError, early_end, read_into};
 pub use laws::signed_bytes_come_back;

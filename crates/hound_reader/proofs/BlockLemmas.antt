@@ -5,22 +5,11 @@ use Rattle.std.proofs.lemmas.List.{drop-drop, length-drop, length-take-le, lengt
 use Rattle.std.proofs.lemmas.Option.{same_Some}
 use Rattle.std.specs.Prelude.{IsSome}
 use Rattle.std.specs.declared.io.Error.{Error as IoFault}
-use Rattle.hound_number.specs.Input.{Known}
-use Rattle.hound_spec.specs.declared.error.Error.{Error}
-use Rattle.hound_spec.specs.declared.error.Error.TheVariants.{IoError, FormatError, TooWide, UnfinishedSample, Unsupported, InvalidSampleFormat, TooLong, OutOfMemory}
-use Rattle.hound_spec.specs.declared.spec.SampleFormat.{SampleFormat}
-use Rattle.hound_sample.specs.ManyReads.{ReadsEach}
-use Rattle.hound_sample.specs.Meaning.{ReadRefusal, other_format, wider, other_pair}
-use Rattle.hound_sample.specs.Reads.{Reads, error_of_read}
+use Rattle.hound_number.specs.{WhereKnown}
+use Rattle.hound_spec.specs.{Error, IoError, FormatError, TooWide, UnfinishedSample, Unsupported, InvalidSampleFormat, TooLong, OutOfMemory, SampleFormat}
+use Rattle.hound_sample.specs.{ReadsEach, ReadRefusal, other_format, wider, other_pair, Reads, error_of_read, ReadsItem, reason_of, error_of_item, ItemError, Failed, OtherFormat, Wider, OtherPair}
 use Rattle.hound_number.proofs.KnownSteps.{known_both}
-use Rattle.hound_reader.specs.Blocks.{GivesItemsOfBytes, over_bytes}
-use Rattle.hound_reader.specs.Counting.{HasGiven}
-use Rattle.hound_sample.specs.ItemReads.{ReadsItem, reason_of, error_of_item}
-use Rattle.hound_reader.specs.Item.{taken_without}
-use Rattle.hound_reader.specs.Items.{GivesItems}
-use Rattle.hound_reader.specs.Reader.{ReaderState, IsNext, AreTaken, TookBytes, CountsTaken, refusal_at, meaning_at, samples_left}
-use Rattle.hound_sample.specs.declared.item.ItemError.{ItemError}
-use Rattle.hound_sample.specs.declared.item.ItemError.TheVariants.{Failed, OtherFormat, Wider, OtherPair}
+use Rattle.hound_reader.specs.Reader.{GivesItemsOfBytes, over_bytes, HasGiven, taken_without, GivesItems, ReaderState, IsNext, AreTaken, TookBytes, CountsTaken, refusal_at, meaning_at, samples_left}
 use Rattle.hound_reader.proofs.ItemLemmas.{a_container_is_taken}
 
 -- an Ok of a type that doesn't read the samples
@@ -177,16 +166,16 @@ pub torn_takes : {A : Type 0} (refusal : Option ReadRefusal) (meaning : List ℕ
     → HasGiven old given new → ReadsEach refusal meaning width (map Ok values) old mid
     → Reads refusal meaning width mid new (Err (error_of_item reason fault))
     → (old ≡ None → mid ≡ None)
-    → Known mid new (AreTaken (taken_without reason (given - length values * width) width))
+    → WhereKnown mid new (AreTaken (taken_without reason (given - length values * width) width))
 torn_takes refusal meaning width values reason fault given None mid new few has before read same =
-    subst (λ m. Known m new (AreTaken (taken_without reason (given - length values * width) width)))
+    subst (λ m. WhereKnown m new (AreTaken (taken_without reason (given - length values * width) width)))
     (sym (same refl)) tt
 torn_takes refusal meaning width values reason fault given (Some xs) mid None few has before read same =
     absurd has
 torn_takes refusal meaning width values reason fault given (Some xs) mid (Some ys) few has before read same =
     let (enough, is) = each_takes refusal meaning width values xs mid before in
     let ms = drop (length values * width) xs in
-    subst (λ m. Known m (Some ys)
+    subst (λ m. WhereKnown m (Some ys)
     (AreTaken (taken_without reason (given - length values * width) width))) (sym is)
     (torn_after refusal meaning width (length values) reason fault given xs ms ys enough
     (length-drop (length values * width) xs) few has.2
@@ -248,7 +237,7 @@ no_sample_is_given {A = A} left refusal meaning old new reason given inside smal
       taken = (
         taken_without reason given width,
         counted,
-        subst (λ n. Known (left old.reader) (left new.reader) (AreTaken (taken_without reason n width)))
+        subst (λ n. WhereKnown (left old.reader) (left new.reader) (AreTaken (taken_without reason n width)))
             all (torn_takes (refusal_at refusal old.spec_ex) (meaning_at meaning old.spec_ex) width []
             reason fault given (left old.reader) (left old.reader) (left new.reader) few has refl
             (read fault) (λ none. none)),
@@ -436,8 +425,8 @@ module _ {R A : Type 0} (left : R → Option (List ℕ))
   )
 
 -- more was taken
-taken_more : (old mid new : Option (List ℕ)) (n m : ℕ) → Known old mid (AreTaken n)
-    → Known mid new (AreTaken m) → Known old new (AreTaken (n + m))
+taken_more : (old mid new : Option (List ℕ)) (n m : ℕ) → WhereKnown old mid (AreTaken n)
+    → WhereKnown mid new (AreTaken m) → WhereKnown old new (AreTaken (n + m))
 taken_more old mid new n m before after =
     known_both old mid new (AreTaken n) (AreTaken m) (AreTaken (n + m)) before after
     (λ xs ys zs first second. (
@@ -445,7 +434,7 @@ taken_more old mid new n m before after =
       second.1 ∙ ap (drop m) first.1 ∙ drop-drop m n xs,
     ))
 
-none_taken : (bytes : Option (List ℕ)) → Known bytes bytes (AreTaken 0)
+none_taken : (bytes : Option (List ℕ)) → WhereKnown bytes bytes (AreTaken 0)
 none_taken None = tt
 none_taken (Some xs) = (omega arith, refl)
 
@@ -459,7 +448,7 @@ module _ {A : Type 0} (refusal : SampleFormat → ℕ → ℕ → Option ReadRef
     (
       0,
       ap (λ (s : ReaderState (Option (List ℕ))). s.bytes_read) same ∙ omega arith,
-      subst (λ (s : ReaderState (Option (List ℕ))). Known old.reader s.reader (AreTaken 0)) (sym same) (none_taken old.reader),
+      subst (λ (s : ReaderState (Option (List ℕ))). WhereKnown old.reader s.reader (AreTaken 0)) (sym same) (none_taken old.reader),
     ),
     ap (λ (s : ReaderState (Option (List ℕ))). s.spec_ex) same,
     ap (λ (s : ReaderState (Option (List ℕ))). s.num_samples) same,

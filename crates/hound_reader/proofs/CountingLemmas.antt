@@ -2,7 +2,7 @@
 use Rattle.std.proofs.Common.{◌≡◌, ℕ, ◌+◌, ◌-◌, ◌^◌, min, List, length, drop, ap, sym, ◌∙◌, arith, length-append, drop_at, refl, take, ◌≤◌, Option, None, Some}
 use Rattle.std.proofs.lemmas.List.{drop-drop, length-take-le}
 use Rattle.std.specs.Io.KnownBytes.{Consumes}
-use Rattle.hound_reader.specs.Counting.{HasGiven}
+use Rattle.hound_reader.specs.Reader.{HasGiven}
 
 -- this many bytes more were given
 given_more : (first old new : Option (List ℕ)) (given count sum : ℕ) (bytes : List ℕ)

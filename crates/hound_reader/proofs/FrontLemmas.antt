@@ -3,18 +3,16 @@ use Rattle.std.proofs.Common.{◌≡◌, ℕ, ◌+◌, ◌<◌, ◌≤◌, Bool,
 use Rattle.std.proofs.Math.Seq.{drop-length}
 use Rattle.std.proofs.lemmas.Bool.{ltb-true}
 use Rattle.std.specs.Str.{bytes_eq}
-use Rattle.hound_spec.specs.Header.{riff_tag, wave_tag}
+use Rattle.hound_spec.specs.{riff_tag, wave_tag, Error}
 use Rattle.hound_reader.specs.declared.cause.Reason.TheVariants.{NoRiffTag, NoWaveTag}
 use Rattle.std.specs.Io.KnownBytes.{Consumes}
 use Rattle.std.proofs.KnownBytes.{Consumes-trans}
-use Rattle.hound_number.specs.Input.{Known}
+use Rattle.hound_number.specs.{WhereKnown}
 use Rattle.hound_number.proofs.KnownSteps.{known_from, known_then}
 use Rattle.hound_reader.specs.Chunks.{front_fault}
-use Rattle.hound_reader.specs.Front.{TakesFront, TakesLess, ReportsFront, front_taken}
-use Rattle.hound_reader.specs.Outcome.{Refuses}
+use Rattle.hound_reader.specs.Walk.{TakesFront, TakesLess, ReportsFront, front_taken, Refuses}
 use Rattle.hound_reader.specs.Reader.{AreTaken}
 use Rattle.hound_reader.specs.Refusals.{ReportsError}
-use Rattle.hound_spec.specs.declared.error.Error.{Error}
 use Rattle.hound_spec.specs.declared.error.Error.TheVariants as errors
 use Rattle.hound_reader.specs.declared.cause.Cause.TheVariants.{Ended, Format, Unsupported}
 use Rattle.hound_reader.specs.declared.cause.HeadError.{HeadError}
@@ -22,7 +20,7 @@ use Rattle.hound_reader.specs.declared.cause.HeadError.TheVariants.{Failed, Refu
 
 -- these bytes were taken
 pub all_taken : (bytes : List ℕ) (k : ℕ) (o n : Option (List ℕ)) → Consumes o n bytes
-    → length bytes ≡ k → Known o n (AreTaken k)
+    → length bytes ≡ k → WhereKnown o n (AreTaken k)
 all_taken bytes k o n taken l =
     known_from bytes o n (AreTaken k) taken
     (λ ys. (omega (arith, l, length-append bytes ys), sym (drop_at bytes ys k l)))
@@ -30,8 +28,8 @@ all_taken bytes k o n taken l =
 -- h was taken, and then a part of what was needed: a fault or the end cut it
 pub front_cut : (h : List ℕ) (k : ℕ) (o m n : Option (List ℕ)) (e : HeadError) → Consumes o m h
     → length h + k ≤ 12 → (bytes : List ℕ) × (length bytes < k) × Consumes m n bytes
-    → Refuses e (λ c. (c ≡ Ended) × Known m n (λ xs ys. (length xs < k) × (ys ≡ [])))
-    → Known o n (TakesFront e)
+    → Refuses e (λ c. (c ≡ Ended) × WhereKnown m n (λ xs ys. (length xs < k) × (ys ≡ [])))
+    → WhereKnown o n (TakesFront e)
 front_cut h k o m n (Failed e) taken room (bytes, less, part) r =
     known_from (h ++ bytes) o n TakesLess (Consumes-trans o m n h bytes taken part) (λ ys. (
       length (h ++ bytes),
@@ -42,7 +40,7 @@ front_cut h k o m n (Failed e) taken room (bytes, less, part) r =
       ),
     ))
 front_cut h k o m n (Refused c) taken room part (is, end) =
-    subst (λ d. Known o n (λ xs ys. AreTaken (front_taken d xs) xs ys)) (sym is)
+    subst (λ d. WhereKnown o n (λ xs ys. AreTaken (front_taken d xs) xs ys)) (sym is)
     (known_then h o m n _ (λ xs ys. AreTaken (length xs) xs ys) taken end
     (λ ys zs p. (omega arith, p.1 ∙ sym (drop-length (h ++ ys)))))
 
@@ -99,8 +97,8 @@ told (Refused c) errors.TooLong xs ys r f t = r
 told (Refused c) errors.OutOfMemory xs ys r f t = r
 
 pub front_told : (e : HeadError) (error : Error) (o n : Option (List ℕ)) → ReportsError e error
-    → Refuses e (λ c. Known o n (λ xs ys. front_fault xs ≡ Some c)) → Known o n (TakesFront e)
-    → Known o n (ReportsFront error)
+    → Refuses e (λ c. WhereKnown o n (λ xs ys. front_fault xs ≡ Some c)) → WhereKnown o n (TakesFront e)
+    → WhereKnown o n (ReportsFront error)
 front_told e error None n r f t = tt
 front_told e error (Some xs) None r f t = t
 front_told (Failed x) error (Some xs) (Some ys) r f t = told (Failed x) error xs ys r tt t

@@ -5,13 +5,13 @@ use Rattle.std.specs.Io.KnownBytes.{Consumes}
 use Rattle.hound_reader.specs.declared.cause.Cause.{Cause}
 use Rattle.hound_reader.specs.declared.cause.HeadError.{HeadError}
 use Rattle.hound_reader.specs.declared.cause.HeadError.TheVariants.{Failed, Refused}
-use Rattle.hound_number.specs.Input.{Known}
-use Rattle.hound_reader.specs.Outcome.{Gives}
+use Rattle.hound_number.specs.{WhereKnown}
+use Rattle.hound_reader.specs.Walk.{Gives}
 
 -- these bytes were taken, and f of them is Ok x
 pub ok_from_taken : {A : Type 0} (k : ℕ) (bs : List ℕ) (o n : Option (List ℕ))
     (f : List ℕ → Result A Cause) (x : A) → Consumes o n bs → length bs ≡ k → f bs ≡ Ok x
-    → Known o n (λ xs ys. (f (take k xs) ≡ Ok x) × (k ≤ length xs) × (ys ≡ drop k xs))
+    → WhereKnown o n (λ xs ys. (f (take k xs) ≡ Ok x) × (k ≤ length xs) × (ys ≡ drop k xs))
 ok_from_taken k bs None n f x h l e = tt
 ok_from_taken k bs (Some xs) None f x h l e = h
 ok_from_taken k bs (Some xs) (Some ys) f x h l e = (
@@ -23,7 +23,7 @@ ok_from_taken k bs (Some xs) (Some ys) f x h l e = (
 -- the same if f of them is a fault
 pub err_from_taken : {A : Type 0} (k : ℕ) (bs : List ℕ) (o n : Option (List ℕ))
     (f : List ℕ → Result A Cause) (c : Cause) → Consumes o n bs → length bs ≡ k → f bs ≡ Err c
-    → Known o n (λ xs ys. f (take k xs) ≡ Err c)
+    → WhereKnown o n (λ xs ys. f (take k xs) ≡ Err c)
 err_from_taken k bs None n f c h l e = tt
 err_from_taken k bs (Some xs) None f c h l e = h
 err_from_taken k bs (Some xs) (Some ys) f c h l e =
@@ -59,7 +59,7 @@ take_over (suc n) (x ∷ h) zs l = let e : suc n - suc (length h) ≡ n - length
 -- h was taken, and g of what begins with h is a fault
 pub known_err : {A : Type 0} (h : List ℕ) (o m : Option (List ℕ)) (g : List ℕ → Result A Cause)
     (c : Cause) → Consumes o m h → ((ys : List ℕ) → g (h ++ ys) ≡ Err c)
-    → Known o m (λ xs ys. g xs ≡ Err c)
+    → WhereKnown o m (λ xs ys. g xs ≡ Err c)
 known_err h None m g c t e = tt
 known_err h (Some xs) None g c t e = t
 known_err h (Some xs) (Some ys) g c t e = ap g t ∙ e ys

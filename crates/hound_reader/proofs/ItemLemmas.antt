@@ -3,22 +3,15 @@ use Rattle.std.proofs.Common.{◌≡◌, ℕ, ◌+◌, ◌<◌, ◌≤◌, List,
 use Rattle.std.proofs.lemmas.Bool.{false≢true}
 use Rattle.std.specs.Prelude.{IfSome, IsSome}
 use Rattle.std.specs.declared.io.Error.{Error as IoFault}
-use Rattle.hound_number.specs.Input.{Known}
-use Rattle.hound_spec.specs.declared.error.Error.{Error}
-use Rattle.hound_spec.specs.declared.error.Error.TheVariants.{IoError, FormatError, TooWide, UnfinishedSample, Unsupported, InvalidSampleFormat, TooLong, OutOfMemory}
-use Rattle.hound_spec.specs.declared.spec.SampleFormat.{SampleFormat}
-use Rattle.hound_spec.specs.declared.spec.WavSpecEx.{WavSpecEx}
-use Rattle.hound_sample.specs.Meaning.{ReadRefusal}
-use Rattle.hound_sample.specs.Reads.{Reads}
-use Rattle.hound_reader.specs.Reader.{ReaderState, IsNext, AreTaken, refusal_at, meaning_at, samples_left}
-use Rattle.hound_sample.specs.ItemReads.{answer_of}
-use Rattle.hound_sample.specs.declared.item.ItemError.{ItemError}
-use Rattle.hound_reader.specs.Items.{AreItems, GivesItems}
+use Rattle.hound_number.specs.{WhereKnown}
+use Rattle.hound_spec.specs.{Error, IoError, FormatError, TooWide, UnfinishedSample, Unsupported, InvalidSampleFormat, TooLong, OutOfMemory, SampleFormat, WavSpecEx}
+use Rattle.hound_sample.specs.{ReadRefusal, Reads, answer_of, ItemError}
+use Rattle.hound_reader.specs.Reader.{ReaderState, IsNext, AreTaken, refusal_at, meaning_at, samples_left, AreItems, GivesItems}
 
 -- an Ok took exactly a container
 pub a_container_is_taken : {A : Type 0} (refusal : Option ReadRefusal) (meaning : List ℕ → A)
     (width : ℕ) (old new : Option (List ℕ)) (value : A)
-    → Reads refusal meaning width old new (Ok value) → Known old new (AreTaken width)
+    → Reads refusal meaning width old new (Ok value) → WhereKnown old new (AreTaken width)
 a_container_is_taken {A = A} (Some refusal) meaning width old new value read =
     absurd (false≢true (subst (IsOk {T = A} {E = Error}) read.0 refl))
 a_container_is_taken None meaning width None new value read = tt

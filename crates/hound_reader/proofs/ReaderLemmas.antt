@@ -2,17 +2,15 @@
 use Rattle.std.proofs.Common.{◌≡◌, ℕ, drop, inl, inr, ◌/◌, ◌∙◌, List, sym, ap, subst, Option, Some, None, Err, refl}
 use Rattle.std.specs.Prelude.{⊤, IfSome}
 use Rattle.std.proofs.lemmas.Option.{same_Some}
-use Rattle.hound_spec.specs.declared.spec.WavSpecEx.{WavSpecEx}
+use Rattle.hound_spec.specs.{WavSpecEx, Error}
 use Rattle.hound_reader.specs.declared.cause.Cause.{Cause}
 use Rattle.hound_reader.specs.declared.cause.HeadError.{HeadError}
 use Rattle.hound_reader.specs.declared.cause.HeadError.TheVariants.{Failed, Refused as Refused'}
-use Rattle.hound_spec.specs.declared.error.Error.{Error}
 use Rattle.hound_spec.specs.declared.error.Error.TheVariants as errors
-use Rattle.hound_reader.specs.Outcome.{Refuses}
-use Rattle.hound_number.specs.Input.{Known}
-use Rattle.hound_reader.specs.Answer.{Answer, readable, unreadable, Answers, AnswersFile, HasOneFileAnswer}
+use Rattle.hound_reader.specs.Walk.{Refuses}
+use Rattle.hound_number.specs.{WhereKnown}
+use Rattle.hound_reader.specs.Chunks.{Answer, readable, unreadable, Answers, AnswersFile, HasOneFileAnswer, Head, Readable, Unreadable, data_fault}
 use Rattle.hound_reader.proofs.Exists.{some_answer, fault_or_none}
-use Rattle.hound_reader.specs.Chunks.{Head, Readable, Unreadable, data_fault}
 use Rattle.hound_reader.specs.Refusals.{Names, ReportsError, IsRefusal, OpensAs, FailsAs}
 use Rattle.hound_number.proofs.KnownSteps.{known_some}
 use Rattle.hound_reader.proofs.Unique.{heads_agree, head_no_fault, faults_agree}
@@ -100,7 +98,7 @@ if_some (Some xs) Q f = f xs
 
 pub refusal_told : (o n : Option (List ℕ)) (stop : HeadError) (e : Error)
     (P : List ℕ → Cause → Type 0) → ReportsError stop e
-    → Refuses stop (λ c. Known o n (λ xs ys. P xs c)) → IfSome o (λ xs. IsRefusal e (P xs))
+    → Refuses stop (λ c. WhereKnown o n (λ xs ys. P xs c)) → IfSome o (λ xs. IsRefusal e (P xs))
 refusal_told o n (Failed x) e P r f = if_some o _ (λ xs. subst (λ y. IsRefusal y (P xs)) (sym r) tt)
 refusal_told o n (Refused' c) e P r f = known_some o n _ _ f (λ xs ys u. refusal_is e c (P xs) r u)
 
@@ -112,7 +110,7 @@ is_told (Refused' c) e r = refusal_is e c (λ _. ⊤) r tt
 -- what can be read is opened, unless a read failed
 pub opens_told : {A : Type 0} (o n : Option (List ℕ)) (stop : HeadError) (e : Error)
     (P : WavSpecEx → ℕ → A → Type 0) → ReportsError stop e
-    → Refuses stop (λ c. Known o n (λ xs ys. Unreadable xs c))
+    → Refuses stop (λ c. WhereKnown o n (λ xs ys. Unreadable xs c))
     → IfSome o (λ xs. (spec : WavSpecEx) (samples h : ℕ) → Readable xs spec samples h
     → OpensAs (Err e) (P spec samples))
 opens_told o n (Failed x) e P r f =
@@ -122,7 +120,7 @@ opens_told o n (Refused' c) e P r f =
     (λ xs ys u spec samples h a. absurd (readable_no_fault xs spec samples h c a u))
 
 pub opens_ok : (o n : Option (List ℕ)) (spec : WavSpecEx) (samples : ℕ)
-    → Known o n (λ xs ys. (h : ℕ) × Readable xs spec samples h × (ys ≡ drop h xs))
+    → WhereKnown o n (λ xs ys. (h : ℕ) × Readable xs spec samples h × (ys ≡ drop h xs))
     → IfSome o (λ xs. (s : WavSpecEx) (m h : ℕ) → Readable xs s m h → (spec ≡ s) × (samples ≡ m))
 opens_ok o n spec samples k =
     known_some o n _ (λ xs. (s : WavSpecEx) (m h : ℕ) → Readable xs s m h → (spec ≡ s)
@@ -140,14 +138,14 @@ names_fails errors.TooLong c n = n
 names_fails errors.OutOfMemory c n = n
 
 pub no_fault_ok : (o n : Option (List ℕ)) (spec : WavSpecEx) (samples : ℕ)
-    → Known o n (λ xs ys. (h : ℕ) × Readable xs spec samples h × (ys ≡ drop h xs))
+    → WhereKnown o n (λ xs ys. (h : ℕ) × Readable xs spec samples h × (ys ≡ drop h xs))
     → IfSome o (λ xs. (c : Cause) → Unreadable xs c → ⊥)
 no_fault_ok o n spec samples k =
     known_some o n _ (λ xs. (c : Cause) → Unreadable xs c → ⊥) k
     (λ xs ys p c u. readable_no_fault xs spec samples p.0 c p.1 u)
 
 pub fails_told : (o n : Option (List ℕ)) (stop : HeadError) (e : Error) → ReportsError stop e
-    → Refuses stop (λ c. Known o n (λ xs ys. Unreadable xs c))
+    → Refuses stop (λ c. WhereKnown o n (λ xs ys. Unreadable xs c))
     → IfSome o (λ xs. (c : Cause) → Unreadable xs c → FailsAs e c)
 fails_told o n (Failed x) e r f = if_some o _ (λ xs c u. subst (λ y. FailsAs y c) (sym r) tt)
 fails_told o n (Refused' d) e r f =

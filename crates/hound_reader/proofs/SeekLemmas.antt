@@ -3,19 +3,14 @@ use Rattle.std.proofs.Common.{◌≡◌, ℕ, zero, suc, ℤ, pos, negsuc, ◌+�
 use Rattle.std.proofs.Math.Nat.{mul_assoc, mul-le-mul, mul-le-mul_right, div-zero, div-mul-le_self}
 use Rattle.std.proofs.lemmas.Int.{ints}
 use Rattle.std.proofs.lemmas.List.{length-drop, drop-drop}
-use Rattle.hound_spec.specs.declared.error.Error.{Error}
-use Rattle.hound_spec.specs.declared.error.Error.TheVariants.{IoError, FormatError, TooWide, UnfinishedSample, Unsupported, InvalidSampleFormat, TooLong, OutOfMemory}
-use Rattle.hound_spec.specs.declared.spec.SampleFormat.{SampleFormat}
-use Rattle.hound_sample.specs.Meaning.{ReadRefusal}
-use Rattle.hound_sample.specs.Reads.{Reads}
-use Rattle.hound_medium.specs.State.{MediumState, Shifts, IsMoved}
-use Rattle.hound_number.specs.Input.{Known}
+use Rattle.hound_spec.specs.{Error, IoError, FormatError, TooWide, UnfinishedSample, Unsupported, InvalidSampleFormat, TooLong, OutOfMemory, SampleFormat, WavSpecEx, greatest_u32}
+use Rattle.hound_sample.specs.{ReadRefusal, Reads}
+use Rattle.hound_medium.specs.{MediumState, Shifts, IsMoved}
+use Rattle.hound_number.specs.{WhereKnown}
 use Rattle.std.proofs.lemmas.Option.{same_Some}
-use Rattle.hound_spec.specs.declared.spec.WavSpecEx.{WavSpecEx}
 use Rattle.hound_reader.specs.Reader.{ReaderState, IsNext, CountsTaken, AreTaken, refusal_at, meaning_at}
 use Rattle.hound_reader.specs.Seeking.{HasSought, Seeks, StandsAsCounted, IsAtCount, ReadsInPlace, PassesItem, Follows, IsMeaningOf, container_at, samples_before, bytes_before}
 use Rattle.hound_reader.specs.Sources.{unread}
-use Rattle.hound_spec.specs.FmtChunk.{greatest_u32}
 
 -- the place of a frame fits in 63 bits
 pub frame_small : (time channels width : ℕ) → time ≤ greatest_u32 → channels * width ≤ 65535
@@ -144,7 +139,7 @@ module _ {R A : Type 0} (state : R → MediumState) (left : R → Option (List �
       (left new.reader) item) taken known_read)
 
 known_left : (o n : Option (List ℕ)) (xs : List ℕ) (P : List ℕ → List ℕ → Type 0) → o ≡ Some xs
-    → Known o n P → (ys : List ℕ) × (n ≡ Some ys) × P xs ys
+    → WhereKnown o n P → (ys : List ℕ) × (n ≡ Some ys) × P xs ys
 known_left None n xs P e k = absurd (let no : ⊥ = cc in no)
 known_left (Some zs) None xs P e k = absurd k
 known_left (Some zs) (Some ys) xs P e k = (ys, refl, subst (λ l. P l ys) (same_Some zs xs e) k)

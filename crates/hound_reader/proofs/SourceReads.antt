@@ -2,11 +2,11 @@
 use Rattle.std.proofs.Common.{◌≡◌, Bool, true, false, IsTrue, cond, ℕ, List, drop, None, Some, Result, Ok, Err, refl, ap}
 use Rattle.std.specs.Prelude.{IfOk, IfErr}
 use Rattle.std.specs.Io.KnownBytes.{ReadConsumes}
-use Rattle.hound_number.specs.Input.{Account, CountsRead, Known}
-use Rattle.hound_medium.specs.State.{MediumState, Gets}
+use Rattle.hound_number.specs.{Account, CountsRead, WhereKnown}
+use Rattle.hound_medium.specs.{MediumState, Gets}
 use Rattle.hound_medium.proofs.Reading.{get_consumes}
 use Rattle.hound_reader.specs.Chunks.{Head, Refused}
-use Rattle.hound_reader.specs.Outcome.{Refuses, CountsFailed}
+use Rattle.hound_reader.specs.Walk.{Refuses, CountsFailed}
 use Rattle.hound_reader.specs.Sources.{Untouched, unread, account_of, FindsData}
 use Rattle.hound_reader.specs.declared.chunks.FileHead.{FileHead}
 use Rattle.hound_reader.specs.declared.cause.HeadError.{HeadError}
@@ -102,11 +102,11 @@ pub finds_told : (tells : Bool) (result : Result FileHead HeadError) (old new : 
     → CountsFailed (cond tells (Some (account_of old)) None)
     (cond tells (Some (account_of new)) None) result
     → IfOk result
-    (λ r. Known (cond tells (Some (unread old)) None) (cond tells (Some (unread new)) None)
+    (λ r. WhereKnown (cond tells (Some (unread old)) None) (cond tells (Some (unread new)) None)
     (λ xs ys. Head xs r.spec_ex r.data_length r.data_start × (ys ≡ drop r.data_start xs)))
     → IfErr result
     (λ e. Refuses e
-    (λ c. Known (cond tells (Some (unread old)) None) (cond tells (Some (unread new)) None)
+    (λ c. WhereKnown (cond tells (Some (unread old)) None) (cond tells (Some (unread new)) None)
     (λ xs ys. Refused xs c))) → FindsData result old new
 finds_told true result old new told counts found refused = finds result old new counts found refused
 finds_told false result old new told counts found refused = absurd (let h : ⊥ = cc in h)

@@ -1,24 +1,17 @@
 -- How many bytes are taken if the bytes are rejected, piece after piece.
-use Rattle.std.proofs.Common.{◌≡◌, ℕ, zero, suc, ◌+◌, ◌*◌, ◌%◌, ◌<◌, ◌≤◌, Bool, true, false, not, ◌||◌, if◌then◌else◌, List, [], ◌∷◌, ◌++◌, length, take, drop, refl, sym, ap, ◌∙◌, subst, arith, inl, inr, slice_range, append_assoc, drop_at, le-ltb, length-append, length-drop, Option, None, Some, Result, Ok, Err}
+use Rattle.std.proofs.Common.{◌≡◌, ℕ, zero, suc, ◌+◌, ◌*◌, ◌%◌, ◌<◌, ◌≤◌, Bool, true, false, not, ◌||◌, if◌then◌else◌, List, [], ◌∷◌, ◌++◌, length, take, drop, refl, sym, ap, ◌∙◌, subst, arith, inl, inr, slice_range, append_assoc, drop_at, le-ltb, length-append, length-drop, Option, None, Some, Result, Ok, Err, ◌==◌, nat_lt}
 use Rattle.std.proofs.lemmas.List.{drop-drop}
 use Rattle.std.proofs.Math.Seq.{drop-length}
 use Rattle.std.specs.Io.KnownBytes.{Consumes}
-use Rattle.hound_number.specs.Input.{Known}
+use Rattle.hound_number.specs.{WhereKnown, number}
 use Rattle.hound_number.proofs.KnownSteps.{known_both, known_from, known_then, known_weaker}
-use Rattle.hound_reader.specs.Outcome.{Refuses}
+use Rattle.hound_reader.specs.Walk.{Refuses, MeetsFaultAfter, RefusedAfter, UnreadableAfter, TakesAll, TakesFor, chunk_taken, content_taken, Walked}
 use Rattle.hound_reader.specs.Reader.{AreTaken}
-use Rattle.hound_reader.specs.Taken.{MeetsFaultAfter, RefusedAfter, UnreadableAfter, TakesAll, TakesFor, chunk_taken, content_taken}
 use Rattle.hound_reader.specs.Chunks.{Head, chunk_fault, data_fault, joined, last_spec}
-use Rattle.hound_reader.specs.Walk.{Walked}
-use Rattle.hound_number.specs.Number.{number}
-use Rattle.hound_spec.specs.Header.{data_tag, riff_tag, wave_tag}
+use Rattle.hound_spec.specs.{data_tag, riff_tag, wave_tag, FmtFields, Extension, fmt_fields, greatest_u16, greatest_u32, subformat, Int, Float, WavSpecEx}
 use Rattle.std.specs.Prelude.{IfErr, ⊤}
-use Rattle.std.proofs.Common.{◌==◌, nat_lt}
 use Rattle.std.specs.Str.{bytes_eq}
-use Rattle.hound_reader.specs.Fmt.{by_subformat, spec_of, wave_format, width_of, with_bits, with_format}
-use Rattle.hound_spec.specs.FmtChunk.{FmtFields, Extension, fmt_fields, greatest_u16, greatest_u32, subformat}
-use Rattle.hound_spec.specs.declared.spec.SampleFormat.TheVariants.{Int, Float}
-use Rattle.hound_spec.specs.declared.spec.WavSpecEx.{WavSpecEx}
+use Rattle.hound_reader.specs.Fmt.{by_subformat, spec_of, wave_format, width_of, with_valid_bits, with_format}
 use Rattle.hound_reader.specs.declared.cause.Cause.{Cause}
 use Rattle.hound_reader.specs.declared.cause.Cause.TheVariants.{Ended, Format, Unsupported}
 use Rattle.hound_reader.specs.declared.cause.Reason.TheVariants.{ZeroChannels, BitsExceedWidth, Inconsistent, BitsNotWholeBytes, ZeroBits}
@@ -60,11 +53,11 @@ takes_after h o m n f g P (Refused c) taken is same t =
 -- h was taken, and then all that was left, at an early end
 pub takes_end : (h : List ℕ) (k : ℕ) (o m n : Option (List ℕ)) (g : Cause → List ℕ → ℕ)
     (e : HeadError) → Consumes o m h
-    → Refuses e (λ c. (c ≡ Ended) × Known m n (λ xs ys. (length xs < k) × (ys ≡ [])))
+    → Refuses e (λ c. (c ≡ Ended) × WhereKnown m n (λ xs ys. (length xs < k) × (ys ≡ [])))
     → ((ys : List ℕ) → g Ended (h ++ ys) ≡ length (h ++ ys)) → TakesFor o n g e
 takes_end h k o m n g (Failed e) taken end all = tt
 takes_end h k o m n g (Refused c) taken end all =
-    subst (λ d. Known o n (λ xs ys. AreTaken (g d xs) xs ys)) (sym end.0)
+    subst (λ d. WhereKnown o n (λ xs ys. AreTaken (g d xs) xs ys)) (sym end.0)
     (known_then h o m n _ (λ xs ys. AreTaken (g Ended xs) xs ys) taken end.1
     (λ ys zs p. subst (λ i. AreTaken i (h ++ ys) zs) (sym (all ys))
     (omega arith, p.1 ∙ sym (drop-length (h ++ ys)))))
@@ -72,7 +65,7 @@ takes_end h k o m n g (Refused c) taken end all =
 -- exactly h was taken
 pub takes_these : (h : List ℕ) (o n : Option (List ℕ)) (g : Cause → List ℕ → ℕ) (c : Cause)
     → Consumes o n h → ((ys : List ℕ) → g c (h ++ ys) ≡ length h)
-    → Known o n (λ xs ys. AreTaken (g c xs) xs ys)
+    → WhereKnown o n (λ xs ys. AreTaken (g c xs) xs ys)
 takes_these h o n g c taken same =
     known_from h o n (λ xs ys. AreTaken (g c xs) xs ys) taken
     (λ ys. subst (λ i. AreTaken i (h ++ ys) ys) (sym (same ys))
@@ -89,8 +82,8 @@ pub subformat_fails : (found : WavSpecEx) (e : Extension) (c : Cause) → by_sub
     → c ≡ Unsupported
 subformat_fails found e c is =
     choice_fails (bytes_eq e.subformat (subformat Int)) (bytes_eq e.subformat (subformat Float))
-    (with_bits (with_format found Int) e.valid_bits)
-    (with_bits (with_format found Float) e.valid_bits) c is
+    (with_valid_bits (with_format found Int) e.valid_bits)
+    (with_valid_bits (with_format found Float) e.valid_bits) c is
 
 checks_take : (a b d e f : Bool) (x : WavSpecEx) (tag len : ℕ) (c : Cause) (n : ℕ)
     → (if a then Err (Format ZeroChannels) else if b then Err (Format BitsExceedWidth)
@@ -142,16 +135,16 @@ chunk_takes c len h ys cause eight room is =
     rw (limit, enough, drop_at h ys 8 eight, size, sym is, eight) refl
 
 -- P and Q for the same bytes
-pub known_and : (o n : Option (List ℕ)) (P Q : List ℕ → List ℕ → Type 0) → Known o n P → Known o n Q
-    → Known o n (λ xs ys. P xs ys × Q xs ys)
+pub known_and : (o n : Option (List ℕ)) (P Q : List ℕ → List ℕ → Type 0) → WhereKnown o n P → WhereKnown o n Q
+    → WhereKnown o n (λ xs ys. P xs ys × Q xs ys)
 known_and None n P Q p q = tt
 known_and (Some xs) None P Q p q = p
 known_and (Some xs) (Some ys) P Q p q = (p, q)
 
 -- whole chunks, and then a fault
 pub walk_takes : (o m n : Option (List ℕ)) (found : Option WavSpecEx) (taken : ℕ) (e : HeadError)
-    → Known o m (λ xs ys. Walked xs ys found taken)
-    → Refuses e (λ c. Known m n (λ xs ys. chunk_fault taken found xs ≡ Some c))
+    → WhereKnown o m (λ xs ys. Walked xs ys found taken)
+    → Refuses e (λ c. WhereKnown m n (λ xs ys. chunk_fault taken found xs ≡ Some c))
     → TakesFor m n (chunk_taken taken) e → TakesAll MeetsFaultAfter o n e
 walk_takes o m n found taken (Failed e) walked fault t = tt
 walk_takes o m n found taken (Refused c) walked fault t =
@@ -168,7 +161,7 @@ walk_takes o m n found taken (Refused c) walked fault t =
 
 -- the first twelve bytes, and then what the walk takes
 pub head_takes : (o m n : Option (List ℕ)) (len : ℕ) (e : HeadError)
-    → Known o m (λ xs ys. (size : List ℕ) × (length size ≡ 4)
+    → WhereKnown o m (λ xs ys. (size : List ℕ) × (length size ≡ 4)
     × (xs ≡ riff_tag ++ (size ++ (wave_tag ++ ys))) × (len ≡ number size))
     → TakesAll MeetsFaultAfter m n e → TakesAll RefusedAfter o n e
 head_takes o m n len (Failed e) front t = tt
@@ -216,8 +209,8 @@ head_is_there bytes spec len h head =
 -- a head, and a data length at fault
 pub length_takes : (o n : Option (List ℕ)) (spec : WavSpecEx) (len h : ℕ) (c : Cause)
     → data_fault spec len ≡ Some c
-    → Known o n (λ xs ys. Head xs spec len h × (ys ≡ drop h xs))
-    → Known o n (λ xs ys. (k : ℕ) × UnreadableAfter xs c k × AreTaken k xs ys)
+    → WhereKnown o n (λ xs ys. Head xs spec len h × (ys ≡ drop h xs))
+    → WhereKnown o n (λ xs ys. (k : ℕ) × UnreadableAfter xs c k × AreTaken k xs ys)
 length_takes o n spec len h c fault head =
     known_weaker o n _ _ head (λ xs ys p. (
       h,

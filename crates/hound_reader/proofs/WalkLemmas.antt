@@ -3,15 +3,13 @@ use Rattle.std.proofs.Common.{◌≡◌, ℕ, ◌+◌, ◌≤◌, Bool, true, fa
 use Rattle.std.specs.Str.{bytes_eq}
 use Rattle.std.proofs.lemmas.Slice.Eq.{bytes_eq-Decides}
 use Rattle.std.proofs.lemmas.List.{take-append-drop}
-use Rattle.hound_spec.specs.declared.spec.WavSpecEx.{WavSpecEx}
+use Rattle.hound_spec.specs.{WavSpecEx, greatest_u32, padded, riff_tag, wave_tag, data_tag}
 use Rattle.hound_reader.specs.declared.cause.Cause.TheVariants.{Format}
 use Rattle.hound_reader.specs.declared.cause.Reason.TheVariants.{NoRiffTag}
 use Rattle.hound_reader.specs.declared.chunks.ChunkRead.{ChunkRead}
 use Rattle.hound_reader.specs.declared.chunks.ChunkRead.TheVariants.{Data, Other}
-use Rattle.hound_number.specs.Number.{number}
+use Rattle.hound_number.specs.{number}
 use Rattle.hound_reader.specs.Chunks.{Chunk, IsChunk, chunk_bytes, Chunks, joined, last_spec, Head, spec_after, front_fault}
-use Rattle.hound_spec.specs.FmtChunk.{greatest_u32}
-use Rattle.hound_spec.specs.Header.{padded, riff_tag, wave_tag, data_tag}
 use Rattle.hound_reader.specs.Walk.{ReadsChunk, ReadsContent, Walked, ReachesData}
 
 -- what a test of the code shows

@@ -1,15 +1,17 @@
--- A file as chunks (RIFF): what is before the data, and what is wrong if it can't be read.
-use Rattle.std.specs.Prelude.{◌≡◌, ℕ, ◌+◌, ◌≤◌, ◌/◌, ◌%◌, ◌==◌, ◌⊎◌, false, not, List, [], ◌∷◌, ◌++◌, length, take, drop, slice_range, Option, Some, None, is_none, Result, Ok, Err, nat_lt, if◌then◌else◌}
+-- A file as chunks (RIFF): what is before the data, what is wrong if it can't be read, and that it is one
+-- of these. The containers of the data.
+use Rattle.std.specs.Prelude.{◌≡◌, ℕ, ◌+◌, ◌≤◌, ◌/◌, ◌%◌, ◌==◌, ◌⊎◌, false, not, List, [], ◌∷◌, ◌++◌, length, take, drop, slice_range, Option, Some, None, is_none, Result, Ok, Err, nat_lt, if◌then◌else◌, ◌*◌, ⊤}
 use Rattle.std.specs.Str.{bytes_eq}
-use Rattle.std.specs.List.{flat_map}
-use Rattle.hound_number.specs.Number.{number}
-use Rattle.hound_spec.specs.FmtChunk.{greatest_u32}
-use Rattle.hound_spec.specs.Header.{padded, riff_tag, wave_tag, fmt_tag, data_tag}
+use Rattle.std.specs.List.{flat_map, AllByRecursion}
+use Rattle.hound_number.specs.{number}
+use Rattle.hound_spec.specs.{greatest_u32, padded, riff_tag, wave_tag, fmt_tag, data_tag, WavSpecEx}
 use Rattle.hound_reader.specs.Fmt.{fmt_of}
-use Rattle.hound_spec.specs.declared.spec.WavSpecEx.{WavSpecEx}
 use Rattle.hound_reader.specs.declared.cause.Cause.{Cause}
 use Rattle.hound_reader.specs.declared.cause.Cause.TheVariants.{Ended, Format}
 use Rattle.hound_reader.specs.declared.cause.Reason.TheVariants.{NoRiffTag, NoWaveTag, NoDataChunk, NoFmtChunk, DataLength, FrameLength}
+use Rattle.hound_reader.specs.declared.chunks.FileHead.{FileHead}
+use Rattle.hound_reader.specs.declared.cause.HeadError.{HeadError}
+use Rattle.hound_reader.specs.declared.cause.HeadError.TheVariants.{Failed, Refused as Refuses}
 
 -- A chunk of the file: the tag, the length as four bytes, and the content with its
 -- pad byte, if it has one (RIFF, "Chunks").
@@ -147,3 +149,42 @@ abbrev pub Unreadable : List ℕ → Cause → Type 0
 Unreadable bytes cause = Refused bytes cause
     ⊎ ((spec : WavSpecEx) × (len : ℕ) × (h : ℕ) × Head bytes spec len h
     × (data_fault spec len ≡ Some cause))
+
+-- containers of the width of a spec, in whole frames, whose bytes 32 bits can count
+pub record AreContainers (s : WavSpecEx) (list : List (List ℕ)) : Type 0 where
+  pub each : AllByRecursion (λ c. length c ≡ s.bytes_per_sample) list
+  pub frames : length list % s.spec.channels ≡ 0
+  pub fits : length list * s.bytes_per_sample ≤ greatest_u32
+
+-- the spec, the data's length or the number of samples, and the place of the data; or the cause
+pub data Answer : Type 0 where
+  readable : WavSpecEx → ℕ → ℕ → Answer
+  unreadable : Cause → Answer
+
+-- the bytes have this head, with the data's length, or none for this cause
+abbrev pub Answers : List ℕ → Answer → Type 0
+Answers bytes (readable spec len h) = Head bytes spec len h
+Answers bytes (unreadable cause) = Refused bytes cause
+
+-- the bytes have exactly one head, or exactly one cause
+abbrev pub HasOneAnswer : List ℕ → Type 0
+HasOneAnswer bytes = (a : Answer) × Answers bytes a × ((b : Answer) → Answers bytes b → b ≡ a)
+
+-- the bytes can be read, with this many samples, or not for this cause
+abbrev pub AnswersFile : List ℕ → Answer → Type 0
+AnswersFile bytes (readable spec samples h) = Readable bytes spec samples h
+AnswersFile bytes (unreadable cause) = Unreadable bytes cause
+
+-- the bytes can be read with exactly one spec, count and place, or not for exactly one cause
+abbrev pub HasOneFileAnswer : List ℕ → Type 0
+HasOneFileAnswer bytes =
+    (a : Answer) × AnswersFile bytes a × ((b : Answer) → AnswersFile bytes b → b ≡ a)
+
+-- What was returned, and the bytes that are left, are this answer, unless a read failed.
+abbrev pub ReportsAnswer : Result FileHead HeadError → List ℕ → List ℕ → Answer → Type 0
+ReportsAnswer (Ok r) bytes rest (readable spec len h) = (r.spec_ex ≡ spec) × (r.data_length ≡ len)
+    × (r.data_start ≡ h) × (rest ≡ drop h bytes)
+ReportsAnswer (Ok r) bytes rest (unreadable cause) = ⊥
+ReportsAnswer (Err (Failed e)) bytes rest a = ⊤
+ReportsAnswer (Err (Refuses c)) bytes rest (readable spec len h) = ⊥
+ReportsAnswer (Err (Refuses c)) bytes rest (unreadable cause) = c ≡ cause

@@ -1,14 +1,11 @@
 -- The spec that the content of a fmt chunk gives, or the first check that fails.
 use Rattle.std.specs.Prelude.{ℕ, ◌<◌, ◌≤◌, ◌-◌, ◌*◌, ◌/◌, ◌%◌, not, ◌||◌, min, List, length, take, drop, Result, Ok, Err, nat_lt, ◌==◌, if◌then◌else◌}
 use Rattle.std.specs.Str.{bytes_eq}
-use Rattle.hound_number.specs.Number.{number}
-use Rattle.hound_spec.specs.FmtChunk.{FmtFields, fmt_fields, Extension, extension, extension_size, subformat, pcm, ieee_float, extensible, greatest_u16, greatest_u32}
+use Rattle.hound_number.specs.{number}
+use Rattle.hound_spec.specs.{FmtFields, fmt_fields, Extension, extension, extension_size, subformat, pcm, ieee_float, extensible, greatest_u16, greatest_u32, SampleFormat, Int, Float, WavSpecEx}
 use Rattle.hound_reader.specs.declared.cause.Cause.{Cause}
 use Rattle.hound_reader.specs.declared.cause.Cause.TheVariants.{Ended, Format, Unsupported}
 use Rattle.hound_reader.specs.declared.cause.Reason.TheVariants.{FmtSize, UnexpectedFmtSize, ZeroChannels, BitsExceedWidth, Inconsistent, BitsNotWholeBytes, ZeroBits, BitsNot8Or16, ExSize, BitsNot32, ExtensibleSize}
-use Rattle.hound_spec.specs.declared.spec.SampleFormat.{SampleFormat}
-use Rattle.hound_spec.specs.declared.spec.SampleFormat.TheVariants.{Int, Float}
-use Rattle.hound_spec.specs.declared.spec.WavSpecEx.{WavSpecEx}
 
 -- f applied to an Ok; an Err stays
 infixl 10 ◌>>=◌
@@ -71,17 +68,17 @@ wave_format_ieee_float len found after =
     else Ok (with_format found Float)
 
 -- valid bits above 0 replace the bits (WAVEFORMATEXTENSIBLE, "wValidBitsPerSample")
-abbrev pub with_bits : WavSpecEx → ℕ → WavSpecEx
-with_bits found valid =
+abbrev pub with_valid_bits : WavSpecEx → ℕ → WavSpecEx
+with_valid_bits found valid =
     let bits = if valid == 0 then found.spec.bits_per_sample else valid in
     record found { spec = record found.spec { bits_per_sample = bits } }
 
 -- the subformat gives the format of the samples; the mask is ignored (WAVEFORMATEXTENSIBLE)
 abbrev pub by_subformat : WavSpecEx → Extension → Result WavSpecEx Cause
 by_subformat found e =
-    if bytes_eq e.subformat (subformat Int) then Ok (with_bits (with_format found Int) e.valid_bits)
+    if bytes_eq e.subformat (subformat Int) then Ok (with_valid_bits (with_format found Int) e.valid_bits)
     else if bytes_eq e.subformat (subformat Float)
-    then Ok (with_bits (with_format found Float) e.valid_bits)
+    then Ok (with_valid_bits (with_format found Float) e.valid_bits)
     else Err Unsupported
 
 -- An extensible chunk: the size of an extension, and the extension (WAVEFORMATEXTENSIBLE).

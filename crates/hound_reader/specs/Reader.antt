@@ -1,14 +1,12 @@
--- A reader at its samples.
-use Rattle.std.specs.Prelude.{◌≡◌, ℕ, ◌+◌, ◌-◌, ◌*◌, ◌%◌, ◌<◌, ◌≤◌, List, length, drop, Option, Some, None, IsSome, Result, Ok, Err}
-use Rattle.hound_number.specs.Input.{Known}
-use Rattle.hound_spec.specs.declared.error.Error.{Error}
-use Rattle.hound_spec.specs.declared.error.Error.TheVariants.{IoError}
-use Rattle.hound_spec.specs.declared.spec.SampleFormat.{SampleFormat}
-use Rattle.hound_spec.specs.declared.spec.WavSpecEx.{WavSpecEx}
-use Rattle.hound_sample.specs.Meaning.{ReadRefusal}
-use Rattle.hound_sample.specs.Reads.{Reads}
+-- A reader at its samples: its items, blocks of them, and how many bytes it gave.
+use Rattle.std.specs.Prelude.{◌≡◌, ℕ, ◌+◌, ◌-◌, ◌*◌, ◌%◌, ◌<◌, ◌≤◌, List, length, drop, Option, Some, None, IsSome, Result, Ok, Err, [], ◌∷◌, take, ⊤, min, OnOk, OnErr, ◌^◌}
+use Rattle.hound_number.specs.{WhereKnown}
+use Rattle.hound_spec.specs.{Error, IoError, SampleFormat, WavSpecEx, greatest_u32}
+use Rattle.hound_sample.specs.{ReadRefusal, Reads, error_of_read, ReadsItem, error_of_item, ReadsEach, items_of, answer_of, ItemError, Failed}
 use Rattle.hound_reader.specs.Fmt.{IsSoundSpec}
-use Rattle.hound_spec.specs.FmtChunk.{greatest_u32}
+use Rattle.std.specs.declared.io.Error.{Error as IoFault}
+use Rattle.std.proofs.Props.{props}
+use Rattle.std.specs.Coded.{Unit-prop}
 
 -- A reader as contracts see it: what it reads from, the spec with the width of a sample, how many
 -- samples the file has, how many of them were requested, and how many bytes these took since the
@@ -53,7 +51,7 @@ AreTaken n old new = (n ≤ length old) × (new ≡ drop n old)
 abbrev pub CountsTaken : {R : Type 0} → (R → Option (List ℕ)) → ReaderState R → ReaderState R
     → Type 0
 CountsTaken left old new = (n : ℕ) × (new.bytes_read ≡ old.bytes_read + n)
-    × Known (left old.reader) (left new.reader) (AreTaken n)
+    × WhereKnown (left old.reader) (left new.reader) (AreTaken n)
 
 -- why a type doesn't read, and its meaning, at the format, the width and the bits of a spec
 abbrev pub refusal_at : (SampleFormat → ℕ → ℕ → Option ReadRefusal) → WavSpecEx → Option ReadRefusal
@@ -83,3 +81,108 @@ abbrev pub IsNext : {R A : Type 0} → (R → Option (List ℕ))
 IsNext left refusal meaning None old new = (old.num_samples ≤ old.samples_read) × (new ≡ old)
 IsNext left refusal meaning (Some item) old new = GivesItem left (refusal_at refusal old.spec_ex)
     (meaning_at meaning old.spec_ex) item old new
+
+-- The first items of data with containers of this width: each is the error of the type, or each
+-- is the meaning of its own container, which is complete. Nothing is claimed after the first
+-- `IoError`.
+abbrev pub AreItems : {A : Type 0} → Option ReadRefusal → (List ℕ → A) → ℕ → List ℕ
+    → List (Result A Error) → Type 0
+AreItems refusal meaning width bytes [] = ⊤
+AreItems (Some refusal) meaning width bytes (item ∷ items) = (item ≡ Err (error_of_read refusal))
+    × AreItems (Some refusal) meaning width bytes items
+AreItems None meaning width bytes (Ok value ∷ items) = (width ≤ length bytes)
+    × (value ≡ meaning (take width bytes)) × AreItems None meaning width (drop width bytes) items
+AreItems None meaning width bytes (Err (IoError e) ∷ items) = ⊤
+AreItems None meaning width bytes (Err _ ∷ items) = ⊥
+
+-- these items were given one after the other
+abbrev pub GivesItems : {R A : Type 0} → (R → Option (List ℕ))
+    → (SampleFormat → ℕ → ℕ → Option ReadRefusal) → (SampleFormat → ℕ → ℕ → List ℕ → A) → List (Result A Error)
+    → ReaderState R → ReaderState R → Type 0
+GivesItems left refusal meaning [] old new = new ≡ old
+GivesItems {R} left refusal meaning (item ∷ items) old new = (mid : ReaderState R)
+    × IsNext left refusal meaning (Some item) old mid
+    × GivesItems left refusal meaning items mid new
+
+-- a sample of a spec is read as `read_item` of a type does it
+abbrev pub AnswersRead : {A : Type 0} → (SampleFormat → ℕ → ℕ → Option ReadRefusal)
+    → (SampleFormat → ℕ → ℕ → List ℕ → A) → WavSpecEx → Option (List ℕ) → Option (List ℕ) → Result A ItemError
+    → Type 0
+AnswersRead refusal meaning s old new answer =
+    ReadsItem (refusal_at refusal s) (meaning_at meaning s) s.bytes_per_sample old new answer
+
+-- the next item is given, whichever the fault of one without a sample is
+abbrev pub AnswersNext : {R A : Type 0} → (R → Option (List ℕ))
+    → (SampleFormat → ℕ → ℕ → Option ReadRefusal) → (SampleFormat → ℕ → ℕ → List ℕ → A)
+    → Option (Result A ItemError) → ReaderState R → ReaderState R → Type 0
+AnswersNext left refusal meaning None old new = IsNext left refusal meaning None old new
+AnswersNext left refusal meaning (Some (Ok value)) old new =
+    IsNext left refusal meaning (Some (Ok value)) old new
+AnswersNext left refusal meaning (Some (Err no_sample)) old new = (fault : IoFault)
+    → IsNext left refusal meaning (Some (Err (error_of_item no_sample fault))) old new
+
+-- how many bytes an item without a sample took, of those given for it: what was given of a
+-- container of this width if a fault or the end cut it, and none at an error of the type
+abbrev pub taken_without : ItemError → ℕ → ℕ → ℕ
+taken_without Failed given width = min given width
+taken_without _ given width = 0
+
+-- a reader with the bytes that are left in place of what it reads from
+abbrev pub over_bytes : {R : Type 0} → (R → Option (List ℕ)) → ReaderState R
+    → ReaderState (Option (List ℕ))
+over_bytes left reading = record {
+  reader = left reading.reader;
+  spec_ex = reading.spec_ex;
+  num_samples = reading.num_samples;
+  samples_read = reading.samples_read;
+  bytes_read = reading.bytes_read;
+}
+
+-- these items came from the bytes that are left, one after the other
+abbrev pub GivesItemsOfBytes : {R A : Type 0} → (R → Option (List ℕ))
+    → (SampleFormat → ℕ → ℕ → Option ReadRefusal) → (SampleFormat → ℕ → ℕ → List ℕ → A)
+    → List (Result A Error) → ReaderState R → ReaderState R → Type 0
+GivesItemsOfBytes left refusal meaning items old new = GivesItems (λ (bytes : Option (List ℕ)). bytes)
+    refusal meaning items (over_bytes left old) (over_bytes left new)
+
+-- how many samples a block requested: those that came, and the one in whose place an error came
+abbrev pub requested : {T E : Type 0} → ℕ → Result T E → ℕ
+requested count (Ok done) = count
+requested count (Err error) = count + 1
+
+-- `read_samples`: a block is items. The samples that came are the front of the slice, `count` of them:
+-- all that fit or are left, or fewer if the next item is the error. The rest of the slice stays.
+pub record ReadsBlock {R A : Type 0} (left : R → Option (List ℕ))
+    (refusal : SampleFormat → ℕ → ℕ → Option ReadRefusal)
+    (meaning : SampleFormat → ℕ → ℕ → List ℕ → A) (count : ℕ) (result : Result (Unit {0}) Error)
+    (before after : List A) (old new : ReaderState R) : Type 0 where
+  pub within : count ≤ min (length after) (samples_left old)
+  pub all : OnOk result (count ≡ min (length after) (samples_left old))
+  pub part : OnErr result (count < min (length after) (samples_left old))
+  pub items : GivesItemsOfBytes left refusal meaning (items_of (take count after) result) old new
+  pub counted : samples_left new ≡ samples_left old - requested count result
+  pub rest : drop count after ≡ drop count before
+  pub untouched : IsSome (refusal_at refusal old.spec_ex) → new.reader ≡ old.reader
+
+-- samples of a spec are read as `read` of a type does it, whichever the fault is
+abbrev pub AnswersReadMany : {A : Type 0} → (SampleFormat → ℕ → ℕ → Option ReadRefusal)
+    → (SampleFormat → ℕ → ℕ → List ℕ → A) → WavSpecEx → Option (List ℕ) → Option (List ℕ) → List A
+    → Result (Unit {0}) ItemError → Type 0
+AnswersReadMany refusal meaning s old new values answer = (fault : IoFault)
+    → ReadsEach (refusal_at refusal s) (meaning_at meaning s) s.bytes_per_sample
+    (items_of values (answer_of answer fault)) old new
+
+-- If the bytes are known, those that were left at first and are not left now have been given, from
+-- the front, and `given` counts them, up to the maximum of `u64`.
+abbrev pub HasGiven : Option (List ℕ) → ℕ → Option (List ℕ) → Type 0
+HasGiven None given left = ⊤
+HasGiven (Some xs) given None = ⊥
+HasGiven (Some xs) given (Some ys) = (length ys ≤ length xs)
+    × (ys ≡ drop (length xs - length ys) xs)
+    × (given ≡ min (length xs - length ys) (2 ^ 64 - 1))
+
+pub HasGiven-prop : (first : Option (List ℕ)) (given : ℕ) (left : Option (List ℕ))
+    → IsProp (HasGiven first given left)
+HasGiven-prop None given left = Unit-prop
+HasGiven-prop (Some xs) given None = λ a b. absurd a
+HasGiven-prop (Some xs) given (Some ys) = hlevel props

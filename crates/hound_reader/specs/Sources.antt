@@ -1,7 +1,7 @@
 -- A source as an input.
 use Rattle.std.specs.Prelude.{◌≡◌, ℕ, List, drop, ⊤, Result, Ok, Err}
-use Rattle.hound_number.specs.Input.{Account}
-use Rattle.hound_medium.specs.State.{MediumState, one_more}
+use Rattle.hound_number.specs.{Account}
+use Rattle.hound_medium.specs.{MediumState, one_more}
 use Rattle.hound_reader.specs.Chunks.{Head, Refused as Refused'}
 use Rattle.hound_reader.specs.declared.chunks.FileHead.{FileHead}
 use Rattle.hound_reader.specs.declared.cause.HeadError.{HeadError}

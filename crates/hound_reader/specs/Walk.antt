@@ -1,15 +1,47 @@
--- The walk over chunks, step by step.
-use Rattle.std.specs.Prelude.{◌≡◌, ℕ, ◌+◌, ◌≤◌, List, ◌++◌, length, ⊤, Option, Some, None, Ok, true, false}
-use Rattle.hound_number.specs.Number.{number}
-use Rattle.hound_spec.specs.FmtChunk.{greatest_u32}
-use Rattle.hound_spec.specs.Header.{padded, data_tag}
-use Rattle.hound_reader.specs.Chunks.{Chunks, joined, last_spec, chunk_fault, Chunk, IsChunk, chunk_bytes, spec_after, fmt_fault}
+-- The walk over chunks, step by step: what each call returns, and how many bytes are taken of a file
+-- that is rejected.
+use Rattle.std.specs.Prelude.{◌≡◌, ℕ, ◌≤◌, List, length, drop, ⊤, Option, Result, Ok, Err, ◌+◌, ◌++◌, Some, None, true, false, ◌<◌, ◌==◌, ◌⊎◌, slice_range, nat_lt, if◌then◌else◌}
+use Rattle.hound_number.specs.{Account, WhereKnown, NoneFailed, OneFailed, number}
+use Rattle.hound_reader.specs.declared.cause.HeadError.{HeadError}
+use Rattle.hound_reader.specs.declared.cause.HeadError.TheVariants.{Failed, Refused}
+use Rattle.hound_reader.specs.declared.cause.Cause.{Cause}
+use Rattle.hound_spec.specs.{greatest_u32, extensible, padded, data_tag, WavSpecEx, Error}
+use Rattle.hound_reader.specs.Chunks.{Chunks, joined, last_spec, chunk_fault, Chunk, IsChunk, chunk_bytes, spec_after, fmt_fault, front_fault, Head, Walk, data_fault}
 use Rattle.hound_reader.specs.Fmt.{fmt_of, IsSoundSpec}
 use Rattle.std.specs.Str.{bytes_eq}
-use Rattle.hound_spec.specs.declared.spec.WavSpecEx.{WavSpecEx}
-use Rattle.hound_reader.specs.declared.cause.Cause.{Cause}
 use Rattle.hound_reader.specs.declared.chunks.ChunkRead.{ChunkRead}
 use Rattle.hound_reader.specs.declared.chunks.ChunkRead.TheVariants.{Data, Other}
+use Rattle.hound_reader.specs.Reader.{AreTaken}
+use Rattle.hound_reader.specs.Refusals.{reason_text}
+use Rattle.hound_spec.specs.declared.error.Error.TheVariants as errors
+use Rattle.hound_reader.specs.declared.cause.Cause.TheVariants.{Format, Ended, Unsupported}
+use Rattle.hound_reader.specs.declared.cause.Reason.{Reason}
+use Rattle.hound_reader.specs.declared.cause.Reason.TheVariants.{NoRiffTag, NoWaveTag, NoDataChunk, NoFmtChunk, FmtSize, BitsNot8Or16, ExSize, BitsNot32, ExtensibleSize}
+
+-- P for the cause, unless a read failed
+abbrev pub Refuses : HeadError → (Cause → Type 0) → Type 0
+Refuses (Failed e) P = ⊤
+Refuses (Refused c) P = P c
+
+-- A call that takes n bytes returns `read` of the bytes, unless a read failed.
+abbrev pub Gives : {A : Type 0} → Option (List ℕ) → Option (List ℕ) → ℕ → Result A HeadError
+    → (List ℕ → Result A Cause) → Type 0
+Gives old new n (Ok x) read =
+    WhereKnown old new (λ xs ys. (read xs ≡ Ok x) × (n ≤ length xs) × (ys ≡ drop n xs))
+Gives old new n (Err e) read = Refuses e (λ c. WhereKnown old new (λ xs ys. read xs ≡ Err c))
+
+-- P, unless a read failed
+abbrev pub UnlessReadFailed : {A : Type 0} → Result A HeadError → Type 0 → Type 0
+UnlessReadFailed (Ok x) P = P
+UnlessReadFailed (Err (Failed e)) P = ⊤
+UnlessReadFailed (Err (Refused c)) P = P
+
+-- a failed read is counted, and nothing else is
+abbrev pub CountsFailed : {Kept A : Type 0} → Option (Account Kept) → Option (Account Kept)
+    → Result A HeadError → Type 0
+CountsFailed old new (Ok x) = NoneFailed old new
+CountsFailed old new (Err (Failed e)) = OneFailed old new
+CountsFailed old new (Err (Refused c)) = NoneFailed old new
 
 -- What was taken of xs, of which ys are left, if a chunk was read that began c bytes after the
 -- WAVE tag.
@@ -75,3 +107,86 @@ IsSoundChunk (Other (Some spec) taken) = IsSoundSpec spec
 abbrev pub IsSoundOption : Option WavSpecEx → Type 0
 IsSoundOption None = ⊤
 IsSoundOption (Some spec) = IsSoundSpec spec
+
+-- how many of these bytes are taken for a fault of the first twelve: those up to the end of a wrong
+-- tag, or all at an early end
+abbrev pub front_taken : Cause → List ℕ → ℕ
+front_taken (Format NoRiffTag) bytes = 4
+front_taken (Format NoWaveTag) bytes = 12
+front_taken cause bytes = length bytes
+
+-- the first twelve bytes have this fault, and this many were taken for it
+abbrev pub RefusesFront : Cause → List ℕ → List ℕ → Type 0
+RefusesFront cause old new =
+    (front_fault old ≡ Some cause) × AreTaken (front_taken cause old) old new
+
+-- fewer than twelve bytes were taken
+abbrev pub TakesLess : List ℕ → List ℕ → Type 0
+TakesLess old new = (n : ℕ) × (n < 12) × AreTaken n old new
+
+-- what was taken of the first twelve bytes at an error: fewer than twelve if a read failed
+abbrev pub TakesFront : HeadError → List ℕ → List ℕ → Type 0
+TakesFront (Failed e) old new = TakesLess old new
+TakesFront (Refused cause) old new = AreTaken (front_taken cause old) old new
+
+-- what callers get for it: the words of a wrong tag, or an `IoError`, for which fewer than twelve
+-- bytes were taken
+abbrev pub ReportsFront : Error → List ℕ → List ℕ → Type 0
+ReportsFront (errors.IoError e) old new = TakesLess old new
+ReportsFront (errors.FormatError s) old new =
+    (reason : Reason) × RefusesFront (Format reason) old new × (s.now ≡ reason_text reason)
+ReportsFront _ old new = ⊥
+
+-- How many of the n bytes after the header of a chunk are taken for a fault, by the chunk's length
+-- and a fmt chunk's format tag: none for what the header decides, all at an early end (WAVEFORMAT,
+-- WAVEFORMATEX, WAVEFORMATEXTENSIBLE).
+abbrev pub content_taken : ℕ → ℕ → Cause → ℕ → ℕ
+content_taken tag len Ended n = n
+content_taken tag len (Format NoFmtChunk) n = 0
+content_taken tag len (Format NoDataChunk) n = 0
+content_taken tag len (Format FmtSize) n = 0
+content_taken tag len (Format BitsNot8Or16) n = 18
+content_taken tag len (Format ExSize) n = 18
+content_taken tag len (Format ExtensibleSize) n = 18
+content_taken tag len (Format BitsNot32) n = len
+content_taken tag len Unsupported n = if tag == extensible then 40 else 16
+content_taken tag len _ n = 16
+
+-- How many of these bytes are taken for the fault of a chunk that begins c bytes after the WAVE
+-- tag: its header too, if the limit leaves room for one.
+abbrev pub chunk_taken : ℕ → Cause → List ℕ → ℕ
+chunk_taken c cause bytes =
+    if nat_lt greatest_u32 (c + 8) then 0
+    else if nat_lt (length bytes) 8 then length bytes
+    else 8 + content_taken (number (slice_range bytes 8 10)) (number (slice_range bytes 4 8)) cause
+    (length (drop 8 bytes))
+
+-- After whole chunks a fault comes, and this many bytes after the WAVE tag are taken until it is
+-- found.
+abbrev pub MeetsFaultAfter : List ℕ → Cause → ℕ → Type 0
+MeetsFaultAfter bytes cause n = (rest : List ℕ) × (found : Option WavSpecEx) × (taken : ℕ)
+    × Walked bytes rest found taken × (chunk_fault taken found rest ≡ Some cause)
+    × (n ≡ taken + chunk_taken taken cause rest)
+
+-- The bytes have no head for this cause, and this many of them are taken until it is found.
+abbrev pub RefusedAfter : List ℕ → Cause → ℕ → Type 0
+RefusedAfter bytes cause n = ((front_fault bytes ≡ Some cause) × (n ≡ front_taken cause bytes))
+    ⊎ ((chunks : List Chunk) × (rest : List ℕ) × Walk bytes chunks rest
+    × (chunk_fault (length (joined chunks)) (last_spec None chunks) rest ≡ Some cause)
+    × (n ≡ 12 + length (joined chunks) + chunk_taken (length (joined chunks)) cause rest))
+
+-- The bytes can't be read for this cause, and this many of them are taken until it is found: all up
+-- to the data if the data length is at fault.
+abbrev pub UnreadableAfter : List ℕ → Cause → ℕ → Type 0
+UnreadableAfter bytes cause n = RefusedAfter bytes cause n
+    ⊎ ((spec : WavSpecEx) × (len : ℕ) × Head bytes spec len n × (data_fault spec len ≡ Some cause))
+
+-- At an error this many bytes were taken, by its cause and the bytes that were left.
+abbrev pub TakesFor : Option (List ℕ) → Option (List ℕ) → (Cause → List ℕ → ℕ) → HeadError → Type 0
+TakesFor old new n e = Refuses e (λ c. WhereKnown old new (λ xs ys. AreTaken (n c xs) xs ys))
+
+-- At an error the bytes that were taken are as many as its cause takes.
+abbrev pub TakesAll : (List ℕ → Cause → ℕ → Type 0) → Option (List ℕ) → Option (List ℕ) → HeadError
+    → Type 0
+TakesAll P old new e = Refuses e (λ c. WhereKnown old new (λ xs ys.
+    (n : ℕ) × P xs c n × AreTaken n xs ys))

@@ -1,19 +1,13 @@
 // The walk over chunks to the data.
-ghost use Rattle.hound_medium.specs.State.{WhereTells};
+ghost use Rattle.hound_medium.specs.{WhereTells};
 ghost use Rattle.std.specs.Prelude.{◌≡◌, ℕ, ◌+◌, ◌++◌, ◌<◌, ◌≤◌, List, [], length, take, drop, Ok, Some, IsTrue, OnOk, IfOk, IfErr};
 ghost use Rattle.std.specs.Io.KnownBytes.{Consumes};
-ghost use Rattle.hound_number.specs.Input.{Known};
-ghost use Rattle.hound_number.specs.Number.{number};
-ghost use Rattle.hound_spec.specs.FmtChunk.{fmt_fields, greatest_u32};
-ghost use Rattle.hound_spec.specs.Header.{padded, riff_tag, wave_tag};
-ghost use Rattle.hound_reader.specs.Outcome.{CountsFailed, Refuses, UnlessReadFailed};
+ghost use Rattle.hound_number.specs.{WhereKnown, number};
+ghost use Rattle.hound_spec.specs.{fmt_fields, greatest_u32, padded, riff_tag, wave_tag};
+ghost use Rattle.hound_reader.specs.Walk.{CountsFailed, Refuses, UnlessReadFailed, TakesFront, MeetsFaultAfter, RefusedAfter, TakesAll, TakesFor, chunk_taken, content_taken, ReadsChunk, ReadsContent, ReadsFmt, Advances, ReachesData, MeetsFault, IsSoundOption, IsSoundChunk};
 ghost use Rattle.hound_reader.specs.Fmt.{fmt_of, IsSoundSpec};
-ghost use Rattle.hound_reader.specs.Chunks.{Head, IsDataPlace, Refused, fault_of, first_fault, cut_fault, front_fault, content_fault, chunk_fault};
+ghost use Rattle.hound_reader.specs.Chunks.{Head, IsDataPlace, Refused, fault_of, first_fault, cut_fault, front_fault, content_fault, chunk_fault, Answer, Answers, ReportsAnswer};
 ghost use Rattle.hound_reader.specs.Sources.{FindsData, unread};
-ghost use Rattle.hound_reader.specs.Front.{TakesFront};
-ghost use Rattle.hound_reader.specs.Taken.{MeetsFaultAfter, RefusedAfter, TakesAll, TakesFor, chunk_taken, content_taken};
-ghost use Rattle.hound_reader.specs.Answer.{Answer, Answers, ReportsAnswer};
-ghost use Rattle.hound_reader.specs.Walk.{ReadsChunk, ReadsContent, ReadsFmt, Advances, ReachesData, MeetsFault, IsSoundOption, IsSoundChunk};
 
 use crate::cause::{Cause, HeadError, Reason};
 use crate::fmt::read_fmt_chunk;
@@ -58,7 +52,7 @@ fn skip_bytes<R: Input>(reader: &mut R, count: u32) -> Result<(), HeadError>
     ensures ok { OnOk result ((bytes : List ℕ)
         × Consumes (R.left reader.old) (R.left reader.new) bytes × (length bytes ≡ count)) }
     ensures err { IfErr result (λ e. Refuses e (λ c. (c ≡ Cause.Ended)
-        × Known (R.left reader.old) (R.left reader.new)
+        × WhereKnown (R.left reader.old) (R.left reader.new)
         (λ xs ys. (length xs < count) × (ys ≡ [])))) }
 {
     if count == 0 {
@@ -74,7 +68,7 @@ fn skip_some<R: Input>(reader: &mut R, count: u32) -> Result<(), HeadError>
     ensures ok { OnOk result ((bytes : List ℕ)
         × Consumes (R.left reader.old) (R.left reader.new) bytes × (length bytes ≡ count)) }
     ensures err { IfErr result (λ e. Refuses e (λ c. (c ≡ Cause.Ended)
-        × Known (R.left reader.old) (R.left reader.new)
+        × WhereKnown (R.left reader.old) (R.left reader.new)
         (λ xs ys. (length xs < count) × (ys ≡ [])))) }
 {
     let mut buf = [0; 512];
@@ -91,12 +85,12 @@ fn skip_some<R: Input>(reader: &mut R, count: u32) -> Result<(), HeadError>
 #[tactic(auto, unfolding(crate::specs::Chunks::front_fault))]
 pub(crate) fn read_riff_header<R: Input>(reader: &mut R) -> Result<u32, HeadError>
     ensures failures { CountsFailed (R.account reader.old) (R.account reader.new) result }
-    ensures ok { IfOk result (λ n. Known (R.left reader.old) (R.left reader.new) (λ xs ys.
+    ensures ok { IfOk result (λ n. WhereKnown (R.left reader.old) (R.left reader.new) (λ xs ys.
         (size : List ℕ) × (length size ≡ 4) × (xs ≡ riff_tag ++ (size ++ (wave_tag ++ ys))) × (n ≡ number size))) }
     ensures err { IfErr result (λ e. Refuses e (λ c.
-        Known (R.left reader.old) (R.left reader.new) (λ xs ys. front_fault xs ≡ Some c))) }
+        WhereKnown (R.left reader.old) (R.left reader.new) (λ xs ys. front_fault xs ≡ Some c))) }
     ensures taken { IfErr result (λ e.
-        Known (R.left reader.old) (R.left reader.new) (TakesFront e)) }
+        WhereKnown (R.left reader.old) (R.left reader.new) (TakesFront e)) }
 {
     let mut tag = [0; 4];
     fill(reader, &mut tag)?;
@@ -128,10 +122,10 @@ fn read_fmt_content<R: Input>(
     requires { content ≡ padded chunk_len }
     ensures sound { IfOk result IsSoundSpec }
     ensures failures { CountsFailed (R.account reader.old) (R.account reader.new) result }
-    ensures ok { IfOk result (λ found. Known (R.left reader.old) (R.left reader.new)
+    ensures ok { IfOk result (λ found. WhereKnown (R.left reader.old) (R.left reader.new)
         (ReadsFmt chunk_len found)) }
     ensures err { IfErr result (λ e. Refuses e (λ c.
-        Known (R.left reader.old) (R.left reader.new) (λ xs ys.
+        WhereKnown (R.left reader.old) (R.left reader.new) (λ xs ys.
         first_fault (fault_of (fmt_of chunk_len (take content xs))) (cut_fault content xs) ≡ Some c))) }
     ensures taken { IfErr result (TakesFor (R.left reader.old) (R.left reader.new)
         (λ c xs. content_taken (fmt_fields xs).tag chunk_len c (length xs))) }
@@ -155,10 +149,10 @@ fn read_content<R: Input>(
     ensures sound { IfOk result IsSoundChunk }
     ensures failures { CountsFailed (R.account reader.old) (R.account reader.new) result }
     ensures goes { IfOk result (Advances taken) }
-    ensures ok { IfOk result (λ chunk. Known (R.left reader.old) (R.left reader.new)
+    ensures ok { IfOk result (λ chunk. WhereKnown (R.left reader.old) (R.left reader.new)
         (ReadsContent taken found tag.now chunk_len chunk)) }
     ensures err { IfErr result (λ e. Refuses e (λ c.
-        Known (R.left reader.old) (R.left reader.new) (λ xs ys.
+        WhereKnown (R.left reader.old) (R.left reader.new) (λ xs ys.
         content_fault taken found tag.now chunk_len xs ≡ Some c))) }
     ensures taken { IfErr result (TakesFor (R.left reader.old) (R.left reader.new)
         (λ c xs. content_taken (fmt_fields xs).tag chunk_len c (length xs))) }
@@ -193,10 +187,10 @@ fn read_next_chunk<R: Input>(
     ensures sound { IfOk result IsSoundChunk }
     ensures failures { CountsFailed (R.account reader.old) (R.account reader.new) result }
     ensures goes { IfOk result (Advances taken) }
-    ensures ok { IfOk result (λ chunk. Known (R.left reader.old) (R.left reader.new)
+    ensures ok { IfOk result (λ chunk. WhereKnown (R.left reader.old) (R.left reader.new)
         (ReadsChunk taken found chunk)) }
     ensures err { IfErr result (λ e. Refuses e (λ c.
-        Known (R.left reader.old) (R.left reader.new) (λ xs ys.
+        WhereKnown (R.left reader.old) (R.left reader.new) (λ xs ys.
         chunk_fault taken found xs ≡ Some c))) }
     ensures taken { IfErr result (TakesFor (R.left reader.old) (R.left reader.new)
         (chunk_taken taken)) }
@@ -215,10 +209,10 @@ fn read_chunks<R: Input>(reader: &mut R) -> Result<FileHead, HeadError>
     ensures sound { IfOk result (λ r. IsSoundSpec r.spec_ex) }
     ensures start { IfOk result (λ r. IsDataPlace r.data_start) }
     ensures failures { CountsFailed (R.account reader.old) (R.account reader.new) result }
-    ensures ok { IfOk result (λ r. Known (R.left reader.old) (R.left reader.new) (λ xs ys.
+    ensures ok { IfOk result (λ r. WhereKnown (R.left reader.old) (R.left reader.new) (λ xs ys.
         (taken : ℕ) × ReachesData xs ys r.spec_ex r.data_length taken × (r.data_start ≡ 12 + taken + 8))) }
     ensures err { IfErr result (λ e. Refuses e (λ c.
-        Known (R.left reader.old) (R.left reader.new) (λ xs ys. MeetsFault xs c))) }
+        WhereKnown (R.left reader.old) (R.left reader.new) (λ xs ys. MeetsFault xs c))) }
     ensures taken { IfErr result (TakesAll MeetsFaultAfter (R.left reader.old) (R.left reader.new)) }
 {
     let mut found = None;
@@ -245,10 +239,10 @@ fn read_head<R: Input>(reader: &mut R) -> Result<FileHead, HeadError>
     ensures sound { IfOk result (λ r. IsSoundSpec r.spec_ex) }
     ensures start { IfOk result (λ r. IsDataPlace r.data_start) }
     ensures failures { CountsFailed (R.account reader.old) (R.account reader.new) result }
-    ensures ok { IfOk result (λ r. Known (R.left reader.old) (R.left reader.new) (λ xs ys.
+    ensures ok { IfOk result (λ r. WhereKnown (R.left reader.old) (R.left reader.new) (λ xs ys.
         Head xs r.spec_ex r.data_length r.data_start × (ys ≡ drop r.data_start xs))) }
     ensures err { IfErr result (λ e. Refuses e (λ c.
-        Known (R.left reader.old) (R.left reader.new) (λ xs ys. Refused xs c))) }
+        WhereKnown (R.left reader.old) (R.left reader.new) (λ xs ys. Refused xs c))) }
     ensures taken { IfErr result (TakesAll RefusedAfter (R.left reader.old) (R.left reader.new)) }
 {
     let _size = read_riff_header(reader)?;
@@ -264,12 +258,12 @@ pub fn read_until_data<R: Input>(reader: &mut R) -> Result<FileHead, HeadError>
     ensures sound { IfOk result (λ r. IsSoundSpec r.spec_ex) }
     ensures start { IfOk result (λ r. IsDataPlace r.data_start) }
     ensures failures { CountsFailed (R.account reader.old) (R.account reader.new) result }
-    ensures found { IfOk result (λ r. Known (R.left reader.old) (R.left reader.new) (λ xs ys.
+    ensures found { IfOk result (λ r. WhereKnown (R.left reader.old) (R.left reader.new) (λ xs ys.
         Head xs r.spec_ex r.data_length r.data_start × (ys ≡ drop r.data_start xs))) }
     ensures refused { IfErr result (λ e. Refuses e (λ c.
-        Known (R.left reader.old) (R.left reader.new) (λ xs ys. Refused xs c))) }
+        WhereKnown (R.left reader.old) (R.left reader.new) (λ xs ys. Refused xs c))) }
     ensures taken { IfErr result (TakesAll RefusedAfter (R.left reader.old) (R.left reader.new)) }
-    ensures only { UnlessReadFailed result (Known (R.left reader.old) (R.left reader.new) (λ xs ys.
+    ensures only { UnlessReadFailed result (WhereKnown (R.left reader.old) (R.left reader.new) (λ xs ys.
         (a : Answer) → Answers xs a → ReportsAnswer result xs ys a)) }
 {
     read_head(reader)

@@ -1,8 +1,8 @@
 // What the walk takes its bytes from.
 ghost use Rattle.std.specs.Prelude.{◌≡◌, ℕ, ◌<◌, List, [], length, if◌then◌else◌, None, Some, OnOk, OnErr, IfErr};
 ghost use Rattle.std.specs.Io.KnownBytes.{Consumes};
-ghost use Rattle.hound_number.specs.Input.{Known};
-ghost use Rattle.hound_reader.specs.Outcome.{Refuses, CountsFailed};
+ghost use Rattle.hound_number.specs.{WhereKnown};
+ghost use Rattle.hound_reader.specs.Walk.{Refuses, CountsFailed};
 ghost use Rattle.hound_reader.specs.Sources.{Untouched, account_of, unread};
 
 use crate::cause::{Cause, HeadError};
@@ -36,7 +36,7 @@ pub(crate) fn fill<R: Input>(reader: &mut R, buf: &mut [u8]) -> Result<(), HeadE
     ensures part { OnErr result ((bytes : List ℕ) × (length bytes < length buf.new)
         × Consumes (R.left reader.old) (R.left reader.new) bytes) }
     ensures err { IfErr result (λ e. Refuses e (λ c. (c ≡ Cause.Ended)
-        × Known (R.left reader.old) (R.left reader.new)
+        × WhereKnown (R.left reader.old) (R.left reader.new)
         (λ xs ys. (length xs < length buf.new) × (ys ≡ [])))) }
 {
     match read_into(reader, buf) {

@@ -1,20 +1,14 @@
 // Readers of files.
 ghost use Rattle.std.specs.Prelude.{◌≡◌, ℕ, ◌+◌, ◌*◌, ◌/◌, ◌%◌, ◌++◌, ⊤, List, length, drop, Some, IsTrue, IfOk, IfErr, IfSome, MatchResult};
-ghost use Rattle.hound_number.specs.Input.{Known};
-ghost use Rattle.hound_number.specs.Number.{number};
-ghost use Rattle.hound_spec.specs.Header.{riff_tag, wave_tag};
-ghost use Rattle.hound_spec.specs.declared.spec.WavSpecEx.{WavSpecEx};
-ghost use Rattle.hound_reader.specs.Outcome.{CountsFailed, Refuses};
+ghost use Rattle.hound_number.specs.{WhereKnown, number};
+ghost use Rattle.hound_spec.specs.{riff_tag, wave_tag, WavSpecEx};
+ghost use Rattle.hound_reader.specs.Walk.{CountsFailed, Refuses, ReportsFront, TakesAll, UnreadableAfter};
 ghost use Rattle.hound_reader.specs.Fmt.{IsSoundSpec};
 ghost use Rattle.hound_reader.specs.Chunks.{Readable, Unreadable};
-ghost use Rattle.hound_reader.specs.Front.{ReportsFront};
-ghost use Rattle.hound_reader.specs.Taken.{TakesAll, UnreadableAfter};
 ghost use Rattle.hound_reader.specs.declared.cause.Cause.{Cause};
 ghost use Rattle.hound_reader.specs.Refusals.{IsRefusal, OpensAs, FailsAs};
-ghost use Rattle.hound_medium.specs.State.{Shifts, WhereTells};
-ghost use Rattle.hound_reader.specs.Item.{AnswersNext};
-ghost use Rattle.hound_reader.specs.Reader.{HasWholeFrames, samples_left};
-ghost use Rattle.hound_reader.specs.Blocks.{ReadsBlock};
+ghost use Rattle.hound_medium.specs.{Shifts, WhereTells};
+ghost use Rattle.hound_reader.specs.Reader.{AnswersNext, HasWholeFrames, samples_left, ReadsBlock};
 ghost use Rattle.hound_reader.specs.Seeking.{Recounts, way_to};
 ghost use Rattle.hound_reader.specs.Samples.{lent_reader, lender, taken_reader};
 
@@ -35,10 +29,10 @@ use std::{io, result};
 fn read_until_samples<R: Input>(reader: &mut R) -> result::Result<(WavSpecEx, u32), HeadError>
     ensures sound { IfOk result (λ r. IsSoundSpec r.0) }
     ensures failures { CountsFailed (R.account reader.old) (R.account reader.new) result }
-    ensures found { IfOk result (λ r. Known (R.left reader.old) (R.left reader.new) (λ xs ys.
+    ensures found { IfOk result (λ r. WhereKnown (R.left reader.old) (R.left reader.new) (λ xs ys.
         (h : ℕ) × Readable xs r.0 r.1 h × (ys ≡ drop h xs))) }
     ensures refused { IfErr result (λ e. Refuses e
-        (λ c. Known (R.left reader.old) (R.left reader.new) (λ xs ys. Unreadable xs c))) }
+        (λ c. WhereKnown (R.left reader.old) (R.left reader.new) (λ xs ys. Unreadable xs c))) }
     ensures taken { IfErr result (TakesAll UnreadableAfter (R.left reader.old) (R.left reader.new)) }
     ensures frames { IfOk result (λ r. r.1 % r.0.spec.channels ≡ 0) }
 {
@@ -63,12 +57,12 @@ fn read_until_samples<R: Input>(reader: &mut R) -> result::Result<(WavSpecEx, u3
 /// tag and then for a wrong WAVE tag, after which no byte is taken; `IoError`, if a read fails or
 /// the input ends, which has the kind `Other`.
 pub fn read_wave_header<R: io::Read>(reader: &mut R) -> Result<u64>
-    ensures found { IfOk result (λ n. Known (R.remaining reader.old) (R.remaining reader.new)
+    ensures found { IfOk result (λ n. WhereKnown (R.remaining reader.old) (R.remaining reader.new)
         (λ xs ys.
         (size : List ℕ) × (length size ≡ 4) × (xs ≡ riff_tag ++ (size ++ (wave_tag ++ ys)))
         × (n ≡ number size + 8))) }
     ensures refused { IfErr result (λ e.
-        Known (R.remaining reader.old) (R.remaining reader.new) (ReportsFront e)) }
+        WhereKnown (R.remaining reader.old) (R.remaining reader.new) (ReportsFront e)) }
 {
     match read_riff_header(reader) {
         Ok(size) => Ok(size as u64 + 8),
@@ -129,7 +123,7 @@ impl<R: io::Read + Drop> WavReader<R> {
     /// would take more than 4294967295 bytes after the WAVE tag are a `FormatError`, so the call
     /// returns for an endless reader too.
     pub fn new(reader: R) -> Result<WavReader<R>>
-        ensures found { IfOk result (λ r. Known (R.remaining reader) (R.remaining r.reader)
+        ensures found { IfOk result (λ r. WhereKnown (R.remaining reader) (R.remaining r.reader)
             (λ xs ys.
             (h : ℕ) × Readable xs r.spec_ex r.num_samples h × (ys ≡ drop h xs))) }
         ensures fresh { IfOk result (λ r. (r.samples_read ≡ 0) × (r.bytes_read ≡ 0)) }

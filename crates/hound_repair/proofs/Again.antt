@@ -4,15 +4,13 @@ use Rattle.std.specs.Prelude.{◌==◌, replicate}
 use Rattle.std.proofs.lemmas.Bool.{eqb-false}
 use Rattle.std.proofs.lemmas.List.{length-replicate}
 use Rattle.std.proofs.lemmas.Nat.{div-add-mod', div-mul-add, mod-mul-add, mod_below}
-use Rattle.hound_spec.specs.declared.spec.WavSpecEx.{WavSpecEx}
-use Rattle.hound_spec.specs.Header.{riff_size}
-use Rattle.hound_medium.specs.State.{MediumState}
-use Rattle.hound_reader.specs.Chunks.{Head}
+use Rattle.hound_spec.specs.{WavSpecEx, riff_size}
+use Rattle.hound_medium.specs.{MediumState}
+use Rattle.hound_reader.specs.{Head}
 use Rattle.hound_reader.proofs.Unique.{heads_agree}
 use Rattle.hound_writer.proofs.Heads.{head_behind, head_field, head_inside}
-use Rattle.hound_writer.specs.Sizes.{field, with_sizes}
-use Rattle.hound_repair.specs.Following.{is_followed}
-use Rattle.hound_repair.specs.Held.{are_right, data_held, ends_with_pad, frame_length, frames_held, held, mended, missing_pad, right_length}
+use Rattle.hound_writer.specs.{field, with_sizes}
+use Rattle.hound_repair.specs.Held.{is_followed, are_right, data_held, ends_with_pad, frame_length, frames_held, held, mended, missing_pad, right_length}
 use Rattle.hound_repair.specs.Repairing.{HasRightSizes, IsFoundAt, LeavesFor, Repairs, UnlessFollowed, found_length, frames_found, state_of}
 use Rattle.hound_repair.specs.declared.sizes.Repair.{Repair}
 use Rattle.hound_repair.specs.declared.sizes.RepairState.{RepairState}

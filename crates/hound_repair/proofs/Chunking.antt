@@ -6,9 +6,9 @@ use Rattle.std.specs.Cmp.Lexicographic.{same_text}
 use Rattle.std.specs.List.{list_all, list_any}
 use Rattle.std.proofs.lemmas.Bool.Decides.{nat_tests}
 use Rattle.std.proofs.lemmas.List.{get_or-take, drop-take, take-take, take_all, take_at}
-use Rattle.hound_number.specs.Number.{number}
-use Rattle.hound_spec.specs.Header.{padded}
-use Rattle.hound_repair.specs.Following.{are_at_most, are_chunks, chunk_content, has_known_tag, has_tag, if_some, known_tags, is_printable, said_length}
+use Rattle.hound_number.specs.{number}
+use Rattle.hound_spec.specs.{padded}
+use Rattle.hound_repair.specs.Held.{are_at_most, are_chunks, chunk_content, has_known_tag, has_tag, if_some, known_tags, is_printable, said_length}
 
 -- no bytes are no chunks
 pub none_left : (bytes : List ℕ) → length bytes ≡ 0 → are_chunks bytes ≡ true

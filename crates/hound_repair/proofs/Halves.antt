@@ -1,11 +1,10 @@
 -- A file in each intermediate state of its repair.
 use Rattle.std.proofs.Common.{◌≡◌, ℕ, ◌-◌, Bool, [], ◌∷◌, length, take, inl, inr, Result, Ok, Err, IsTrue, sym, ap, ◌∙◌, subst, arith, length-append, length-take}
 use Rattle.std.proofs.lemmas.Bool.{cases_lt}
-use Rattle.hound_medium.specs.Bytes.{moment, overlay, placed}
-use Rattle.hound_medium.specs.State.{MediumState}
+use Rattle.hound_medium.specs.{moment, overlay, placed, MediumState}
 use Rattle.hound_medium.proofs.Overlays.{length-placed}
 use Rattle.hound_medium.proofs.Spans.{moment_before, moment_last}
-use Rattle.hound_writer.specs.Parts.{IsPatched, Patches, PatchesAtEach}
+use Rattle.hound_writer.specs.{IsPatched, Patches, PatchesAtEach}
 use Rattle.hound_repair.specs.Damages.{FindsDamage, IsSoundDamage, PutsPad, repair_of}
 use Rattle.hound_repair.specs.Repairing.{FlushesBeforePad, HalfMended, HalfMendedAtEach, MendsAtEach}
 use Rattle.hound_repair.specs.declared.look.Damage.{Damage}

@@ -4,13 +4,12 @@ use Rattle.std.proofs.lemmas.List.{drop-drop, drop-take, length-take-le}
 use Rattle.std.proofs.lemmas.Slice.{drop-append-drop}
 use Rattle.std.proofs.Math.Seq.{take-append-add}
 use borrow.Rule.Slice.PartMut.{put_mid}
-use Rattle.hound_number.specs.Number.{bytes_of}
+use Rattle.hound_number.specs.{bytes_of}
 use Rattle.hound_number.proofs.Mixing.{length-bytes_of}
-use Rattle.hound_medium.specs.State.{MediumState}
-use Rattle.hound_writer.specs.Sizes.{with_sizes}
-use Rattle.hound_repair.specs.Damages.{FindsDamage, IsSoundDamage, repair_of}
+use Rattle.hound_medium.specs.{MediumState}
+use Rattle.hound_writer.specs.{with_sizes}
+use Rattle.hound_repair.specs.Damages.{FindsDamage, IsSoundDamage, repair_of, RepairsBytes, as_medium}
 use Rattle.hound_repair.specs.Held.{mended, missing_pad}
-use Rattle.hound_repair.specs.InMemory.{RepairsBytes, as_medium}
 use Rattle.hound_repair.specs.Repairing.{Repairs}
 use Rattle.hound_repair.specs.declared.look.Damage.{Damage}
 use Rattle.hound_repair.specs.declared.sizes.Repair.{Repair}

@@ -3,13 +3,11 @@ use Rattle.std.proofs.Common.{◌≡◌, ℕ, ◌+◌, ◌-◌, ◌*◌, ◌≤�
 use Rattle.std.proofs.lemmas.Bool.{and_parts, false≢true}
 use Rattle.std.proofs.lemmas.List.{append-nil}
 use Rattle.std.specs.declared.io.Error.{Error as IoFault}
-use Rattle.hound_spec.specs.Header.{riff_size}
-use Rattle.hound_medium.specs.State.{MediumState, faults_after}
+use Rattle.hound_spec.specs.{riff_size}
+use Rattle.hound_medium.specs.{MediumState, faults_after}
 use Rattle.hound_medium.proofs.Overlays.{overlay_at_end}
-use Rattle.hound_reader.specs.Fmt.{IsSoundSpec}
-use Rattle.hound_writer.specs.Appending.{PutsNothing}
-use Rattle.hound_writer.specs.Parts.{IsPatched, Patches}
-use Rattle.hound_writer.specs.Sizes.{with_sizes}
+use Rattle.hound_reader.specs.{IsSoundSpec}
+use Rattle.hound_writer.specs.{PutsNothing, IsPatched, Patches, with_sizes}
 use Rattle.hound_repair.specs.Damages.{FindsDamage, IsSoundDamage, PutsPad, PutsSizes, repair_of}
 use Rattle.hound_repair.specs.Held.{frame_length, held, mended, missing_pad}
 use Rattle.hound_repair.specs.Repairing.{HalfMended, HasRightSizes, IsFoundAt, LeavesFor, Repairs, UnlessFollowed, found_length, frames_found, state_of}

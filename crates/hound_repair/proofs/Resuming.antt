@@ -3,16 +3,14 @@ use Rattle.std.proofs.Common.{◌≡◌, ℕ, zero, suc, ◌+◌, ◌-◌, ◌*�
 use Rattle.std.proofs.lemmas.Bool.{cases_lt}
 use Rattle.std.proofs.lemmas.List.{take-append-le}
 use Rattle.std.proofs.lemmas.Nat.{div-add-mod', div-mul-add}
-use Rattle.hound_number.specs.Number.{bytes_of, mix, number}
+use Rattle.hound_number.specs.{bytes_of, mix, number}
 use Rattle.hound_spec.proofs.FmtLemmas.{number-bytes_of}
-use Rattle.hound_spec.specs.declared.spec.WavSpecEx.{WavSpecEx}
-use Rattle.hound_spec.specs.FmtChunk.{greatest_u32}
-use Rattle.hound_spec.specs.Header.{riff_size}
-use Rattle.hound_medium.specs.State.{MediumState}
-use Rattle.hound_reader.specs.Chunks.{Head}
+use Rattle.hound_spec.specs.{WavSpecEx, greatest_u32, riff_size}
+use Rattle.hound_medium.specs.{MediumState}
+use Rattle.hound_reader.specs.{Head}
 use Rattle.hound_reader.proofs.Unique.{heads_agree}
 use Rattle.hound_writer.proofs.Heads.{head_behind, head_field, head_inside, head_with}
-use Rattle.hound_writer.specs.Sizes.{field}
+use Rattle.hound_writer.specs.{field}
 use Rattle.hound_repair.specs.Held.{data_held, frame_length, frames_held, held, missing_pad}
 use Rattle.hound_repair.specs.Repairing.{HalfMended, IsFoundAt, Repairs, found_length}
 use Rattle.hound_repair.specs.declared.sizes.Repair.{Repair}

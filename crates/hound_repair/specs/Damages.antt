@@ -1,19 +1,17 @@
--- What the private parts of a repair find and do.
-use Rattle.std.specs.Prelude.{◌≡◌, ℕ, ◌≤◌, ◌^◌, ◌⊎◌, Bool, IsTrue, [], ◌∷◌, ◌++◌, length, take, Some, Result, OnOk, MatchResult}
-use Rattle.hound_spec.specs.declared.error.Error.{Error}
-use Rattle.hound_spec.specs.Header.{riff_size}
-use Rattle.hound_medium.specs.Bytes.{placed, overlay}
-use Rattle.hound_medium.specs.State.{MediumState, faults_after, one_more}
-use Rattle.hound_reader.specs.declared.chunks.FileHead.{FileHead}
-use Rattle.hound_reader.specs.Chunks.{IsDataPlace}
-use Rattle.hound_reader.specs.Fmt.{IsSoundSpec}
-use Rattle.hound_writer.specs.Answers.{IsIoError}
-use Rattle.hound_writer.specs.Appending.{AppendFault, NamesFault, PutsNothing}
-use Rattle.hound_repair.specs.Held.{frames_held, held, mended, right_length, torn_bytes}
-use Rattle.hound_repair.specs.Repairing.{HalfMended, IsFoundAt, frames_found, repair_fault, torn_found}
+-- What the private parts of a repair find and do, and what a repair of a file in memory leaves.
+use Rattle.std.specs.Prelude.{◌≡◌, ℕ, ◌≤◌, ◌^◌, ◌⊎◌, Bool, IsTrue, [], ◌∷◌, ◌++◌, length, take, Some, Result, OnOk, MatchResult, true, List, drop, Option, None}
+use Rattle.hound_spec.specs.{Error, riff_size}
+use Rattle.hound_medium.specs.{placed, overlay, MediumState, faults_after, one_more, unknown}
+use Rattle.hound_reader.specs.{FileHead, IsDataPlace, IsSoundSpec, Unsupported}
+use Rattle.hound_writer.specs.{IsIoError, AppendFault, NamesFault, PutsNothing, by_bytes, too_long}
+use Rattle.hound_repair.specs.Held.{frames_held, held, mended, right_length, torn_bytes, missing_pad}
+use Rattle.hound_repair.specs.Repairing.{HalfMended, IsFoundAt, frames_found, repair_fault, torn_found, Repairs, found_length}
 use Rattle.hound_repair.specs.declared.look.Damage.{Damage}
 use Rattle.hound_repair.specs.declared.sizes.Repair.{Repair}
 use Rattle.hound_repair.specs.declared.sizes.Sizes.{Sizes}
+use Rattle.hound_repair.specs.declared.bytes.Unrepaired.{Unrepaired}
+use Rattle.hound_repair.specs.declared.bytes.Unrepaired.TheVariants.{NoRoom, TooLong, Unsupported as UnsupportedSamples}
+use Rattle.hound_repair.specs.declared.sizes.RepairState.TheVariants.{CutOff}
 
 -- the sizes are those of a file with this head that holds so many bytes from the data on
 pub record AreRightSizes (head : FileHead) (n : ℕ) (sizes : Sizes) : Type 0 where
@@ -81,3 +79,35 @@ pub record PutsSizes {T E : Type 0} (d : Damage) (result : Result T E) (old new 
   pub half : HalfMended d.head.data_start d.sizes.data_length old.contents new.contents
   pub flushed : OnOk result (new.flushed ≡ length new.past)
   pub faults : new.faults ≡ faults_after result old.faults
+
+-- bytes as a medium that is at its beginning
+abbrev pub as_medium : List ℕ → MediumState
+as_medium bytes = record unknown { contents = bytes }
+
+-- the first n bytes are what a repair leaves of the first ones, and what is after them stays
+pub record RepairsBytes (used n : ℕ) (found : Repair) (old new : List ℕ) : Type 0 where
+  pub repairs : Repairs true (as_medium (take used old)) found (as_medium (take n new))
+  pub rest : drop n new ≡ drop n old
+
+-- the fault of the bytes that keeps them from being repaired
+abbrev pub bytes_fault : Unrepaired → Option AppendFault
+bytes_fault UnsupportedSamples = Some (by_bytes Unsupported)
+bytes_fault TooLong = Some too_long
+bytes_fault NoRoom = None
+
+-- a pad byte is missing from a file that was cut off and takes all of the memory
+pub record LacksRoom (used : ℕ) (bytes : List ℕ) : Type 0 where
+  pub found : Repair
+  pub len : ℕ
+  pub start : ℕ
+  pub is : IsFoundAt true (take used bytes) found len start
+  pub was : found.was ≡ CutOff
+  pub pad : missing_pad (found_length found) (held start (take used bytes)) ≡ 0 ∷ []
+  pub full : length bytes ≤ used
+
+-- why a file with this head in the first bytes isn't repaired
+abbrev pub IsUnrepaired : FileHead → ℕ → List ℕ → Unrepaired → Type 0
+IsUnrepaired head used bytes NoRoom = LacksRoom used bytes
+IsUnrepaired head used bytes why =
+    repair_fault head.spec_ex head.data_length head.data_start
+    (held head.data_start (take used bytes)) ≡ bytes_fault why

@@ -1,22 +1,11 @@
 -- What a file is found as, and what repairing it leaves.
 use Rattle.std.specs.Prelude.{◌≡◌, ℕ, ◌+◌, ◌-◌, ◌*◌, ◌/◌, ◌%◌, ◌≤◌, ◌<◌, ◌⊎◌, Bool, true, false, ◌&&◌, not, nat_lt, if◌then◌else◌, ⊤, List, ◌++◌, length, take, drop, Option, Some, None, Result, MatchResult}
-use Rattle.hound_spec.specs.declared.error.Error.{Error}
-use Rattle.hound_spec.specs.declared.spec.WavSpecEx.{WavSpecEx}
-use Rattle.hound_spec.specs.FmtChunk.{greatest_u32}
-use Rattle.hound_spec.specs.Header.{riff_size}
-use Rattle.hound_spec.specs.Writable.{is_pair}
-use Rattle.hound_medium.specs.Bytes.{moment}
-use Rattle.hound_medium.specs.State.{MediumState, faults_after, one_more}
-use Rattle.hound_sample.specs.Container.{containers}
-use Rattle.hound_reader.specs.declared.cause.Cause.{Cause}
-use Rattle.hound_reader.specs.declared.cause.Cause.TheVariants.{Unsupported}
-use Rattle.hound_reader.specs.Chunks.{Head, Readable, Refused}
-use Rattle.hound_writer.specs.Answers.{IsIoError}
-use Rattle.hound_writer.specs.Appending.{AppendFault, by_bytes, too_long, NamesFault, PutsNothing}
-use Rattle.hound_writer.specs.Parts.{IsPatched}
-use Rattle.hound_writer.specs.Sizes.{field}
-use Rattle.hound_repair.specs.Following.{is_followed}
-use Rattle.hound_repair.specs.Held.{are_right, frame_length, frames_held, held, mended, right_length, torn_bytes}
+use Rattle.hound_spec.specs.{Error, WavSpecEx, greatest_u32, riff_size, is_pair}
+use Rattle.hound_medium.specs.{moment, MediumState, faults_after, one_more}
+use Rattle.hound_sample.specs.{containers}
+use Rattle.hound_reader.specs.{Cause, Unsupported, Head, Readable, Refused}
+use Rattle.hound_writer.specs.{IsIoError, AppendFault, by_bytes, too_long, NamesFault, PutsNothing, IsPatched, field}
+use Rattle.hound_repair.specs.Held.{is_followed, are_right, frame_length, frames_held, held, mended, right_length, torn_bytes}
 use Rattle.hound_repair.specs.declared.sizes.Repair.{Repair}
 use Rattle.hound_repair.specs.declared.sizes.RepairState.{RepairState}
 use Rattle.hound_repair.specs.declared.sizes.RepairState.TheVariants.{Whole, CutOff, HasChunksAfterData}

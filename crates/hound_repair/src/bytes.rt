@@ -1,9 +1,8 @@
 // Files in memory, repaired where they are.
 ghost use Rattle.std.specs.Prelude.{◌≡◌, ◌+◌, ◌≤◌, IfOk, IfErr, length, take};
-ghost use Rattle.hound_reader.specs.Chunks.{Head, IsDataPlace};
-ghost use Rattle.hound_reader.specs.Fmt.{IsSoundSpec};
-ghost use Rattle.hound_writer.specs.Sizes.{with_sizes};
-ghost use Rattle.hound_repair.specs.InMemory.{IsUnrepaired, RepairsBytes};
+ghost use Rattle.hound_reader.specs.{Head, IsDataPlace, IsSoundSpec};
+ghost use Rattle.hound_writer.specs.{with_sizes};
+ghost use Rattle.hound_repair.specs.Damages.{IsUnrepaired, RepairsBytes};
 
 use crate::look::measure;
 use crate::read_at::Window;

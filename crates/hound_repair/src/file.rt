@@ -1,8 +1,8 @@
 // Files on disk, repaired in place.
 ghost use Rattle.std.specs.Prelude.{◌≡◌, ◌⊎◌, false, IfOk};
 ghost use Rattle.std.proofs.lemmas.Bool.{false≢true};
-ghost use Rattle.hound_medium.specs.State.{unknown};
-ghost use Rattle.hound_reader.specs.Fmt.{IsSoundSpec};
+ghost use Rattle.hound_medium.specs.{unknown};
+ghost use Rattle.hound_reader.specs.{IsSoundSpec};
 
 use crate::look::find_damage;
 use crate::mend::{repair, repair_to_end};

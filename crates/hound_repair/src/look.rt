@@ -1,15 +1,12 @@
 // What a file holds, looked at without writing.
 ghost use Rattle.std.specs.Prelude.{◌≡◌, ◌+◌, ◌<◌, ◌≤◌, ◌^◌, ◌↔◌, ◌&&◌, ◌==◌, true, false, IsTrue, None, Some, Ok, length, take, drop, min, nat_le, nat_lt, ◌∷◌, [], IfOk, IfSome, OnOk, MatchResult, if◌then◌else◌};
-ghost use Rattle.hound_number.specs.Number.{number};
-ghost use Rattle.hound_spec.specs.Header.{padded};
-ghost use Rattle.hound_spec.specs.Writable.{is_pair};
-ghost use Rattle.hound_medium.specs.State.{WhereTells};
-ghost use Rattle.hound_reader.specs.Chunks.{Head, IsDataPlace};
-ghost use Rattle.hound_reader.specs.Fmt.{IsSoundSpec};
-ghost use Rattle.hound_writer.specs.Sizes.{field};
+ghost use Rattle.hound_number.specs.{number};
+ghost use Rattle.hound_spec.specs.{padded, is_pair};
+ghost use Rattle.hound_medium.specs.{WhereTells};
+ghost use Rattle.hound_reader.specs.{Head, IsDataPlace, IsSoundSpec};
+ghost use Rattle.hound_writer.specs.{field};
 ghost use Rattle.hound_repair.specs.Damages.{FindsDamage, IsNotMeasured, IsSoundDamage, repair_of};
-ghost use Rattle.hound_repair.specs.Following.{are_chunks, begins_chunk, chunk_content, ends_with_id3, has_known_tag, has_tag, is_followed, is_printable, said_length};
-ghost use Rattle.hound_repair.specs.Held.{are_right, held, missing_pad};
+ghost use Rattle.hound_repair.specs.Held.{are_chunks, begins_chunk, chunk_content, ends_with_id3, has_known_tag, has_tag, is_followed, is_printable, said_length, are_right, held, missing_pad};
 ghost use Rattle.hound_repair.specs.Repairing.{Finds, IsNotFound, Looks, state_of};
 
 use crate::read_at::ReadAt;
@@ -120,7 +117,7 @@ fn are_chunks<R: ReadAt>(source: &mut R, place: u64, end: u64) -> io::Result<boo
 
 // How a file is found that holds so many bytes, and should have these sizes. Its data weren't cut off
 // where a chunk begins after them, or an ID3v1 tag is at the end.
-#[tactic(auto, unfolding(crate::specs::Following::is_followed, crate::specs::Following::ends_with_id3))]
+#[tactic(auto, unfolding(crate::specs::Held::is_followed, crate::specs::Held::ends_with_id3))]
 fn state_of<R: ReadAt>(
     source: &mut R,
     head: FileHead,

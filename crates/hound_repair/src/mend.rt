@@ -1,7 +1,7 @@
 // The right sizes, put into a file.
 ghost use Rattle.std.specs.Prelude.{◌≡◌, ◌+◌, ◌≤◌, true, false, IfOk, length};
-ghost use Rattle.hound_reader.specs.Fmt.{IsSoundSpec};
-ghost use Rattle.hound_medium.specs.State.{WhereKeeps, WhereTells};
+ghost use Rattle.hound_reader.specs.{IsSoundSpec};
+ghost use Rattle.hound_medium.specs.{WhereKeeps, WhereTells};
 ghost use Rattle.hound_repair.specs.Damages.{IsSoundDamage, PutsPad, PutsSizes};
 ghost use Rattle.hound_repair.specs.Repairing.{FlushesBeforePad, HalfMendedAtEach, MendsMedium, RepairsMedium};
 

@@ -1,8 +1,8 @@
 // Bytes that are read at places: those of a source, or of a file in memory.
 ghost use Rattle.std.specs.Prelude.{◌≡◌, ◌+◌, ◌≤◌, ◌^◌, Bool, true, IfOk, OnOk, length, take, drop, min};
-ghost use Rattle.hound_medium.specs.State.{MediumState, WhereTells};
+ghost use Rattle.hound_medium.specs.{MediumState, WhereTells};
 ghost use Rattle.hound_repair.specs.Held.{held};
-ghost use Rattle.hound_repair.specs.InMemory.{as_medium};
+ghost use Rattle.hound_repair.specs.Damages.{as_medium};
 ghost use Rattle.hound_repair.specs.Repairing.{Looks};
 
 use hound_medium::Source;

@@ -1,8 +1,7 @@
 // The sizes that a file should have, by what it holds.
 ghost use Rattle.std.specs.Prelude.{◌≡◌, ◌+◌, ◌*◌, ◌/◌, ◌%◌, ◌<◌, ◌≤◌, ◌^◌, IfOk};
-ghost use Rattle.hound_reader.specs.Chunks.{IsDataPlace};
-ghost use Rattle.hound_reader.specs.Fmt.{IsSoundSpec};
-ghost use Rattle.hound_writer.specs.Appending.{FailsCheck};
+ghost use Rattle.hound_reader.specs.{IsDataPlace, IsSoundSpec};
+ghost use Rattle.hound_writer.specs.{FailsCheck};
 ghost use Rattle.hound_repair.specs.Held.{data_held};
 ghost use Rattle.hound_repair.specs.Damages.{AreRightSizes};
 ghost use Rattle.hound_repair.specs.Repairing.{size_fault};

@@ -1,7 +1,7 @@
 // What rows read from.
 ghost use Rattle.std.specs.Prelude.{◌≡◌, false};
 ghost use Rattle.std.proofs.lemmas.Bool.{false≢true};
-ghost use Rattle.hound.specs.State.{unknown};
+ghost use Rattle.hound.specs.{unknown};
 
 use crate::row::{Row, find};
 use hound::{Placed, Source};

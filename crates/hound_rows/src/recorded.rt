@@ -1,7 +1,7 @@
 // A journal that records the calls made of it.
 ghost use Rattle.std.specs.Prelude.{◌≡◌, false};
 ghost use Rattle.std.proofs.lemmas.Bool.{false≢true};
-ghost use Rattle.hound.specs.State.{MediumState, unknown};
+ghost use Rattle.hound.specs.{MediumState, unknown};
 
 use hound::{Journal, Medium, Placed, Source};
 use std::alloc::Global;

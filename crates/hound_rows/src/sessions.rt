@@ -1,6 +1,6 @@
 // Rows of sessions.
 ghost use Rattle.std.specs.Prelude.{◌≡◌, ◌≤◌, length};
-ghost use Rattle.hound.specs.State.{WhereTells};
+ghost use Rattle.hound.specs.{WhereTells};
 
 use crate::counting::Counted;
 use crate::kept::{Kept, recorded_of, tape_of};

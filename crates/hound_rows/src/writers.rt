@@ -1,6 +1,6 @@
 // Rows of writers.
 ghost use Rattle.std.specs.Prelude.{◌≡◌, ◌≤◌};
-ghost use Rattle.hound.specs.State.{WhereTells};
+ghost use Rattle.hound.specs.{WhereTells};
 
 use crate::blocks::write_block;
 use crate::counting::Counted;

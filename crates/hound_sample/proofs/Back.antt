@@ -1,14 +1,14 @@
 -- Integers that are read from their containers.
 use Rattle.std.proofs.Common.{◌≡◌, ℕ, zero, suc, ℤ, pos, negsuc, ◌+◌, ◌-◌, ◌*◌, ◌^◌, ◌<◌, ◌≤◌, ◌-ℤ◌, true, cond, ltb, List, take, None, Ok, IsTrue, refl, ◌∙◌, ap, arith, rules}
 use Rattle.std.proofs.lemmas.Bool.{ltb-true, lt-ltb, le-ltb}
-use Rattle.hound_number.specs.Number.{number, bytes_of, signed_of, signed_number, signed_bytes_of}
+use Rattle.hound_number.specs.{number, bytes_of, signed_of, signed_number, signed_bytes_of}
 use Rattle.hound_number.proofs.Mixing.{length-bytes_of}
 use Rattle.hound_spec.proofs.FmtLemmas.{number-bytes_of}
 use Rattle.hound_spec.proofs.WritableLemmas.{of_pair}
-use Rattle.hound_spec.specs.declared.spec.SampleFormat.TheVariants.{Int}
+use Rattle.hound_spec.specs.{Int}
 use Rattle.hound_sample.specs.Container.{fits, int_bytes, int_container, offset_byte}
 use Rattle.hound_sample.specs.ContainerLaws.{contained}
-use Rattle.hound_sample.specs.Meaning.{int_meaning, int_refusal, low_short}
+use Rattle.hound_sample.specs.Reads.{int_meaning, int_refusal, low_short}
 
 -- a number below half of the range is itself
 signed_of-pos : (k n : ℕ) → 2 * n < 256 ^ k → signed_of k n ≡ pos n

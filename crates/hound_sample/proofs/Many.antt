@@ -1,17 +1,13 @@
 -- Samples that were read one after the other.
 use Rattle.std.proofs.Common.{◌≡◌, ℕ, zero, suc, ◌+◌, ◌*◌, ◌<◌, ◌≤◌, List, [], ◌∷◌, ◌++◌, map, length, take, drop, refl, sym, ap, ◌∙◌, subst, arith, Option, None, Some, Result, Ok, Err}
-use Rattle.std.proofs.lemmas.List.{take-append-drop, length-take-le, length-drop, append_assoc, take_all, drop-drop, map-append}
-use Rattle.std.proofs.lemmas.List.{length-map}
+use Rattle.std.proofs.lemmas.List.{take-append-drop, length-take-le, length-drop, append_assoc, take_all, drop-drop, map-append, length-map}
 use Rattle.std.proofs.lemmas.Slice.{take-put_mid}
 use Rattle.std.specs.Io.KnownBytes.{Consumes}
 use borrow.Rule.Slice.PartMut.{put_mid}
 use Rattle.std.specs.declared.io.Error.{Error as IoFault}
-use Rattle.hound_spec.specs.declared.error.Error.{Error}
-use Rattle.hound_spec.specs.declared.error.Error.TheVariants.{IoError}
+use Rattle.hound_spec.specs.{Error, IoError}
 use Rattle.hound_sample.specs.Container.{containers}
-use Rattle.hound_sample.specs.Meaning.{ReadRefusal}
-use Rattle.hound_sample.specs.ManyReads.{ReadsEach}
-use Rattle.hound_sample.specs.Reads.{Reads}
+use Rattle.hound_sample.specs.Reads.{ReadRefusal, ReadsEach, Reads}
 use Rattle.hound_sample.proofs.Containers.{containers_front, length-containers}
 use Rattle.hound_sample.proofs.Reading.{takes_container, takes_part}
 

@@ -1,13 +1,13 @@
 -- Containers that were read, by the bytes that were taken.
 use Rattle.std.proofs.Common.{◌≡◌, ℕ, ◌<◌, List, length, refl, sym, ap, ◌∙◌, arith, take_at, drop_at, length-append, Option}
 use Rattle.std.specs.Io.KnownBytes.{Consumes}
-use Rattle.hound_number.specs.Input.{Known}
+use Rattle.hound_number.specs.{WhereKnown}
 use Rattle.hound_number.proofs.KnownSteps.{known_from}
 use Rattle.hound_sample.specs.Reads.{TakesContainer, TakesPart}
 
 pub takes_container : {A : Type 0} (bytes : List ℕ) (old new : Option (List ℕ)) (width : ℕ)
     (meaning : List ℕ → A) (value : A) → Consumes old new bytes → length bytes ≡ width
-    → value ≡ meaning bytes → Known old new (TakesContainer meaning width value)
+    → value ≡ meaning bytes → WhereKnown old new (TakesContainer meaning width value)
 takes_container bytes old new width meaning value taken whole is =
     known_from bytes old new (TakesContainer meaning width value) taken (λ ys. (
       omega (arith, length-append bytes ys),
@@ -16,7 +16,7 @@ takes_container bytes old new width meaning value taken whole is =
     ))
 
 pub takes_part : (bytes : List ℕ) (old new : Option (List ℕ)) (width : ℕ) → Consumes old new bytes
-    → length bytes < width → Known old new (TakesPart width)
+    → length bytes < width → WhereKnown old new (TakesPart width)
 takes_part bytes old new width taken few =
     known_from bytes old new (TakesPart width) taken
     (λ ys. (

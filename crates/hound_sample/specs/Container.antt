@@ -1,8 +1,10 @@
--- The container of a sample: its bytes in the file (WAVEFORMATEX, "wBitsPerSample", "nBlockAlign").
-use Rattle.std.specs.Prelude.{ℕ, zero, suc, ℤ, pos, negsuc, ◌+◌, ◌-◌, ◌/◌, ◌^◌, Bool, ◌==◌, nat_lt, if◌then◌else◌, List, [], ◌∷◌, ◌++◌, take, drop, replicate, Result, Ok, Err}
-use Rattle.hound_number.specs.Number.{bytes_of, signed_bytes_of}
-use Rattle.hound_spec.specs.Writable.{is_pair}
-use Rattle.hound_spec.specs.declared.spec.SampleFormat.TheVariants.{Int, Float}
+-- The container of a sample: its bytes in the file (WAVEFORMATEX, "wBitsPerSample", "nBlockAlign");
+-- what the calls that make it return; and those of many samples.
+use Rattle.std.specs.Prelude.{ℕ, zero, suc, ℤ, pos, negsuc, ◌+◌, ◌-◌, ◌/◌, ◌^◌, Bool, ◌==◌, nat_lt, if◌then◌else◌, List, [], ◌∷◌, ◌++◌, take, drop, replicate, Result, Ok, Err, ◌≡◌, ◌<◌, length, Option}
+use Rattle.hound_number.specs.{bytes_of, signed_bytes_of}
+use Rattle.hound_spec.specs.{is_pair, Int, Float, Error, IoError, TooWide, Unsupported}
+use Rattle.std.specs.Io.KnownBytes.{Appends}
+use Rattle.std.specs.List.{flat_map}
 
 -- why a value has no container: it needs more bits, or its type is not written with these bits and
 -- bytes
@@ -44,3 +46,51 @@ pattern_container pattern bits width =
 abbrev pub containers : ℕ → ℕ → List ℕ → List (List ℕ)
 containers width zero bytes = []
 containers width (suc count) bytes = take width bytes ∷ containers width count (drop width bytes)
+
+-- the error for why a value has no container
+abbrev pub error_of : Refusal → Error
+error_of too_wide = TooWide
+error_of unsupported = Unsupported
+
+-- `encode`: the container, and zeros after it up to four bytes, or the error
+abbrev pub IsEncoded : Result (List ℕ) Refusal → Result (List ℕ) Error → Type 0
+IsEncoded (Ok container) result = result ≡ Ok (container ++ replicate (4 - length container) 0)
+IsEncoded (Err refusal) result = result ≡ Err (error_of refusal)
+
+-- `write_padded`: exactly the container was written, or a shorter beginning of it if the writer
+-- failed; nothing if there is no container
+abbrev pub WritesContainer : {T : Type 0} → Result (List ℕ) Refusal → Option (List ℕ)
+    → Option (List ℕ) → Result T Error → Type 0
+WritesContainer (Ok container) old new (Ok x) = Appends old new container
+WritesContainer (Ok container) old new (Err (IoError e)) = (n : ℕ) × (n < length container)
+    × Appends old new (take n container)
+WritesContainer (Ok container) old new (Err _) = ⊥
+WritesContainer (Err refusal) old new result = (result ≡ Err (error_of refusal)) × (new ≡ old)
+
+-- a container and those after it, or the first error among them
+abbrev pub and_more : Result (List ℕ) Refusal → Result (List (List ℕ)) Refusal →
+    Result (List (List ℕ)) Refusal
+and_more (Err refusal) more = Err refusal
+and_more (Ok container) (Err refusal) = Err refusal
+and_more (Ok container) (Ok list) = Ok (container ∷ list)
+
+-- the containers of values, in their order, or the error of the first value that has none
+abbrev pub all_containers : {V : Type 0} → (V → Result (List ℕ) Refusal) → List V →
+    Result (List (List ℕ)) Refusal
+all_containers container [] = Ok []
+all_containers container (value ∷ values) =
+    and_more (container value) (all_containers container values)
+
+-- the bytes of a container, if there is one
+abbrev pub bytes_in : Result (List ℕ) Refusal → List ℕ
+bytes_in (Ok container) = container
+bytes_in (Err refusal) = []
+
+-- the containers of values, joined
+abbrev pub joined_containers : {V : Type 0} → (V → Result (List ℕ) Refusal) → List V → List ℕ
+joined_containers container values = flat_map (λ value. bytes_in (container value)) values
+
+-- Ok if all values have containers, or the error of the first that has none
+abbrev pub first_error : {T : Type 0} → Result T Refusal → Result (Unit {0}) Error
+first_error (Ok list) = Ok tt
+first_error (Err refusal) = Err (error_of refusal)

@@ -1,9 +1,50 @@
--- What `read` returns, by why its type doesn't read the samples and by the container's meaning.
-use Rattle.std.specs.Prelude.{◌≡◌, ℕ, ◌<◌, ◌≤◌, List, length, take, drop, Option, None, Some, Result, Ok, Err}
-use Rattle.hound_number.specs.Input.{Known}
-use Rattle.hound_spec.specs.declared.error.Error.{Error}
-use Rattle.hound_spec.specs.declared.error.Error.TheVariants.{IoError, TooWide, Unsupported, InvalidSampleFormat}
-use Rattle.hound_sample.specs.Meaning.{ReadRefusal, other_format, wider, other_pair}
+-- What a container means, which types read it (WAVEFORMATEX, "wBitsPerSample": 8 bits are unsigned),
+-- and what `read`, `read_item` and `read_many` return.
+use Rattle.std.specs.Prelude.{ℕ, ℤ, pos, ◌/◌, ◌-ℤ◌, ◌==◌, nat_lt, if◌then◌else◌, List, take, Option, None, Some, ◌≡◌, ◌<◌, ◌≤◌, length, drop, Result, Ok, Err, [], ◌∷◌, ◌++◌, map, OnOk, OnErr}
+use Rattle.hound_number.specs.{number, signed_number, signed_bytes_of, WhereKnown}
+use Rattle.hound_spec.specs.{is_pair, SampleFormat, Int, Float, Error, IoError, TooWide, Unsupported, InvalidSampleFormat}
+use Rattle.std.specs.declared.io.Error.{Error as IoFault}
+use Rattle.hound_sample.specs.declared.item.ItemError.{ItemError}
+use Rattle.hound_sample.specs.declared.item.ItemError.TheVariants.{Failed, OtherFormat, Wider, OtherPair}
+
+-- why a type doesn't read samples: they are of another format, wider than the type, or have bits
+-- and bytes that it doesn't read
+pub data ReadRefusal : Type 0 where
+  other_format : ReadRefusal
+  wider : ReadRefusal
+  other_pair : ReadRefusal
+
+-- why an integer type of so many bytes doesn't read samples of a format, a width and used bits, if
+-- it doesn't
+abbrev pub int_refusal : ℕ → SampleFormat → ℕ → ℕ → Option ReadRefusal
+int_refusal most Float width bits = Some other_format
+int_refusal most Int width bits =
+    if nat_lt most width then Some wider
+    else if is_pair Int bits width then None
+    else Some other_pair
+
+-- the integer of a container: one byte counts from -128; more are signed, and those after the used
+-- bits mean nothing
+abbrev pub int_meaning : ℕ → ℕ → List ℕ → ℤ
+int_meaning width bits container =
+    if width == 1 then (pos (number container) -ℤ pos 128)
+    else signed_number (take (bits / 8) container)
+
+-- the lowest sixteen bits as a signed number: the two low bytes of the four
+abbrev pub low_short : ℤ → ℤ
+low_short v = signed_number (take 2 (signed_bytes_of 4 v))
+
+-- why a pattern of 32 bits isn't read from samples of a format, a width and used bits, if it isn't
+abbrev pub float_refusal : SampleFormat → ℕ → ℕ → Option ReadRefusal
+float_refusal Int width bits = Some other_format
+float_refusal Float width bits =
+    if nat_lt 4 width then Some wider
+    else if is_pair Float bits width then None
+    else Some other_pair
+
+-- the pattern of a container of four bytes
+abbrev pub pattern : List ℕ → ℕ
+pattern container = number container
 
 -- the error for why a type doesn't read samples
 abbrev pub error_of_read : ReadRefusal → Error
@@ -29,8 +70,8 @@ TakesPart width old new = (n : ℕ) × (n < width) × (n ≤ length old) × (new
 -- than one taken
 abbrev pub ReadsContainer : {A : Type 0} → (List ℕ → A) → ℕ → Option (List ℕ) → Option (List ℕ)
     → Result A Error → Type 0
-ReadsContainer meaning width old new (Ok value) = Known old new (TakesContainer meaning width value)
-ReadsContainer meaning width old new (Err (IoError e)) = Known old new (TakesPart width)
+ReadsContainer meaning width old new (Ok value) = WhereKnown old new (TakesContainer meaning width value)
+ReadsContainer meaning width old new (Err (IoError e)) = WhereKnown old new (TakesPart width)
 ReadsContainer meaning width old new (Err _) = ⊥
 
 -- `read`: the error if the type doesn't read the samples, with the bytes as they were; else the
@@ -40,3 +81,49 @@ abbrev pub Reads : {A : Type 0} → Option ReadRefusal → (List ℕ → A) → 
 Reads (Some refusal) meaning width old new result = (result ≡ Err (error_of_read refusal))
     × (new ≡ old)
 Reads None meaning width old new result = ReadsContainer meaning width old new result
+
+-- the reason that an error of `read` gives
+abbrev pub reason_of : Error → ItemError
+reason_of (IoError fault) = Failed
+reason_of InvalidSampleFormat = OtherFormat
+reason_of TooWide = Wider
+reason_of _ = OtherPair
+
+-- the error of that reason, with this saved fault
+abbrev pub error_of_item : ItemError → IoFault → Error
+error_of_item Failed fault = IoError fault
+error_of_item OtherFormat fault = InvalidSampleFormat
+error_of_item Wider fault = TooWide
+error_of_item OtherPair fault = Unsupported
+
+-- what `read` returns, with this fault
+abbrev pub answer_of : {A : Type 0} → Result A ItemError → IoFault → Result A Error
+answer_of (Ok value) fault = Ok value
+answer_of (Err no_sample) fault = Err (error_of_item no_sample fault)
+
+-- `read_item`: a sample is read as `read` does it, whichever the fault is
+abbrev pub ReadsItem : {A : Type 0} → Option ReadRefusal → (List ℕ → A) → ℕ → Option (List ℕ)
+    → Option (List ℕ) → Result A ItemError → Type 0
+ReadsItem refusal meaning width old new answer = (fault : IoFault)
+    → Reads refusal meaning width old new (answer_of answer fault)
+
+-- what was returned for each sample: these values, and then the error, if one ended it
+abbrev pub items_of : {A T E : Type 0} → List A → Result T E → List (Result A E)
+items_of values (Ok done) = map Ok values
+items_of values (Err error) = map Ok values ++ (Err error ∷ [])
+
+-- samples were read one after the other: this is what `read` returned for each
+abbrev pub ReadsEach : {A : Type 0} → Option ReadRefusal → (List ℕ → A) → ℕ → List (Result A Error)
+    → Option (List ℕ) → Option (List ℕ) → Type 0
+ReadsEach refusal meaning width [] old new = new ≡ old
+ReadsEach refusal meaning width (item ∷ items) old new = (mid : Option (List ℕ))
+    × Reads refusal meaning width old mid item × ReadsEach refusal meaning width items mid new
+
+-- This many samples were read into the front of a slice: all that it has, unless an error came. The
+-- rest of the slice is as it was.
+pub record FillsFront {A T E : Type 0} (count : ℕ) (result : Result T E) (old new : List A)
+    : Type 0 where
+  pub within : count ≤ length new
+  pub full : OnOk result (count ≡ length new)
+  pub part : OnErr result (count < length new)
+  pub rest : drop count new ≡ drop count old

@@ -3,8 +3,7 @@
 // Each loop is written once and called for each pair of bits and bytes, whose numbers are constants
 // there, so that LLVM makes vectors of it.
 ghost use Rattle.std.specs.Prelude.{◌≡◌, ◌+◌, ◌*◌, ◌≤◌, ◌++◌, None, IsOk, is_ok, length, map, take};
-ghost use Rattle.hound_sample.specs.Container.{containers};
-ghost use Rattle.hound_sample.specs.Slices.{all_containers, first_error, joined_containers};
+ghost use Rattle.hound_sample.specs.Container.{containers, all_containers, first_error, joined_containers};
 
 use crate::Sample;
 use crate::decode::{Decode, decode_each};

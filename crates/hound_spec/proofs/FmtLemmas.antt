@@ -1,7 +1,7 @@
 -- Writing fields and reading them are inverse.
 use Rattle.std.proofs.Common.{◌≡◌, ℕ, zero, suc, ◌+◌, ◌*◌, ◌/◌, ◌%◌, ◌^◌, ◌<◌, ◌≤◌, List, [], ◌∷◌, ◌++◌, length, take, drop, refl, sym, ap, ◌∙◌, arith, length-drop, take_all}
 use Rattle.std.proofs.lemmas.List.{drop-drop, drop_all}
-use Rattle.hound_number.specs.Number.{number, bytes_of, AreBytes}
+use Rattle.hound_number.specs.{number, bytes_of, AreBytes}
 use Rattle.hound_spec.specs.FmtChunk.{FmtFields, FieldsFit, fmt_bytes, fmt_fields, extension, extension_bytes}
 
 -- the number of the bytes of a number

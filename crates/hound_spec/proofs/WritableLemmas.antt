@@ -4,7 +4,7 @@ use Rattle.std.proofs.lemmas.Bool.{or_cases, and_parts}
 use Rattle.std.specs.List.{list_any, AllByRecursion}
 use Rattle.hound_spec.specs.declared.spec.SampleFormat.{SampleFormat}
 use Rattle.hound_spec.specs.declared.spec.SampleFormat.TheVariants.{Int, Float}
-use Rattle.hound_spec.specs.Writable.{pairs, IsPair}
+use Rattle.hound_spec.specs.Header.{pairs, IsPair}
 
 -- what holds for each row of a list of pairs holds for the pairs that are in it
 of_row : (P : ℕ → ℕ → Type 0) (rows : List (ℕ × ℕ)) (bits width : ℕ)

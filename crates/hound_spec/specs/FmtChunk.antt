@@ -1,6 +1,6 @@
 -- The content of a fmt chunk as fields, and their bytes (WAVEFORMAT, WAVEFORMATEXTENSIBLE).
 use Rattle.std.specs.Prelude.{ℕ, ◌<◌, ◌^◌, List, [], ◌∷◌, ◌++◌, slice_range}
-use Rattle.hound_number.specs.Number.{number, bytes_of}
+use Rattle.hound_number.specs.{number, bytes_of}
 use Rattle.hound_spec.specs.declared.spec.SampleFormat.{SampleFormat}
 use Rattle.hound_spec.specs.declared.spec.SampleFormat.TheVariants.{Int, Float}
 

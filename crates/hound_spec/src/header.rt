@@ -1,9 +1,8 @@
 // The bytes before the data.
 ghost use Rattle.std.specs.Prelude.{◌≡◌, ◌+◌, ◌-◌, ◌*◌, ◌^◌, ◌≤◌, ◌++◌, [], List, ℕ, length, take, min};
-ghost use Rattle.hound_spec.specs.Writable.{IsWritable};
-ghost use Rattle.hound_number.specs.Number.{bytes_of};
+ghost use Rattle.hound_spec.specs.Header.{IsWritable, is_short, fields, header, mask, short_fmt, long_fmt, sized_fmt};
+ghost use Rattle.hound_number.specs.{bytes_of};
 ghost use Rattle.hound_spec.specs.FmtChunk.{fmt_bytes, subformat};
-ghost use Rattle.hound_spec.specs.Header.{is_short, fields, header, mask, short_fmt, long_fmt, sized_fmt};
 
 use crate::{Error, Result, SampleFormat, WavSpec, WavSpecEx};
 use hound_number::{le_u16, le_u32};
@@ -216,8 +215,7 @@ impl WavSpec {
     ghost use Rattle.std.specs.Prelude.{◌≡◌, IfOk, IfErr, OnOk, Err};
     ghost use Rattle.hound_spec.specs.declared.error.Error.TheVariants.{OutOfMemory, Unsupported};
     ghost use Rattle.hound_spec.specs.FmtChunk.{greatest_u32};
-    ghost use Rattle.hound_spec.specs.Header.{header};
-    ghost use Rattle.hound_spec.specs.Writable.{IsWritable, with_default_width};
+    ghost use Rattle.hound_spec.specs.Header.{header, IsWritable, with_default_width};
 
     /// The header of a stream whose length isn't known when it begins: both sizes are 4294967295.
     /// It is for outputs without a way back; the containers follow, each by

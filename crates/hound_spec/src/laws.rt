@@ -1,6 +1,6 @@
 // What holds for the fields of every fmt chunk.
 ghost use Rattle.std.specs.Prelude.{◌≡◌, ◌<◌, ◌^◌, ◌++◌, List, ℕ, length};
-ghost use Rattle.hound_number.specs.Number.{AreBytes};
+ghost use Rattle.hound_number.specs.{AreBytes};
 ghost use Rattle.hound_spec.specs.FmtChunk.{FmtFields, FieldsFit, fmt_bytes, fmt_fields, Extension, extension_bytes, extension_size, extension};
 
 /// Writing the fields of a fmt chunk and reading them are inverse, both ways, for fields that fit

@@ -66,7 +66,7 @@ pub struct WavSpecEx {
 
 impl WavSpecEx {
     ghost use Rattle.std.specs.Prelude.{◌↔◌, IsTrue};
-    ghost use Rattle.hound_spec.specs.Writable.{IsWritable};
+    ghost use Rattle.hound_spec.specs.Header.{IsWritable};
 
     /// Whether a file of this spec can be written.
     ///
@@ -91,7 +91,7 @@ impl WavSpecEx {
 }
 
 ghost use Rattle.std.specs.Prelude.{◌≡◌};
-ghost use Rattle.hound_spec.specs.Writable.{is_pair, with_default_width};
+ghost use Rattle.hound_spec.specs.Header.{is_pair, with_default_width};
 
 /// The spec with as many bytes to a sample as its bits need, rounded down: `(bits + 7) / 8`.
 impl From<WavSpec> for WavSpecEx {

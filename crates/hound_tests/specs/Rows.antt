@@ -1,6 +1,6 @@
 -- The specs that examples are of.
 use Rattle.hound.specs.declared.SampleFormat.TheVariants.{Int}
-use Rattle.hound.specs.declared.WavSpecEx.{WavSpecEx}
+use Rattle.hound.specs.{WavSpecEx}
 
 -- one channel, 44100 Hz, 16 bits in two bytes
 abbrev pub mono : WavSpecEx

@@ -1,7 +1,6 @@
 // What the modules of tests share: specs, files in memory, and the names of results.
 ghost use Rattle.std.specs.Prelude.{◌≡◌, IfOk};
-ghost use Rattle.hound.specs.Room.{IsSixteen};
-ghost use Rattle.hound.specs.State.{MediumState};
+ghost use Rattle.hound.specs.{IsSixteen, MediumState};
 ghost use Rattle.hound.specs.declared.SampleFormat.TheVariants.{Int};
 
 use hound::{

@@ -1,7 +1,7 @@
 // What docs/USING.md says passes the check, in functions without a proof file: scripts/check_docs
 // looks that each of its lines is here.
 ghost use Rattle.std.specs.Prelude.{◌≡◌};
-ghost use Rattle.hound.specs.Room.{IsSixteen};
+ghost use Rattle.hound.specs.{IsSixteen};
 
 use hound::{Error, Medium, SampleFormat, SampleWriter16, WavReader, WavWriter};
 use std::alloc::Global;

@@ -1,8 +1,7 @@
 // The words of the program's contracts at worked lines, evaluated by the prover.
 ghost use Rattle.std.specs.Prelude.{◌≡◌, ◌∷◌, [], codes, negsuc, pos};
 ghost use Rattle.hound_commands.specs.Showing.{sample_lines, spec_line};
-ghost use Rattle.hound_text.specs.Text.{words};
-ghost use Rattle.hound_text.specs.Writing.{integer_line, pattern_line};
+ghost use Rattle.hound_text.specs.{words, integer_line, pattern_line};
 
 use hound::{SampleFormat, WavSpec, WavSpecEx};
 use hound_commands::a_shown_file_is_packed_again;

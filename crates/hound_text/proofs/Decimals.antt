@@ -3,7 +3,7 @@ use Rattle.std.proofs.Common.{rules, ◌≡◌, ℕ, ℤ, pos, negsuc, nat_abs, 
 use Rattle.std.proofs.lemmas.Fmt.{AppendsLastDigit, decimal_from_appends}
 use Rattle.std.proofs.lemmas.Nat.{pow-add}
 use Rattle.std.specs.Fmt.{decimal, signed_decimal}
-use Rattle.hound_text.specs.Writing.{sign}
+use Rattle.hound_text.specs.Text.{sign}
 
 -- the text of at most so many digits
 abbrev text_of : ℕ → ℕ → List ℕ

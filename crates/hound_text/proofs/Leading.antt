@@ -2,12 +2,11 @@
 use Rattle.std.proofs.Common.{◌≡◌, ℕ, ℤ, ◌≤◌, List, [], ◌∷◌, ◌++◌, take, drop, Option, Some, None, true, IfSome, refl, ap, sym, ◌∙◌, append_assoc, arith, take-append-drop, IfErr, Result, Ok, Err, subst}
 use Rattle.std.proofs.lemmas.Grind.{common_steps}
 use Rattle.std.specs.Io.KnownBytes.{Consumes, IsAtEnd}
-use Rattle.hound_text.specs.Reading.{Breaks, Follows, Leads, before, ended, numbers_from}
+use Rattle.hound_text.specs.Reading.{Breaks, Follows, Leads, before, ended, numbers_from, IsRefused, IsTextRefusal}
 use Rattle.hound_text.specs.Text.{SaysNoNumbers, SaysNumbers, is_separator}
 use Rattle.hound_text.specs.declared.numbers.Place.{Place}
 use Rattle.hound_text.specs.declared.numbers.Place.TheVariants.{Between}
 use Rattle.std.specs.Result.{IsErrAnd}
-use Rattle.hound_text.specs.Refusals.{IsRefused, IsTextRefusal}
 use Rattle.hound_text.specs.declared.numbers.Refusal.{Refusal}
 use Rattle.hound_text.specs.declared.numbers.Refusal.TheVariants.{BadNumber, InputOrOutput, TooLong, OutOfMemory}
 use Rattle.hound_text.proofs.Saying.{said, unsaid}

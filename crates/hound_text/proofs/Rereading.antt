@@ -10,8 +10,7 @@ use Rattle.std.specs.Fmt.{decimal, signed_decimal}
 use Rattle.std.specs.Int.{w32}
 use Rattle.std.specs.List.{AllByRecursion, filter, flat_map, onto_first, slice_split}
 use Rattle.std.specs.Str.Parse.{AllDigits, IsNumeral, digits_value, starts_with_minus}
-use Rattle.hound_text.specs.Text.{SayNumbers, SaysNumber, SaysNumbers, is_filled, is_separator, signed_value, without_minus}
-use Rattle.hound_text.specs.Writing.{integer_line}
+use Rattle.hound_text.specs.Text.{SayNumbers, SaysNumber, SaysNumbers, is_filled, is_separator, signed_value, without_minus, integer_line}
 
 -- a digit is no separator and no minus
 digit_no_separator : (b : ℕ) → digit_value b < 10 → is_separator b ≡ false

@@ -1,10 +1,13 @@
--- How a text of numbers is read from its front: what is left to be said at each place.
-use Rattle.std.specs.Prelude.{◌≡◌, ℕ, ℤ, ◌+◌, ◌-◌, ◌*◌, Bool, true, false, cond, ◌==◌, ⊤, nat_le, List, [], ◌∷◌, ◌++◌, length, Option, Some, None}
+-- How a text of numbers is read from its front: what is left to be said at each place, and why a text
+-- isn't read.
+use Rattle.std.specs.Prelude.{◌≡◌, ℕ, ℤ, ◌+◌, ◌-◌, ◌*◌, Bool, true, false, cond, ◌==◌, ⊤, nat_le, List, [], ◌∷◌, ◌++◌, length, Option, Some, None, ◌<◌}
 use Rattle.std.specs.Option.{option_and_then, option_map}
 use Rattle.std.specs.Int.{is_in_range}
-use Rattle.hound_text.specs.Text.{is_separator, signed_value}
+use Rattle.hound_text.specs.Text.{is_separator, signed_value, SaysNoNumbers}
 use Rattle.hound_text.specs.declared.numbers.Place.{Place}
 use Rattle.hound_text.specs.declared.numbers.Place.TheVariants.{Between, AfterMinus, Inside}
+use Rattle.hound_text.specs.declared.numbers.Refusal.{Refusal}
+use Rattle.hound_text.specs.declared.numbers.Refusal.TheVariants.{BadNumber, InputOrOutput, TooLong, OutOfMemory}
 
 -- so many more bytes of a text may be read, of 4294967295 in all; this is left of it
 abbrev pub MayRead : Option (List ℕ) → Option (List ℕ) → ℕ → Type 0
@@ -65,3 +68,17 @@ abbrev pub Follows : Option (List ℕ) → Option (List ℕ) → Place → List 
 Follows None left place numbers = ⊤
 Follows (Some text) None place numbers = ⊥
 Follows (Some text) (Some left) place numbers = numbers_from Between text ≡ before numbers (numbers_from place left)
+
+-- an error of the text itself: this breaks it; or there is too little memory for its numbers
+abbrev pub IsTextRefusal : Refusal → Type 0 → Type 0
+IsTextRefusal BadNumber breaks = breaks
+IsTextRefusal OutOfMemory breaks = ⊤
+IsTextRefusal _ breaks = ⊥
+
+-- the error for an input with this text; a fault of the input or too little memory may come at any
+-- time
+abbrev pub IsRefused : Refusal → List ℕ → Type 0
+IsRefused BadNumber text = SaysNoNumbers text
+IsRefused TooLong text = 4294967295 < length text
+IsRefused InputOrOutput text = ⊤
+IsRefused OutOfMemory text = ⊤

@@ -1,8 +1,9 @@
--- Texts of numbers.
-use Rattle.std.specs.Prelude.{◌≡◌, ℕ, ℤ, ⊤, Bool, cond, ◌||◌, ◌==◌, pos, neg_ℤ, FitsSigned, List, [], ◌∷◌, drop}
+-- Texts of numbers, and the text of numbers that are written.
+use Rattle.std.specs.Prelude.{◌≡◌, ℕ, ℤ, ⊤, Bool, cond, ◌||◌, ◌==◌, pos, neg_ℤ, FitsSigned, List, [], ◌∷◌, drop, ◌/◌, ◌%◌, ◌^◌, zero, suc, negsuc, false, ◌++◌}
 use Rattle.std.specs.Int.{w32}
 use Rattle.std.specs.List.{filter, slice_split}
 use Rattle.std.specs.Str.Parse.{IsNumeral, digits_value, starts_with_minus}
+use Rattle.std.specs.Fmt.{digit_glyph, signed_decimal}
 
 -- a byte that separates numbers: a space, a tab, a carriage return or a line feed
 abbrev pub is_separator : ℕ → Bool
@@ -44,3 +45,21 @@ SaysNumbers text numbers = SayNumbers (words text) numbers
 -- a text says no list of numbers
 abbrev pub SaysNoNumbers : List ℕ → Type 0
 SaysNoNumbers text = (numbers : List ℤ) → SaysNumbers text numbers → ⊥
+
+-- the last k digits of a number in a base, the highest one first
+abbrev pub padded_digits : ℕ → ℕ → ℕ → List ℕ
+padded_digits base zero n = []
+padded_digits base (suc k) n = digit_glyph false (n / base ^ k % base) ∷ padded_digits base k n
+
+-- the minus of a negative number
+abbrev pub sign : ℤ → List ℕ
+sign (pos n) = []
+sign (negsuc n) = 45 ∷ []
+
+-- a line with an integer in base 10
+abbrev pub integer_line : ℤ → List ℕ
+integer_line number = signed_decimal number ++ 10 ∷ []
+
+-- a line with eight digits in base 16
+abbrev pub pattern_line : ℕ → List ℕ
+pattern_line pattern = padded_digits 16 8 pattern ++ 10 ∷ []

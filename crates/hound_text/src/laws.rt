@@ -2,8 +2,7 @@
 ghost use Rattle.std.specs.Prelude.{FitsSigned, List, ℤ};
 ghost use Rattle.std.specs.Int.{w32};
 ghost use Rattle.std.specs.List.{AllByRecursion, flat_map};
-ghost use Rattle.hound_text.specs.Text.{SaysNumbers};
-ghost use Rattle.hound_text.specs.Writing.{integer_line};
+ghost use Rattle.hound_text.specs.Text.{SaysNumbers, integer_line};
 
 /// The lines of numbers, which [`Lines`](crate::Lines) makes, say these numbers, so
 /// [`read_numbers`](crate::read_numbers) reads them back.

@@ -1,8 +1,8 @@
 // Lines of numbers, buffered for the output.
 ghost use Rattle.std.specs.Prelude.{◌≡◌, ◌+◌, ◌<◌, ◌≤◌, ◌↔◌, ℕ, false, IsTrue, [], ◌∷◌, ◌++◌, decimal, length};
 ghost use Rattle.std.specs.Fmt.{digit_glyph};
-ghost use Rattle.hound_text.specs.Writing.{integer_line, pattern_line, sign};
-ghost use Rattle.hound_number.specs.Writing.{Writes};
+ghost use Rattle.hound_text.specs.Text.{integer_line, pattern_line, sign};
+ghost use Rattle.hound_number.specs.{Writes};
 
 use crate::output::write_text;
 use std::io;

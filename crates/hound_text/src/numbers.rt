@@ -3,8 +3,7 @@ ghost use Rattle.std.specs.Prelude.{◌≡◌, ℤ, ◌≤◌, Bool, List, IfErr
 ghost use Rattle.std.specs.Io.KnownBytes.{IsAtEnd};
 ghost use Rattle.std.specs.Option.{ok_or};
 ghost use Rattle.std.specs.Str.Parse.{IsNumeral, digits_value};
-ghost use Rattle.hound_text.specs.Refusals.{IsRefused, IsTextRefusal};
-ghost use Rattle.hound_text.specs.Reading.{Breaks, Leads, before, ended, longer_magnitude, next_place, signed_within};
+ghost use Rattle.hound_text.specs.Reading.{IsRefused, IsTextRefusal, Breaks, Leads, before, ended, longer_magnitude, next_place, signed_within};
 ghost use Rattle.hound_text.specs.Text.{SaysNumbers, is_separator};
 ghost use Rattle.hound_text.specs.declared.numbers.Place.TheVariants.{Between, Inside};
 ghost use Rattle.hound_text.specs.declared.numbers.Refusal.TheVariants.{BadNumber, InputOrOutput, OutOfMemory};

@@ -1,7 +1,7 @@
 // Bytes to the output, whatever interrupts it.
 ghost use Rattle.std.specs.Io.{WritesAtMost};
 ghost use Rattle.std.specs.Io.KnownBytes.{WriteAppends};
-ghost use Rattle.hound_number.specs.Writing.{Writes};
+ghost use Rattle.hound_number.specs.{Writes};
 
 use std::io;
 use std::io::ErrorKind;

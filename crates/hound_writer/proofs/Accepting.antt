@@ -4,22 +4,14 @@ use Rattle.std.proofs.lemmas.List.{take_at, take_all, drop_at, drop-drop, append
 use Rattle.std.proofs.lemmas.Bool.{false≢true}
 use Rattle.std.specs.List.{concat}
 use Rattle.std.specs.declared.io.Error.{Error as IoFault}
-use Rattle.hound_medium.specs.Bytes.{put_at, placed, overlay, moment}
-use Rattle.hound_medium.specs.State.{MediumState, WhereTells, WhereKeeps}
-use Rattle.hound_medium.specs.Spans.{Span}
+use Rattle.hound_medium.specs.{put_at, placed, overlay, moment, MediumState, WhereTells, WhereKeeps, Span}
 use Rattle.hound_medium.proofs.Overlays.{overlay_is, length-put_at, take_overlay_before, length_overlay_le, front_part}
 use Rattle.hound_medium.proofs.Spans.{span_puts, span_still}
-use Rattle.hound_spec.specs.declared.error.Error.{Error}
-use Rattle.hound_spec.specs.declared.error.Error.TheVariants.{IoError, OutOfMemory}
-use Rattle.hound_spec.specs.Header.{riff_size}
-use Rattle.hound_sample.specs.Container.{Refusal, containers}
-use Rattle.hound_sample.specs.Encoding.{IsEncoded}
-use Rattle.hound_writer.specs.Accepting.{Accepts, AddsAtEach}
-use Rattle.hound_writer.specs.Answers.{AcceptAnswer, FitAnswer, IsIoError, OnRefused, faults_told, if_marked, mark_of}
-use Rattle.hound_writer.specs.Block.{all_out}
-use Rattle.hound_writer.specs.Counts.{Counts}
-use Rattle.hound_writer.specs.Parts.{PutsAt, IsStanding}
-use Rattle.hound_writer.specs.Writer.{WriterState, HasRoom, IsCounted, IsSound, IsWhole, accepted_samples, data_length}
+use Rattle.hound_spec.specs.{Error, IoError, OutOfMemory, riff_size, greatest_u32}
+use Rattle.hound_sample.specs.{Refusal, containers, IsEncoded}
+use Rattle.hound_writer.specs.Accepting.{Accepts, AddsAtEach, AcceptAnswer, FitAnswer, IsIoError, OnRefused, faults_told, if_marked, mark_of}
+use Rattle.hound_writer.specs.Parts.{all_out, PutsAt, IsStanding}
+use Rattle.hound_writer.specs.Writer.{Counts, WriterState, HasRoom, IsCounted, IsSound, IsWhole, accepted_samples, data_length}
 use Rattle.hound_writer.proofs.Answers.{accept_as, on_refused, refused_then, unless_failed}
 use Rattle.hound_sample.proofs.Containers.{containers_append, containers_front}
 use Rattle.hound_writer.proofs.Containers.{count_append, count_bytes, joined_bytes, whole_more}
@@ -27,7 +19,6 @@ use Rattle.hound_writer.proofs.Keeping.{sound_with}
 use Rattle.hound_writer.proofs.Storing.{stored_same, stored_still}
 use Rattle.hound_writer.proofs.Samples.{concat-samples, counts_at, samples_out, samples_same, whole_out}
 use Rattle.hound_writer.proofs.Standing.{inside, stands_front, stands_more}
-use Rattle.hound_spec.specs.FmtChunk.{greatest_u32}
 use Rattle.hound_writer.proofs.Sizes.{take_front}
 
 -- bytes at a place reach no further than the old end or their own

@@ -4,18 +4,11 @@ use Rattle.std.proofs.lemmas.List.{append-nil}
 use Rattle.std.proofs.Math.Nat.{mul-div_cancel_left, mul-le-mul_right, mul-mod_right}
 use Rattle.std.specs.List.{concat}
 use Rattle.std.specs.declared.io.Error.{Error as IoFault}
-use Rattle.hound_medium.specs.Bytes.{overlay}
-use Rattle.hound_medium.specs.State.{MediumState, WhereTells, WhereKeeps}
-use Rattle.hound_sample.specs.Container.{Refusal, too_wide, unsupported, containers}
-use Rattle.hound_spec.specs.declared.error.Error.{Error}
-use Rattle.hound_spec.specs.declared.error.Error.TheVariants.{TooLong, TooWide, Unsupported}
-use Rattle.hound_spec.specs.declared.spec.WavSpecEx.{WavSpecEx}
-use Rattle.hound_spec.specs.FmtChunk.{greatest_u32}
-use Rattle.hound_writer.specs.Accepting.{Accepts}
-use Rattle.hound_writer.specs.Answers.{IsIoError}
-use Rattle.hound_writer.specs.Block.{GoesOut, answer_of}
-use Rattle.hound_writer.specs.Fields.{IsConsistent}
-use Rattle.hound_writer.specs.Many.{containers_in, outcome_of, sample_bytes}
+use Rattle.hound_medium.specs.{overlay, MediumState, WhereTells, WhereKeeps}
+use Rattle.hound_sample.specs.{Refusal, too_wide, unsupported, containers}
+use Rattle.hound_spec.specs.{Error, TooLong, TooWide, Unsupported, WavSpecEx, greatest_u32}
+use Rattle.hound_writer.specs.Accepting.{Accepts, IsIoError, containers_in, outcome_of, sample_bytes}
+use Rattle.hound_writer.specs.Parts.{GoesOut, result_of, IsConsistent}
 use Rattle.hound_writer.specs.Writer.{WriterState, HasRoom, IsCounted, IsWhole, data_end}
 use Rattle.hound_writer.specs.declared.outcome.Outcome.{Outcome}
 use Rattle.hound_writer.specs.declared.outcome.Outcome.TheVariants.{Accepted}
@@ -141,20 +134,20 @@ module _ {V : Type 0} (container : V → ℕ → ℕ → Result (List ℕ) Refus
         → outcome ≡ outcome_of (containers_in container w.spec_ex values)
         → (outcome ≡ Accepted → ⊥)
         → Accepts tells keeps state false (containers_in container w.spec_ex values)
-        (answer_of outcome fault) w w
+        (result_of outcome fault) w w
     many_refused outcome fault is other =
         go (containers_in container w.spec_ex values) is
       where
         go : (asked : Result (List (List ℕ)) Refusal) → outcome ≡ outcome_of asked
-            → Accepts tells keeps state false asked (answer_of outcome fault) w w
+            → Accepts tells keeps state false asked (result_of outcome fault) w w
         go (Ok list) is = absurd (other is)
         go (Err too_wide) is =
-            subst (λ o. Accepts tells keeps state false (Err too_wide) (answer_of o fault) w w)
+            subst (λ o. Accepts tells keeps state false (Err too_wide) (result_of o fault) w w)
             (sym is)
             (accepts_refused tells keeps state w false (Err too_wide) TooWide counts replays refl
             (λ _. refl) refl)
         go (Err unsupported) is =
-            subst (λ o. Accepts tells keeps state false (Err unsupported) (answer_of o fault) w w)
+            subst (λ o. Accepts tells keeps state false (Err unsupported) (result_of o fault) w w)
             (sym is)
             (accepts_refused tells keeps state w false (Err unsupported) Unsupported counts replays
             refl (λ _. refl) refl)

@@ -3,13 +3,10 @@ use Rattle.std.proofs.Common.{◌≡◌, ℕ, ◌+◌, ◌/◌, ◌%◌, nat_le,
 use Rattle.std.proofs.lemmas.Bool.{false≢true}
 use Rattle.std.specs.List.{concat}
 use Rattle.std.specs.declared.io.Error.{Error as IoFault}
-use Rattle.hound_spec.specs.declared.error.Error.{Error}
-use Rattle.hound_spec.specs.declared.error.Error.TheVariants.{IoError, OutOfMemory, UnfinishedSample}
-use Rattle.hound_spec.specs.FmtChunk.{greatest_u32}
-use Rattle.hound_spec.specs.Header.{riff_size}
-use Rattle.hound_medium.specs.State.{faults_after}
-use Rattle.hound_sample.specs.Container.{Refusal}
-use Rattle.hound_writer.specs.Answers.{AcceptAnswer, FitAnswer, IsIoError, IsPublishing, OnRefused, OnPublished, UnlessFailed, faults_told, mark_of}
+use Rattle.hound_spec.specs.{Error, IoError, OutOfMemory, UnfinishedSample, greatest_u32, riff_size}
+use Rattle.hound_medium.specs.{faults_after}
+use Rattle.hound_sample.specs.{Refusal}
+use Rattle.hound_writer.specs.Accepting.{AcceptAnswer, FitAnswer, IsIoError, IsPublishing, OnRefused, OnPublished, UnlessFailed, faults_told, mark_of}
 use Rattle.hound_writer.specs.Parts.{IsPublishResult}
 use Rattle.hound_writer.specs.Writer.{WriterState, data_length, sample_count}
 

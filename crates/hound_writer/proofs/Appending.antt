@@ -1,29 +1,18 @@
 -- Appending to an existing file.
 use Rattle.std.proofs.Common.{◌≡◌, ℕ, ◌+◌, ◌-◌, ◌%◌, ◌≤◌, Bool, true, false, cond, nat_lt, List, [], drop, Option, Some, None, inl, inr, ◌⊎◌, Result, Ok, Err, MatchResult, refl, sym, ◌∙◌, ap, subst, arith, eqb-true}
 use Rattle.std.proofs.lemmas.Bool.Decides.{nat_tests}
-use Rattle.hound_spec.specs.declared.error.Error.{Error}
-use Rattle.hound_spec.specs.declared.spec.WavSpecEx.{WavSpecEx}
-use Rattle.hound_spec.specs.Header.{riff_size}
-use Rattle.hound_medium.specs.State.{MediumState, Goes, WhereTells, one_more}
-use Rattle.hound_reader.specs.declared.chunks.FileHead.{FileHead}
-use Rattle.hound_reader.specs.declared.cause.Cause.{Cause}
-use Rattle.hound_reader.specs.declared.cause.HeadError.{HeadError}
+use Rattle.hound_spec.specs.{Error, WavSpecEx, riff_size, greatest_u32}
+use Rattle.hound_medium.specs.{MediumState, Goes, WhereTells, one_more}
+use Rattle.hound_reader.specs.{FileHead, Cause, HeadError, IsSoundSpec as IsSoundHead, Head, Refused as RefusedFor, ReportsError, FindsData}
 use Rattle.hound_reader.specs.declared.cause.HeadError.TheVariants.{Failed, Refused}
-use Rattle.hound_reader.specs.Fmt.{IsSoundSpec as IsSoundHead}
-use Rattle.hound_reader.specs.Chunks.{Head, Refused as RefusedFor}
-use Rattle.hound_reader.specs.Refusals.{ReportsError}
-use Rattle.hound_reader.specs.Sources.{FindsData}
 use Rattle.std.proofs.lemmas.Bool.{not-false}
 use Rattle.std.specs.declared.io.Error.{Error as IoFault}
-use Rattle.hound_writer.specs.Answers.{IsIoError}
-use Rattle.hound_writer.specs.Fields.{of_fields}
-use Rattle.hound_writer.specs.Parts.{IsStanding}
-use Rattle.hound_writer.specs.Sizes.{field}
-use Rattle.hound_writer.specs.Writer.{WriterState, IsSound, data_length}
+use Rattle.hound_writer.specs.Accepting.{IsIoError}
+use Rattle.hound_writer.specs.Parts.{of_fields, IsStanding}
+use Rattle.hound_writer.specs.Writer.{field, WriterState, IsSound, data_length}
 use Rattle.hound_writer.specs.Appending.{AppendFault, Appends, FollowsData, IsAppendFault, NamesFault, by_bytes, head_fault, IsNotAppended, PutsNothing}
 use Rattle.hound_writer.proofs.Heads.{head_field}
 use Rattle.hound_writer.proofs.Samples.{counts_at, whole_out}
-use Rattle.hound_spec.specs.FmtChunk.{greatest_u32}
 
 -- if a row of a table isn't met, the rows after it decide
 none_behind : {A : Type 0} (b : Bool) (x : A) (rest : Option A) → cond b (Some x) rest ≡ None

@@ -3,18 +3,12 @@
 use Rattle.std.proofs.Common.{◌≡◌, ℕ, zero, suc, ◌+◌, ◌/◌, ◌%◌, ◌≤◌, Bool, true, false, IsTrue, List, [], ◌++◌, length, take, drop, Result, Ok, inl, refl, sym, subst, ◌∙◌, ap, arith, length-append, length-drop}
 use Rattle.std.proofs.lemmas.List.{append-nil, length-take-le, nil_from_length}
 use Rattle.std.specs.List.{concat}
-use Rattle.hound_medium.specs.Bytes.{overlay}
-use Rattle.hound_medium.specs.State.{MediumState, WhereTells, WhereKeeps}
+use Rattle.hound_medium.specs.{overlay, MediumState, WhereTells, WhereKeeps}
 use Rattle.hound_medium.proofs.Spans.{span_still, span_weaker}
-use Rattle.hound_sample.specs.Container.{containers}
-use Rattle.hound_writer.specs.Accepting.{Accepts, AddsAtEach}
-use Rattle.hound_writer.specs.Answers.{FitAnswer}
-use Rattle.hound_writer.specs.Block.{GoesAtEach, GoesOut, IsLimit, StaysAround, after_out, all_out, block_length}
-use Rattle.hound_writer.specs.Counts.{Counts}
-use Rattle.hound_writer.specs.Fields.{IsConsistent}
-use Rattle.hound_writer.specs.Parts.{IsStanding, PutsAt}
-use Rattle.hound_writer.specs.Storing.{KeepsStored}
-use Rattle.hound_writer.specs.Writer.{WriterState, HasRoom, IsSound, IsWhole, accepted_samples, data_length, data_end}
+use Rattle.hound_sample.specs.{containers}
+use Rattle.hound_writer.specs.Accepting.{Accepts, AddsAtEach, FitAnswer, KeepsStored}
+use Rattle.hound_writer.specs.Parts.{GoesAtEach, GoesOut, IsLimit, StaysAround, after_out, all_out, block_length, IsConsistent, IsStanding, PutsAt}
+use Rattle.hound_writer.specs.Writer.{Counts, WriterState, HasRoom, IsSound, IsWhole, accepted_samples, data_length, data_end}
 use Rattle.hound_writer.proofs.Accepting.{accepts_all, adds_nothing, at_each, data_stays, front, front_at_each, front_stays, grows, reach, rest, room_fits, sound_more, still}
 use Rattle.hound_writer.proofs.Containers.{joined_bytes, none_whole, whole_more}
 use Rattle.hound_writer.proofs.Counted.{counts_more}

@@ -5,7 +5,7 @@ use Rattle.std.proofs.lemmas.Nat.{div-add-mod'}
 use Rattle.std.proofs.Math.Nat.{add-mod, add-div_right, mul-add-div_right}
 use Rattle.std.proofs.Math.Seq.{take-add}
 use Rattle.std.specs.List.{concat}
-use Rattle.hound_sample.specs.Container.{containers}
+use Rattle.hound_sample.specs.{containers}
 pub use Rattle.hound_sample.proofs.Containers.{containers_append, containers_front}
 
 -- the containers joined are the bytes

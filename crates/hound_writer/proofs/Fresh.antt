@@ -2,12 +2,10 @@
 use Rattle.std.proofs.Common.{◌≡◌, ℕ, zero, suc, ◌+◌, ◌/◌, Bool, List, [], ◌++◌, length, take, drop, Ok, IsTrue, refl, sym, ◌∙◌, ap, subst, arith, length-append, length-drop}
 use Rattle.std.proofs.lemmas.List.{take_all}
 use Rattle.std.specs.Io.{StartsWith}
-use Rattle.hound_spec.specs.declared.spec.WavSpecEx.{WavSpecEx}
-use Rattle.hound_spec.specs.Header.{header, data_start, canonical}
+use Rattle.hound_spec.specs.{WavSpecEx, header, data_start, canonical}
 use Rattle.hound_spec.proofs.HeaderLemmas.{length-canonical, length-header}
-use Rattle.hound_sample.specs.Container.{containers}
-use Rattle.hound_medium.specs.Bytes.{placed, overlay}
-use Rattle.hound_medium.specs.State.{MediumState}
+use Rattle.hound_sample.specs.{containers}
+use Rattle.hound_medium.specs.{placed, overlay, MediumState}
 use Rattle.hound_medium.proofs.Overlays.{overlay_is}
 use Rattle.hound_writer.specs.Accepting.{Accepts}
 use Rattle.hound_writer.specs.Beginning.{Begins}

@@ -2,11 +2,10 @@
 use Rattle.std.proofs.Common.{◌≡◌, ℕ, ◌+◌, ◌-◌, ◌≤◌, List, ◌++◌, length, take, drop, refl, sym, ◌∙◌, ap, arith, append_assoc, length-append, length-drop, take-append-drop}
 use Rattle.std.proofs.lemmas.List.{take_at, drop_at, drop-drop, length-take-le}
 use Rattle.std.proofs.lemmas.Slice.{between_is}
-use Rattle.hound_number.specs.Number.{number}
-use Rattle.hound_spec.specs.declared.spec.WavSpecEx.{WavSpecEx}
-use Rattle.hound_spec.specs.Header.{riff_tag, wave_tag, data_tag}
-use Rattle.hound_reader.specs.Chunks.{Head, joined}
-use Rattle.hound_writer.specs.Sizes.{field}
+use Rattle.hound_number.specs.{number}
+use Rattle.hound_spec.specs.{WavSpecEx, riff_tag, wave_tag, data_tag}
+use Rattle.hound_reader.specs.{Head, joined}
+use Rattle.hound_writer.specs.Writer.{field}
 use Rattle.hound_writer.proofs.Sizes.{take_front}
 
 -- contents as their four bytes at 4 and at p, and what is before, between and after these

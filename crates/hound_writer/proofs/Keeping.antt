@@ -1,11 +1,9 @@
 -- What a writer keeps true between its calls.
 use Rattle.std.proofs.Common.{◌≡◌, ℕ, ◌+◌, ◌%◌, ◌≤◌, Bool, true, List, length, subst}
 use Rattle.std.proofs.lemmas.Bool.{true≢false}
-use Rattle.hound_spec.specs.FmtChunk.{greatest_u32}
-use Rattle.hound_spec.specs.Header.{riff_size}
-use Rattle.hound_medium.specs.State.{MediumState, WhereTells}
-use Rattle.hound_writer.specs.Fields.{IsConsistent}
-use Rattle.hound_writer.specs.Parts.{IsStanding}
+use Rattle.hound_spec.specs.{greatest_u32, riff_size}
+use Rattle.hound_medium.specs.{MediumState, WhereTells}
+use Rattle.hound_writer.specs.Parts.{IsConsistent, IsStanding}
 use Rattle.hound_writer.specs.Writer.{WriterState, IsSound}
 
 -- it holds for a writer that is the same

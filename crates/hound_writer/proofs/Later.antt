@@ -3,21 +3,17 @@ use Rattle.std.proofs.Common.{◌≡◌, ℕ, ◌+◌, ◌-◌, ◌≤◌, ◌%�
 use Rattle.std.proofs.lemmas.List.{drop-drop, append-nil}
 use Rattle.std.specs.List.{concat}
 use Rattle.std.specs.declared.io.Error.{Error as IoFault}
-use Rattle.hound_medium.specs.State.{MediumState}
+use Rattle.hound_medium.specs.{MediumState}
 use Rattle.hound_medium.proofs.Spans.{join, span_weaker}
-use Rattle.hound_spec.specs.declared.error.Error.{Error}
-use Rattle.hound_spec.specs.declared.error.Error.TheVariants.{IoError}
-use Rattle.hound_sample.specs.Container.{Refusal, containers}
-use Rattle.hound_writer.specs.Accepting.{Accepts, AddsAtEach}
-use Rattle.hound_writer.specs.Answers.{FitAnswer, IsIoError, faults_told, if_marked, mark_of}
-use Rattle.hound_writer.specs.Block.{GoesOut, after_out, or_fault}
-use Rattle.hound_writer.specs.Counts.{Counts}
-use Rattle.hound_writer.specs.Storing.{KeepsStored}
+use Rattle.hound_spec.specs.{Error, IoError}
+use Rattle.hound_sample.specs.{Refusal, containers}
+use Rattle.hound_writer.specs.Accepting.{Accepts, AddsAtEach, FitAnswer, IsIoError, faults_told, if_marked, mark_of, KeepsStored}
+use Rattle.hound_writer.specs.Parts.{GoesOut, after_out, or_fault}
+use Rattle.hound_writer.specs.Writer.{Counts, WriterState, HasRoom, IsWhole, accepted_samples, data_length, data_end}
 use Rattle.hound_writer.proofs.Accepting.{not_refused, room_fits}
 use Rattle.hound_writer.proofs.Answers.{accept_as, unless_then}
 use Rattle.hound_writer.proofs.Sizes.{take_front}
 use Rattle.hound_writer.proofs.Storing.{stored_join}
-use Rattle.hound_writer.specs.Writer.{WriterState, HasRoom, IsWhole, accepted_samples, data_length, data_end}
 
 -- bytes after others that stay, stay
 pub drop_later : (n m : ℕ) (a b : List ℕ) → n ≤ m → drop n a ≡ drop n b → drop m a ≡ drop m b

@@ -2,12 +2,9 @@
 use Rattle.std.proofs.Common.{◌≡◌, ℕ, ◌+◌, Bool, false, IsTrue, List, [], ◌∷◌, ◌++◌, length, Result, Ok, Err, refl, sym, ◌∙◌, ap, arith, append_assoc, length-append}
 use Rattle.std.proofs.lemmas.List.{append-nil}
 use Rattle.std.specs.List.{concat}
-use Rattle.hound_medium.specs.State.{MediumState}
-use Rattle.hound_sample.specs.Container.{Refusal}
-use Rattle.hound_writer.specs.Accepting.{Accepts}
-use Rattle.hound_writer.specs.Answers.{one}
-use Rattle.hound_sample.specs.Slices.{and_more}
-use Rattle.hound_writer.specs.Many.{AcceptsEach, containers_in}
+use Rattle.hound_medium.specs.{MediumState}
+use Rattle.hound_sample.specs.{Refusal, and_more}
+use Rattle.hound_writer.specs.Accepting.{Accepts, one, AcceptsEach, containers_in}
 use Rattle.hound_writer.specs.Writer.{WriterState, IsWhole, accepted_samples, data_length}
 
 -- a writer that accepted these containers, over a medium that has the accepted samples

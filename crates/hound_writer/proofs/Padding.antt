@@ -3,14 +3,10 @@ use Rattle.std.proofs.Common.{◌≡◌, ℕ, zero, suc, ◌+◌, ◌/◌, ◌%�
 use Rattle.std.proofs.lemmas.Bool.{cases_lt}
 use Rattle.std.proofs.lemmas.List.{take_all}
 use Rattle.std.specs.Io.{StartsWith}
-use Rattle.hound_medium.specs.Bytes.{overlay, placed, put_at}
-use Rattle.hound_medium.specs.State.{MediumState, WhereTells, WhereKeeps}
-use Rattle.hound_sample.specs.Container.{containers}
-use Rattle.hound_writer.specs.Block.{GoesOut, after_out, all_out}
-use Rattle.hound_writer.specs.Counts.{Counts}
-use Rattle.hound_writer.specs.Fields.{IsConsistent}
-use Rattle.hound_writer.specs.Parts.{PutsAt}
-use Rattle.hound_writer.specs.Writer.{WriterState, IsPadded, IsWhole, accepted_samples, data_length, padded_end}
+use Rattle.hound_medium.specs.{overlay, placed, put_at, MediumState, WhereTells, WhereKeeps}
+use Rattle.hound_sample.specs.{containers}
+use Rattle.hound_writer.specs.Parts.{GoesOut, after_out, all_out, IsConsistent, PutsAt}
+use Rattle.hound_writer.specs.Writer.{Counts, WriterState, IsPadded, IsWhole, accepted_samples, data_length, padded_end}
 use Rattle.hound_writer.proofs.Accepting.{at_each, data_stays, front, front_at_each, front_stays, grows, reach, rest, still}
 use Rattle.hound_writer.proofs.PutsFrom.{puts_from}
 use Rattle.hound_writer.proofs.Samples.{counts_at}

@@ -4,17 +4,16 @@ use Rattle.std.proofs.lemmas.Bool.{false≢true}
 use Rattle.std.proofs.lemmas.List.{drop_at, length-take-le, take_all}
 use Rattle.std.proofs.lemmas.Slice.{between_is}
 use Rattle.std.proofs.Math.Seq.{take-append-add}
-use Rattle.hound_number.specs.Number.{number, bytes_of, mix, AreBytes}
+use Rattle.hound_number.specs.{number, bytes_of, mix, AreBytes}
 use Rattle.hound_number.proofs.Mixing.{mix_all, mix_none}
 use Rattle.hound_spec.proofs.FmtLemmas.{number-bytes_of}
-use Rattle.hound_medium.specs.Bytes.{placed, overlay}
-use Rattle.hound_medium.specs.State.{MediumState, Flushes, faults_after, one_more}
+use Rattle.hound_medium.specs.{placed, overlay, MediumState, Flushes, faults_after, one_more}
 use Rattle.hound_medium.proofs.Outcomes.{on_ok}
 use Rattle.hound_medium.proofs.Overlays.{overlay_is}
 use Rattle.hound_medium.proofs.Inside.{drop_behind, same_size}
 use Rattle.hound_medium.proofs.Torn.{number_at_small, number_at_mix}
 use Rattle.hound_writer.specs.Parts.{HasSize, IsPatched, PutsAt, Patches}
-use Rattle.hound_writer.specs.Sizes.{with_sizes, field}
+use Rattle.hound_writer.specs.Writer.{with_sizes, field}
 use Rattle.hound_writer.proofs.Sizes.{same_transitive, same_riff, field_riff, same_length, riff_length}
 
 pub has_size : (p : ℕ) (contents : List ℕ) → 8 ≤ p → p + 4 ≤ length contents → AreBytes contents

@@ -6,25 +6,18 @@ use Rattle.std.proofs.lemmas.List.{get_or_append_left}
 use Rattle.std.specs.List.{concat}
 use Rattle.std.specs.Io.{StartsWith}
 use Rattle.std.specs.declared.io.Error.{Error as IoFault}
-use Rattle.hound_number.specs.Number.{AreBytes, mix, number}
+use Rattle.hound_number.specs.{AreBytes, mix, number}
 use Rattle.hound_number.proofs.Mixing.{mix_none}
-use Rattle.hound_medium.specs.Bytes.{moment}
-use Rattle.hound_medium.specs.State.{MediumState, WhereTells}
-use Rattle.hound_medium.specs.Spans.{Span}
+use Rattle.hound_medium.specs.{moment, MediumState, WhereTells, Span}
 use Rattle.hound_medium.proofs.Overlays.{front_part}
 use Rattle.hound_medium.proofs.Spans.{join, moment_before, span_weaker}
 use Rattle.hound_medium.proofs.Torn.{number_at_small}
-use Rattle.hound_spec.specs.declared.error.Error.{Error}
-use Rattle.hound_spec.specs.declared.error.Error.TheVariants.{IoError}
-use Rattle.hound_spec.specs.Header.{canonical, padded, padding, riff_size}
-use Rattle.hound_writer.specs.Answers.{OnPublished, faults_told}
-use Rattle.hound_writer.specs.Block.{GoesAtEach, GoesOut, StaysAround, after_out}
-use Rattle.hound_writer.specs.Counts.{Counts}
-use Rattle.hound_durable.specs.Losses.{place_of}
+use Rattle.hound_spec.specs.{Error, IoError, canonical, padded, padding, riff_size}
+use Rattle.hound_writer.specs.Accepting.{OnPublished, faults_told, KeepsStored}
+use Rattle.hound_writer.specs.Parts.{GoesAtEach, GoesOut, StaysAround, after_out}
+use Rattle.hound_writer.specs.Writer.{Counts, ChangesSizesOnly, field, WriterState, IsBegun, IsPadded, IsSound, HasHeader, accepted_samples, data_length, padded_end}
+use Rattle.hound_durable.specs.{place_of}
 use Rattle.hound_writer.specs.Publishing.{PublishesTo, Finishes, IsHalfPublished, IsOldOrNew, OncePutBefore, Publishes, PublishesAtEach, ReadsAs}
-use Rattle.hound_writer.specs.Sizes.{ChangesSizesOnly, field}
-use Rattle.hound_writer.specs.Storing.{KeepsStored}
-use Rattle.hound_writer.specs.Writer.{WriterState, IsBegun, IsPadded, IsSound, HasHeader, accepted_samples, data_length, padded_end}
 use Rattle.hound_writer.proofs.Answers.{on_published_then, publishing_as}
 use Rattle.hound_writer.proofs.Later.{counts_later, goes_further, length_same}
 use Rattle.hound_writer.proofs.Sizes.{header_front, sizes_front, sizes_then, take_front}

@@ -4,28 +4,22 @@ use Rattle.std.proofs.lemmas.List.{take_at, take-take, take_all, drop-drop, leng
 use Rattle.std.specs.declared.io.Error.{Error as IoFault}
 use Rattle.std.specs.Io.{StartsWith}
 use Rattle.std.specs.List.{concat}
-use Rattle.hound_number.specs.Number.{bytes_of, AreBytes}
-use Rattle.hound_medium.specs.State.{MediumState, WhereTells}
+use Rattle.hound_number.specs.{bytes_of, AreBytes}
+use Rattle.hound_medium.specs.{MediumState, WhereTells}
 use Rattle.std.proofs.lemmas.Result.{on_ok_weaker}
 use Rattle.hound_medium.proofs.Outcomes.{on_ok}
 use Rattle.hound_medium.proofs.Torn.{bytes_at}
-use Rattle.hound_spec.specs.declared.error.Error.{Error}
-use Rattle.hound_spec.specs.declared.spec.WavSpecEx.{WavSpecEx}
-use Rattle.hound_spec.specs.Header.{riff_tag, data_start, header, riff_size, padding, canonical}
+use Rattle.hound_spec.specs.{Error, WavSpecEx, riff_tag, data_start, header, riff_size, padding, canonical}
 use Rattle.hound_spec.proofs.HeaderLemmas.{described, header-parts, length-header, length-described}
-use Rattle.hound_sample.specs.Container.{containers}
-use Rattle.hound_writer.specs.Fields.{IsConsistent}
-use Rattle.hound_writer.specs.Parts.{IsPublishResult, Patches, IsStanding}
-use Rattle.hound_writer.specs.Sizes.{SameButSizes, with_sizes, field}
-use Rattle.hound_writer.specs.Counts.{Counts, ReadsFirst}
+use Rattle.hound_sample.specs.{containers}
+use Rattle.hound_writer.specs.Parts.{IsConsistent, IsPublishResult, Patches, IsStanding}
+use Rattle.hound_writer.specs.Writer.{SameButSizes, with_sizes, field, Counts, ReadsFirst, WriterState, AreFrames, IsPadded, IsSound, IsWhole, IsBegun, HasHeader, accepted_samples, data_length, data_end, padded_end}
 use Rattle.hound_writer.specs.Publishing.{Publishes, ReadsAs}
-use Rattle.hound_writer.specs.Writer.{WriterState, AreFrames, IsPadded, IsSound, IsWhole, IsBegun, HasHeader, accepted_samples, data_length, data_end, padded_end}
 use Rattle.hound_writer.proofs.Answers.{published, told_faults, told_ok}
 use Rattle.hound_writer.proofs.Keeping.{consistent_moved}
 use Rattle.hound_writer.proofs.Later.{drop_later}
 use Rattle.hound_writer.proofs.Samples.{concat-samples, counts_at, length-samples, length_out, whole_out}
-use Rattle.hound_reader.specs.declared.cause.Cause.{Cause}
-use Rattle.hound_reader.specs.Chunks.{Readable, data_fault}
+use Rattle.hound_reader.specs.{Cause, Readable, data_fault}
 use Rattle.hound_writer.proofs.Patching.{riff_size_of_sizes, data_length_of_sizes}
 use Rattle.hound_writer.proofs.Heads.{in_parts}
 use Rattle.hound_writer.proofs.Standing.{inside, stands_patched}

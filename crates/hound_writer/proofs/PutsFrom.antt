@@ -1,10 +1,9 @@
 -- Where the bytes of one call of `put` went.
 use Rattle.std.proofs.Common.{◌≡◌, ℕ, ◌+◌, ◌-◌, ◌<◌, ◌≤◌, List, ◌++◌, length, ◌∙◌, ap, arith, length-append}
 use Rattle.std.proofs.Math.Seq.{get_or-append_right}
-use Rattle.hound_medium.specs.Bytes.{placed}
-use Rattle.hound_medium.specs.State.{MediumState}
+use Rattle.hound_medium.specs.{placed, MediumState}
 use Rattle.hound_medium.proofs.Overlays.{length-placed}
-use Rattle.hound_durable.specs.Losses.{place_of}
+use Rattle.hound_durable.specs.{place_of}
 use Rattle.hound_durable.proofs.Ascending.{place_placed}
 use Rattle.hound_writer.specs.Publishing.{PutsFrom}
 

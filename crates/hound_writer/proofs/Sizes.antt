@@ -2,14 +2,12 @@
 use Rattle.std.proofs.Common.{◌≡◌, ℕ, ◌+◌, ◌-◌, ◌≤◌, List, length, take, drop, sym, ◌∙◌, ap, arith}
 use Rattle.std.proofs.lemmas.List.{take-take}
 use Rattle.std.proofs.lemmas.Slice.{between_is}
-use Rattle.hound_number.specs.Number.{number}
-use Rattle.hound_spec.specs.declared.spec.WavSpecEx.{WavSpecEx}
-use Rattle.hound_spec.specs.Header.{data_start, header}
+use Rattle.hound_number.specs.{number}
+use Rattle.hound_spec.specs.{WavSpecEx, data_start, header}
 use Rattle.hound_spec.proofs.HeaderLemmas.{length-header}
-use Rattle.hound_medium.specs.Bytes.{placed, overlay}
+use Rattle.hound_medium.specs.{placed, overlay}
 use Rattle.hound_medium.proofs.Inside.{take_before, drop_behind, same_size}
-use Rattle.hound_writer.specs.Sizes.{ChangesSizesOnly, field, SameButSizes}
-use Rattle.hound_writer.specs.Writer.{HasHeader}
+use Rattle.hound_writer.specs.Writer.{ChangesSizesOnly, field, SameButSizes, HasHeader}
 
 -- what is before a place stays, so what is before an earlier one does
 pub take_front : (n m : ℕ) (old new : List ℕ) → n ≤ m → take m new ≡ take m old

@@ -1,12 +1,12 @@
 -- A writer's file between its calls: the head is there, and the data length counts no more than was
 -- accepted.
 use Rattle.std.proofs.Common.{◌≡◌, ℕ, ◌-◌, ◌≤◌, List, length, take, ap, arith}
-use Rattle.hound_number.specs.Number.{number, mix}
+use Rattle.hound_number.specs.{number, mix}
 use Rattle.hound_number.proofs.Mixing.{mix_le}
 use Rattle.hound_medium.proofs.Overlays.{front_part}
-use Rattle.hound_spec.specs.declared.spec.WavSpecEx.{WavSpecEx}
+use Rattle.hound_spec.specs.{WavSpecEx}
 use Rattle.hound_writer.specs.Parts.{IsStanding}
-use Rattle.hound_writer.specs.Sizes.{SameButSizes, field}
+use Rattle.hound_writer.specs.Writer.{SameButSizes, field}
 use Rattle.hound_writer.proofs.Heads.{head_with, head_front, head_behind, head_inside}
 
 module _ (s : WavSpecEx) (start n : ℕ) (old new : List ℕ) (stands : IsStanding s start n old) where

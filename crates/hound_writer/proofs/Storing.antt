@@ -4,13 +4,12 @@ use Rattle.std.proofs.lemmas.Bool.{cases_lt}
 use Rattle.std.proofs.lemmas.List.{drop-drop, length-take-le, get_or-take, get_or-drop, get_or-append-add}
 use Rattle.std.proofs.Math.Seq.{get_or-append_right}
 use Rattle.std.specs.List.{concat}
-use Rattle.hound_medium.specs.Bytes.{moment, placed, put_at}
-use Rattle.hound_medium.specs.State.{MediumState}
+use Rattle.hound_medium.specs.{moment, placed, put_at, MediumState}
 use Rattle.hound_medium.proofs.Overlays.{front_part, length-placed}
 use Rattle.hound_medium.proofs.Spans.{moment_before}
-use Rattle.hound_sample.specs.Container.{containers}
-use Rattle.hound_durable.specs.Losses.{place_of}
-use Rattle.hound_writer.specs.Storing.{IsStored, KeepsStored, StaysTrue}
+use Rattle.hound_sample.specs.{containers}
+use Rattle.hound_durable.specs.{place_of}
+use Rattle.hound_writer.specs.Accepting.{IsStored, KeepsStored, StaysTrue}
 use Rattle.hound_writer.specs.Writer.{WriterState, IsSound, IsWhole, accepted_bytes, accepted_samples, data_length}
 use Rattle.hound_writer.proofs.Containers.{joined_bytes}
 use Rattle.hound_durable.proofs.Ascending.{place_placed}

@@ -2,22 +2,16 @@
 use Rattle.std.proofs.Common.{◌≡◌, ℕ, ◌+◌, ◌/◌, ◌%◌, ◌≤◌, nat_le, Bool, false, List, [], ◌∷◌, length, Result, Ok, Err, refl, sym, subst, ◌∙◌, ap, arith}
 use Rattle.std.proofs.lemmas.Bool.Decides.{nat_tests}
 use Rattle.std.specs.List.{concat}
-use Rattle.hound_medium.specs.Bytes.{overlay}
-use Rattle.hound_medium.specs.State.{MediumState, WhereTells, WhereKeeps}
-use Rattle.hound_spec.specs.declared.error.Error.{Error}
-use Rattle.hound_spec.specs.declared.error.Error.TheVariants.{TooLong, TooWide, Unsupported}
-use Rattle.hound_spec.specs.Header.{riff_size}
-use Rattle.hound_sample.specs.Container.{Refusal, too_wide, unsupported, containers}
-use Rattle.hound_sample.specs.Encoding.{IsEncoded}
-use Rattle.hound_writer.specs.Accepting.{Accepts}
-use Rattle.hound_writer.specs.Answers.{FitAnswer, one}
-use Rattle.hound_writer.specs.Fields.{IsConsistent}
+use Rattle.hound_medium.specs.{overlay, MediumState, WhereTells, WhereKeeps}
+use Rattle.hound_spec.specs.{Error, TooLong, TooWide, Unsupported, riff_size, greatest_u32}
+use Rattle.hound_sample.specs.{Refusal, too_wide, unsupported, containers, IsEncoded}
+use Rattle.hound_writer.specs.Accepting.{Accepts, FitAnswer, one}
+use Rattle.hound_writer.specs.Parts.{IsConsistent}
 use Rattle.hound_writer.specs.Writer.{WriterState, HasRoom, IsCounted, IsWhole, data_length}
 use Rattle.hound_writer.proofs.Accepting.{accepts_refused}
 use Rattle.hound_writer.proofs.Keeping.{consistent_seen}
 use Rattle.hound_writer.proofs.Containers.{container_alone, joined_bytes}
 use Rattle.hound_writer.proofs.Samples.{counts_at}
-use Rattle.hound_spec.specs.FmtChunk.{greatest_u32}
 
 -- there is no room, as the test finds
 pub no_room : {W : Type 0} (w : WriterState W) (n : ℕ) → (HasRoom w n → ⊥)

@@ -1,14 +1,101 @@
--- What a call for samples leaves, whether it accepts them or not.
-use Rattle.std.specs.Prelude.{◌≡◌, ℕ, ◌+◌, ◌≤◌, max, Bool, List, ◌++◌, length, take, drop, Result}
-use Rattle.std.specs.List.{concat}
-use Rattle.hound_spec.specs.declared.error.Error.{Error}
-use Rattle.hound_sample.specs.Container.{Refusal}
-use Rattle.hound_medium.specs.State.{MediumState, WhereTells, WhereKeeps}
-use Rattle.hound_medium.specs.Spans.{Span}
-use Rattle.hound_writer.specs.Counts.{Counts}
-use Rattle.hound_writer.specs.Answers.{AcceptAnswer, OnRefused, UnlessFailed, faults_told, if_marked, mark_of}
-use Rattle.hound_writer.specs.Storing.{KeepsStored}
-use Rattle.hound_writer.specs.Writer.{WriterState, IsWhole, IsCounted, accepted_samples, data_length, data_end}
+-- What a call for samples returns and leaves, whether it accepts them or not, for one or many.
+use Rattle.std.specs.Prelude.{◌≡◌, ℕ, ◌+◌, ⊤, nat_le, Bool, true, false, IsTrue, List, [], ◌∷◌, length, Result, Ok, Err, ◌≤◌, take, drop, max, ◌++◌, ℤ, IsOk}
+use Rattle.std.specs.List.{concat, flat_map}
+use Rattle.hound_spec.specs.{Error, IoError, UnfinishedSample, TooLong, OutOfMemory, riff_size, greatest_u32, WavSpecEx}
+use Rattle.hound_sample.specs.{Refusal, error_of, int_container, too_wide, unsupported, all_containers, joined_containers}
+use Rattle.hound_medium.specs.{one_more, moment, MediumState, WhereTells, WhereKeeps, Span}
+use Rattle.hound_writer.specs.Writer.{WriterState, AreFrames, data_length, Counts, IsWhole, IsCounted, accepted_samples, data_end}
+use Rattle.hound_number.specs.{signed_bytes_of}
+use Rattle.hound_writer.specs.declared.outcome.Outcome.{Outcome}
+use Rattle.hound_writer.specs.declared.outcome.Outcome.TheVariants.{Accepted, OutOfRange, WrongPair}
+
+-- the medium failed
+abbrev pub IsIoError : Error → Type 0
+IsIoError (IoError e) = ⊤
+IsIoError _ = ⊥
+
+-- P, unless the medium failed
+abbrev pub UnlessFailed : {T : Type 0} → Result T Error → Type 0 → Type 0
+UnlessFailed (Ok x) P = P
+UnlessFailed (Err (IoError e)) P = ⊤
+UnlessFailed (Err _) P = P
+
+-- P for an error that is no fault of the medium
+abbrev pub OnRefused : {T : Type 0} → Result T Error → Type 0 → Type 0
+OnRefused (Ok x) P = ⊤
+OnRefused (Err (IoError e)) P = ⊤
+OnRefused (Err _) P = P
+
+-- P, if all accepted samples were published: for an Ok and for `UnfinishedSample`
+abbrev pub OnPublished : {T : Type 0} → Result T Error → Type 0 → Type 0
+OnPublished (Ok x) P = P
+OnPublished (Err UnfinishedSample) P = P
+OnPublished (Err _) P = ⊤
+
+-- the mark of a result: a sample or a batch was accepted, or all was published
+abbrev pub mark_of : {T : Type 0} → Result T Error → Bool
+mark_of (Ok x) = true
+mark_of (Err UnfinishedSample) = true
+mark_of (Err _) = false
+
+-- the medium's faults after a call: one more at an `IoError`, else the same
+abbrev pub faults_told : {T : Type 0} → Result T Error → ℕ → ℕ
+faults_told (Err (IoError e)) faults = one_more faults
+faults_told _ faults = faults
+
+-- the containers of a call with this mark: those that it has, or none
+abbrev pub if_marked : Bool → Result (List (List ℕ)) Refusal → List (List ℕ)
+if_marked false asked = []
+if_marked true (Ok list) = list
+if_marked true (Err refusal) = []
+
+-- one container, or why there is none
+abbrev pub one : Result (List ℕ) Refusal → Result (List (List ℕ)) Refusal
+one (Ok container) = Ok (container ∷ [])
+one (Err refusal) = Err refusal
+
+-- The result for containers, by whether the RIFF size has room for them: Ok, an `IoError`, or, if
+-- the call allocates, that there is no memory.
+abbrev pub FitAnswer : {T : Type 0} → Bool → Bool → Result T Error → Type 0
+FitAnswer false memory answer = answer ≡ Err TooLong
+FitAnswer true memory (Ok x) = ⊤
+FitAnswer true memory (Err (IoError e)) = ⊤
+FitAnswer true memory (Err OutOfMemory) = IsTrue memory
+FitAnswer true memory (Err _) = ⊥
+
+-- the result for a sample or a batch: the error of the type, or that the file would be too long, or
+-- as above
+abbrev pub AcceptAnswer : {T W : Type 0} → Bool → Result (List (List ℕ)) Refusal → WriterState W →
+    Result T Error → Type 0
+AcceptAnswer memory (Err refusal) w answer = answer ≡ Err (error_of refusal)
+AcceptAnswer memory (Ok list) w answer =
+    let size = riff_size w.data_start (data_length w + length (concat list)) in
+    FitAnswer (nat_le size greatest_u32) memory answer
+
+-- the result of a call that publishes: Ok exactly for whole frames, else `UnfinishedSample`; or an
+-- `IoError`
+abbrev pub IsPublishing : {T W : Type 0} → Result T Error → WriterState W → Type 0
+IsPublishing (Ok x) w = AreFrames w
+IsPublishing (Err UnfinishedSample) w = AreFrames w → ⊥
+IsPublishing (Err (IoError e)) w = ⊤
+IsPublishing (Err _) w = ⊥
+
+-- P stays true from one state of a medium to a later one: true after some byte, it is true after
+-- each later byte
+abbrev pub StaysTrue : (List ℕ → Type 0) → MediumState → MediumState → Type 0
+StaysTrue P old new = (k m : ℕ) → length old.past ≤ k → k ≤ m → m ≤ length new.past →
+    P (moment new.start new.past k) → P (moment new.start new.past m)
+
+-- of these bytes, whose first has its place at `start`, the part of length `len` from the a-th on is
+-- stored at its place
+abbrev pub IsStored : ℕ → List ℕ → ℕ → ℕ → List ℕ → Type 0
+IsStored start bytes a len contents =
+    take len (drop (start + a) contents) ≡ take len (drop a bytes)
+
+-- each part of these bytes, once stored at its place, stays stored
+abbrev pub KeepsStored : ℕ → List ℕ → MediumState → MediumState → Type 0
+KeepsStored start bytes old new =
+    (a len : ℕ) → a + len ≤ length bytes → StaysTrue (IsStored start bytes a len) old new
 
 -- What a call with these containers did to its writer, by its result, over every medium: it accepts
 -- all of them or none, and an error of the type or the size leaves the writer and its medium as
@@ -65,3 +152,40 @@ pub record Accepts {W : Type 0} (tells keeps : Bool) (state : W → MediumState)
   pub adds : Adds memory asked answer old new
   pub file : WhereTells tells (AddsToFile state asked answer old new)
   pub moments : WhereKeeps tells keeps (AddsAtEach state old (state new.medium))
+
+-- the outcome of samples by their containers only
+abbrev pub outcome_of : {T : Type 0} → Result T Refusal → Outcome
+outcome_of (Ok list) = Accepted
+outcome_of (Err too_wide) = OutOfRange
+outcome_of (Err unsupported) = WrongPair
+
+-- the containers of samples in a file of this spec, by their type's table, or the first error
+abbrev pub containers_in : {V : Type 0} → (V → ℕ → ℕ → Result (List ℕ) Refusal) → WavSpecEx → List V →
+    Result (List (List ℕ)) Refusal
+containers_in container s values =
+    all_containers (λ v. container v s.spec.bits_per_sample s.bytes_per_sample) values
+
+-- the bytes of samples in a file of this spec
+abbrev pub sample_bytes : {V : Type 0} → (V → ℕ → ℕ → Result (List ℕ) Refusal) → WavSpecEx → List V →
+    List ℕ
+sample_bytes container s values =
+    joined_containers (λ v. container v s.spec.bits_per_sample s.bytes_per_sample) values
+
+-- these integers have sixteen bits each
+abbrev pub AreShort : List ℤ → Type 0
+AreShort values = IsOk (all_containers (λ v. int_container v 16 2) values)
+
+-- the bytes of integers of sixteen bits
+abbrev pub short_bytes : List ℤ → List ℕ
+short_bytes values = flat_map (signed_bytes_of 2) values
+
+-- Samples that were written one by one, each where the one before ended, and all accepted.
+abbrev pub AcceptsEach : {V W : Type 0} → Bool → Bool → (W → MediumState) →
+    (V → ℕ → ℕ → Result (List ℕ) Refusal) → List V → WriterState W → WriterState W → Type 0
+AcceptsEach tells keeps state container [] old new = new ≡ old
+AcceptsEach {V} {W} tells keeps state container (value ∷ values) old new =
+    (mid : WriterState W)
+    × Accepts tells keeps state false
+    (one (container value old.spec_ex.spec.bits_per_sample old.spec_ex.bytes_per_sample)) (Ok tt)
+    old mid
+    × AcceptsEach tells keeps state container values mid new

@@ -3,7 +3,7 @@ use Rattle.std.specs.Prelude.{◌≡◌, ℕ, List, take}
 use Rattle.std.specs.Borrow.{GName}
 use Rattle.hound_medium.specs.declared.medium.Placed.{Ghosts}
 use Rattle.hound_writer.specs.declared.memory.BatchMemory.{Ghosts as MemoryGhosts}
-use Rattle.hound_writer.specs.Many.{short_bytes}
+use Rattle.hound_writer.specs.Accepting.{short_bytes}
 use Rattle.hound_writer.specs.Writer.{WriterState}
 use Rattle.hound_writer.specs.declared.batch.SampleWriter16.{SampleWriter16}
 

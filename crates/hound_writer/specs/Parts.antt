@@ -1,16 +1,16 @@
--- What the parts of a writer's calls do to its medium.
-use Rattle.std.specs.Prelude.{◌≡◌, ℕ, ◌+◌, ◌-◌, ◌≤◌, List, ◌++◌, length, take, Bool, true, false, IsTrue, Result, Ok, Err, OnOk}
-use Rattle.hound_number.specs.Number.{AreBytes, mix}
+-- What the parts of a writer's calls do to its medium, what becomes of the buffered samples, and what a
+-- writer's fields keep true.
+use Rattle.std.specs.Prelude.{◌≡◌, ℕ, ◌+◌, ◌-◌, ◌≤◌, List, ◌++◌, length, take, Bool, true, false, IsTrue, Result, Ok, Err, OnOk, max, [], drop, ℤ, ◌%◌, Option, None, Some}
+use Rattle.hound_number.specs.{AreBytes, mix}
 use Rattle.std.specs.declared.io.Error.{Error as IoFault}
-use Rattle.hound_spec.specs.declared.error.Error.{Error}
-use Rattle.hound_spec.specs.declared.error.Error.TheVariants.{IoError, UnfinishedSample}
-use Rattle.hound_spec.specs.declared.spec.WavSpecEx.{WavSpecEx}
-use Rattle.hound_medium.specs.Bytes.{placed, overlay}
-use Rattle.hound_medium.specs.State.{MediumState, faults_after}
-use Rattle.hound_medium.specs.Spans.{Span}
-use Rattle.hound_reader.specs.Chunks.{Head}
-use Rattle.hound_writer.specs.Publishing.{PutsLast}
-use Rattle.hound_writer.specs.Sizes.{SameButSizes, field, with_sizes}
+use Rattle.hound_spec.specs.{Error, IoError, UnfinishedSample, TooLong, TooWide, Unsupported, WavSpecEx, riff_size, greatest_u32}
+use Rattle.hound_medium.specs.{placed, overlay, MediumState, faults_after, Span, WhereTells, WhereKeeps}
+use Rattle.hound_reader.specs.{Head}
+use Rattle.hound_writer.specs.Publishing.{PutsLast, PutsFrom}
+use Rattle.hound_writer.specs.Writer.{SameButSizes, field, with_sizes, WriterState, IsSound, IsWhole, IsCounted, accepted_samples, data_length}
+use Rattle.hound_writer.specs.Accepting.{AddsAtEach, short_bytes}
+use Rattle.hound_writer.specs.declared.outcome.Outcome.{Outcome}
+use Rattle.hound_writer.specs.declared.outcome.Outcome.TheVariants.{Accepted, OutOfRange, WrongPair, NoRoom, Failed}
 
 -- these bytes were written at a place, or at an Err a beginning of them
 pub record PutsAt {T E : Type 0} (keeps : Bool) (at : ℕ) (bytes : List ℕ) (result : Result T E)
@@ -67,3 +67,107 @@ abbrev pub IsPublishResult : Result (Unit {0}) IoFault → Bool → Result (Unit
 IsPublishResult (Err e) are_frames told = told ≡ Err (IoError e)
 IsPublishResult (Ok x) true told = told ≡ Ok x
 IsPublishResult (Ok x) false told = told ≡ Err UnfinishedSample
+
+-- how many bytes a block holds
+abbrev pub block_length : ℕ
+block_length = 4096
+
+-- Ok if all were written, else an Err
+abbrev pub all_out : Bool → Result (Unit {0}) (Unit {0})
+all_out true = Ok tt
+all_out false = Err tt
+
+-- the result of a call that was done, or else saved this fault of the medium
+abbrev pub or_fault : Bool → IoFault → Result (Unit {0}) Error
+or_fault true fault = Ok tt
+or_fault false fault = Err (IoError fault)
+
+-- the result for a sample with this outcome, with this saved fault
+abbrev pub result_of : Outcome → IoFault → Result (Unit {0}) Error
+result_of Accepted fault = Ok tt
+result_of OutOfRange fault = Err TooWide
+result_of WrongPair fault = Err Unsupported
+result_of NoRoom fault = Err TooLong
+result_of Failed fault = Err (IoError fault)
+
+-- a writer over this medium once the buffered samples are written, or else as it was
+abbrev pub after_out : {W : Type 0} → Bool → W → WriterState W → WriterState W
+after_out true medium w = record w { medium = medium; out = data_length w; waiting = [] }
+after_out false medium w = record w { medium = medium }
+
+-- What bytes after those in the medium, up to `end`, leave as is: the head is there, and nothing
+-- before them nor after `end` has changed.
+pub record StaysAround {W : Type 0} (state : W → MediumState) (end : ℕ) (old : WriterState W)
+    (new : MediumState) : Type 0 where
+  pub stands : IsStanding old.spec_ex old.data_start old.out new.contents
+  pub front : take old.data_start new.contents ≡ take old.data_start (state old.medium).contents
+  pub out : IsWhole state old →
+      take (old.data_start + old.out) new.contents
+      ≡ take (old.data_start + old.out) (state old.medium).contents
+  pub rest : drop end new.contents ≡ drop end (state old.medium).contents
+  pub grows : length (state old.medium).contents ≤ length new.contents
+  pub reach : length new.contents ≤ max (length (state old.medium).contents) end
+
+-- what these bytes left in the medium, all of them or a beginning
+pub record GoesToFile {W : Type 0} (state : W → MediumState) (end : ℕ) (all : Bool)
+    (old new : WriterState W) : Type 0 where
+  pub faults : (state new.medium).faults ≡ faults_after (all_out all) (state old.medium).faults
+  pub around : StaysAround state end old (state new.medium)
+  pub whole : IsWhole state old → IsWhole state new
+  pub accepted : IsWhole state old → accepted_samples state new ≡ accepted_samples state old
+  pub counts : IsWhole state old → IsCounted state new
+
+-- the intermediate states meanwhile: nothing is written before the data
+pub record GoesAtEach {W : Type 0} (state : W → MediumState) (old : WriterState W)
+    (new : MediumState) : Type 0 where
+  pub adds : AddsAtEach state old new
+  pub front : Span
+      (λ _ c. take old.data_start c ≡ take old.data_start (state old.medium).contents) 0
+      (state old.medium) new
+  pub behind : PutsFrom old.data_start (state old.medium) new
+
+-- The buffered samples are written, and then perhaps bytes up to `end`; or a beginning of all that
+-- if the medium fails, and then all samples stay buffered.
+pub record GoesOut {W : Type 0} (tells keeps : Bool) (state : W → MediumState) (end : ℕ)
+    (all : Bool) (old new : WriterState W) : Type 0 where
+  pub value : new ≡ after_out all new.medium old
+  pub sound : IsSound old
+  pub file : WhereTells tells (GoesToFile state end all old new)
+  pub moments : WhereKeeps tells keeps (GoesAtEach state old (state new.medium))
+
+-- Below this many buffered bytes there is room for a sample of any width: in the block, and in the
+-- file for a whole block.
+pub record IsLimit (start out limit : ℕ) : Type 0 where
+  pub block : limit + 3 ≤ block_length
+  pub file : 1 ≤ limit → riff_size start (out + block_length) ≤ greatest_u32
+
+-- the value of a writer's fields
+abbrev pub of_fields : {W : Type 0} → W → WavSpecEx → ℕ → ℕ → List ℕ → List ℕ →
+    WriterState W
+of_fields medium spec_ex start out waiting buffer = record {
+  medium = medium;
+  spec_ex = spec_ex;
+  data_start = start;
+  out = out;
+  waiting = waiting;
+  buffer = buffer;
+}
+
+-- What a writer keeps true between its calls: the samples in the medium are whole and so are the
+-- buffered ones, in one block; the head of its file is there, the data length counts no more than
+-- the bytes in the medium, and the next ones go after these.
+pub record IsConsistent {W : Type 0} (tells : Bool) (state : W → MediumState) (w : WriterState W)
+    (may_have_moved : Bool) (limit : ℕ) : Type 0 where
+  pub sound : IsSound w
+  pub whole_out : w.out % w.spec_ex.bytes_per_sample ≡ 0
+  pub whole_waiting : length w.waiting % w.spec_ex.bytes_per_sample ≡ 0
+  pub block : length w.waiting ≤ block_length
+  pub room : IsLimit w.data_start w.out limit
+  pub stands : WhereTells tells (IsStanding w.spec_ex w.data_start w.out (state w.medium).contents)
+  pub place : WhereTells tells
+      (may_have_moved ≡ false → (state w.medium).place ≡ w.data_start + w.out)
+
+-- the bytes of the memory that a writer holds for its batches, if it has some
+abbrev pub bytes_kept : {V : Type 0} → (V → List ℤ) → Option V → List ℕ
+bytes_kept items None = []
+bytes_kept items (Some buffer) = short_bytes (items buffer)

@@ -2,21 +2,14 @@
 use Rattle.std.specs.Prelude.{◌≡◌, ◌⊎◌, ℕ, ◌+◌, ◌-◌, ◌<◌, ◌≤◌, max, Bool, true, false, List, length, take, drop, Result, OnOk}
 use Rattle.std.specs.List.{concat}
 use Rattle.std.specs.Io.{StartsWith}
-use Rattle.hound_number.specs.Number.{mix}
-use Rattle.hound_spec.specs.declared.error.Error.{Error}
-use Rattle.hound_spec.specs.declared.spec.WavSpecEx.{WavSpecEx}
-use Rattle.hound_spec.specs.Header.{canonical, riff_size}
-use Rattle.hound_sample.specs.Container.{containers}
-use Rattle.hound_medium.specs.Bytes.{moment}
-use Rattle.hound_medium.specs.State.{MediumState, WhereTells, WhereKeeps}
-use Rattle.hound_medium.specs.Spans.{Span}
-use Rattle.hound_durable.specs.Losses.{place_of}
-use Rattle.hound_reader.specs.Chunks.{Readable}
-use Rattle.hound_writer.specs.Answers.{IsPublishing, OnPublished, faults_told}
-use Rattle.hound_writer.specs.Counts.{Counts}
-use Rattle.hound_writer.specs.Sizes.{ChangesSizesOnly, field}
-use Rattle.hound_writer.specs.Storing.{KeepsStored}
-use Rattle.hound_writer.specs.Writer.{WriterState, KeepsSamples, IsWhole, IsBegun, IsPadded, HasHeader, accepted_samples, data_end, data_length, padded_end}
+use Rattle.hound_number.specs.{mix}
+use Rattle.hound_spec.specs.{Error, WavSpecEx, canonical, riff_size}
+use Rattle.hound_sample.specs.{containers}
+use Rattle.hound_medium.specs.{moment, MediumState, WhereTells, WhereKeeps, Span}
+use Rattle.hound_durable.specs.{place_of}
+use Rattle.hound_reader.specs.{Readable}
+use Rattle.hound_writer.specs.Accepting.{IsPublishing, OnPublished, faults_told, KeepsStored}
+use Rattle.hound_writer.specs.Writer.{Counts, ChangesSizesOnly, field, WriterState, KeepsSamples, IsWhole, IsBegun, IsPadded, HasHeader, accepted_samples, data_end, data_length, padded_end}
 
 -- The contents are read as exactly these samples, with this spec, from this place on.
 pub record ReadsAs (s : WavSpecEx) (start : ℕ) (samples : List (List ℕ))

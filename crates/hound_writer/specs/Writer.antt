@@ -1,13 +1,56 @@
--- What contracts see of a writer.
-use Rattle.std.specs.Prelude.{◌≡◌, ℕ, ◌+◌, ◌/◌, ◌%◌, ◌≤◌, List, ◌++◌, length, take, drop}
+-- What contracts see of a writer: its value, the two sizes of its file, and what the data length counts.
+use Rattle.std.specs.Prelude.{◌≡◌, ℕ, ◌+◌, ◌-◌, List, ◌++◌, length, take, drop, ◌*◌, ◌/◌, ◌≤◌, Option, None, Some, ◌%◌}
+use Rattle.hound_number.specs.{bytes_of, number}
+use Rattle.std.specs.List.{concat}
+use Rattle.hound_spec.specs.{WavSpecEx, header, data_start, riff_size, padded, padding, IsPair, greatest_u32, Int}
+use Rattle.hound_sample.specs.{containers}
+use Rattle.hound_reader.specs.{Cause, Readable, Unreadable, data_fault}
 use Rattle.std.specs.Io.{StartsWith}
-use Rattle.hound_spec.specs.declared.spec.WavSpecEx.{WavSpecEx}
-use Rattle.hound_spec.specs.Header.{header, data_start, riff_size, padded, padding}
-use Rattle.hound_spec.specs.Writable.{IsPair}
-use Rattle.hound_sample.specs.Container.{containers}
-use Rattle.hound_medium.specs.State.{MediumState}
-use Rattle.hound_writer.specs.Counts.{Counts}
-use Rattle.hound_spec.specs.FmtChunk.{greatest_u32}
+use Rattle.hound_medium.specs.{MediumState}
+
+-- the number in the four bytes at a place
+abbrev pub field : ℕ → List ℕ → ℕ
+field p contents = number (take 4 (drop p contents))
+
+-- before the data only the RIFF size at 4 and the data length have changed
+pub record ChangesSizesOnly (data_start : ℕ) (old new : List ℕ) : Type 0 where
+  pub front : take 4 new ≡ take 4 old
+  pub middle : drop 8 (take (data_start - 4) new) ≡ drop 8 (take (data_start - 4) old)
+
+-- the contents with these two sizes: the RIFF size at 4, the data length at p
+unfoldable pub with_sizes : ℕ → ℕ → ℕ → List ℕ → List ℕ
+with_sizes p size data_length contents =
+    take 4 contents ++ (bytes_of 4 size ++ (drop 8
+    (take p contents) ++ (bytes_of 4 data_length ++ drop (p + 4) contents)))
+
+-- only the four bytes at 4 and the four at p differ
+pub record SameButSizes (p : ℕ) (old new : List ℕ) : Type 0 where
+  pub front : take 4 new ≡ take 4 old
+  pub middle : drop 8 (take p new) ≡ drop 8 (take p old)
+  pub behind : drop (p + 4) new ≡ drop (p + 4) old
+  pub long : length new ≡ length old
+
+-- what reading gives, by the fault of a data length n: exactly the first n bytes of the accepted
+-- samples, or that n is no whole samples or frames
+abbrev pub ReadsFirst : Option Cause → WavSpecEx → ℕ → ℕ → List (List ℕ) → List ℕ → Type 0
+ReadsFirst None s start n accepted contents =
+    Readable contents s (n / s.bytes_per_sample) start
+    × (containers s.bytes_per_sample (n / s.bytes_per_sample) (drop start contents)
+    ≡ take (n / s.bytes_per_sample) accepted)
+ReadsFirst (Some cause) s start n accepted contents = Unreadable contents cause
+
+-- The data length counts no more than the accepted samples, enough of which are there to cover it;
+-- and reading gives exactly the first ones it counts, or rejects a length of no whole frames (RIFF,
+-- "Waveform Audio File Format": the data chunk).
+pub record Counts (s : WavSpecEx) (start : ℕ) (accepted : List (List ℕ))
+    (contents : List ℕ) : Type 0 where
+  pub samples : ℕ
+  pub among : samples ≤ length accepted
+  pub covers : field (start - 4) contents ≤ samples * s.bytes_per_sample
+  pub stand : take (samples * s.bytes_per_sample) (drop start contents)
+      ≡ concat (take samples accepted)
+  pub reads : ReadsFirst (data_fault s (field (start - 4) contents)) s start
+      (field (start - 4) contents) accepted contents
 
 -- A writer: its medium, the spec, the place of the first data byte, how many bytes of the accepted
 -- samples are in the medium, and the others, which are buffered in the writer. Then the memory that
@@ -96,3 +139,7 @@ pub record KeepsSamples {W : Type 0} (old new : WriterState W) : Type 0 where
   pub data_start : new.data_start ≡ old.data_start
   pub data_length : data_length new ≡ data_length old
   pub buffer : new.buffer ≡ old.buffer
+
+-- samples of sixteen bits, as integers
+abbrev pub IsSixteen : WavSpecEx → Type 0
+IsSixteen s = (s.spec.sample_format ≡ Int) × (s.spec.bits_per_sample ≡ 16)

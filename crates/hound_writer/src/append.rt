@@ -1,12 +1,10 @@
 // Appending to existing files.
 ghost use Rattle.std.specs.Prelude.{◌≡◌, [], ⊤, MatchResult};
-ghost use Rattle.hound_medium.specs.State.{WhereTells};
-ghost use Rattle.hound_reader.specs.Fmt.{IsSoundSpec};
-ghost use Rattle.hound_reader.specs.Chunks.{Head, IsDataPlace};
+ghost use Rattle.hound_medium.specs.{WhereTells};
+ghost use Rattle.hound_reader.specs.{IsSoundSpec, Head, IsDataPlace, Names};
 ghost use Rattle.hound_writer.specs.Calls.{Recorded, appended};
 ghost use Rattle.hound_writer.specs.Writer.{IsWhole, accepted_samples};
 ghost use Rattle.hound_writer.specs.Appending.{Appends, IsNotAppended, FailsCheck, head_fault};
-ghost use Rattle.hound_reader.specs.Refusals.{Names};
 
 use crate::WavWriter;
 use crate::output::riff_size;

@@ -1,17 +1,14 @@
 // Batches of samples of sixteen bits.
 ghost use Rattle.std.specs.Prelude.{◌≡◌, List, ◌∷◌, ◌+◌, ◌*◌, ◌^◌, ◌≤◌, ◌<◌, length, ◌/◌, ◌++◌, max, [], take, IfOk, IfErr, OnOk, Ok, Err, false};
 ghost use Rattle.std.specs.Borrow.{sem, RestsIfErr};
-ghost use Rattle.hound_number.specs.Number.{signed_bytes_of};
-ghost use Rattle.hound_spec.specs.declared.error.Error.TheVariants.{OutOfMemory, TooLong};
-ghost use Rattle.hound_sample.specs.Container.{containers};
+ghost use Rattle.hound_number.specs.{signed_bytes_of};
+ghost use Rattle.hound_spec.specs.{OutOfMemory, TooLong};
+ghost use Rattle.hound_sample.specs.{containers};
 ghost use Rattle.hound_writer.specs.contracts.write.WavWriter.{the_row};
-ghost use Rattle.hound_writer.specs.Accepting.{Accepts};
-ghost use Rattle.hound_writer.specs.Answers.{mark_of};
+ghost use Rattle.hound_writer.specs.Accepting.{Accepts, mark_of, AreShort, short_bytes};
 ghost use Rattle.hound_writer.specs.Calls.{Extends, KeepsCalls, made, marked, write};
-ghost use Rattle.hound_writer.specs.Fields.{bytes_kept};
-ghost use Rattle.hound_writer.specs.Many.{AreShort, short_bytes};
-ghost use Rattle.hound_writer.specs.Room.{IsSixteen};
-ghost use Rattle.hound_writer.specs.Writer.{HasRoom};
+ghost use Rattle.hound_writer.specs.Parts.{bytes_kept};
+ghost use Rattle.hound_writer.specs.Writer.{IsSixteen, HasRoom};
 
 use crate::WavWriter;
 use crate::memory::BatchMemory;

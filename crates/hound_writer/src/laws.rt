@@ -1,9 +1,8 @@
 // What holds for all bytes that are to be appended to, and for all samples that are written.
 ghost use Rattle.std.specs.Prelude.{◌≡◌, ℕ, List, Ok, false};
-ghost use Rattle.hound_medium.specs.State.{WhereTells};
-ghost use Rattle.hound_writer.specs.Accepting.{Accepts};
+ghost use Rattle.hound_medium.specs.{WhereTells};
+ghost use Rattle.hound_writer.specs.Accepting.{Accepts, AcceptsEach, containers_in};
 ghost use Rattle.hound_writer.specs.Appending.{HasOneAppendAnswer};
-ghost use Rattle.hound_writer.specs.Many.{AcceptsEach, containers_in};
 ghost use Rattle.hound_writer.specs.Writer.{WriterState, IsWhole, accepted_samples, data_length};
 
 use hound_medium::Medium;

@@ -1,6 +1,6 @@
 // The outcome of a sample.
 ghost use Rattle.std.specs.Prelude.{◌≡◌, Err};
-ghost use Rattle.hound_writer.specs.Block.{answer_of};
+ghost use Rattle.hound_writer.specs.Parts.{result_of};
 ghost use Rattle.hound_writer.specs.declared.outcome.Outcome.TheVariants.{Accepted};
 
 use hound_spec::Error;
@@ -34,7 +34,7 @@ pub(crate) enum Outcome {
 /// goes to where the caller needs the error.
 #[inline(always)]
 pub(crate) fn error_of_outcome(outcome: Outcome, fault: &io::Error) -> Error
-    ensures { (outcome ≡ Accepted → ⊥) → answer_of outcome fault.now ≡ Err result }
+    ensures { (outcome ≡ Accepted → ⊥) → result_of outcome fault.now ≡ Err result }
 {
     let mut error = Error::IoError(*fault);
     if let Outcome::OutOfRange = outcome {

@@ -1,8 +1,7 @@
 // The file that a writer writes.
 ghost use Rattle.std.specs.Prelude.{◌≡◌, ◌+◌, ◌^◌, ◌≤◌, IsTrue};
-ghost use Rattle.hound_spec.specs.Header.{riff_size};
-ghost use Rattle.hound_writer.specs.Block.{IsLimit};
-ghost use Rattle.hound_writer.specs.Parts.{IsPublishResult};
+ghost use Rattle.hound_spec.specs.{riff_size};
+ghost use Rattle.hound_writer.specs.Parts.{IsLimit, IsPublishResult};
 
 use crate::block::{BLOCK_LENGTH, Block};
 use crate::many::{look_at, put_samples_at_end};
@@ -44,7 +43,7 @@ pub(crate) struct Output<W: Medium> {
 
 impl<W: Medium> Model for Output<W> {
     ghost use Rattle.hound_writer.specs.Writer.{WriterState};
-    ghost use Rattle.hound_writer.specs.Fields.{IsConsistent, of_fields, bytes_kept};
+    ghost use Rattle.hound_writer.specs.Parts.{IsConsistent, of_fields, bytes_kept};
 
     ghost Value = { WriterState W };
 
@@ -94,15 +93,11 @@ fn publish_result(patched: io::Result<()>, are_frames: bool) -> Result<()>
 
 impl<W: Medium> Output<W> {
     ghost use Rattle.std.specs.Prelude.{◌≡◌, ◌+◌, ◌*◌, ◌-◌, ◌/◌, ◌%◌, ◌≤◌, ◌^◌, ◌↔◌, [], false, IsTrue, IsOk, Ok, IfErr, OnOk, length, take};
-    ghost use Rattle.hound_spec.specs.Header.{riff_size};
-    ghost use Rattle.hound_sample.specs.Container.{containers};
-    ghost use Rattle.hound_medium.specs.State.{Goes, WhereTells, WhereKeeps};
-    ghost use Rattle.hound_writer.specs.Accepting.{Accepts};
-    ghost use Rattle.hound_writer.specs.Answers.{IsIoError, one};
-    ghost use Rattle.hound_writer.specs.Block.{GoesOut, answer_of, block_length, or_fault};
-    ghost use Rattle.hound_writer.specs.Fields.{of_fields};
-    ghost use Rattle.hound_writer.specs.Many.{containers_in, sample_bytes};
-    ghost use Rattle.hound_writer.specs.Parts.{IsStanding, Patches, PatchesAtEach};
+    ghost use Rattle.hound_spec.specs.{riff_size};
+    ghost use Rattle.hound_sample.specs.{containers};
+    ghost use Rattle.hound_medium.specs.{Goes, WhereTells, WhereKeeps};
+    ghost use Rattle.hound_writer.specs.Accepting.{Accepts, IsIoError, one, containers_in, sample_bytes};
+    ghost use Rattle.hound_writer.specs.Parts.{GoesOut, result_of, block_length, or_fault, of_fields, IsStanding, Patches, PatchesAtEach};
     ghost use Rattle.hound_writer.specs.Publishing.{PublishesTo, place_after};
     ghost use Rattle.hound_writer.specs.Writer.{AreFrames, HasRoom, IsPadded, IsSound, IsWhole, IsCounted, data_end, data_length, padded_end, sample_count};
 
@@ -233,7 +228,7 @@ impl<W: Medium> Output<W> {
     fn accept_slowly(&mut self, container: [u8; 4], fault: &mut io::Error) -> Outcome
         ensures accepts { let bytes = take self.old.spec_ex.bytes_per_sample container in
             Accepts W.tells W.keeps W.state false
-            (Ok (containers self.old.spec_ex.bytes_per_sample (length bytes / self.old.spec_ex.bytes_per_sample) bytes)) (answer_of result fault.new) self.old self.new }
+            (Ok (containers self.old.spec_ex.bytes_per_sample (length bytes / self.old.spec_ex.bytes_per_sample) bytes)) (result_of result fault.new) self.old self.new }
         ensures buffer { self.new.buffer ≡ self.old.buffer }
     {
         let width = self.spec_ex.bytes_per_sample;
@@ -250,7 +245,7 @@ impl<W: Medium> Output<W> {
     #[inline(always)]
     pub(crate) fn accept_sample<S: Sample>(&mut self, sample: S, fault: &mut io::Error) -> Outcome
         ensures accepts { Accepts W.tells W.keeps W.state false
-            (one (S.container sample self.old.spec_ex.spec.bits_per_sample self.old.spec_ex.bytes_per_sample)) (answer_of result fault.new) self.old self.new }
+            (one (S.container sample self.old.spec_ex.spec.bits_per_sample self.old.spec_ex.bytes_per_sample)) (result_of result fault.new) self.old self.new }
         ensures buffer { self.new.buffer ≡ self.old.buffer }
     {
         let width = self.spec_ex.bytes_per_sample;
@@ -353,7 +348,7 @@ impl<W: Medium> Output<W> {
         fault: &mut io::Error,
     ) -> Outcome
         ensures accepts { Accepts W.tells W.keeps W.state false
-            (containers_in S.container self.old.spec_ex samples.now) (answer_of result fault.new) self.old self.new }
+            (containers_in S.container self.old.spec_ex samples.now) (result_of result fault.new) self.old self.new }
         ensures buffer { self.new.buffer ≡ self.old.buffer }
     {
         let width = self.spec_ex.bytes_per_sample;

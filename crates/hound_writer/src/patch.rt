@@ -1,11 +1,9 @@
 // The parts of a writer's calls.
-ghost use Rattle.hound_medium.specs.State.{WhereKeeps, WhereTells};
+ghost use Rattle.hound_medium.specs.{WhereKeeps, WhereTells, Span};
 ghost use Rattle.std.specs.Prelude.{◌≡◌, ◌+◌, ◌≤◌, ◌^◌, ◌<◌, ℕ, List, length, false, IsTrue, OnOk, not};
-ghost use Rattle.hound_number.specs.Number.{bytes_of};
-ghost use Rattle.hound_medium.specs.Spans.{Span};
-ghost use Rattle.hound_writer.specs.Parts.{HasSize, IsPatched, PatchesAtEach, PutsAt, Patches};
-ghost use Rattle.hound_writer.specs.Block.{all_out};
-ghost use Rattle.hound_writer.specs.Sizes.{field};
+ghost use Rattle.hound_number.specs.{bytes_of};
+ghost use Rattle.hound_writer.specs.Parts.{HasSize, IsPatched, PatchesAtEach, PutsAt, Patches, all_out};
+ghost use Rattle.hound_writer.specs.Writer.{field};
 
 use hound_medium::{Medium, put_all};
 use hound_number::le_u32;

@@ -1,4 +1,4 @@
-use Rattle.hound_writer.specs.Calls.{found_in, start_of}
+use Rattle.hound_writer.specs.{found_in, start_of}
 use Rattle.hound.proofs.Recovering.{none_lost}
 use Rattle.hound.proofs.laws.a_repair_loses_no_published_sample.Goals as goal
 

@@ -1,5 +1,5 @@
 use Rattle.std.proofs.Common.{ap, arith, inl, inr, length, refl, rules, subst}
-use Rattle.hound.specs.Run.{IsNotBegun, Ran}
+use Rattle.hound.specs.Run.{IsNotBegunAs, Ran}
 use Rattle.hound.proofs.Whole.{new_canonical, new_exact, part_of_header, ran}
 use Rattle.hound.proofs.runs.run_session.Goals as goal
 
@@ -11,7 +11,7 @@ pub returns-in-Err-clause-begun : goal.returns-in-Err-clause-begun
 returns-in-Err-clause-begun g c tells s is_new empty long =
     let W = g.M.Placed in
     let part = part_of_header W.tells W.keeps W.state s c.args.medium c.in-Err.medium c.in-Err.error
-    tells (subst (λ b. IsNotBegun W.tells W.keeps W.state b c.args.medium c.in-Err.medium
+    tells (subst (λ b. IsNotBegunAs W.tells W.keeps W.state b c.args.medium c.in-Err.medium
     c.in-Err.error) is_new c.in-Err.ensures) in
     absurd (omega (arith, long, part.1, part.2, c.requires.place tells, ap length empty))
 

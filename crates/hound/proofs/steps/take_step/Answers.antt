@@ -1,7 +1,7 @@
 use Rattle.std.proofs.Common.{rules, subst, sym, w32}
 use Rattle.std.proofs.lemmas.Bool.{false≢true}
 use Rattle.std.proofs.Math.Facts.{to_z-of_z}
-use Rattle.hound.specs.Steps.{Takes}
+use Rattle.hound.specs.Run.{Takes}
 use Rattle.hound_writer.proofs.Recording.{flush_left}
 use Rattle.hound.proofs.Running.{whole_taken}
 use Rattle.hound.proofs.steps.take_step.Goals as goal

@@ -1,10 +1,9 @@
 use Rattle.std.proofs.Common.{◌≡◌, false, true, if◌then◌else◌, Err, refl, rules, subst, sym}
-use Rattle.hound_spec.specs.declared.error.Error.TheVariants.{Unsupported}
-use Rattle.hound_sample.specs.Container.{int_container, unsupported}
-use Rattle.hound_writer.specs.Accepting.{Accepts}
-use Rattle.hound_writer.specs.Many.{containers_in}
+use Rattle.hound_spec.specs.{Unsupported}
+use Rattle.hound_sample.specs.{int_container, unsupported}
+use Rattle.hound_writer.specs.{Accepts, containers_in}
 use Rattle.hound_writer.proofs.Accepting.{accepts_refused}
-use Rattle.hound.specs.Steps.{is_sixteen}
+use Rattle.hound.specs.Run.{is_sixteen}
 use Rattle.hound.proofs.steps.write_batch.Goals as goal
 
 pub returns-then-not-is_sixteen : goal.returns-then-not-is_sixteen

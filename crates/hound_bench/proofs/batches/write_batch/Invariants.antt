@@ -1,5 +1,5 @@
 use Rattle.std.proofs.Common.{◌≡◌}
-use Rattle.hound.specs.Batch.{batch_writer, batch_lender, remaining}
+use Rattle.hound.specs.{batch_writer, batch_lender, remaining}
 use Rattle.hound_bench.proofs.batches.write_batch.Given as goal
 
 -- the batch stays that of the same writer, whose spec stays

@@ -1,5 +1,5 @@
 use Rattle.std.proofs.Common.{◌-◌}
-use Rattle.hound.specs.Room.{IsSixteen}
+use Rattle.hound.specs.{IsSixteen}
 use Rattle.hound_bench.proofs.batches.write_batches.Given as goal
 
 abbrev pub invariant-loop-first : goal.invariant-loop-first

@@ -1,9 +1,8 @@
 use Rattle.std.proofs.Common.{◌≡◌, ◌+◌, ◌-◌, ◌*◌, ◌%◌, ◌≤◌, ◌<◌, ◌^◌, ◌++◌, length, sym, ◌∙◌, ap, subst, arith, rules, length-append}
-use Rattle.hound_spec.specs.Header.{padding}
+use Rattle.hound_spec.specs.{padding}
 use Rattle.hound_spec.proofs.HeaderLemmas.{length-padding}
-use Rattle.hound_sample.specs.Slices.{joined_containers}
-use Rattle.hound_writer.specs.Many.{containers_in}
-use Rattle.hound_writer.specs.Sizes.{with_sizes}
+use Rattle.hound_sample.specs.{joined_containers}
+use Rattle.hound_writer.specs.{containers_in, with_sizes}
 use Rattle.hound_sample.proofs.Joined.{joined}
 use Rattle.hound_c.specs.Writing.{AppendsSamples}
 use Rattle.hound_c.proofs.Checks.{passed}

@@ -1,8 +1,8 @@
 use Rattle.std.proofs.Common.{◌≡◌, ◌*◌, length, take, drop, map, ◌∙◌, ap, arith, rules}
 use Rattle.std.proofs.lemmas.List.{drop_at, length-take-le, take-take, take_at}
-use Rattle.hound_sample.specs.Container.{containers}
+use Rattle.hound_sample.specs.{containers}
 use Rattle.hound_sample.proofs.Containers.{containers_front}
-use Rattle.hound_reader.specs.Reader.{meaning_at}
+use Rattle.hound_reader.specs.{meaning_at}
 use Rattle.hound_c.proofs.reading.decode_front.Goals as goal
 
 pub returns : goal.returns

@@ -2,9 +2,9 @@ use Rattle.std.proofs.Common.{◌≡◌, ◌+◌, ◌-◌, ◌*◌, ◌/◌, ◌
 use Rattle.std.proofs.lemmas.List.{take-take}
 use Rattle.std.proofs.lemmas.Nat.{mul-le}
 use Rattle.std.proofs.Math.Nat.{mul-div_left}
-use Rattle.hound_sample.specs.Container.{containers}
+use Rattle.hound_sample.specs.{containers}
 use Rattle.hound_sample.proofs.Containers.{containers_front}
-use Rattle.hound_reader.specs.Reader.{meaning_at}
+use Rattle.hound_reader.specs.{meaning_at}
 use Rattle.hound_c.proofs.Blocks.{inside, part_is, part_long}
 use Rattle.hound_c.proofs.reading.read_block.Goals as goal
 

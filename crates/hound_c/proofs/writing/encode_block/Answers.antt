@@ -1,6 +1,6 @@
 use Rattle.std.proofs.Common.{◌≡◌, ◌*◌, ◌++◌, Ok, length, drop, refl, ◌∙◌, ap, subst, arith, rules, inr}
 use Rattle.std.proofs.lemmas.List.{drop_at, take_at}
-use Rattle.hound_writer.specs.Many.{containers_in}
+use Rattle.hound_writer.specs.{containers_in}
 use Rattle.hound_sample.proofs.Joined.{joined}
 use Rattle.hound_c.specs.Writing.{Encodes, IsEncodeFault}
 use Rattle.hound_c.proofs.Checks.{failed, passed}

@@ -3,10 +3,10 @@ use Rattle.std.proofs.lemmas.List.{length-take-le, take_at}
 use Rattle.std.proofs.lemmas.Slice.{drop-append-drop}
 use Rattle.hound_c.proofs.Puts.{drop_put, take_put}
 use Rattle.std.specs.List.{concat}
-use Rattle.hound_spec.specs.Header.{canonical, data_start, header, padding, riff_size}
+use Rattle.hound_spec.specs.{canonical, data_start, header, padding, riff_size}
 use Rattle.hound_spec.proofs.HeaderLemmas.{data_start_least, length-header, length-padding}
-use Rattle.hound_sample.specs.Slices.{joined_containers}
-use Rattle.hound_writer.specs.Many.{containers_in}
+use Rattle.hound_sample.specs.{joined_containers}
+use Rattle.hound_writer.specs.{containers_in}
 use Rattle.hound_sample.proofs.Joined.{joined}
 use Rattle.hound_c.specs.Writing.{Writes, IsWriteFault}
 use Rattle.hound_c.proofs.Checks.{failed, passed}

@@ -1,11 +1,7 @@
 use Rattle.std.proofs.Common.{◌≡◌, ◌∙◌, ap, refl, ℕ, ◌+◌, ◌-◌, ◌/◌, ◌<◌, ◌≤◌, false, List, [], ◌∷◌, length, Result, Ok, Err, length-append, arith}
 use Rattle.std.specs.List.{concat}
 use Rattle.std.proofs.Math.Nat.{add-div_right}
-use Rattle.hound.specs.Accepting.{Adds}
-use Rattle.hound.specs.Answers.{one}
-use Rattle.hound.specs.Container.{Refusal}
-use Rattle.hound.specs.ContainerLaws.{int_container-in_width}
-use Rattle.hound.specs.Writer.{WriterState, data_length, sample_count}
+use Rattle.hound.specs.{Adds, one, Refusal, int_container-in_width, WriterState, data_length, sample_count}
 use Rattle.hound_callers.proofs.callers.convert.Goals as goal
 
 -- a container of the file's width is a sample more

@@ -1,7 +1,5 @@
 use Rattle.std.proofs.Common.{◌≡◌, ◌+◌}
-use Rattle.hound.specs.Reader.{samples_left}
-use Rattle.hound.specs.Samples.{lent_reader}
-use Rattle.hound.specs.Writer.{sample_count}
+use Rattle.hound.specs.{samples_left, lent_reader, sample_count}
 use Rattle.hound_callers.proofs.callers.convert.Given as goal
 
 abbrev pub invariant-loop-sample : goal.invariant-loop-sample

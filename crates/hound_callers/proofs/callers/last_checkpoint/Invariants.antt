@@ -1,5 +1,5 @@
 use Rattle.std.proofs.Common.{◌≤◌, length}
-use Rattle.hound_callers.specs.Checkpoints.{IsLast}
+use Rattle.hound_callers.specs.Recording.{IsLast}
 use Rattle.hound_callers.proofs.callers.last_checkpoint.Given as goal
 
 abbrev pub invariant-loop-i : goal.invariant-loop-i

@@ -1,12 +1,6 @@
 use Rattle.std.proofs.Common.{◌≡◌, ◌∙◌, ap, ℕ, List, length, drop, Result, Ok, Err, IfOk}
-use Rattle.hound.specs.Answer.{HasOneFileAnswer, readable}
-use Rattle.hound.specs.Chunks.{Readable}
-use Rattle.hound.specs.Container.{containers}
-use Rattle.hound.specs.Reader.{ReaderState}
-use Rattle.hound.specs.Refusals.{OpensAs}
-use Rattle.hound.specs.declared.Error.{Error}
+use Rattle.hound.specs.{HasOneFileAnswer, readable, Readable, containers, ReaderState, OpensAs, Error, WavSpecEx}
 use Rattle.hound.specs.declared.Error.TheVariants.{IoError}
-use Rattle.hound.specs.declared.WavSpecEx.{WavSpecEx}
 use Rattle.hound_callers.proofs.callers.open_written.Goals as goal
 
 -- The samples of bytes begin at one place, so those of an opened reader are left there.

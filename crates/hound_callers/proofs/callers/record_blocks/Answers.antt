@@ -1,7 +1,6 @@
 use Rattle.std.proofs.Common.{◌≡◌, ◌+◌, ◌-◌, Ok, take, drop, arith, rules, subst, false}
 use Rattle.std.proofs.lemmas.List.{take_all}
-use Rattle.hound.specs.Accepting.{Accepts}
-use Rattle.hound.specs.Many.{containers_in}
+use Rattle.hound.specs.{Accepts, containers_in}
 use Rattle.hound_callers.proofs.Blocks.{Recorded, block_recorded, blocks_published}
 use Rattle.hound_callers.proofs.callers.record_blocks.Goals as goal
 

@@ -1,5 +1,5 @@
 use Rattle.std.proofs.Common.{◌-◌, ◌≤◌, IsTrue, length, take}
-use Rattle.hound.specs.Writer.{IsWhole}
+use Rattle.hound.specs.{IsWhole}
 use Rattle.hound_callers.proofs.Blocks.{Recorded}
 use Rattle.hound_callers.proofs.callers.record_blocks.Given as goal
 

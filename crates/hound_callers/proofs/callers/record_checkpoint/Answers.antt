@@ -1,11 +1,5 @@
 use Rattle.std.proofs.Common.{◌≡◌, ◌∙◌, ℕ, ◌++◌, Bool, false, List, [], ◌∷◌, Result, Ok, Err, OnOk, IsTrue, refl}
-use Rattle.hound.specs.Accepting.{Accepts}
-use Rattle.hound.specs.Answers.{one}
-use Rattle.hound.specs.Container.{Refusal}
-use Rattle.hound.specs.Publishing.{Checkpoints, ReadsAs}
-use Rattle.hound.specs.State.{MediumState}
-use Rattle.hound.specs.Writer.{WriterState, IsWhole, accepted_samples}
-use Rattle.hound.specs.declared.Error.{Error}
+use Rattle.hound.specs.{Accepts, one, Refusal, Checkpoints, ReadsAs, MediumState, WriterState, IsWhole, accepted_samples, Error}
 use Rattle.hound_callers.proofs.callers.record_checkpoint.Goals as goal
 
 -- what was accepted is published

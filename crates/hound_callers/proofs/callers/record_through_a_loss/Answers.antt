@@ -1,8 +1,8 @@
 use Rattle.std.proofs.Common.{length, refl, subst, arith}
-use Rattle.hound.specs.Own.{own}
+use Rattle.hound.specs.{own}
 use Rattle.hound.specs.declared.Durable.{Durable}
 use Rattle.hound.specs.declared.session.End.TheVariants.{Drop}
-use Rattle.hound_callers.specs.Checkpoints.{IsLast}
+use Rattle.hound_callers.specs.Recording.{IsLast}
 use Rattle.hound_callers.proofs.Failing.{failed, some_then, unmarked_at}
 use Rattle.hound_callers.proofs.callers.record_through_a_loss.Goals as goal
 

@@ -1,10 +1,6 @@
 use Rattle.std.proofs.Common.{◌≡◌, ◌++◌, false, Ok, Err, MatchResult, IfOk}
 use Rattle.std.proofs.lemmas.Bool.{false≢true}
-use Rattle.hound.specs.declared.Error.{Error}
-use Rattle.hound.specs.declared.Repair.{Repair}
-use Rattle.hound.specs.Calls.{found_in, start_of}
-use Rattle.hound.specs.Headline.{accepted_by_all}
-use Rattle.hound.specs.Repairing.{IsNotRepaired, ReadsFrames, Repairs}
+use Rattle.hound.specs.{Error, Repair, found_in, start_of, accepted_by_all, IsNotRepaired, ReadsFrames, Repairs}
 use Rattle.hound_callers.proofs.callers.repair_recording.Goals as goal
 
 pub returns : goal.returns

@@ -1,12 +1,7 @@
 use Rattle.std.proofs.Common.{◌≡◌, [], ◌∷◌, true, Result, Ok, Err, arith, inr, length, of_z, refl, rules, subst, to_z, w32}
 use Rattle.std.proofs.Math.Facts.{to_z-of_z}
 use Rattle.std.proofs.lemmas.Bool.{false≢true}
-use Rattle.hound.specs.Calls.{Call}
-use Rattle.hound.specs.Header.{canonical}
-use Rattle.hound.specs.Publishing.{Finishes}
-use Rattle.hound.specs.Run.{Ran}
-use Rattle.hound.specs.Steps.{Takes, asked_by, containers_of}
-use Rattle.hound.specs.declared.Error.{Error}
+use Rattle.hound.specs.{Call, canonical, Finishes, Ran, Takes, asked_by, containers_of, Error}
 use Rattle.hound.specs.declared.session.Begin.TheVariants.{New}
 use Rattle.hound.specs.declared.session.End.TheVariants.{Finalize}
 use Rattle.hound.specs.declared.session.Step.TheVariants.{Whole}

@@ -1,8 +1,6 @@
 use Rattle.std.proofs.Common.{◌≡◌, length, refl, ◌++◌, ◌∷◌, [], Bor, List, take, arith, sym, ap, ◌∙◌, subst}
 use Rattle.std.proofs.lemmas.List.{append-nil, drop_all}
-use Rattle.hound.specs.Calls.{Recorded}
-use Rattle.hound.specs.Many.{containers_in}
-use Rattle.hound.specs.declared.WavSpecEx.{WavSpecEx}
+use Rattle.hound.specs.{Recorded, containers_in, WavSpecEx}
 use Rattle.hound_callers.specs.Recording.{StopsAt, published_calls, seen}
 use Rattle.hound_callers.proofs.Publishing.{at_ok, have_more, ok_list, seen_more}
 use Rattle.hound_callers.proofs.recording.publish_blocks.Goals as goal

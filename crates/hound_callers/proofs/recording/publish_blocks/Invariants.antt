@@ -1,7 +1,5 @@
 use Rattle.std.proofs.Common.{◌≡◌, ◌≤◌, ℕ, List, [], length, take}
-use Rattle.hound.specs.Calls.{Begun, Recorded}
-use Rattle.hound.specs.Many.{containers_in}
-use Rattle.hound.specs.declared.WavSpecEx.{WavSpecEx}
+use Rattle.hound.specs.{Begun, Recorded, containers_in, WavSpecEx}
 use Rattle.hound_callers.specs.Recording.{HaveContainers, published_calls, seen}
 use Rattle.hound_callers.proofs.recording.publish_blocks.Given as goal
 

@@ -1,7 +1,6 @@
 use Rattle.std.proofs.Common.{◌++◌, ◌%◌, Bor, List, take, arith, subst, sym}
 use Rattle.std.specs.Prelude.{◌==◌}
-use Rattle.hound.specs.Calls.{Recorded, new_file}
-use Rattle.hound.specs.Many.{containers_in}
+use Rattle.hound.specs.{Recorded, new_file, containers_in}
 use Rattle.hound_callers.specs.Recording.{block_asks, recorder_asks}
 use Rattle.hound_callers.proofs.Asking.{asks_more}
 use Rattle.hound_callers.proofs.recording.record.Goals as goal

@@ -1,6 +1,5 @@
 use Rattle.std.proofs.Common.{length, take, ◌≤◌}
-use Rattle.hound.specs.Calls.{Recorded, new_file}
-use Rattle.hound.specs.Many.{containers_in}
+use Rattle.hound.specs.{Recorded, new_file, containers_in}
 use Rattle.hound_callers.specs.Recording.{recorder_asks}
 use Rattle.hound_callers.proofs.recording.record.Given as goal
 

@@ -1,13 +1,7 @@
 use Rattle.std.proofs.Common.{◌≡◌, ◌/◌, ℕ, List, Result, Ok, Err, OnOk, length, refl, sym, ap, subst, ◌∙◌, false, rules}
 use Rattle.std.proofs.lemmas.List.{take_all}
 use Rattle.std.specs.List.{flat_map}
-use Rattle.hound.specs.Accepting.{Accepts}
-use Rattle.hound.specs.Batch.{batch_bytes, batch_writer}
-use Rattle.hound.specs.Container.{containers}
-use Rattle.hound.specs.Many.{short_bytes}
-use Rattle.hound.specs.Number.{signed_bytes_of}
-use Rattle.hound.specs.Writer.{accepted_samples, data_length}
-use Rattle.hound.specs.declared.Error.{Error}
+use Rattle.hound.specs.{Accepts, batch_bytes, batch_writer, containers, short_bytes, signed_bytes_of, accepted_samples, data_length, Error}
 use Rattle.hound_callers.proofs.recording.record_batch.Goals as goal
 
 -- at an Ok two values are those of each of these, if two that are equal to them are

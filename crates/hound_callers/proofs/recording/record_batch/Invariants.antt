@@ -1,9 +1,6 @@
 use Rattle.std.proofs.Common.{◌≡◌, ◌+◌, List, length, take}
 use Rattle.std.specs.List.{flat_map}
-use Rattle.hound.specs.Batch.{IsSameFile, batch_bytes, batch_lender, batch_writer, remaining}
-use Rattle.hound.specs.Calls.{Begun, Known, Recorded}
-use Rattle.hound.specs.Number.{signed_bytes_of}
-use Rattle.hound.specs.declared.WavSpecEx.{WavSpecEx}
+use Rattle.hound.specs.{IsSameFile, batch_bytes, batch_lender, batch_writer, remaining, Begun, Known, Recorded, signed_bytes_of, WavSpecEx}
 use Rattle.hound_callers.proofs.recording.record_batch.Given as goal
 
 abbrev pub invariant-loop-value : goal.invariant-loop-value

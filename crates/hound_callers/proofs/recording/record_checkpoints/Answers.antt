@@ -1,8 +1,5 @@
 use Rattle.std.proofs.Common.{◌+◌, ◌-◌, ◌<◌, ◌≡◌, ◌++◌, ◌∷◌, [], ℕ, Bor, List, length, take, arith, refl, sym, subst, append_assoc}
-use Rattle.hound.specs.Calls.{AreKnown, made, new_file, publish}
-use Rattle.hound.specs.Headline.{accepted_by_all}
-use Rattle.hound.specs.Many.{containers_in}
-use Rattle.hound.specs.declared.WavSpecEx.{WavSpecEx}
+use Rattle.hound.specs.{AreKnown, made, new_file, publish, accepted_by_all, containers_in, WavSpecEx}
 use Rattle.hound_callers.specs.contracts.twelve.TwelveSample.TheImpl.{ghosts}
 use Rattle.hound_callers.specs.declared.twelve.Twelve.{Twelve}
 use Rattle.hound_callers.specs.Recording.{HaveContainers, published_calls, seen}

@@ -1,5 +1,5 @@
 use Rattle.std.proofs.Common.{[], inl, inr}
-use Rattle.hound.specs.Calls.{new_file}
+use Rattle.hound.specs.{new_file}
 use Rattle.hound_callers.proofs.recording.record_mixed.Goals as goal
 
 pub returns : goal.returns

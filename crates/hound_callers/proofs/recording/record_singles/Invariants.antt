@@ -1,7 +1,5 @@
 use Rattle.std.proofs.Common.{◌≡◌, List, ◌++◌, map, take}
-use Rattle.hound.specs.Answers.{one}
-use Rattle.hound.specs.Calls.{Begun, Known, Recorded, made, write}
-use Rattle.hound.specs.declared.WavSpecEx.{WavSpecEx}
+use Rattle.hound.specs.{one, Begun, Known, Recorded, made, write, WavSpecEx}
 use Rattle.hound_callers.proofs.recording.record_singles.Given as goal
 
 abbrev pub invariant-loop-sample : goal.invariant-loop-sample

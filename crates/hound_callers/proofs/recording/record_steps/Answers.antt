@@ -1,5 +1,5 @@
 use Rattle.std.proofs.Common.{◌≡◌, ◌∙◌, Ok, Err, inl, inr, sym}
-use Rattle.hound.specs.Calls.{new_file}
+use Rattle.hound.specs.{new_file}
 use Rattle.hound_callers.proofs.recording.record_steps.Goals as goal
 
 pub returns-in_default-Ok : goal.returns-in_default-Ok

@@ -2,16 +2,7 @@ use Rattle.std.specs.Prelude.{⊤}
 use Rattle.std.proofs.Common.{◌≡◌, ◌-◌, List, [], ◌∷◌, ◌++◌, length, false, Ok, Err, MatchResult, inl, refl, subst, sym, ◌∙◌, ap, arith}
 use Rattle.std.proofs.lemmas.Bool.{false≢true}
 use Rattle.std.proofs.lemmas.List.{take_all}
-use Rattle.hound.specs.Bytes.{moment, overlay}
-use Rattle.hound.specs.Calls.{Call, Known, Left, new_file}
-use Rattle.hound.specs.Header.{data_start}
-use Rattle.hound.specs.Headline.{HasPublished, Kept, accepted_by_all}
-use Rattle.hound.specs.Held.{held}
-use Rattle.hound.specs.Repairing.{IsNoPad, IsNotRepaired, ReadsFrames, Repairs}
-use Rattle.hound.specs.Sizes.{field}
-use Rattle.hound.specs.State.{WhereKeeps, WhereTells}
-use Rattle.hound.specs.declared.Error.{Error}
-use Rattle.hound.specs.declared.Repair.{Repair}
+use Rattle.hound.specs.{moment, overlay, Call, Known, Left, new_file, data_start, HasPublished, Kept, accepted_by_all, held, IsNoPad, IsNotRepaired, ReadsFrames, Repairs, field, WhereKeeps, WhereTells, Error, Repair}
 use Rattle.hound_callers.proofs.recording.record_twelve_and_repair.Goals as goal
 
 pub returns : goal.returns

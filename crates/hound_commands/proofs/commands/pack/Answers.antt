@@ -2,8 +2,8 @@ use Rattle.std.proofs.Common.{inr, refl, subst, sym}
 use Rattle.std.proofs.Transfers.{starts_with_of_eq}
 use Rattle.hound_commands.proofs.Outputs.{appends-kept, part-written}
 use Rattle.hound_commands.proofs.ShowAnswers.{err_is}
-use Rattle.hound_spec.specs.Writable.{with_default_width}
-use Rattle.hound_commands.specs.Packing.{IsPacked}
+use Rattle.hound_spec.specs.{with_default_width}
+use Rattle.hound_commands.specs.Commands.{IsPacked}
 use Rattle.hound_commands.specs.declared.failure.Failure.TheVariants.{InputOrOutput}
 use Rattle.hound_commands.proofs.commands.pack.Goals as goal
 

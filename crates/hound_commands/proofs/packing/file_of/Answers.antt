@@ -1,6 +1,5 @@
 use Rattle.std.proofs.Common.{refl, sym, ◌∙◌, ap, subst}
-use Rattle.hound_commands.specs.Failing.{failure_of}
-use Rattle.hound_commands.specs.Packing.{IsPackFailure, IsPacked, containers_of}
+use Rattle.hound_commands.specs.Commands.{failure_of, IsPackFailure, IsPacked, containers_of}
 use Rattle.hound_commands.proofs.PackAnswers.{end_named, file_made, write_refused}
 use Rattle.hound_commands.proofs.packing.file_of.Goals as goal
 

@@ -1,7 +1,6 @@
 use Rattle.std.proofs.Common.{rules, ◌≡◌, ◌<◌, OnOk, length, min, take, refl, sym, subst, arith, length-take}
-use Rattle.hound_reader.specs.Blocks.{over_bytes}
-use Rattle.hound_reader.specs.Reader.{samples_left}
-use Rattle.hound_commands.specs.Failing.{failure_of}
+use Rattle.hound_reader.specs.{over_bytes, samples_left}
+use Rattle.hound_commands.specs.Commands.{failure_of}
 use Rattle.hound_commands.specs.declared.failure.Failure.TheVariants.{InputOrOutput}
 use Rattle.hound_commands.proofs.ShowAnswers.{all_shown, block_fails, block_shown, block_stops, err_is, Shown, none_shown}
 use Rattle.hound_commands.proofs.showing.show_blocks.Goals as goal

@@ -1,6 +1,6 @@
 use Rattle.hound_commands.proofs.Outputs.{part-written}
 use Rattle.hound_commands.proofs.ShowAnswers.{err_is, head_stops, lines_shown, lines_stop, lines_until}
-use Rattle.hound_commands.specs.Failing.{failure_of}
+use Rattle.hound_commands.specs.Commands.{failure_of}
 use Rattle.hound_commands.specs.declared.failure.Failure.TheVariants.{InputOrOutput}
 use Rattle.hound_commands.proofs.showing.show_lines.Goals as goal
 

@@ -1,5 +1,5 @@
 use Rattle.std.proofs.Common.{rules, arith, ◌≡◌, ◌+◌, ◌++◌, ◌∷◌, [], ℕ, List, get_or, take, sym, ◌∙◌, ap, append_assoc}
-use Rattle.hound_medium.specs.Bytes.{placed}
+use Rattle.hound_medium.specs.State.{placed}
 use Rattle.hound_medium.proofs.Overlays.{placed_more}
 use Rattle.hound_medium.proofs.past.push_placed.Goals as goal
 

@@ -1,5 +1,5 @@
 use Rattle.std.proofs.Common.{◌≡◌, ◌+◌, ◌-◌, ◌≤◌, ◌++◌, length, take, vec_len, vec_capacity}
-use Rattle.hound_medium.specs.Bytes.{placed}
+use Rattle.hound_medium.specs.State.{placed}
 use Rattle.hound_medium.proofs.past.push_placed.Given as goal
 
 abbrev pub invariant-loop-i : goal.invariant-loop-i

@@ -1,5 +1,5 @@
 use Rattle.std.proofs.Common.{arith, ℕ, get_or, sym, ◌∙◌, ap}
-use Rattle.hound_medium.specs.Bytes.{put_at}
+use Rattle.hound_medium.specs.State.{put_at}
 use Rattle.hound_medium.proofs.Overlays.{overlay_more}
 use Rattle.hound_medium.proofs.past.replay.Goals as goal
 

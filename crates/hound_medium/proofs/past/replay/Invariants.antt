@@ -1,5 +1,5 @@
 use Rattle.std.proofs.Common.{◌≡◌, take}
-use Rattle.hound_medium.specs.Bytes.{overlay}
+use Rattle.hound_medium.specs.State.{overlay}
 use Rattle.hound_medium.proofs.past.replay.Given as goal
 
 abbrev pub invariant-loop-at : goal.invariant-loop-at

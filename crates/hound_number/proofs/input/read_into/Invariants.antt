@@ -1,6 +1,6 @@
 use Rattle.std.proofs.Common.{◌≤◌, ◌-◌, length, take}
 use Rattle.std.specs.Io.KnownBytes.{Consumes}
-use Rattle.hound_number.specs.Input.{NoneFailed}
+use Rattle.hound_number.specs.Io.{NoneFailed}
 use Rattle.hound_number.proofs.input.read_into.Given as goal
 
 abbrev pub invariant-loop-at : goal.invariant-loop-at

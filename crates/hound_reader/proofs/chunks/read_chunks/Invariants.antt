@@ -1,16 +1,15 @@
 use Rattle.std.proofs.Common.{◌≤◌, ◌-◌}
-use Rattle.hound_number.specs.Input.{Known}
+use Rattle.hound_number.specs.{WhereKnown, NoneFailed}
 use Rattle.hound_reader.specs.Walk.{Walked, IsSoundOption}
-use Rattle.hound_number.specs.Input.{NoneFailed}
 use Rattle.hound_reader.proofs.chunks.read_chunks.Given as goal
-use Rattle.hound_spec.specs.FmtChunk.{greatest_u32}
+use Rattle.hound_spec.specs.{greatest_u32}
 
 abbrev pub invariant-chunks : goal.invariant-chunks
 invariant-chunks g l =
     (l.taken ≤ greatest_u32)
     × NoneFailed (g.R.Input.account l.initial.reader) (g.R.Input.account l.reader)
     × IsSoundOption l.found
-    × Known (g.R.Input.left l.initial.reader) (g.R.Input.left l.reader)
+    × WhereKnown (g.R.Input.left l.initial.reader) (g.R.Input.left l.reader)
     (λ xs ys. Walked xs ys l.found l.taken)
 
 abbrev pub decreases-chunks : goal.decreases-chunks

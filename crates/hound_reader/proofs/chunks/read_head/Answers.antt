@@ -1,7 +1,6 @@
-use Rattle.std.proofs.lemmas.Result.{IfOk-weaker}
+use Rattle.std.proofs.lemmas.Result.{IfOk-weaker, IfErr-weaker}
 use Rattle.hound_number.proofs.KnownSteps.{known_both}
 use Rattle.hound_reader.proofs.WalkLemmas.{head_from}
-use Rattle.std.proofs.lemmas.Result.{IfErr-weaker}
 use Rattle.hound_reader.proofs.TakenLemmas.{head_takes}
 use Rattle.hound_reader.proofs.chunks.read_head.Goals as goal
 

@@ -1,11 +1,9 @@
-use Rattle.std.proofs.Common.{take, subst, arith}
+use Rattle.std.proofs.Common.{take, subst, arith, length}
 use Rattle.std.proofs.lemmas.Result.{IfOk-weaker}
-use Rattle.hound_reader.specs.Walk.{ReadsContent}
+use Rattle.hound_reader.specs.Walk.{ReadsContent, chunk_taken, content_taken}
 use Rattle.hound_number.proofs.KnownSteps.{known_then}
 use Rattle.hound_reader.proofs.WalkLemmas.{chunk_from}
-use Rattle.std.proofs.Common.{length}
-use Rattle.hound_spec.specs.FmtChunk.{fmt_fields}
-use Rattle.hound_reader.specs.Taken.{chunk_taken, content_taken}
+use Rattle.hound_spec.specs.{fmt_fields}
 use Rattle.hound_reader.proofs.TakenLemmas.{chunk_takes, takes_more}
 use Rattle.hound_reader.proofs.chunks.read_next_chunk.Goals as goal
 

@@ -2,7 +2,7 @@ use Rattle.std.proofs.lemmas.Result.{err_from_is_err_and}
 use Rattle.std.proofs.Common.{◌≡◌, [], ◌++◌, length, take, slice_range, true, false, refl, ap, ◌∙◌, arith, append_assoc, length-append, length-take}
 use Rattle.std.specs.Str.{bytes_eq}
 use Rattle.std.proofs.KnownBytes.{Consumes-nil, Consumes-trans}
-use Rattle.hound_spec.specs.Header.{riff_tag, wave_tag}
+use Rattle.hound_spec.specs.{riff_tag, wave_tag}
 use Rattle.hound_number.proofs.KnownSteps.{known_from}
 use Rattle.hound_reader.proofs.FrontLemmas.{all_taken, front_cut}
 use Rattle.hound_reader.proofs.WalkLemmas.{ne_test, no_riff, same_tag, halves}

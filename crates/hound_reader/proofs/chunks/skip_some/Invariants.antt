@@ -1,6 +1,6 @@
 use Rattle.std.proofs.Common.{◌≡◌, ◌+◌, ℕ, List, length}
 use Rattle.std.specs.Io.KnownBytes.{Consumes}
-use Rattle.hound_number.specs.Input.{NoneFailed}
+use Rattle.hound_number.specs.{NoneFailed}
 use Rattle.hound_reader.proofs.chunks.skip_some.Given as goal
 
 abbrev pub invariant-loop-left : goal.invariant-loop-left

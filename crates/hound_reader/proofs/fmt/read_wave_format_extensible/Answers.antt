@@ -2,12 +2,12 @@ use Rattle.std.proofs.Common.{◌+◌, ◌-◌, ◌++◌, length, arith, sym, ap
 use Rattle.std.proofs.lemmas.Result.{err_from_is_err_and}
 use Rattle.std.proofs.KnownBytes.{Consumes-trans}
 use Rattle.hound_reader.specs.Fmt.{wave_format_extensible}
-use Rattle.hound_number.specs.Number.{number}
+use Rattle.hound_number.specs.{number}
 use Rattle.hound_reader.proofs.Gives.{ok_from_taken, err_from_taken}
 use Rattle.hound_reader.proofs.FmtLemmas.{extensible_at}
 use Rattle.hound_reader.proofs.TakenLemmas.{subformat_fails, takes_these}
-use Rattle.hound_reader.specs.Taken.{content_taken}
-use Rattle.hound_spec.specs.FmtChunk.{extensible, extension}
+use Rattle.hound_reader.specs.Walk.{content_taken}
+use Rattle.hound_spec.specs.{extensible, extension}
 use Rattle.hound_reader.proofs.fmt.read_wave_format_extensible.Goals as goal
 
 pub returns-in_err-found-clause-gives : goal.returns-in_err-found-clause-gives

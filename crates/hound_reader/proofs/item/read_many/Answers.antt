@@ -1,5 +1,5 @@
 use Rattle.std.proofs.Common.{take, subst}
-use Rattle.hound_sample.specs.ManyReads.{ReadsEach, items_of}
+use Rattle.hound_sample.specs.{ReadsEach, items_of}
 use Rattle.hound_reader.specs.Reader.{refusal_at, meaning_at}
 use Rattle.hound_reader.proofs.BlockLemmas.{each_by_reason}
 use Rattle.hound_reader.proofs.item.read_many.Goals as goal

@@ -1,7 +1,7 @@
 use Rattle.std.proofs.Common.{◌≡◌, ◌+◌, ◌≤◌, true, ◌∷◌, [], ◌++◌, inl, inr, length, take, drop, refl, sym, ap, subst, ◌∙◌, arith, rules}
 use Rattle.std.proofs.lemmas.List.{append-nil, drop-set-lt, drop_at, length-take-le, take_at, take_more_set}
 use Rattle.std.proofs.lemmas.Slice.{drop-append-drop}
-use Rattle.hound_repair.specs.InMemory.{as_medium}
+use Rattle.hound_repair.specs.Damages.{as_medium}
 use Rattle.hound_repair.specs.Repairing.{Repairs}
 use Rattle.hound_repair.proofs.InPlace.{repairs_in_place}
 use Rattle.hound_repair.proofs.Measuring.{no_other}

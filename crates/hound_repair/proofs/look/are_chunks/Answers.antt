@@ -1,6 +1,6 @@
 use Rattle.std.proofs.Common.{◌≡◌, ◌+◌, ◌-◌, true, false, min, Some, None, length, drop, sym, ap, ◌∙◌, arith, rules, length-drop}
 use Rattle.std.proofs.lemmas.List.{drop-drop}
-use Rattle.hound_repair.specs.Following.{are_chunks, chunk_content, has_known_tag}
+use Rattle.hound_repair.specs.Held.{are_chunks, chunk_content, has_known_tag}
 use Rattle.hound_repair.proofs.Chunking.{chunk_then, content_is, front_read, known_chunk, no_chunk, none_left, tag_of_front}
 use Rattle.hound_repair.proofs.look.are_chunks.Goals as goal
 

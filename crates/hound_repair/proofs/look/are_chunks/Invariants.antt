@@ -1,7 +1,7 @@
 use Rattle.std.proofs.Common.{◌≡◌, ◌+◌, ◌-◌, ◌≤◌, ◌^◌, drop}
-use Rattle.hound_medium.specs.State.{WhereTells}
+use Rattle.hound_medium.specs.{WhereTells}
 use Rattle.hound_repair.specs.Damages.{IsSame}
-use Rattle.hound_repair.specs.Following.{are_chunks}
+use Rattle.hound_repair.specs.Held.{are_chunks}
 use Rattle.hound_repair.proofs.look.are_chunks.Given as goal
 
 abbrev pub invariant-loop-place : goal.invariant-loop-place

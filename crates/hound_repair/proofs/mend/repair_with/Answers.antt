@@ -1,5 +1,5 @@
 use Rattle.std.proofs.Common.{inr, ap, subst, sym, ◌∙◌, rules}
-use Rattle.hound_medium.specs.State.{one_more}
+use Rattle.hound_medium.specs.{one_more}
 use Rattle.hound_repair.specs.Repairing.{Repairs}
 use Rattle.hound_repair.proofs.Halves.{mends_at_each}
 use Rattle.hound_repair.proofs.Mending.{half_after, put_ok, repairs_kept}

@@ -1,5 +1,5 @@
 use Rattle.std.proofs.Common.{IsOk, take}
-use Rattle.hound_sample.specs.Slices.{all_containers}
+use Rattle.hound_sample.specs.Container.{all_containers}
 use Rattle.hound_sample.proofs.slices.check_containers.Given as goal
 
 abbrev pub invariant-loop-sample : goal.invariant-loop-sample

@@ -2,7 +2,7 @@ use Rattle.std.proofs.Common.{◌≡◌, ◌*◌, ◌≤◌, ◌++◌, length, t
 use Rattle.std.proofs.lemmas.Bool.{false≢true}
 use Rattle.std.proofs.lemmas.List.{take_all}
 use Rattle.std.proofs.Math.Nat.{mul-le-mul_left}
-use Rattle.hound_sample.specs.Slices.{joined_containers}
+use Rattle.hound_sample.specs.Container.{joined_containers}
 use Rattle.hound_sample.proofs.Joined.{each_has, encoded_bytes, encoded_ok, joined_more}
 use Rattle.hound_sample.proofs.slices.store_each.Goals as goal
 use Rattle.hound_sample.proofs.slices.store_each.Goals.{in-Ok, in-Err}

@@ -1,5 +1,5 @@
 use Rattle.std.proofs.Common.{◌≡◌, ◌*◌, length, take}
-use Rattle.hound_sample.specs.Slices.{joined_containers}
+use Rattle.hound_sample.specs.Container.{joined_containers}
 use Rattle.hound_sample.proofs.slices.store_each.Given as goal
 
 abbrev pub invariant-loop-sample : goal.invariant-loop-sample

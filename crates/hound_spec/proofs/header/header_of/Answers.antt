@@ -1,5 +1,5 @@
 use Rattle.std.proofs.Common.{◌++◌, ap, ◌∙◌}
-use Rattle.hound_number.specs.Number.{bytes_of}
+use Rattle.hound_number.specs.{bytes_of}
 use Rattle.hound_spec.specs.Header.{header, riff_tag, wave_tag, fmt_tag, data_tag, sized_fmt}
 use Rattle.hound_spec.proofs.HeaderLemmas.{and_then}
 use Rattle.hound_spec.proofs.header.header_of.Goals as goal

@@ -1,5 +1,5 @@
 use Rattle.std.proofs.Common.{◌≡◌, ◌++◌, ap, sym, ◌∙◌, length, arith, append_assoc, length-append, true, false}
-use Rattle.hound_number.specs.Number.{bytes_of}
+use Rattle.hound_number.specs.{bytes_of}
 use Rattle.hound_spec.specs.Header.{is_short, short_fmt, long_fmt}
 use Rattle.hound_spec.proofs.HeaderLemmas.{length-long_fmt, sized_fmt-short, sized_fmt-long}
 use Rattle.hound_spec.proofs.header.write_fmt.Goals as goal

@@ -1,5 +1,5 @@
 use Rattle.std.proofs.Common.{◌≡◌, ◌++◌, ◌*◌, append_assoc}
-use Rattle.hound_number.specs.Number.{bytes_of}
+use Rattle.hound_number.specs.{bytes_of}
 use Rattle.hound_spec.proofs.header.write_waveformat.Goals as goal
 
 pub returns : goal.returns

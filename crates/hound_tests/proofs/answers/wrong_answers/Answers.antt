@@ -1,13 +1,7 @@
 use Rattle.std.proofs.Common.{ℕ, ◌+◌, pos, Bool, true, false, nat_le, List, [], ◌∷◌, length, Result, Ok, Err, sym, subst, arith, inl, inr}
 use Rattle.std.proofs.lemmas.Bool.{false≢true}
 use Rattle.std.specs.List.{concat}
-use Rattle.hound.specs.Answers.{AcceptAnswer, FitAnswer}
-use Rattle.hound.specs.Container.{Refusal, int_container, too_wide, unsupported}
-use Rattle.hound.specs.FmtChunk.{greatest_u32}
-use Rattle.hound.specs.Header.{riff_size}
-use Rattle.hound.specs.FirstError.{AnswersSession, AnswersStep, writer_after}
-use Rattle.hound.specs.Steps.{batch_containers, containers_of}
-use Rattle.hound.specs.Writer.{WriterState, data_length}
+use Rattle.hound.specs.{AcceptAnswer, FitAnswer, Refusal, int_container, too_wide, unsupported, greatest_u32, riff_size, AnswersSession, AnswersStep, writer_after, batch_containers, containers_of, WriterState, data_length}
 use Rattle.hound.specs.declared.Error.TheVariants.{OutOfMemory, TooLong, UnfinishedSample}
 use Rattle.hound.specs.declared.Step.TheVariants.{Whole, Batch}
 use Rattle.hound_tests.specs.Rows.{mono, stereo}

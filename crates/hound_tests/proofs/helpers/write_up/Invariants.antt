@@ -1,5 +1,5 @@
 use Rattle.std.proofs.Common.{◌≡◌}
-use Rattle.hound.specs.Batch.{batch_writer, batch_lender}
+use Rattle.hound.specs.{batch_writer, batch_lender}
 use Rattle.hound_tests.proofs.helpers.write_up.Given as goal
 
 abbrev pub invariant-loop : goal.invariant-loop

@@ -1,6 +1,6 @@
 use Rattle.std.proofs.Common.{◌-◌, ◌*◌, ◌≡◌, ◌≤◌, IsTrue, length}
-use Rattle.hound_medium.specs.State.{PutsFirst}
-use Rattle.hound_sample.specs.Slices.{joined_containers}
+use Rattle.hound_medium.specs.{PutsFirst}
+use Rattle.hound_sample.specs.{joined_containers}
 use Rattle.hound_writer.proofs.many.put_samples.Given as goal
 
 abbrev pub invariant-loop-done : goal.invariant-loop-done

@@ -1,5 +1,5 @@
 use Rattle.std.proofs.Common.{◌<◌, ◌^◌, rules, ◌∙◌, ap, refl}
-use Rattle.hound_medium.specs.State.{one_more}
+use Rattle.hound_medium.specs.{one_more}
 use Rattle.hound_medium.proofs.Outcomes.{on_ok, on_ok_self}
 use Rattle.hound_medium.proofs.Spans.{span_end_zero, flushed_since}
 use Rattle.hound_writer.specs.Parts.{IsPatched}

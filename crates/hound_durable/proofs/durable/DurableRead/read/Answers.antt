@@ -1,4 +1,4 @@
-use Rattle.hound_durable.specs.Own.{own}
+use Rattle.hound_durable.specs.Losses.{own}
 use Rattle.hound_durable.proofs.Reading.{get_consumes_left}
 use Rattle.hound_durable.proofs.durable.DurableRead.read.Goals as goal
 

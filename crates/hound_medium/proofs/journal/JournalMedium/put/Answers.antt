@@ -1,6 +1,6 @@
 use Rattle.std.proofs.Common.{rules, ◌∙◌, take, ap, subst, sym}
-use Rattle.hound_number.specs.Number.{AreBytes}
-use Rattle.hound_medium.specs.Bytes.{overlay, placed}
+use Rattle.hound_number.specs.{AreBytes}
+use Rattle.hound_medium.specs.State.{overlay, placed}
 use Rattle.hound_medium.proofs.Overlays.{small_overlay, small_take, replays_more}
 use Rattle.hound_medium.proofs.journal.JournalMedium.put.Goals as goal
 

@@ -1,5 +1,5 @@
 use Rattle.std.proofs.Common.{rules, subst, sym}
-use Rattle.hound_number.specs.Number.{AreBytes}
+use Rattle.hound_number.specs.{AreBytes}
 use Rattle.hound_medium.proofs.Overlays.{small_overlay}
 use Rattle.hound_medium.proofs.tape.TapeMedium.put.Goals as goal
 

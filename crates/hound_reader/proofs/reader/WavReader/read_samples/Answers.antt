@@ -1,14 +1,10 @@
 use Rattle.std.proofs.Common.{◌≡◌, ◌<◌, ◌+◌, ◌*◌, ◌-◌, ◌^◌, ◌++◌, [], Option, ◌∷◌, ℕ, List, map, take, drop, length, sym, ap, ◌∙◌, subst, arith, Ok, Err, length-take-le}
 use Rattle.std.specs.Prelude.{OnOk, OnErr}
-use Rattle.hound_sample.specs.ManyReads.{ReadsEach, items_of}
-use Rattle.hound_reader.specs.Blocks.{GivesItemsOfBytes, ReadsBlock, over_bytes}
-use Rattle.hound_sample.specs.ItemReads.{answer_of, error_of_item}
-use Rattle.hound_reader.specs.Item.{taken_without}
-use Rattle.hound_reader.specs.Reader.{ReaderState, refusal_at, meaning_at, samples_left}
-use Rattle.hound_spec.specs.FmtChunk.{greatest_u32}
+use Rattle.hound_sample.specs.{ReadsEach, items_of, answer_of, error_of_item}
+use Rattle.hound_reader.specs.Reader.{GivesItemsOfBytes, ReadsBlock, over_bytes, taken_without, ReaderState, refusal_at, meaning_at, samples_left, GivesItems}
+use Rattle.hound_spec.specs.{greatest_u32}
 use Rattle.std.proofs.Math.Nat.{le-mul_of_pos_right}
 use Rattle.std.proofs.lemmas.Nat.{mul-le}
-use Rattle.hound_reader.specs.Items.{GivesItems}
 use Rattle.hound_reader.specs.declared.item.KeepingReader.{KeepingReader}
 use Rattle.hound_reader.proofs.BlockLemmas.{block_of_error, block_of_samples, front_filled, later, taken_few}
 use Rattle.hound_reader.proofs.reader.WavReader.read_samples.Goals as goal

@@ -1,7 +1,7 @@
 use Rattle.std.proofs.Common.{subst, arith, Ok}
 use Rattle.std.proofs.lemmas.Int.{ints}
 use Rattle.std.specs.declared.io.Error.{Error}
-use Rattle.hound_medium.specs.State.{Shifts}
+use Rattle.hound_medium.specs.{Shifts}
 use Rattle.hound_reader.specs.Seeking.{way_to}
 use Rattle.hound_reader.proofs.SeekLemmas.{frame_small, counted_small, shifts_so}
 use Rattle.hound_reader.proofs.reader.WavReader.seek.Goals as goal

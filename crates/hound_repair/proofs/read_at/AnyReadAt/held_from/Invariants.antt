@@ -1,5 +1,5 @@
 use Rattle.std.proofs.Common.{◌≡◌, ◌+◌, ◌-◌, ◌≤◌, ◌^◌, ◌⊎◌, length}
-use Rattle.hound_medium.specs.State.{WhereTells}
+use Rattle.hound_medium.specs.{WhereTells}
 use Rattle.hound_repair.specs.Damages.{IsSame}
 use Rattle.hound_repair.specs.Held.{held}
 use Rattle.hound_repair.proofs.read_at.AnyReadAt.held_from.Given as goal

@@ -1,5 +1,5 @@
 use Rattle.std.proofs.Common.{◌≡◌, ◌+◌, ◌-◌, ◌≤◌, length, take, drop}
-use Rattle.hound_medium.specs.State.{WhereTells}
+use Rattle.hound_medium.specs.{WhereTells}
 use Rattle.hound_repair.specs.Damages.{IsSame}
 use Rattle.hound_repair.proofs.read_at.AnyReadAt.read_at.Given as goal
 

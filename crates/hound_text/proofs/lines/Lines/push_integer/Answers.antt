@@ -1,6 +1,6 @@
 use Rattle.std.proofs.Common.{ap, arith, decimal, length, length-append, of_z, to_z, w32}
 use Rattle.std.proofs.lemmas.Fmt.{length-decimal-le}
-use Rattle.hound_text.specs.Writing.{sign}
+use Rattle.hound_text.specs.Text.{sign}
 use Rattle.hound_text.proofs.Decimals.{length-sign}
 use Rattle.hound_text.proofs.lines.Lines.push_integer.Goals as goal
 

@@ -1,6 +1,6 @@
 use Rattle.std.proofs.Common.{◌≡◌, suc, ◌-◌, ◌/◌, ◌%◌, ◌^◌, ◌++◌, ◌∷◌, [], false, length, length-append, ap, sym, ◌∙◌, append_assoc, append-nil, arith}
 use Rattle.std.specs.Fmt.{digit_glyph}
-use Rattle.hound_text.specs.Writing.{padded_digits}
+use Rattle.hound_text.specs.Text.{padded_digits}
 use Rattle.hound_text.proofs.Decimals.{sixteen-pow}
 use Rattle.hound_text.proofs.lines.Lines.push_pattern.Goals as goal
 

@@ -1,5 +1,5 @@
 use Rattle.std.proofs.Common.{◌≡◌, ◌+◌, ◌≤◌, ◌++◌, length}
-use Rattle.hound_text.specs.Writing.{padded_digits}
+use Rattle.hound_text.specs.Text.{padded_digits}
 use Rattle.hound_text.proofs.lines.Lines.push_pattern.Given as goal
 
 -- the digits so far, and those that are left

@@ -1,6 +1,6 @@
 use Rattle.std.proofs.Common.{Ok, length, refl, rules, ◌/◌}
-use Rattle.hound_sample.specs.Container.{containers}
-use Rattle.hound_writer.specs.Answers.{mark_of}
+use Rattle.hound_sample.specs.{containers}
+use Rattle.hound_writer.specs.Accepting.{mark_of}
 use Rattle.hound_writer.specs.Batch.{batch_bytes, batch_writer}
 use Rattle.hound_writer.specs.Calls.{made, marked}
 use Rattle.hound_writer.proofs.Recording.{recorded_write}

@@ -1,5 +1,5 @@
 use Rattle.std.proofs.Common.{◌*◌, ◌∙◌, FitsSigned, w16, ap, arith, rules, subst, sym, to_z-of_z}
-use Rattle.hound_writer.specs.Many.{AreShort}
+use Rattle.hound_writer.specs.Accepting.{AreShort}
 use Rattle.hound_writer.proofs.Batches.{length-short_bytes, short_more}
 use Rattle.hound_writer.proofs.batch.SampleWriter16.write_sample.Goals as goal
 

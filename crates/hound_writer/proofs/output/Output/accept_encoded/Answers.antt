@@ -1,6 +1,6 @@
 use Rattle.std.proofs.Common.{Ok, refl}
-use Rattle.hound_writer.specs.Block.{or_fault}
-use Rattle.hound_writer.specs.Many.{sample_bytes}
+use Rattle.hound_writer.specs.Parts.{or_fault}
+use Rattle.hound_writer.specs.Accepting.{sample_bytes}
 use Rattle.hound_writer.proofs.AcceptingMany.{fit, many_later}
 use Rattle.hound_writer.proofs.Later.{accepts_cut, kept_fails}
 use Rattle.hound_writer.proofs.output.Output.accept_encoded.Goals as goal

@@ -1,5 +1,5 @@
 use Rattle.std.proofs.Common.{refl, sym, rules}
-use Rattle.hound_writer.specs.Fields.{bytes_kept, of_fields}
+use Rattle.hound_writer.specs.Parts.{bytes_kept, of_fields}
 use Rattle.hound_writer.proofs.Accepting.{accepts_seen}
 use Rattle.hound_writer.proofs.Blocks.{accepts_waiting, consistent_longer}
 use Rattle.hound_writer.proofs.Keeping.{consistent_seen}

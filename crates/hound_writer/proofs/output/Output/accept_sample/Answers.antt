@@ -1,8 +1,6 @@
 use Rattle.std.proofs.Common.{Ok, Err, false, arith, sym, subst, ap, length, take, ◌≡◌, ◌∙◌}
-use Rattle.hound_writer.specs.Accepting.{Accepts}
-use Rattle.hound_writer.specs.Answers.{one}
-use Rattle.hound_writer.specs.Block.{answer_of}
-use Rattle.hound_writer.specs.Fields.{bytes_kept, of_fields}
+use Rattle.hound_writer.specs.Accepting.{Accepts, one}
+use Rattle.hound_writer.specs.Parts.{result_of, bytes_kept, of_fields}
 use Rattle.hound_sample.proofs.Joined.{cut}
 use Rattle.hound_writer.proofs.Accepting.{accepts_seen, encoded}
 use Rattle.hound_writer.proofs.Blocks.{accepts_waiting}
@@ -26,12 +24,12 @@ returns-after-refusal-clause-accepts g c =
     elim c.match-refusal.branch [
       | in-TooWide b ↦
           subst (λ o. Accepts W.tells W.keeps W.state false asked
-          (answer_of o c.args.fault.now) w w) (sym b.result-is)
+          (result_of o c.args.fault.now) w w) (sym b.result-is)
           (subst (λ e. Accepts W.tells W.keeps W.state false asked
           (Err e) w w) b.in-TooWide.is refused)
       | in_default b ↦
           subst (λ o. Accepts W.tells W.keeps W.state false asked
-          (answer_of o c.args.fault.now) w w) (sym b.result-is)
+          (result_of o c.args.fault.now) w w) (sym b.result-is)
           (subst (λ e. Accepts W.tells W.keeps W.state false asked (Err e) w w)
           (else_unsupported _ c.in-Err.refusal c.in-Err.ensures b.in_default.not-TooWide)
           refused)

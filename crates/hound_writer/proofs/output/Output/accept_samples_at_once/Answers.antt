@@ -1,8 +1,7 @@
 use Rattle.std.proofs.Common.{◌≡◌, ◌+◌, ◌*◌, ◌∙◌, [], Ok, Err, false, arith, length, rules, subst, sym}
-use Rattle.hound_spec.specs.declared.error.Error.TheVariants.{IoError}
-use Rattle.hound_writer.specs.Block.{IsLimit}
-use Rattle.hound_writer.specs.Fields.{bytes_kept, of_fields}
-use Rattle.hound_writer.specs.Many.{sample_bytes}
+use Rattle.hound_spec.specs.{IoError}
+use Rattle.hound_writer.specs.Parts.{IsLimit, bytes_kept, of_fields}
+use Rattle.hound_writer.specs.Accepting.{sample_bytes}
 use Rattle.hound_writer.proofs.Accepting.{accepts_all, accepts_none}
 use Rattle.hound_writer.proofs.AcceptingMany.{fit, many_seen}
 use Rattle.hound_writer.proofs.Blocks.{cut_at_once, kept_at_once}

@@ -1,7 +1,6 @@
 use Rattle.std.proofs.Common.{◌+◌, ◌*◌, ◌≤◌, Ok, arith, length, refl, subst, sym}
-use Rattle.hound_writer.specs.Block.{block_length}
-use Rattle.hound_writer.specs.Fields.{bytes_kept, of_fields}
-use Rattle.hound_writer.specs.Many.{sample_bytes}
+use Rattle.hound_writer.specs.Parts.{block_length, bytes_kept, of_fields}
+use Rattle.hound_writer.specs.Accepting.{sample_bytes}
 use Rattle.hound_writer.proofs.AcceptingMany.{fit, many_seen}
 use Rattle.hound_writer.proofs.Blocks.{accepts_waiting, consistent_longer}
 use Rattle.hound_writer.proofs.Keeping.{consistent_seen}

@@ -1,5 +1,5 @@
 use Rattle.std.proofs.Common.{◌≡◌, ◌+◌, ◌%◌, [], ap, sym, ◌∙◌, refl, arith}
-use Rattle.hound_writer.specs.Fields.{of_fields}
+use Rattle.hound_writer.specs.Parts.{of_fields}
 use Rattle.hound_writer.proofs.Containers.{none_whole}
 use Rattle.hound_writer.proofs.Keeping.{consistent_seen}
 use Rattle.hound_writer.proofs.output.Output.at_end.Goals as goal

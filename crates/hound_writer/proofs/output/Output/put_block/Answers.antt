@@ -1,6 +1,5 @@
 use Rattle.std.proofs.Common.{◌+◌, true, false, subst, refl, sym, rules}
-use Rattle.hound_writer.specs.Block.{GoesOut, IsLimit}
-use Rattle.hound_writer.specs.Fields.{bytes_kept, of_fields}
+use Rattle.hound_writer.specs.Parts.{GoesOut, IsLimit, bytes_kept, of_fields}
 use Rattle.hound_writer.specs.Writer.{data_end}
 use Rattle.hound_writer.proofs.Blocks.{consistent_cut, consistent_out, goes_out, goes_out_nothing, goes_out_seen, puts_same}
 use Rattle.hound_writer.proofs.Keeping.{consistent_seen}

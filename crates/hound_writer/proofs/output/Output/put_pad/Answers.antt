@@ -1,5 +1,5 @@
 use Rattle.std.proofs.Common.{true, rules, subst}
-use Rattle.hound_writer.specs.Block.{GoesOut}
+use Rattle.hound_writer.specs.Parts.{GoesOut}
 use Rattle.hound_writer.specs.Writer.{padded_end}
 use Rattle.hound_writer.proofs.Blocks.{cut_at_once, goes_out_nothing}
 use Rattle.hound_writer.proofs.Padding.{goes_padded, padded_odd}

@@ -1,7 +1,6 @@
 use Rattle.std.proofs.Common.{◌/◌, ◌∙◌, Ok, false, ap, length, subst, sym, take}
-use Rattle.hound_sample.specs.Container.{containers, int_container}
-use Rattle.hound_writer.specs.Accepting.{Accepts}
-use Rattle.hound_writer.specs.Many.{containers_in, short_bytes}
+use Rattle.hound_sample.specs.{containers, int_container}
+use Rattle.hound_writer.specs.Accepting.{Accepts, containers_in, short_bytes}
 use Rattle.hound_writer.specs.Writer.{WriterState}
 use Rattle.hound_writer.proofs.Batches.{batch_accepted}
 use Rattle.hound_writer.proofs.write.WavWriter.accept_batch.Goals as goal

@@ -1,5 +1,5 @@
 use Rattle.std.proofs.Common.{refl, subst, sym}
-use Rattle.hound_writer.specs.Answers.{mark_of}
+use Rattle.hound_writer.specs.Accepting.{mark_of}
 use Rattle.hound_writer.specs.Calls.{made, marked, publish}
 use Rattle.hound_writer.specs.Publishing.{Finishes}
 use Rattle.hound_writer.proofs.Recording.{left_by}

@@ -1,5 +1,5 @@
 use Rattle.std.proofs.Common.{subst, MatchResult}
-use Rattle.hound_medium.specs.State.{WhereTells}
+use Rattle.hound_medium.specs.{WhereTells}
 use Rattle.hound_writer.specs.Appending.{Appends, IsNotAppended}
 use Rattle.hound_writer.proofs.write.WavWriter.new_append.Goals as goal
 

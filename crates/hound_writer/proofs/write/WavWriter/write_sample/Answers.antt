@@ -1,5 +1,5 @@
 use Rattle.std.proofs.Common.{Ok, Err, refl, rules}
-use Rattle.hound_writer.specs.Answers.{mark_of, one}
+use Rattle.hound_writer.specs.Accepting.{mark_of, one}
 use Rattle.hound_writer.specs.Calls.{made, marked}
 use Rattle.hound_writer.proofs.Recording.{recorded_write}
 use Rattle.hound_writer.proofs.write.WavWriter.write_sample.Goals as goal

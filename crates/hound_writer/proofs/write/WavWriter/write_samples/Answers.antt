@@ -1,6 +1,5 @@
 use Rattle.std.proofs.Common.{Ok, Err, refl, rules}
-use Rattle.hound_writer.specs.Answers.{mark_of}
-use Rattle.hound_writer.specs.Many.{containers_in}
+use Rattle.hound_writer.specs.Accepting.{mark_of, containers_in}
 use Rattle.hound_writer.specs.Calls.{made, marked}
 use Rattle.hound_writer.proofs.Recording.{recorded_write}
 use Rattle.hound_writer.proofs.write.WavWriter.write_samples.Goals as goal

@@ -1,16 +1,24 @@
--- What a read leaves of an input: its bytes, its count of failed reads, and what no read changes,
--- if these are known.
-use Rattle.std.specs.Prelude.{◌≡◌, ℕ, ◌+◌, ◌-◌, ◌^◌, min, ⊤, List}
-use Rattle.std.specs.Prelude.{Option, None, Some, Result, Ok, Err}
+-- What the loops over read and write leave: the bytes, the count of failed reads and what no read
+-- changes, if these are known, and the error at an early end.
+use Rattle.std.specs.Prelude.{◌≡◌, ℕ, ◌+◌, ◌-◌, ◌^◌, min, ⊤, List, Option, None, Some, Result, Ok, Err, ◌<◌, length, take}
+use Rattle.std.specs.IoError.{error_kind}
+use Rattle.std.specs.declared.io.Error.{Error}
+use Rattle.std.specs.declared.io.ErrorKind.TheVariants.{Other}
 use Rattle.hound_number.specs.declared.input.ReadError.{ReadError}
 use Rattle.hound_number.specs.declared.input.ReadError.TheVariants.{Failed, Ended}
+use Rattle.std.specs.Io.KnownBytes.{Appends}
+
+-- a read's own error, or one of kind `Other` for an early end
+abbrev pub ReportsEnding : ReadError → Error → Type 0
+ReportsEnding (Failed e) told = told ≡ e
+ReportsEnding Ended told = error_kind told ≡ Other
 
 -- P holds for the bytes that were left and those that are left now; known bytes stay known
-abbrev pub Known : Option (List ℕ) → Option (List ℕ)
+abbrev pub WhereKnown : Option (List ℕ) → Option (List ℕ)
     → (List ℕ → List ℕ → Type 0) → Type 0
-Known None new P = ⊤
-Known (Some xs) None P = ⊥
-Known (Some xs) (Some ys) P = P xs ys
+WhereKnown None new P = ⊤
+WhereKnown (Some xs) None P = ⊥
+WhereKnown (Some xs) (Some ys) P = P xs ys
 
 -- What contracts see of an input besides the bytes left: how many reads failed, and what no read
 -- changes.
@@ -51,3 +59,9 @@ CountsReads old new (Err Ended) = NoneFailed old new
 abbrev pub IfEnded : ReadError → Type 0 → Type 0
 IfEnded (Failed e) P = ⊤
 IfEnded Ended P = P
+
+-- the bytes were written in order: all of them at an Ok, a shorter beginning of them at an Err
+abbrev pub Writes : {T E : Type 0} → List ℕ → Result T E → Option (List ℕ) → Option (List ℕ)
+    → Type 0
+Writes bytes (Ok x) old new = Appends old new bytes
+Writes bytes (Err e) old new = (n : ℕ) × (n < length bytes) × Appends old new (take n bytes)
