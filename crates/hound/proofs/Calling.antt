@@ -3,7 +3,8 @@ use Rattle.std.proofs.Common.{◌≡◌, ℕ, ◌+◌, ◌%◌, ◌≤◌, ◌�
 use Rattle.std.proofs.lemmas.Bool.{cases_lt}
 use Rattle.std.proofs.lemmas.List.{append-nil}
 use Rattle.std.specs.List.{concat}
-use Rattle.hound_spec.specs.{Error, data_start}
+use Rattle.hound_spec.specs.declared.error.Error.{Error}
+use Rattle.hound_spec.specs.{data_start}
 use Rattle.hound_medium.specs.{moment, overlay, MediumState, Span}
 use Rattle.hound_medium.proofs.Spans.{moment_last}
 use Rattle.hound_writer.specs.{UnlessFailed, faults_told, mark_of, IsStored, KeepsStored, Asked, Call, Does, Lead, publish, put, with_memory, Counts, ChangesSizesOnly, WriterState, HasHeader, IsBegun, IsCounted, IsWhole, accepted_samples, data_length, padded_end}

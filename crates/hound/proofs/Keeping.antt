@@ -5,7 +5,8 @@ use Rattle.std.proofs.lemmas.Nat.{mul-le}
 use Rattle.std.proofs.Math.Nat.{div-mul-le_self}
 use Rattle.std.specs.List.{concat, AllByRecursion}
 use Rattle.std.specs.Io.{StartsWith}
-use Rattle.hound_spec.specs.{WavSpecEx, canonical, data_start}
+use Rattle.hound_spec.specs.declared.spec.WavSpecEx.{WavSpecEx}
+use Rattle.hound_spec.specs.{canonical, data_start}
 use Rattle.hound_spec.proofs.HeaderLemmas.{length-canonical}
 use Rattle.hound_medium.specs.{moment, overlay, MediumState, WhereKeeps, WhereTells}
 use Rattle.hound_medium.proofs.Spans.{moment_last}

@@ -2,7 +2,7 @@
 use Rattle.std.proofs.Common.{◌≡◌, Bool, List, [], ◌∷◌, ◌++◌, map, refl, ap, ◌∙◌}
 use Rattle.std.specs.List.{flat_map}
 use Rattle.hound_writer.specs.{AreKnown, Asked, Call, IsKnown, Known, made, marked, asked_by_all}
-use Rattle.hound_spec.specs.{WavSpecEx}
+use Rattle.hound_spec.specs.declared.spec.WavSpecEx.{WavSpecEx}
 use Rattle.hound.specs.Headline.{accepted_by_all, accepted_of}
 use Rattle.hound.specs.Run.{asked_by}
 use Rattle.hound.specs.declared.session.Step.{Step}

@@ -4,7 +4,7 @@ use Rattle.std.proofs.lemmas.Bool.{cases_lt}
 use Rattle.std.proofs.lemmas.List.{length-take-le, take-take, get_or-take, get_or-drop, ext_get_or}
 use Rattle.std.proofs.lemmas.Slice.{between_is}
 use Rattle.hound_number.specs.{number}
-use Rattle.hound_spec.specs.{WavSpecEx}
+use Rattle.hound_spec.specs.declared.spec.WavSpecEx.{WavSpecEx}
 use Rattle.hound_medium.specs.{moment, put_at, overlay}
 use Rattle.hound_medium.proofs.Overlays.{front_part, length-put_at, overlay-append, overlay_more, take_overlay_before}
 use Rattle.hound_medium.proofs.Inside.{drop_behind}

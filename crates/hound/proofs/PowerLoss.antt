@@ -5,7 +5,7 @@ use Rattle.std.proofs.lemmas.Grind.{flat_map-append}
 use Rattle.std.proofs.lemmas.List.{length-take-le, take-take, take-append-le}
 use Rattle.std.proofs.lemmas.Nat.{div-add-mod', div_below, div-mul-add, mod-mul-add, mod_below, mul-le}
 use Rattle.std.specs.List.{concat, AllByRecursion}
-use Rattle.hound_spec.specs.{WavSpecEx}
+use Rattle.hound_spec.specs.declared.spec.WavSpecEx.{WavSpecEx}
 use Rattle.hound_sample.specs.{containers}
 use Rattle.hound_medium.specs.{moment, MediumState}
 use Rattle.hound_reader.specs.{Head}

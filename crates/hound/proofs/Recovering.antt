@@ -4,13 +4,15 @@ use Rattle.std.specs.List.{concat}
 use Rattle.std.proofs.lemmas.Bool.{cases_lt}
 use Rattle.std.proofs.lemmas.List.{take_all}
 use Rattle.std.proofs.lemmas.Nat.{mul-le}
-use Rattle.hound_spec.specs.{WavSpecEx}
+use Rattle.hound_spec.specs.declared.spec.WavSpecEx.{WavSpecEx}
 use Rattle.hound_medium.specs.{moment, MediumState}
 use Rattle.hound_reader.specs.{Head, IsSoundSpec}
 use Rattle.hound_reader.proofs.WrittenLemmas.{length-concat}
 use Rattle.hound_repair.proofs.Joining.{AreWide, wide_front}
 use Rattle.hound_repair.proofs.Keeping.{keeps_stored}
-use Rattle.hound_repair.specs.{held, IsNoPad, ReadsFrames, Repairs, Repair, HasChunksAfterData}
+use Rattle.hound_repair.specs.{held, IsNoPad, ReadsFrames, Repairs}
+use Rattle.hound_repair.specs.declared.sizes.Repair.{Repair}
+use Rattle.hound_repair.specs.declared.sizes.RepairState.TheVariants.{HasChunksAfterData}
 use Rattle.hound_writer.specs.{Call, field, IsStored}
 use Rattle.hound.specs.Headline.{HasPublished, IsLeftAfter, Promises, accepted_by_all, begins_at}
 use Rattle.hound.proofs.Losing.{stored_survives}

@@ -1,7 +1,7 @@
 -- One step more, and one session more.
 use Rattle.std.proofs.Common.{◌≡◌, ℕ, ℤ, ◌+◌, ◌<◌, List, [], ◌∷◌, ◌++◌, length, get_or, set, take, map, Bool, Result, sym, ◌∙◌, ap, subst, ◌≤◌, Bor, drop, Ok, Err, refl, inl, inr}
 use Rattle.std.proofs.lemmas.List.{map-append, take_more, take_more_set, drop_all, drop_more}
-use Rattle.hound_spec.specs.{Error}
+use Rattle.hound_spec.specs.declared.error.Error.{Error}
 use Rattle.hound_medium.specs.{MediumState}
 use Rattle.hound_writer.specs.{mark_of, Call, Lead, asked_by_all, WriterState, Finishes}
 use Rattle.hound_writer.proofs.Recording.{asked_more, call_at, lead_more, lead_spec}

@@ -2,7 +2,9 @@
 use Rattle.std.proofs.Common.{◌≡◌, ℕ, ◌+◌, ◌<◌, ◌≤◌, max, Bool, List, [], ◌∷◌, ◌++◌, length, take, map, Result, Ok, Err, OnOk, IsTrue, inl, inr, refl, sym, ◌∙◌, ap, subst, arith, length-append}
 use Rattle.std.proofs.lemmas.List.{take_all, length-take-le}
 use Rattle.std.specs.Io.{StartsWith}
-use Rattle.hound_spec.specs.{Error, WavSpecEx, header, data_start, canonical}
+use Rattle.hound_spec.specs.declared.error.Error.{Error}
+use Rattle.hound_spec.specs.declared.spec.WavSpecEx.{WavSpecEx}
+use Rattle.hound_spec.specs.{header, data_start, canonical}
 use Rattle.hound_spec.proofs.HeaderLemmas.{data_start_least, length-canonical, length-header}
 use Rattle.hound_medium.specs.{MediumState, WhereKeeps, placed, overlay}
 use Rattle.hound_medium.proofs.Overlays.{length-placed}

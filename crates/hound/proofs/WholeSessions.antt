@@ -5,7 +5,10 @@ use Rattle.std.proofs.lemmas.Grind.{flat_map-append}
 use Rattle.std.proofs.lemmas.List.{append-nil, length-take-le, take_all}
 use Rattle.std.specs.Io.{StartsWith}
 use Rattle.hound_number.specs.{AreBytes}
-use Rattle.hound_spec.specs.{Error, WavSpecEx, data_start, header, canonical, riff_size, IsWritable, IoError, Unsupported, greatest_u32}
+use Rattle.hound_spec.specs.declared.error.Error.{Error}
+use Rattle.hound_spec.specs.declared.spec.WavSpecEx.{WavSpecEx}
+use Rattle.hound_spec.specs.{data_start, header, canonical, riff_size, IsWritable, greatest_u32}
+use Rattle.hound_spec.specs.declared.error.Error.TheVariants.{IoError, Unsupported}
 use Rattle.hound_spec.proofs.HeaderLemmas.{length-canonical, length-header, data_start_least}
 use Rattle.hound_sample.specs.{Refusal, containers}
 use Rattle.hound_medium.specs.{MediumState, one_more}

@@ -2,7 +2,9 @@
 use Rattle.std.proofs.Common.{◌≡◌, ◌⊎◌, ℕ, zero, suc, ◌-◌, ◌/◌, ◌<◌, ◌≤◌, true, false, Bool, List, [], ◌∷◌, ◌++◌, length, take, drop, map, replicate, slice_index_or, Result, IsTrue, inl, inr, refl, sym, ◌∙◌, ap, subst, arith, append_assoc, length-append}
 use Rattle.std.proofs.lemmas.Bool.{cond-true, false≢true}
 use Rattle.std.proofs.lemmas.List.{length-take-le}
-use Rattle.hound_spec.specs.{Error, WavSpecEx, header, data_start}
+use Rattle.hound_spec.specs.declared.error.Error.{Error}
+use Rattle.hound_spec.specs.declared.spec.WavSpecEx.{WavSpecEx}
+use Rattle.hound_spec.specs.{header, data_start}
 use Rattle.hound_spec.proofs.HeaderLemmas.{length-header}
 use Rattle.hound_sample.specs.{containers}
 use Rattle.hound_medium.specs.{overlay, placed, MediumState, WhereKeeps}

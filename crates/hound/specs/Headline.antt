@@ -3,7 +3,8 @@
 use Rattle.std.specs.Prelude.{◌≡◌, ℕ, ◌+◌, ◌-◌, ◌/◌, ◌<◌, ◌≤◌, ◌⊎◌, max, Bool, true, List, [], ◌∷◌, ◌++◌, length}
 use Rattle.std.specs.List.{concat, flat_map, AllByRecursion}
 use Rattle.std.specs.Io.{StartsWith}
-use Rattle.hound_spec.specs.{WavSpecEx, canonical, data_start}
+use Rattle.hound_spec.specs.declared.spec.WavSpecEx.{WavSpecEx}
+use Rattle.hound_spec.specs.{canonical, data_start}
 use Rattle.hound_medium.specs.{moment, MediumState}
 use Rattle.hound_durable.specs.{Ascends, SurvivesLoss, place_of}
 use Rattle.hound_reader.specs.{Head, IsSoundSpec}

@@ -1,7 +1,11 @@
 -- A run of a writer: how it begins, its steps as calls, the containers of each, and how it ends.
 use Rattle.std.specs.Prelude.{ℤ, ◌&&◌, ◌==◌, Bool, true, false, if◌then◌else◌, List, [], ◌∷◌, ◌++◌, Result, Err, ℕ, ◌≡◌, ◌+◌, ◌/◌, ◌≤◌, ◌⊎◌, replicate, length, drop, map, Ok}
 use Rattle.std.specs.List.{flat_map}
-use Rattle.hound_spec.specs.{Error, SampleFormat, Int, Float, WavSpec, WavSpecEx}
+use Rattle.hound_spec.specs.declared.error.Error.{Error}
+use Rattle.hound_spec.specs.declared.spec.SampleFormat.{SampleFormat}
+use Rattle.hound_spec.specs.declared.spec.SampleFormat.TheVariants.{Int, Float}
+use Rattle.hound_spec.specs.declared.spec.WavSpec.{WavSpec}
+use Rattle.hound_spec.specs.declared.spec.WavSpecEx.{WavSpecEx}
 use Rattle.hound_sample.specs.{Refusal, unsupported, int_container, pattern_container, containers}
 use Rattle.hound_medium.specs.{MediumState, WhereTells, WhereKeeps}
 use Rattle.hound_writer.specs.{one, containers_in, mark_of, Asked, Does, publish, write, Begun, Call, Lead, appended, asked_by_all, found_in, new_file, start_of, WriterState, ChangesSizesOnly, IsWhole, accepted_samples, Appends, IsNotAppended, Begins, IsNotBegun, Finishes}
@@ -14,6 +18,7 @@ use Rattle.hound.specs.declared.session.Begin.TheVariants.{New, Append}
 use Rattle.hound.specs.declared.session.End.{End}
 use Rattle.hound.specs.declared.session.End.TheVariants.{Finalize, Drop}
 
+-- whether samples are integers
 abbrev pub is_int : SampleFormat → Bool
 is_int Int = true
 is_int Float = false

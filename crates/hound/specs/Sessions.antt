@@ -1,16 +1,69 @@
 -- Sessions one after the other over one medium, up to the first error, and what they return.
-use Rattle.std.specs.Prelude.{◌≡◌, ℕ, ◌⊎◌, Bool, List, [], ◌∷◌, ◌++◌, Result, Ok, Err, ◌<◌, OnOk, true, length}
+use Rattle.std.specs.Prelude.{◌≡◌, ℕ, ◌<◌, ◌⊎◌, OnOk, Bool, true, List, [], ◌∷◌, ◌++◌, length, Result, Ok, Err}
 use Rattle.std.specs.Borrow.{Bor}
-use Rattle.std.specs.List.{flat_map, concat}
+use Rattle.std.specs.List.{concat, flat_map}
+use Rattle.hound_spec.specs.declared.error.Error.{Error}
+use Rattle.hound_spec.specs.declared.error.Error.TheVariants.{Unsupported, IoError}
+use Rattle.hound_spec.specs.declared.spec.WavSpecEx.{WavSpecEx}
+use Rattle.hound_spec.specs.{data_start, IsWritable, canonical}
+use Rattle.hound_medium.specs.{MediumState, WhereTells, Goes}
+use Rattle.hound_writer.specs.{AcceptAnswer, IsIoError, IsPublishing, Asked, publish, put, WriterState, Finishes}
+use Rattle.hound.specs.declared.session.Step.{Step}
+use Rattle.hound.specs.Run.{accepted_by, asked_by, containers_of, BeginsAs, IsNotBegunAs, Takes}
 use Rattle.std.specs.Io.{StartsWith}
 use Rattle.std.specs.declared.io.Error.{Error as IoFault}
-use Rattle.hound_spec.specs.{Error, IoError, Unsupported, WavSpecEx, canonical, data_start, IsWritable}
-use Rattle.hound_medium.specs.{MediumState, Goes, WhereTells}
-use Rattle.hound_writer.specs.{IsIoError, IsPublishing, AcceptAnswer, Finishes, WriterState, Asked, publish, put}
-use Rattle.hound.specs.declared.session.Step.{Step}
 use Rattle.hound.specs.declared.session.Begin.{Begin}
 use Rattle.hound.specs.declared.session.Begin.TheVariants.{New, Append}
-use Rattle.hound.specs.Run.{BeginsAs, IsNotBegunAs, Takes, containers_of, accepted_by, asked_by}
+
+-- a writer of a file of this spec that has accepted these samples, as far as results depend on it
+abbrev pub writer_after : WavSpecEx → List (List ℕ) → WriterState (Unit {0})
+writer_after s list = record {
+  medium = tt;
+  spec_ex = s;
+  data_start = data_start s;
+  out = length (concat list);
+  waiting = [];
+  buffer = [];
+}
+
+-- what such a writer returns for a call
+abbrev pub AnswersCall : WavSpecEx → List (List ℕ) → Asked → Result (Unit {0}) Error → Type 0
+AnswersCall s list (put allocates containers) answer =
+    AcceptAnswer allocates containers (writer_after s list) answer
+AnswersCall s list publish answer = IsPublishing answer (writer_after s list)
+
+-- what such a writer returns for a step
+abbrev pub AnswersStep : WavSpecEx → List (List ℕ) → Step → Result (Unit {0}) Error → Type 0
+AnswersStep s list step answer = AnswersCall s list (asked_by s step) answer
+
+-- what a session returns whose writer has accepted these samples: the error of the first step that
+-- isn't Ok, else what its end returns
+abbrev pub AnswersSession : WavSpecEx → List (List ℕ) → List Step → Result (Unit {0}) Error → Type 0
+AnswersSession s list [] answer = IsPublishing answer (writer_after s list)
+AnswersSession s list (step ∷ steps) answer =
+    ((e : Error) × (answer ≡ Err e) × AnswersStep s list step (Err e))
+    ⊎ (AnswersStep s list step (Ok tt)
+    × AnswersSession s (list ++ accepted_by s step true) steps answer)
+
+-- what sessions return after a file of these samples: the error of the first that isn't Ok, which
+-- is that of the session or an `IoError` before it began
+abbrev pub AnswersAll : WavSpecEx → List (List ℕ) → List (Bor (List Step)) →
+    Result (Unit {0}) Error → Type 0
+AnswersAll s list [] answer = answer ≡ Ok tt
+AnswersAll s list (session ∷ sessions) answer =
+    ((e : Error) × (answer ≡ Err e) × (IsIoError e ⊎ AnswersSession s list session.now (Err e)))
+    ⊎ (AnswersSession s list session.now (Ok tt)
+    × AnswersAll s (list ++ containers_of s session.now) sessions answer)
+
+-- What the result of sessions shows: over every medium, that the spec can't be written; else the
+-- first error; and at an Ok, that no call of the medium failed.
+pub record IsAnswered {M : Type 0} (tells : Bool) (state : M → MediumState) (s : WavSpecEx)
+    (sessions : List (Bor (List Step))) (old : M) (answer : Result (Unit {0}) Error)
+    (medium : M) : Type 0 where
+  pub unwritable : 0 < length sessions → (IsWritable s → ⊥) →
+      (answer ≡ Err Unsupported) × (medium ≡ old)
+  pub first_error : WhereTells tells (IsWritable s → AnswersAll s [] sessions answer)
+  pub no_fault : WhereTells tells (OnOk answer ((state medium).faults ≡ (state old).faults))
 
 -- Steps up to the first error, which is then the result, whatever the end of the writer, a drop, came
 -- to; without an error the result is that of `finalize_into`.
@@ -75,53 +128,3 @@ pub record StopsShort (s : WavSpecEx) (list : List (List ℕ)) (steps : List Ste
   pub whole : steps ≡ before ++ after
   pub file : StartsWith contents (canonical s (list ++ containers_of s before))
   pub why : StopsAt s (list ++ containers_of s before) after e
-
--- a writer of a file of this spec that has accepted these samples, as far as results depend on it
-abbrev pub writer_after : WavSpecEx → List (List ℕ) → WriterState (Unit {0})
-writer_after s list = record {
-  medium = tt;
-  spec_ex = s;
-  data_start = data_start s;
-  out = length (concat list);
-  waiting = [];
-  buffer = [];
-}
-
--- what such a writer returns for a call
-abbrev pub AnswersCall : WavSpecEx → List (List ℕ) → Asked → Result (Unit {0}) Error → Type 0
-AnswersCall s list (put allocates containers) answer =
-    AcceptAnswer allocates containers (writer_after s list) answer
-AnswersCall s list publish answer = IsPublishing answer (writer_after s list)
-
--- what such a writer returns for a step
-abbrev pub AnswersStep : WavSpecEx → List (List ℕ) → Step → Result (Unit {0}) Error → Type 0
-AnswersStep s list step answer = AnswersCall s list (asked_by s step) answer
-
--- what a session returns whose writer has accepted these samples: the error of the first step that
--- isn't Ok, else what its end returns
-abbrev pub AnswersSession : WavSpecEx → List (List ℕ) → List Step → Result (Unit {0}) Error → Type 0
-AnswersSession s list [] answer = IsPublishing answer (writer_after s list)
-AnswersSession s list (step ∷ steps) answer =
-    ((e : Error) × (answer ≡ Err e) × AnswersStep s list step (Err e))
-    ⊎ (AnswersStep s list step (Ok tt)
-    × AnswersSession s (list ++ accepted_by s step true) steps answer)
-
--- what sessions return after a file of these samples: the error of the first that isn't Ok, which
--- is that of the session or an `IoError` before it began
-abbrev pub AnswersAll : WavSpecEx → List (List ℕ) → List (Bor (List Step)) →
-    Result (Unit {0}) Error → Type 0
-AnswersAll s list [] answer = answer ≡ Ok tt
-AnswersAll s list (session ∷ sessions) answer =
-    ((e : Error) × (answer ≡ Err e) × (IsIoError e ⊎ AnswersSession s list session.now (Err e)))
-    ⊎ (AnswersSession s list session.now (Ok tt)
-    × AnswersAll s (list ++ containers_of s session.now) sessions answer)
-
--- What the result of sessions shows: over every medium, that the spec can't be written; else the
--- first error; and at an Ok, that no call of the medium failed.
-pub record IsAnswered {M : Type 0} (tells : Bool) (state : M → MediumState) (s : WavSpecEx)
-    (sessions : List (Bor (List Step))) (old : M) (answer : Result (Unit {0}) Error)
-    (medium : M) : Type 0 where
-  pub unwritable : 0 < length sessions → (IsWritable s → ⊥) →
-      (answer ≡ Err Unsupported) × (medium ≡ old)
-  pub first_error : WhereTells tells (IsWritable s → AnswersAll s [] sessions answer)
-  pub no_fault : WhereTells tells (OnOk answer ((state medium).faults ≡ (state old).faults))

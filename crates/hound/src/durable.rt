@@ -1,7 +1,8 @@
 // A whole run over a medium that a loss of power may tear.
 ghost use Rattle.std.specs.Prelude.{◌≡◌, ◌⊎◌, ◌<◌, false, true, slice_index_or, ◌-◌, ◌/◌, ◌≤◌, ℕ, List, [], OnOk, length};
 ghost use Rattle.std.specs.Io.{StartsWith};
-ghost use Rattle.hound_spec.specs.{WavSpecEx, canonical, data_start};
+ghost use Rattle.hound_spec.specs.declared.spec.WavSpecEx.{WavSpecEx};
+ghost use Rattle.hound_spec.specs.{canonical, data_start};
 ghost use Rattle.hound_medium.specs.{WhereTells, WhereKeeps};
 ghost use Rattle.hound_durable.specs.{SurvivesLoss, Around};
 ghost use Rattle.hound_writer.specs.{Counts};

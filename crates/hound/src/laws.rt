@@ -1,13 +1,17 @@
 // What holds for every run.
 ghost use Rattle.std.specs.Prelude.{◌≡◌, ◌<◌, ◌≤◌, ◌-◌, ◌/◌, ℕ, Bool, false, IsTrue, List, [], ◌∷◌, ◌++◌, Ok, Result, length, map};
 ghost use Rattle.std.specs.List.{flat_map};
-ghost use Rattle.hound_spec.specs.{Error, WavSpecEx, canonical};
+ghost use Rattle.hound_spec.specs.declared.error.Error.{Error};
+ghost use Rattle.hound_spec.specs.declared.spec.WavSpecEx.{WavSpecEx};
+ghost use Rattle.hound_spec.specs.{canonical};
 ghost use Rattle.hound_medium.specs.{MediumState, WhereKeeps, WhereTells};
 ghost use Rattle.hound_durable.specs.{within};
 ghost use Rattle.hound_sample.specs.{containers, int_container};
 ghost use Rattle.hound_reader.specs.{IsSoundSpec};
 ghost use Rattle.hound_writer.specs.{mark_of, Accepts, AcceptsEach, short_bytes, AreKnown, Asked, Begun, Call, IsKnown, Known, Lead, Left, asked_by_all, found_in, made, marked, new_file, publish, start_of, IsSameFile, Finishes, WriterState, IsWhole, accepted_samples, data_length, field};
-ghost use Rattle.hound_repair.specs.{held, IsNoPad, ReadsFrames, Repairs, Repair, HasChunksAfterData};
+ghost use Rattle.hound_repair.specs.{held, IsNoPad, ReadsFrames, Repairs};
+ghost use Rattle.hound_repair.specs.declared.sizes.Repair.{Repair};
+ghost use Rattle.hound_repair.specs.declared.sizes.RepairState.TheVariants.{HasChunksAfterData};
 ghost use Rattle.hound.specs.declared.session.Begin.TheVariants.{New};
 ghost use Rattle.hound.specs.declared.session.Begin.{Begin};
 ghost use Rattle.hound.specs.declared.session.End.{End};

@@ -1,7 +1,9 @@
 // Whole runs.
 ghost use Rattle.std.specs.Prelude.{◌≡◌, ◌≤◌, Ok, OnOk, List, Result, [], length, map, MatchResult};
 ghost use Rattle.std.specs.Io.{StartsWith};
-ghost use Rattle.hound_spec.specs.{Error, WavSpecEx, IsWritable, canonical, data_start};
+ghost use Rattle.hound_spec.specs.declared.error.Error.{Error};
+ghost use Rattle.hound_spec.specs.declared.spec.WavSpecEx.{WavSpecEx};
+ghost use Rattle.hound_spec.specs.{IsWritable, canonical, data_start};
 ghost use Rattle.hound_medium.specs.{WhereTells};
 ghost use Rattle.hound_writer.specs.{mark_of, Call, Lead, asked_by_all, Finishes};
 ghost use Rattle.hound.specs.declared.session.Begin.TheVariants.{New};

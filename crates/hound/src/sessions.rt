@@ -1,7 +1,8 @@
 // Sessions one after the other over one medium.
 ghost use Rattle.std.specs.Prelude.{◌≡◌, ◌<◌, [], Err, Result, OnOk, IfErr, length, MatchResult};
 ghost use Rattle.std.specs.Io.{StartsWith};
-ghost use Rattle.hound_spec.specs.{Error, canonical, IsWritable};
+ghost use Rattle.hound_spec.specs.declared.error.Error.{Error};
+ghost use Rattle.hound_spec.specs.{canonical, IsWritable};
 ghost use Rattle.hound_medium.specs.{WhereTells};
 ghost use Rattle.hound_writer.specs.{Finishes};
 ghost use Rattle.hound.specs.declared.session.Begin.TheVariants.{Append, New};

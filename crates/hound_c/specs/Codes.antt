@@ -1,6 +1,8 @@
 -- The numbers that C gets.
 use Rattle.std.specs.Prelude.{◌≡◌, ℕ, ℤ, pos, negsuc, Result, Ok, Err}
-use Rattle.hound_reader.specs.{Ended, Format, Unsupported, Reason, NoRiffTag, NoWaveTag, NoDataChunk, NoFmtChunk, FmtSize, UnexpectedFmtSize, ZeroChannels, BitsExceedWidth, Inconsistent, BitsNotWholeBytes, ZeroBits, BitsNot8Or16, ExSize, BitsNot32, ExtensibleSize, DataLength, FrameLength}
+use Rattle.hound_reader.specs.declared.cause.Cause.TheVariants.{Ended, Format, Unsupported}
+use Rattle.hound_reader.specs.declared.cause.Reason.{Reason}
+use Rattle.hound_reader.specs.declared.cause.Reason.TheVariants.{NoRiffTag, NoWaveTag, NoDataChunk, NoFmtChunk, FmtSize, UnexpectedFmtSize, ZeroChannels, BitsExceedWidth, Inconsistent, BitsNotWholeBytes, ZeroBits, BitsNot8Or16, ExSize, BitsNot32, ExtensibleSize, DataLength, FrameLength}
 use Rattle.hound_c.specs.declared.fault.Fault.{Fault}
 use Rattle.hound_c.specs.declared.fault.Fault.TheVariants.{Head, OtherFormat, Wider, OtherPair, Truncated, TooLong, UnfinishedFrame, NoRoom}
 

@@ -1,8 +1,11 @@
 -- What repairing does.
 use Rattle.std.specs.Prelude.{◌≡◌, ◌⊎◌, ℕ, ◌<◌, List, length, take, Result, Ok, Err}
-use Rattle.hound_reader.specs.{Unsupported}
+use Rattle.hound_reader.specs.declared.cause.Cause.TheVariants.{Unsupported}
 use Rattle.hound_writer.specs.{by_bytes, too_long}
-use Rattle.hound_repair.specs.{LacksRoom, RepairsBytes, IsRepairFault, Repair, RepairState, Whole, CutOff, HasChunksAfterData}
+use Rattle.hound_repair.specs.{LacksRoom, RepairsBytes, IsRepairFault}
+use Rattle.hound_repair.specs.declared.sizes.Repair.{Repair}
+use Rattle.hound_repair.specs.declared.sizes.RepairState.{RepairState}
+use Rattle.hound_repair.specs.declared.sizes.RepairState.TheVariants.{Whole, CutOff, HasChunksAfterData}
 use Rattle.hound_c.specs.Writing.{spec_of}
 use Rattle.hound_c.specs.declared.fault.Fault.{Fault}
 use Rattle.hound_c.specs.declared.fault.Fault.TheVariants.{Head, OtherPair, TooLong, NoRoom}

@@ -13,9 +13,10 @@ mod spec;
 mod writing;
 
 ghost use Rattle.std.specs.Prelude.{◌≡◌, ◌*◌, ℕ, ℤ, length, pos};
-ghost use Rattle.hound_reader.specs.{Readable, Unreadable, Cause};
+ghost use Rattle.hound_reader.specs.{Readable, Unreadable};
 ghost use Rattle.hound_sample.specs.{int_container, pattern_container, float_refusal, int_meaning, int_refusal, pattern};
-ghost use Rattle.hound_spec.specs.{Float, Int};
+ghost use Rattle.hound_spec.specs.declared.spec.SampleFormat.TheVariants.{Float, Int};
+ghost use Rattle.hound_reader.specs.declared.cause.Cause.{Cause};
 ghost use Rattle.hound_c.specs.Codes.{Returns, fault_code};
 ghost use Rattle.hound_c.specs.Reading.{Decodes, Reads};
 ghost use Rattle.hound_c.specs.Repairing.{RepairsFile};

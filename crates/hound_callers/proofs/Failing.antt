@@ -1,9 +1,11 @@
 -- A flush without a mark met a fault of the medium.
 use Rattle.std.proofs.Common.{◌≡◌, ℕ, zero, suc, ◌<◌, ◌≤◌, Bool, true, false, IsTrue, List, [], ◌∷◌, length, map, slice_index_or, Option, None, Some, IfSome, Result, Ok, Err, inl, inr, refl, sym, ◌∙◌, ap, subst, arith}
 use Rattle.std.proofs.lemmas.Bool.{false≢true}
-use Rattle.hound.specs.{IsPublishing, faults_told, mark_of, Asked, Call, Does, Lead, asked_by_all, publish, put, with_memory, IsSession, asked_by, MediumState, IsWritable, WriterState, Error, WavSpecEx, End, Step}
+use Rattle.hound.specs.{IsPublishing, faults_told, mark_of, Asked, Call, Does, Lead, asked_by_all, publish, put, with_memory, IsSession, asked_by, MediumState, IsWritable, WriterState, Error, WavSpecEx}
 use Rattle.hound.specs.declared.Error.TheVariants.{IoError, UnfinishedSample}
 use Rattle.hound.specs.declared.session.Begin.TheVariants.{New}
+use Rattle.hound.specs.declared.session.End.{End}
+use Rattle.hound.specs.declared.session.Step.{Step}
 use Rattle.hound.specs.declared.session.Step.TheVariants.{Flush}
 use Rattle.hound_callers.specs.Recording.{IsCheckpoint, IsLast}
 

@@ -1,7 +1,8 @@
 -- What a recorder asks of its writer, and what it sees; the checkpoints of a session.
 use Rattle.std.specs.Prelude.{◌≡◌, ◌⊎◌, ℕ, suc, ◌%◌, ◌==◌, Bool, true, false, List, [], ◌∷◌, ◌++◌, map, Result, Ok, ◌+◌, ◌<◌, ◌≤◌, length, slice_index_or, Option, None, Some}
 use Rattle.std.specs.List.{flat_map}
-use Rattle.hound.specs.{Asked, Known, made, marked, publish, write, Refusal, Step}
+use Rattle.hound.specs.{Asked, Known, made, marked, publish, write, Refusal}
+use Rattle.hound.specs.declared.session.Step.{Step}
 use Rattle.hound.specs.declared.session.Step.TheVariants.{Flush}
 
 -- a block is written, and if it is to be published a flush follows

@@ -1,8 +1,9 @@
 // Functions of a user of the library, whose contracts follow from its public ones.
 ghost use Rattle.std.specs.Prelude.{◌≡◌, ℕ, suc, ◌+◌, ◌-◌, ◌/◌, ◌<◌, ◌≤◌, ◌++◌, Bool, false, true, List, length, drop, [], ◌∷◌, slice_index_or, None, Ok, Result, IfOk, IfSome, OnOk};
 ghost use Rattle.std.specs.List.{concat};
-ghost use Rattle.hound.specs.{Asked, Begun, Call, found_in, start_of, IsSoundSpec, IsSameFile, containers, AreContainers, Counts, canonical, data_start, Around, HasPublished, IsLeftAfter, Keeps, LosesNothing, accepted_by_all, begins_at, held, SurvivesLoss, containers_in, ReadsAs, samples_left, OpensAs, IsNoPad, ReadsFrames, IsSixteen, IsSession, Ran, all_calls, accepted_by_steps, field, MediumState, WhereKeeps, WhereTells, Error, End, IsWritable, IsWhole, accepted_samples, sample_count, WavSpecEx};
+ghost use Rattle.hound.specs.{Asked, Begun, Call, found_in, start_of, IsSoundSpec, IsSameFile, containers, AreContainers, Counts, canonical, data_start, Around, HasPublished, IsLeftAfter, Keeps, LosesNothing, accepted_by_all, begins_at, held, SurvivesLoss, containers_in, ReadsAs, samples_left, OpensAs, IsNoPad, ReadsFrames, IsSixteen, IsSession, Ran, all_calls, accepted_by_steps, field, MediumState, WhereKeeps, WhereTells, Error, IsWritable, IsWhole, accepted_samples, sample_count, WavSpecEx};
 ghost use Rattle.hound.specs.declared.session.Begin.TheVariants.{New};
+ghost use Rattle.hound.specs.declared.session.End.{End};
 ghost use Rattle.hound.specs.declared.session.End.TheVariants.{Drop};
 ghost use Rattle.hound.specs.declared.session.Step.TheVariants.{Flush};
 ghost use Rattle.hound_callers.specs.Recording.{IsLast};

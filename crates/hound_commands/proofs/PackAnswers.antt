@@ -5,8 +5,12 @@ use Rattle.std.proofs.lemmas.Bool.Decides.{nat_tests}
 use Rattle.std.specs.List.{AllByRecursion, concat}
 use Rattle.hound_writer.specs.{Accepts, AcceptAnswer, FitAnswer, IsPublishing, Begins, HasBegun, IsNotBegun, Finishes, WriterState, AreFrames, data_length, sample_count}
 use Rattle.hound_sample.specs.{Refusal, too_wide, unsupported, fits, if_fits, int_bytes, int_container, and_more, int_container-in_width}
-use Rattle.hound_spec.specs.{greatest_u32, canonical, data_start, riff_size, IsPair, IsWritable, Error, IoError, OutOfMemory, TooLong, TooWide, UnfinishedSample, Unsupported, Int, WavSpecEx}
+use Rattle.hound_spec.specs.{greatest_u32, canonical, data_start, riff_size, IsPair, IsWritable}
 use Rattle.hound_medium.specs.{MediumState}
+use Rattle.hound_spec.specs.declared.error.Error.{Error}
+use Rattle.hound_spec.specs.declared.error.Error.TheVariants.{IoError, OutOfMemory, TooLong, TooWide, UnfinishedSample, Unsupported}
+use Rattle.hound_spec.specs.declared.spec.SampleFormat.TheVariants.{Int}
+use Rattle.hound_spec.specs.declared.spec.WavSpecEx.{WavSpecEx}
 use Rattle.hound_writer.proofs.Fresh.{fresh_file}
 use Rattle.hound_commands.specs.Commands.{failure_of, HasRoom, IsPackError, IsPackFailure, IsPacked, containers_of}
 

@@ -8,8 +8,12 @@ use Rattle.hound_sample.specs.{ReadRefusal, other_format, wider, other_pair, flo
 use Rattle.hound_reader.specs.{ReaderState, meaning_at, refusal_at, GivesItems, IsRefusal, Readable, Unreadable}
 use Rattle.std.specs.List.{flat_map}
 use Rattle.hound_reader.specs.declared.cause.Cause.TheVariants as causes
-use Rattle.hound_spec.specs.{Error, SampleFormat, Float, Int, WavSpec, WavSpecEx}
+use Rattle.hound_spec.specs.declared.error.Error.{Error}
 use Rattle.hound_spec.specs.declared.error.Error.TheVariants as errors
+use Rattle.hound_spec.specs.declared.spec.SampleFormat.{SampleFormat}
+use Rattle.hound_spec.specs.declared.spec.SampleFormat.TheVariants.{Float, Int}
+use Rattle.hound_spec.specs.declared.spec.WavSpec.{WavSpec}
+use Rattle.hound_spec.specs.declared.spec.WavSpecEx.{WavSpecEx}
 use Rattle.hound_text.specs.{integer_line, pattern_line}
 use Rattle.hound_commands.proofs.Outputs.{appends-kept, appends-none, gets-more, gets-none, gets-stopped, gets-then, gets-written}
 use Rattle.hound_commands.specs.Commands.{failure_of}

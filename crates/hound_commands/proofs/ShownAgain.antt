@@ -6,8 +6,12 @@ use Rattle.std.specs.Int.{w32}
 use Rattle.std.specs.List.{AllByRecursion, concat, flat_map}
 use Rattle.hound_reader.specs.{HasOneFileAnswer, readable, Readable, AreContainers}
 use Rattle.hound_sample.specs.{Refusal, containers, int_container, int_meaning}
-use Rattle.hound_spec.specs.{greatest_u32, canonical, data_start, riff_size, IsWritable, with_default_width, Error, Int, WavSpec, WavSpecEx}
+use Rattle.hound_spec.specs.{greatest_u32, canonical, data_start, riff_size, IsWritable, with_default_width}
+use Rattle.hound_spec.specs.declared.error.Error.{Error}
 use Rattle.hound_spec.specs.declared.error.Error.TheVariants as errors
+use Rattle.hound_spec.specs.declared.spec.SampleFormat.TheVariants.{Int}
+use Rattle.hound_spec.specs.declared.spec.WavSpec.{WavSpec}
+use Rattle.hound_spec.specs.declared.spec.WavSpecEx.{WavSpecEx}
 use Rattle.hound_text.specs.{SayNumbers, SaysNumbers, words, integer_line}
 use Rattle.hound_commands.proofs.PackAnswers.{each_width, have-bytes, parts}
 use Rattle.hound_commands.proofs.ShowAnswers.{integers_line}

@@ -1,16 +1,23 @@
 -- What the commands do to their output: the file that `pack` makes of numbers, or the first cause for
 -- which there is none, and which failure an error is.
-use Rattle.hound_spec.specs.{Error, IoError, OutOfMemory, TooLong, TooWide, UnfinishedSample, Unsupported, greatest_u32, canonical, data_start, riff_size, IsWritable, WavSpecEx, Int, WavSpec}
-use Rattle.hound_text.specs.{Refusal as TextRefusal, BadNumber as TextBadNumber, InputOrOutput as TextInputOrOutput, TooLong as TextTooLong, OutOfMemory as TextOutOfMemory, SaysNoNumbers, SaysNumbers}
+use Rattle.hound_spec.specs.declared.error.Error.{Error}
+use Rattle.hound_spec.specs.declared.error.Error.TheVariants.{IoError, OutOfMemory, TooLong, TooWide, UnfinishedSample, Unsupported}
+use Rattle.hound_text.specs.declared.Refusal.{Refusal as TextRefusal}
+use Rattle.hound_text.specs.declared.Refusal.TheVariants.{BadNumber as TextBadNumber, InputOrOutput as TextInputOrOutput, TooLong as TextTooLong, OutOfMemory as TextOutOfMemory}
 use Rattle.hound_commands.specs.declared.failure.Failure.{Failure}
 use Rattle.hound_commands.specs.declared.failure.Failure.TheVariants.{BadNumber, InputOrOutput, Refused}
 use Rattle.std.specs.Prelude.{◌≡◌, ℕ, ℤ, ◌%◌, ◌≤◌, ⊤, List, [], ◌∷◌, ◌++◌, length, Result, Ok, Err, ◌⊎◌, IfSome, Option, codes}
 use Rattle.std.specs.List.{concat}
 use Rattle.hound_sample.specs.{Refusal, too_wide, int_container}
+use Rattle.hound_spec.specs.{greatest_u32, canonical, data_start, riff_size, IsWritable}
 use Rattle.hound_writer.specs.{containers_in}
+use Rattle.hound_spec.specs.declared.spec.WavSpecEx.{WavSpecEx}
 use Rattle.std.specs.Borrow.{Bor}
 use Rattle.std.specs.Str.Parse.{IsNumeral, digits_value}
+use Rattle.hound_spec.specs.declared.spec.SampleFormat.TheVariants.{Int}
+use Rattle.hound_spec.specs.declared.spec.WavSpec.{WavSpec}
 use Rattle.std.specs.Io.KnownBytes.{Appends}
+use Rattle.hound_text.specs.{SaysNoNumbers, SaysNumbers}
 use Rattle.hound_commands.specs.Showing.{GetsBeginning}
 
 -- the failure of an error of the library: an `IoError` is one of the input or the output

@@ -4,9 +4,14 @@ use Rattle.std.specs.Prelude.{◌≡◌, ℕ, List, ◌++◌, Option, ◌*◌, �
 use Rattle.std.specs.Io.{StartsWith}
 use Rattle.std.specs.Io.KnownBytes.{Appends}
 use Rattle.std.specs.List.{flat_map}
-use Rattle.hound_reader.specs.{Cause, Readable, Unreadable, Names}
+use Rattle.hound_reader.specs.declared.cause.Cause.{Cause}
+use Rattle.hound_reader.specs.{Readable, Unreadable, Names}
 use Rattle.hound_sample.specs.{containers, ReadRefusal, float_refusal, int_meaning, int_refusal, pattern, error_of_read}
-use Rattle.hound_spec.specs.{Error, SampleFormat, Float, Int, WavSpec, WavSpecEx}
+use Rattle.hound_spec.specs.declared.error.Error.{Error}
+use Rattle.hound_spec.specs.declared.spec.SampleFormat.{SampleFormat}
+use Rattle.hound_spec.specs.declared.spec.SampleFormat.TheVariants.{Float, Int}
+use Rattle.hound_spec.specs.declared.spec.WavSpec.{WavSpec}
+use Rattle.hound_spec.specs.declared.spec.WavSpecEx.{WavSpecEx}
 use Rattle.hound_commands.specs.declared.failure.Failure.{Failure}
 use Rattle.hound_commands.specs.declared.failure.Failure.TheVariants.{BadNumber, InputOrOutput, Refused}
 use Rattle.hound_text.specs.{integer_line, pattern_line}

@@ -1,6 +1,8 @@
 // What the program does, over any reader and writers.
 ghost use Rattle.std.specs.Prelude.{◌≡◌, ◌≤◌, ◌↔◌, ◌⊎◌, ℤ, List, IfErr, IfSome, IsNone, MatchResult, OnOk};
-ghost use Rattle.hound_spec.specs.{with_default_width, Int, WavSpec};
+ghost use Rattle.hound_spec.specs.{with_default_width};
+ghost use Rattle.hound_spec.specs.declared.spec.SampleFormat.TheVariants.{Int};
+ghost use Rattle.hound_spec.specs.declared.spec.WavSpec.{WavSpec};
 ghost use Rattle.hound_commands.specs.Commands.{AreNumbersOf, IsCommand, IsPackCommand, IsShowCommand, Packs, PacksUntil, SaySpec};
 ghost use Rattle.hound_commands.specs.Showing.{Shows, ShowsUntil};
 ghost use Rattle.hound_commands.specs.declared.failure.Failure.{Failure};

@@ -1,6 +1,6 @@
 // Why the program fails.
 ghost use Rattle.std.specs.Prelude.{◌≡◌};
-ghost use Rattle.hound_spec.specs.{OutOfMemory};
+ghost use Rattle.hound_spec.specs.declared.error.Error.TheVariants.{OutOfMemory};
 ghost use Rattle.hound_commands.specs.Commands.{failure_of, refusal_of};
 ghost use Rattle.hound_commands.specs.declared.failure.Failure.TheVariants.{InputOrOutput, Refused};
 

@@ -1,6 +1,10 @@
 // What holds of every file and text.
 ghost use Rattle.std.specs.Prelude.{◌≡◌, ◌⊎◌, ℕ, List, [], ◌++◌, Some};
-ghost use Rattle.hound_spec.specs.{with_default_width, OutOfMemory, Int, WavSpec, WavSpecEx};
+ghost use Rattle.hound_spec.specs.{with_default_width};
+ghost use Rattle.hound_spec.specs.declared.error.Error.TheVariants.{OutOfMemory};
+ghost use Rattle.hound_spec.specs.declared.spec.SampleFormat.TheVariants.{Int};
+ghost use Rattle.hound_spec.specs.declared.spec.WavSpec.{WavSpec};
+ghost use Rattle.hound_spec.specs.declared.spec.WavSpecEx.{WavSpecEx};
 ghost use Rattle.hound_commands.specs.Commands.{IsNotPacked, Packs};
 ghost use Rattle.hound_commands.specs.Showing.{Shows, spec_line};
 ghost use Rattle.hound_commands.specs.declared.failure.Failure.{Failure};

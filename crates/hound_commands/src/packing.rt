@@ -1,6 +1,7 @@
 // Numbers to a file.
 ghost use Rattle.std.specs.Prelude.{◌≡◌, IfErr, IfOk};
-ghost use Rattle.hound_spec.specs.{with_default_width, Int};
+ghost use Rattle.hound_spec.specs.{with_default_width};
+ghost use Rattle.hound_spec.specs.declared.spec.SampleFormat.TheVariants.{Int};
 ghost use Rattle.hound_commands.specs.Commands.{IsPacked, IsPackFailure};
 
 use crate::failure::Failure;

@@ -1,6 +1,8 @@
 -- Files that were written elsewhere, as bytes.
 use Rattle.std.specs.Prelude.{◌≡◌, ℕ, ℤ, List, [], ◌∷◌, ◌++◌, codes, length, map}
-use Rattle.hound_spec.specs.{Int, Float, WavSpecEx, riff_tag, wave_tag, fmt_tag, data_tag}
+use Rattle.hound_spec.specs.declared.spec.SampleFormat.TheVariants.{Int, Float}
+use Rattle.hound_spec.specs.declared.spec.WavSpecEx.{WavSpecEx}
+use Rattle.hound_spec.specs.{riff_tag, wave_tag, fmt_tag, data_tag}
 use Rattle.hound_sample.specs.{int_meaning, containers}
 use Rattle.hound_reader.specs.{ReaderState}
 

@@ -1,7 +1,5 @@
 -- The words of this crate, for those above it. The file is made by `scripts/make_words`.
 pub use Rattle.hound_number.specs.Io.{Account, CountsRead, CountsReads, IfEnded, NoneFailed, OneFailed, ReportsEnding, WhereKnown, Writes, one_failure_more}
 pub use Rattle.hound_number.specs.Number.{AreBytes, bytes_of, mix, number, signed_bytes_of, signed_number, signed_of, twos_complement}
-pub use Rattle.hound_number.specs.declared.input.ReadError.{ReadError}
-pub use Rattle.hound_number.specs.declared.input.ReadError.TheVariants.{Failed, Ended}
 pub mod Io
 pub mod Number

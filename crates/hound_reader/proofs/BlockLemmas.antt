@@ -6,10 +6,14 @@ use Rattle.std.proofs.lemmas.Option.{same_Some}
 use Rattle.std.specs.Prelude.{IsSome}
 use Rattle.std.specs.declared.io.Error.{Error as IoFault}
 use Rattle.hound_number.specs.{WhereKnown}
-use Rattle.hound_spec.specs.{Error, IoError, FormatError, TooWide, UnfinishedSample, Unsupported, InvalidSampleFormat, TooLong, OutOfMemory, SampleFormat}
-use Rattle.hound_sample.specs.{ReadsEach, ReadRefusal, other_format, wider, other_pair, Reads, error_of_read, ReadsItem, reason_of, error_of_item, ItemError, Failed, OtherFormat, Wider, OtherPair}
+use Rattle.hound_spec.specs.declared.error.Error.{Error}
+use Rattle.hound_spec.specs.declared.error.Error.TheVariants.{IoError, FormatError, TooWide, UnfinishedSample, Unsupported, InvalidSampleFormat, TooLong, OutOfMemory}
+use Rattle.hound_spec.specs.declared.spec.SampleFormat.{SampleFormat}
+use Rattle.hound_sample.specs.{ReadsEach, ReadRefusal, other_format, wider, other_pair, Reads, error_of_read, ReadsItem, reason_of, error_of_item}
 use Rattle.hound_number.proofs.KnownSteps.{known_both}
 use Rattle.hound_reader.specs.Reader.{GivesItemsOfBytes, over_bytes, HasGiven, taken_without, GivesItems, ReaderState, IsNext, AreTaken, TookBytes, CountsTaken, refusal_at, meaning_at, samples_left}
+use Rattle.hound_sample.specs.declared.item.ItemError.{ItemError}
+use Rattle.hound_sample.specs.declared.item.ItemError.TheVariants.{Failed, OtherFormat, Wider, OtherPair}
 use Rattle.hound_reader.proofs.ItemLemmas.{a_container_is_taken}
 
 -- an Ok of a type that doesn't read the samples

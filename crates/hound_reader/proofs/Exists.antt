@@ -4,11 +4,12 @@ use Rattle.std.specs.Prelude.{is_none}
 use Rattle.std.specs.Str.{bytes_eq}
 use Rattle.std.proofs.lemmas.Bool.{cases_Bool, not-false}
 use Rattle.std.proofs.lemmas.List.{take-append-drop, drop-drop}
-use Rattle.hound_spec.specs.{WavSpecEx, greatest_u32, padded, riff_tag, wave_tag, data_tag}
+use Rattle.hound_spec.specs.declared.spec.WavSpecEx.{WavSpecEx}
 use Rattle.hound_reader.specs.declared.chunks.FileHead.{FileHead}
 use Rattle.hound_reader.specs.declared.cause.Cause.{Cause}
 use Rattle.hound_number.specs.{number}
-use Rattle.hound_reader.specs.Chunks.{Chunk, IsChunk, chunk_bytes, fmt_fault, first_fault, Chunks, joined, last_spec, Head, Refused, spec_after, front_fault, content_fault, chunk_fault, Answer, readable, unreadable, Answers, HasOneAnswer, ReportsAnswer}
+use Rattle.hound_reader.specs.Grammar.{Chunk, IsChunk, chunk_bytes, fmt_fault, first_fault, Chunks, joined, last_spec, Head, Refused, spec_after, front_fault, content_fault, chunk_fault, Answer, readable, unreadable, Answers, HasOneAnswer, ReportsAnswer}
+use Rattle.hound_spec.specs.{greatest_u32, padded, riff_tag, wave_tag, data_tag}
 use Rattle.hound_reader.proofs.WalkLemmas.{same_tag}
 use Rattle.hound_reader.specs.declared.cause.HeadError.TheVariants as stops
 use Rattle.hound_reader.proofs.Unique.{spread, heads_agree, head_no_fault, faults_agree}

@@ -1,7 +1,8 @@
 -- The definitions of a fmt chunk at bytes in pieces.
 use Rattle.std.proofs.Common.{◌≡◌, ℕ, ◌-◌, ◌≤◌, true, ◌||◌, List, ◌++◌, length, take, refl, ap, ◌∙◌, arith, take_at, length-take-le, drop_at, length-append, le-ltb, Ok, ◌==◌}
-use Rattle.hound_spec.specs.{WavSpecEx, fmt_fields, extension}
+use Rattle.hound_spec.specs.declared.spec.WavSpecEx.{WavSpecEx}
 use Rattle.hound_number.specs.{number}
+use Rattle.hound_spec.specs.{fmt_fields, extension}
 use Rattle.hound_reader.specs.Fmt.{◌>>=◌, wave_format, fmt_len, fmt_said, fmt_of, wave_format_pcm, wave_format_extensible, by_subformat, by_tag}
 use Rattle.hound_reader.proofs.Gives.{take_over}
 

@@ -3,16 +3,17 @@ use Rattle.std.proofs.Common.{◌≡◌, ℕ, ◌+◌, ◌<◌, ◌≤◌, Bool,
 use Rattle.std.proofs.Math.Seq.{drop-length}
 use Rattle.std.proofs.lemmas.Bool.{ltb-true}
 use Rattle.std.specs.Str.{bytes_eq}
-use Rattle.hound_spec.specs.{riff_tag, wave_tag, Error}
+use Rattle.hound_spec.specs.{riff_tag, wave_tag}
 use Rattle.hound_reader.specs.declared.cause.Reason.TheVariants.{NoRiffTag, NoWaveTag}
 use Rattle.std.specs.Io.KnownBytes.{Consumes}
 use Rattle.std.proofs.KnownBytes.{Consumes-trans}
 use Rattle.hound_number.specs.{WhereKnown}
 use Rattle.hound_number.proofs.KnownSteps.{known_from, known_then}
-use Rattle.hound_reader.specs.Chunks.{front_fault}
-use Rattle.hound_reader.specs.Walk.{TakesFront, TakesLess, ReportsFront, front_taken, Refuses}
+use Rattle.hound_reader.specs.Grammar.{front_fault}
+use Rattle.hound_reader.specs.Walking.{TakesFront, TakesLess, ReportsFront, front_taken, Refuses}
 use Rattle.hound_reader.specs.Reader.{AreTaken}
 use Rattle.hound_reader.specs.Refusals.{ReportsError}
+use Rattle.hound_spec.specs.declared.error.Error.{Error}
 use Rattle.hound_spec.specs.declared.error.Error.TheVariants as errors
 use Rattle.hound_reader.specs.declared.cause.Cause.TheVariants.{Ended, Format, Unsupported}
 use Rattle.hound_reader.specs.declared.cause.HeadError.{HeadError}

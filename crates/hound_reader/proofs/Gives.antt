@@ -6,7 +6,7 @@ use Rattle.hound_reader.specs.declared.cause.Cause.{Cause}
 use Rattle.hound_reader.specs.declared.cause.HeadError.{HeadError}
 use Rattle.hound_reader.specs.declared.cause.HeadError.TheVariants.{Failed, Refused}
 use Rattle.hound_number.specs.{WhereKnown}
-use Rattle.hound_reader.specs.Walk.{Gives}
+use Rattle.hound_reader.specs.Walking.{Gives}
 
 -- these bytes were taken, and f of them is Ok x
 pub ok_from_taken : {A : Type 0} (k : ℕ) (bs : List ℕ) (o n : Option (List ℕ))

@@ -4,9 +4,13 @@ use Rattle.std.proofs.lemmas.Bool.{false≢true}
 use Rattle.std.specs.Prelude.{IfSome, IsSome}
 use Rattle.std.specs.declared.io.Error.{Error as IoFault}
 use Rattle.hound_number.specs.{WhereKnown}
-use Rattle.hound_spec.specs.{Error, IoError, FormatError, TooWide, UnfinishedSample, Unsupported, InvalidSampleFormat, TooLong, OutOfMemory, SampleFormat, WavSpecEx}
-use Rattle.hound_sample.specs.{ReadRefusal, Reads, answer_of, ItemError}
+use Rattle.hound_spec.specs.declared.error.Error.{Error}
+use Rattle.hound_spec.specs.declared.error.Error.TheVariants.{IoError, FormatError, TooWide, UnfinishedSample, Unsupported, InvalidSampleFormat, TooLong, OutOfMemory}
+use Rattle.hound_spec.specs.declared.spec.SampleFormat.{SampleFormat}
+use Rattle.hound_spec.specs.declared.spec.WavSpecEx.{WavSpecEx}
+use Rattle.hound_sample.specs.{ReadRefusal, Reads, answer_of}
 use Rattle.hound_reader.specs.Reader.{ReaderState, IsNext, AreTaken, refusal_at, meaning_at, samples_left, AreItems, GivesItems}
+use Rattle.hound_sample.specs.declared.item.ItemError.{ItemError}
 
 -- an Ok took exactly a container
 pub a_container_is_taken : {A : Type 0} (refusal : Option ReadRefusal) (meaning : List ℕ → A)

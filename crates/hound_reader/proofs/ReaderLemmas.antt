@@ -2,14 +2,15 @@
 use Rattle.std.proofs.Common.{◌≡◌, ℕ, drop, inl, inr, ◌/◌, ◌∙◌, List, sym, ap, subst, Option, Some, None, Err, refl}
 use Rattle.std.specs.Prelude.{⊤, IfSome}
 use Rattle.std.proofs.lemmas.Option.{same_Some}
-use Rattle.hound_spec.specs.{WavSpecEx, Error}
+use Rattle.hound_spec.specs.declared.spec.WavSpecEx.{WavSpecEx}
 use Rattle.hound_reader.specs.declared.cause.Cause.{Cause}
 use Rattle.hound_reader.specs.declared.cause.HeadError.{HeadError}
 use Rattle.hound_reader.specs.declared.cause.HeadError.TheVariants.{Failed, Refused as Refused'}
+use Rattle.hound_spec.specs.declared.error.Error.{Error}
 use Rattle.hound_spec.specs.declared.error.Error.TheVariants as errors
-use Rattle.hound_reader.specs.Walk.{Refuses}
+use Rattle.hound_reader.specs.Walking.{Refuses}
 use Rattle.hound_number.specs.{WhereKnown}
-use Rattle.hound_reader.specs.Chunks.{Answer, readable, unreadable, Answers, AnswersFile, HasOneFileAnswer, Head, Readable, Unreadable, data_fault}
+use Rattle.hound_reader.specs.Grammar.{Answer, readable, unreadable, Answers, AnswersFile, HasOneFileAnswer, Head, Readable, Unreadable, data_fault}
 use Rattle.hound_reader.proofs.Exists.{some_answer, fault_or_none}
 use Rattle.hound_reader.specs.Refusals.{Names, ReportsError, IsRefusal, OpensAs, FailsAs}
 use Rattle.hound_number.proofs.KnownSteps.{known_some}

@@ -3,14 +3,18 @@ use Rattle.std.proofs.Common.{◌≡◌, ℕ, zero, suc, ℤ, pos, negsuc, ◌+�
 use Rattle.std.proofs.Math.Nat.{mul_assoc, mul-le-mul, mul-le-mul_right, div-zero, div-mul-le_self}
 use Rattle.std.proofs.lemmas.Int.{ints}
 use Rattle.std.proofs.lemmas.List.{length-drop, drop-drop}
-use Rattle.hound_spec.specs.{Error, IoError, FormatError, TooWide, UnfinishedSample, Unsupported, InvalidSampleFormat, TooLong, OutOfMemory, SampleFormat, WavSpecEx, greatest_u32}
+use Rattle.hound_spec.specs.declared.error.Error.{Error}
+use Rattle.hound_spec.specs.declared.error.Error.TheVariants.{IoError, FormatError, TooWide, UnfinishedSample, Unsupported, InvalidSampleFormat, TooLong, OutOfMemory}
+use Rattle.hound_spec.specs.declared.spec.SampleFormat.{SampleFormat}
 use Rattle.hound_sample.specs.{ReadRefusal, Reads}
 use Rattle.hound_medium.specs.{MediumState, Shifts, IsMoved}
 use Rattle.hound_number.specs.{WhereKnown}
 use Rattle.std.proofs.lemmas.Option.{same_Some}
+use Rattle.hound_spec.specs.declared.spec.WavSpecEx.{WavSpecEx}
 use Rattle.hound_reader.specs.Reader.{ReaderState, IsNext, CountsTaken, AreTaken, refusal_at, meaning_at}
 use Rattle.hound_reader.specs.Seeking.{HasSought, Seeks, StandsAsCounted, IsAtCount, ReadsInPlace, PassesItem, Follows, IsMeaningOf, container_at, samples_before, bytes_before}
 use Rattle.hound_reader.specs.Sources.{unread}
+use Rattle.hound_spec.specs.{greatest_u32}
 
 -- the place of a frame fits in 63 bits
 pub frame_small : (time channels width : ℕ) → time ≤ greatest_u32 → channels * width ≤ 65535

@@ -5,8 +5,8 @@ use Rattle.std.specs.Io.KnownBytes.{ReadConsumes}
 use Rattle.hound_number.specs.{Account, CountsRead, WhereKnown}
 use Rattle.hound_medium.specs.{MediumState, Gets}
 use Rattle.hound_medium.proofs.Reading.{get_consumes}
-use Rattle.hound_reader.specs.Chunks.{Head, Refused}
-use Rattle.hound_reader.specs.Walk.{Refuses, CountsFailed}
+use Rattle.hound_reader.specs.Grammar.{Head, Refused}
+use Rattle.hound_reader.specs.Walking.{Refuses, CountsFailed}
 use Rattle.hound_reader.specs.Sources.{Untouched, unread, account_of, FindsData}
 use Rattle.hound_reader.specs.declared.chunks.FileHead.{FileHead}
 use Rattle.hound_reader.specs.declared.cause.HeadError.{HeadError}

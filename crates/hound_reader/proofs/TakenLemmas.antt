@@ -5,13 +5,15 @@ use Rattle.std.proofs.Math.Seq.{drop-length}
 use Rattle.std.specs.Io.KnownBytes.{Consumes}
 use Rattle.hound_number.specs.{WhereKnown, number}
 use Rattle.hound_number.proofs.KnownSteps.{known_both, known_from, known_then, known_weaker}
-use Rattle.hound_reader.specs.Walk.{Refuses, MeetsFaultAfter, RefusedAfter, UnreadableAfter, TakesAll, TakesFor, chunk_taken, content_taken, Walked}
+use Rattle.hound_reader.specs.Walking.{Refuses, MeetsFaultAfter, RefusedAfter, UnreadableAfter, TakesAll, TakesFor, chunk_taken, content_taken, Walked}
 use Rattle.hound_reader.specs.Reader.{AreTaken}
-use Rattle.hound_reader.specs.Chunks.{Head, chunk_fault, data_fault, joined, last_spec}
-use Rattle.hound_spec.specs.{data_tag, riff_tag, wave_tag, FmtFields, Extension, fmt_fields, greatest_u16, greatest_u32, subformat, Int, Float, WavSpecEx}
+use Rattle.hound_reader.specs.Grammar.{Head, chunk_fault, data_fault, joined, last_spec}
+use Rattle.hound_spec.specs.{data_tag, riff_tag, wave_tag, FmtFields, Extension, fmt_fields, greatest_u16, greatest_u32, subformat}
 use Rattle.std.specs.Prelude.{IfErr, ⊤}
 use Rattle.std.specs.Str.{bytes_eq}
 use Rattle.hound_reader.specs.Fmt.{by_subformat, spec_of, wave_format, width_of, with_valid_bits, with_format}
+use Rattle.hound_spec.specs.declared.spec.SampleFormat.TheVariants.{Int, Float}
+use Rattle.hound_spec.specs.declared.spec.WavSpecEx.{WavSpecEx}
 use Rattle.hound_reader.specs.declared.cause.Cause.{Cause}
 use Rattle.hound_reader.specs.declared.cause.Cause.TheVariants.{Ended, Format, Unsupported}
 use Rattle.hound_reader.specs.declared.cause.Reason.TheVariants.{ZeroChannels, BitsExceedWidth, Inconsistent, BitsNotWholeBytes, ZeroBits}

@@ -4,10 +4,11 @@ use Rattle.std.specs.Str.{bytes_eq}
 use Rattle.std.proofs.lemmas.Bool.{true≢false}
 use Rattle.std.proofs.lemmas.List.{append_cancel_left}
 use Rattle.std.proofs.lemmas.Option.{same_Some}
-use Rattle.hound_spec.specs.{WavSpecEx, greatest_u32, padded, riff_tag, wave_tag, data_tag}
+use Rattle.hound_spec.specs.declared.spec.WavSpecEx.{WavSpecEx}
 use Rattle.hound_reader.specs.declared.cause.Cause.{Cause}
 use Rattle.hound_number.specs.{number}
-use Rattle.hound_reader.specs.Chunks.{Chunk, IsChunk, chunk_bytes, Chunks, joined, last_spec, Walk, Head, Refused, front_fault, content_fault, chunk_fault}
+use Rattle.hound_reader.specs.Grammar.{Chunk, IsChunk, chunk_bytes, Chunks, joined, last_spec, Walk, Head, Refused, front_fault, content_fault, chunk_fault}
+use Rattle.hound_spec.specs.{greatest_u32, padded, riff_tag, wave_tag, data_tag}
 
 -- fronts of one length
 same_front : (a b x y : List ℕ) → length a ≡ length b → a ++ x ≡ b ++ y → (a ≡ b) × (x ≡ y)

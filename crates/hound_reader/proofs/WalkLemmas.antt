@@ -3,14 +3,15 @@ use Rattle.std.proofs.Common.{◌≡◌, ℕ, ◌+◌, ◌≤◌, Bool, true, fa
 use Rattle.std.specs.Str.{bytes_eq}
 use Rattle.std.proofs.lemmas.Slice.Eq.{bytes_eq-Decides}
 use Rattle.std.proofs.lemmas.List.{take-append-drop}
-use Rattle.hound_spec.specs.{WavSpecEx, greatest_u32, padded, riff_tag, wave_tag, data_tag}
+use Rattle.hound_spec.specs.declared.spec.WavSpecEx.{WavSpecEx}
 use Rattle.hound_reader.specs.declared.cause.Cause.TheVariants.{Format}
 use Rattle.hound_reader.specs.declared.cause.Reason.TheVariants.{NoRiffTag}
 use Rattle.hound_reader.specs.declared.chunks.ChunkRead.{ChunkRead}
 use Rattle.hound_reader.specs.declared.chunks.ChunkRead.TheVariants.{Data, Other}
 use Rattle.hound_number.specs.{number}
-use Rattle.hound_reader.specs.Chunks.{Chunk, IsChunk, chunk_bytes, Chunks, joined, last_spec, Head, spec_after, front_fault}
-use Rattle.hound_reader.specs.Walk.{ReadsChunk, ReadsContent, Walked, ReachesData}
+use Rattle.hound_reader.specs.Grammar.{Chunk, IsChunk, chunk_bytes, Chunks, joined, last_spec, Head, spec_after, front_fault}
+use Rattle.hound_spec.specs.{greatest_u32, padded, riff_tag, wave_tag, data_tag}
+use Rattle.hound_reader.specs.Walking.{ReadsChunk, ReadsContent, Walked, ReachesData}
 
 -- what a test of the code shows
 pub tag_test : (r b : Bool) (tag now lit : List ℕ) → r ≡ bytes_eq tag now → now ≡ lit → r ≡ b

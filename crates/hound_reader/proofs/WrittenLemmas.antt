@@ -6,12 +6,15 @@ use Rattle.std.proofs.lemmas.Bool.{ne_eqb, cases_Bool, and_parts}
 use Rattle.std.proofs.lemmas.Bool.Decides.{nat_tests}
 use Rattle.std.specs.List.{concat, AllByRecursion}
 use Rattle.hound_number.specs.{number, bytes_of}
-use Rattle.hound_spec.specs.{SampleFormat, Int, Float, WavSpecEx, IsPair, IsWritable, riff_tag, wave_tag, fmt_tag, data_tag, is_short, mask, fields, short_fmt, long_fmt, sized_fmt, header, data_start, riff_size, padding, canonical, FieldsFit, fmt_bytes, fmt_fields, Extension, extension_bytes, subformat, pcm, extensible, greatest_u16, greatest_u32}
+use Rattle.hound_spec.specs.declared.spec.SampleFormat.{SampleFormat}
+use Rattle.hound_spec.specs.declared.spec.SampleFormat.TheVariants.{Int, Float}
+use Rattle.hound_spec.specs.declared.spec.WavSpecEx.{WavSpecEx}
+use Rattle.hound_spec.specs.{IsPair, IsWritable, riff_tag, wave_tag, fmt_tag, data_tag, is_short, mask, fields, short_fmt, long_fmt, sized_fmt, header, data_start, riff_size, padding, canonical, FieldsFit, fmt_bytes, fmt_fields, Extension, extension_bytes, subformat, pcm, extensible, greatest_u16, greatest_u32}
 use Rattle.hound_spec.proofs.FmtLemmas.{number-bytes_of, fields_written}
 use Rattle.hound_spec.proofs.WritableLemmas.{PairFacts, pair_facts}
 use Rattle.hound_spec.proofs.HeaderLemmas.{sized_fmt-short, sized_fmt-long, length-long_fmt, length-header}
 use Rattle.hound_reader.specs.Fmt.{wave_format, by_tag, wave_format_pcm, wave_format_extensible, fmt_said, fmt_of}
-use Rattle.hound_reader.specs.Chunks.{Chunk, spec_after, Head, Readable, joined, fault_of, ok_of, AreContainers}
+use Rattle.hound_reader.specs.Grammar.{Chunk, spec_after, Head, Readable, joined, fault_of, ok_of, AreContainers}
 use Rattle.hound_sample.specs.{containers}
 
 times-over : (c w : ℕ) → 0 < c → c * w / c ≡ w

@@ -2,10 +2,13 @@
 use Rattle.std.specs.Prelude.{ℕ, ◌<◌, ◌≤◌, ◌-◌, ◌*◌, ◌/◌, ◌%◌, not, ◌||◌, min, List, length, take, drop, Result, Ok, Err, nat_lt, ◌==◌, if◌then◌else◌}
 use Rattle.std.specs.Str.{bytes_eq}
 use Rattle.hound_number.specs.{number}
-use Rattle.hound_spec.specs.{FmtFields, fmt_fields, Extension, extension, extension_size, subformat, pcm, ieee_float, extensible, greatest_u16, greatest_u32, SampleFormat, Int, Float, WavSpecEx}
+use Rattle.hound_spec.specs.{FmtFields, fmt_fields, Extension, extension, extension_size, subformat, pcm, ieee_float, extensible, greatest_u16, greatest_u32}
 use Rattle.hound_reader.specs.declared.cause.Cause.{Cause}
 use Rattle.hound_reader.specs.declared.cause.Cause.TheVariants.{Ended, Format, Unsupported}
 use Rattle.hound_reader.specs.declared.cause.Reason.TheVariants.{FmtSize, UnexpectedFmtSize, ZeroChannels, BitsExceedWidth, Inconsistent, BitsNotWholeBytes, ZeroBits, BitsNot8Or16, ExSize, BitsNot32, ExtensibleSize}
+use Rattle.hound_spec.specs.declared.spec.SampleFormat.{SampleFormat}
+use Rattle.hound_spec.specs.declared.spec.SampleFormat.TheVariants.{Int, Float}
+use Rattle.hound_spec.specs.declared.spec.WavSpecEx.{WavSpecEx}
 
 -- f applied to an Ok; an Err stays
 infixl 10 ◌>>=◌

@@ -1,21 +1,15 @@
 -- The words of this crate, for those above it. The file is made by `scripts/make_words`.
 pub use Rattle.hound_reader.specs.Fmt.{IsSoundSpec, by_subformat, by_tag, fmt_len, fmt_of, fmt_said, spec_of, wave_format, wave_format_extensible, wave_format_ieee_float, wave_format_pcm, width_of, with_format, with_valid_bits}
-pub use Rattle.hound_reader.specs.Chunks.{Answer, Answers, AnswersFile, AreContainers, Chunk, Chunks, HasOneAnswer, HasOneFileAnswer, Head, IsChunk, IsDataPlace, Readable, Refused, ReportsAnswer, Unreadable, Walk, chunk_bytes, chunk_fault, content_fault, cut_fault, data_fault, fault_of, first_fault, fmt_fault, front_fault, joined, last_spec, ok_of, readable, spec_after, unreadable}
-pub use Rattle.hound_reader.specs.Walk.{Advances, CountsFailed, Gives, IsSoundChunk, IsSoundOption, MeetsFault, MeetsFaultAfter, ReachesData, ReadsChunk, ReadsContent, ReadsFmt, RefusedAfter, Refuses, RefusesFront, ReportsFront, TakesAll, TakesFor, TakesFront, TakesLess, UnlessReadFailed, UnreadableAfter, Walked, chunk_taken, content_taken, front_taken}
+pub use Rattle.hound_reader.specs.Grammar.{Answer, Answers, AnswersFile, AreContainers, Chunk, Chunks, HasOneAnswer, HasOneFileAnswer, Head, IsChunk, IsDataPlace, Readable, Refused, ReportsAnswer, Unreadable, Walk, chunk_bytes, chunk_fault, content_fault, cut_fault, data_fault, fault_of, first_fault, fmt_fault, front_fault, joined, last_spec, ok_of, readable, spec_after, unreadable}
+pub use Rattle.hound_reader.specs.Walking.{Advances, CountsFailed, Gives, IsSoundChunk, IsSoundOption, MeetsFault, MeetsFaultAfter, ReachesData, ReadsChunk, ReadsContent, ReadsFmt, RefusedAfter, Refuses, RefusesFront, ReportsFront, TakesAll, TakesFor, TakesFront, TakesLess, UnlessReadFailed, UnreadableAfter, Walked, chunk_taken, content_taken, front_taken}
 pub use Rattle.hound_reader.specs.Reader.{AnswersNext, AnswersRead, AnswersReadMany, AreItems, AreTaken, CountsTaken, GivesItem, GivesItems, GivesItemsOfBytes, HasGiven, HasGiven-prop, HasSoundCounts, HasWholeFrames, IsNext, ReaderState, ReadsBlock, TookBytes, meaning_at, over_bytes, refusal_at, requested, samples_left, taken_without}
 pub use Rattle.hound_reader.specs.Refusals.{FailsAs, IsRefusal, Names, OpensAs, ReportsError, reason_text}
 pub use Rattle.hound_reader.specs.Samples.{LendsNext, TakesNext, lender, lent_reader, taken_reader}
 pub use Rattle.hound_reader.specs.Sources.{AnswersBytes, FindsData, Untouched, account_of, faults_after_walk, unread}
 pub use Rattle.hound_reader.specs.Seeking.{Follows, HasSought, IsAtCount, IsMeaningOf, PassesItem, ReadsInPlace, Recounts, Seeks, StandsAsCounted, bytes_before, container_at, count_after, samples_before, way_to}
-pub use Rattle.hound_reader.specs.declared.cause.Cause.{Cause}
-pub use Rattle.hound_reader.specs.declared.cause.Cause.TheVariants.{Ended, Format, Unsupported}
-pub use Rattle.hound_reader.specs.declared.cause.HeadError.{HeadError}
-pub use Rattle.hound_reader.specs.declared.cause.Reason.{Reason}
-pub use Rattle.hound_reader.specs.declared.cause.Reason.TheVariants.{NoRiffTag, NoWaveTag, NoDataChunk, NoFmtChunk, FmtSize, UnexpectedFmtSize, ZeroChannels, BitsExceedWidth, Inconsistent, BitsNotWholeBytes, ZeroBits, BitsNot8Or16, ExSize, BitsNot32, ExtensibleSize, DataLength, FrameLength}
-pub use Rattle.hound_reader.specs.declared.chunks.FileHead.{FileHead}
 pub mod Fmt
-pub mod Chunks
-pub mod Walk
+pub mod Grammar
+pub mod Walking
 pub mod Reader
 pub mod Refusals
 pub mod Samples

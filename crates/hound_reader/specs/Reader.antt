@@ -1,10 +1,16 @@
 -- A reader at its samples: its items, blocks of them, and how many bytes it gave.
 use Rattle.std.specs.Prelude.{◌≡◌, ℕ, ◌+◌, ◌-◌, ◌*◌, ◌%◌, ◌<◌, ◌≤◌, List, length, drop, Option, Some, None, IsSome, Result, Ok, Err, [], ◌∷◌, take, ⊤, min, OnOk, OnErr, ◌^◌}
 use Rattle.hound_number.specs.{WhereKnown}
-use Rattle.hound_spec.specs.{Error, IoError, SampleFormat, WavSpecEx, greatest_u32}
-use Rattle.hound_sample.specs.{ReadRefusal, Reads, error_of_read, ReadsItem, error_of_item, ReadsEach, items_of, answer_of, ItemError, Failed}
+use Rattle.hound_spec.specs.declared.error.Error.{Error}
+use Rattle.hound_spec.specs.declared.error.Error.TheVariants.{IoError}
+use Rattle.hound_spec.specs.declared.spec.SampleFormat.{SampleFormat}
+use Rattle.hound_spec.specs.declared.spec.WavSpecEx.{WavSpecEx}
+use Rattle.hound_sample.specs.{ReadRefusal, Reads, error_of_read, ReadsItem, error_of_item, ReadsEach, items_of, answer_of}
 use Rattle.hound_reader.specs.Fmt.{IsSoundSpec}
+use Rattle.hound_spec.specs.{greatest_u32}
 use Rattle.std.specs.declared.io.Error.{Error as IoFault}
+use Rattle.hound_sample.specs.declared.item.ItemError.{ItemError}
+use Rattle.hound_sample.specs.declared.item.ItemError.TheVariants.{Failed}
 use Rattle.std.proofs.Props.{props}
 use Rattle.std.specs.Coded.{Unit-prop}
 

@@ -1,7 +1,8 @@
 -- What contracts see of the iterators over samples.
 use Rattle.std.specs.Prelude.{◌≡◌, ℕ, List, Option, Result}
 use Rattle.std.specs.Borrow.{GName}
-use Rattle.hound_spec.specs.{Error, SampleFormat}
+use Rattle.hound_spec.specs.declared.error.Error.{Error}
+use Rattle.hound_spec.specs.declared.spec.SampleFormat.{SampleFormat}
 use Rattle.hound_sample.specs.{ReadRefusal}
 use Rattle.hound_reader.specs.Reader.{ReaderState, IsNext}
 use Rattle.hound_reader.specs.declared.samples.WavSamples.{WavSamples}

@@ -1,6 +1,8 @@
 -- What `seek` does.
 use Rattle.std.specs.Prelude.{◌≡◌, ℕ, ℤ, pos, ◌+◌, ◌-◌, ◌-ℤ◌, ◌*◌, List, [], ◌∷◌, length, take, drop, ⊤, Option, None, Some, Result, Ok, Err}
-use Rattle.hound_spec.specs.{Error, IoError, WavSpecEx}
+use Rattle.hound_spec.specs.declared.error.Error.{Error}
+use Rattle.hound_spec.specs.declared.error.Error.TheVariants.{IoError}
+use Rattle.hound_spec.specs.declared.spec.WavSpecEx.{WavSpecEx}
 use Rattle.std.specs.declared.io.Error.{Error as IoFault}
 use Rattle.hound_medium.specs.{MediumState, Shifts}
 use Rattle.hound_reader.specs.Reader.{ReaderState, CountsTaken}

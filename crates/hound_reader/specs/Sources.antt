@@ -2,7 +2,7 @@
 use Rattle.std.specs.Prelude.{◌≡◌, ℕ, List, drop, ⊤, Result, Ok, Err}
 use Rattle.hound_number.specs.{Account}
 use Rattle.hound_medium.specs.{MediumState, one_more}
-use Rattle.hound_reader.specs.Chunks.{Head, Refused as Refused'}
+use Rattle.hound_reader.specs.Grammar.{Head, Refused as Refused'}
 use Rattle.hound_reader.specs.declared.chunks.FileHead.{FileHead}
 use Rattle.hound_reader.specs.declared.cause.HeadError.{HeadError}
 use Rattle.hound_reader.specs.declared.cause.HeadError.TheVariants.{Failed, Refused}

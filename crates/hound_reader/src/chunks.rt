@@ -4,9 +4,9 @@ ghost use Rattle.std.specs.Prelude.{◌≡◌, ℕ, ◌+◌, ◌++◌, ◌<◌, 
 ghost use Rattle.std.specs.Io.KnownBytes.{Consumes};
 ghost use Rattle.hound_number.specs.{WhereKnown, number};
 ghost use Rattle.hound_spec.specs.{fmt_fields, greatest_u32, padded, riff_tag, wave_tag};
-ghost use Rattle.hound_reader.specs.Walk.{CountsFailed, Refuses, UnlessReadFailed, TakesFront, MeetsFaultAfter, RefusedAfter, TakesAll, TakesFor, chunk_taken, content_taken, ReadsChunk, ReadsContent, ReadsFmt, Advances, ReachesData, MeetsFault, IsSoundOption, IsSoundChunk};
+ghost use Rattle.hound_reader.specs.Walking.{CountsFailed, Refuses, UnlessReadFailed, TakesFront, MeetsFaultAfter, RefusedAfter, TakesAll, TakesFor, chunk_taken, content_taken, ReadsChunk, ReadsContent, ReadsFmt, Advances, ReachesData, MeetsFault, IsSoundOption, IsSoundChunk};
 ghost use Rattle.hound_reader.specs.Fmt.{fmt_of, IsSoundSpec};
-ghost use Rattle.hound_reader.specs.Chunks.{Head, IsDataPlace, Refused, fault_of, first_fault, cut_fault, front_fault, content_fault, chunk_fault, Answer, Answers, ReportsAnswer};
+ghost use Rattle.hound_reader.specs.Grammar.{Head, IsDataPlace, Refused, fault_of, first_fault, cut_fault, front_fault, content_fault, chunk_fault, Answer, Answers, ReportsAnswer};
 ghost use Rattle.hound_reader.specs.Sources.{FindsData, unread};
 
 use crate::cause::{Cause, HeadError, Reason};
@@ -82,7 +82,7 @@ fn skip_some<R: Input>(reader: &mut R, count: u32) -> Result<(), HeadError>
 }
 
 /// Takes RIFF, a size and WAVE, and returns the size, which isn't checked.
-#[tactic(auto, unfolding(crate::specs::Chunks::front_fault))]
+#[tactic(auto, unfolding(crate::specs::Grammar::front_fault))]
 pub(crate) fn read_riff_header<R: Input>(reader: &mut R) -> Result<u32, HeadError>
     ensures failures { CountsFailed (R.account reader.old) (R.account reader.new) result }
     ensures ok { IfOk result (λ n. WhereKnown (R.left reader.old) (R.left reader.new) (λ xs ys.
@@ -136,7 +136,7 @@ fn read_fmt_content<R: Input>(
 }
 
 // Takes the content of a chunk, after the eight bytes of its header.
-#[tactic(auto, unfolding(crate::specs::Chunks::content_fault))]
+#[tactic(auto, unfolding(crate::specs::Grammar::content_fault))]
 fn read_content<R: Input>(
     reader: &mut R,
     tag: &[u8],
@@ -177,7 +177,7 @@ fn read_content<R: Input>(
 }
 
 // Takes one chunk, or the tag and length of the data chunk.
-#[tactic(auto, unfolding(crate::specs::Chunks::chunk_fault))]
+#[tactic(auto, unfolding(crate::specs::Grammar::chunk_fault))]
 fn read_next_chunk<R: Input>(
     reader: &mut R,
     found: Option<WavSpecEx>,

@@ -2,7 +2,7 @@
 ghost use Rattle.std.specs.Prelude.{◌≡◌, ◌⊎◌, ⊤, IfOk, IfErr};
 ghost use Rattle.hound_reader.specs.Reader.{HasWholeFrames};
 ghost use Rattle.hound_reader.specs.Refusals.{IsRefusal};
-ghost use Rattle.hound_spec.specs.{OutOfMemory};
+ghost use Rattle.hound_spec.specs.declared.error.Error.TheVariants.{OutOfMemory};
 
 use crate::WavReader;
 use hound_spec::{Error, Result};

@@ -1,7 +1,7 @@
 // The content of a fmt chunk.
 ghost use Rattle.std.specs.Prelude.{◌≡◌, ℕ, ◌+◌, ◌-◌, ◌≤◌, length, take, IfOk, IfErr};
 ghost use Rattle.hound_spec.specs.{fmt_fields, extension, pcm, ieee_float, extensible};
-ghost use Rattle.hound_reader.specs.Walk.{Gives, CountsFailed, Refuses, TakesFor, content_taken};
+ghost use Rattle.hound_reader.specs.Walking.{Gives, CountsFailed, Refuses, TakesFor, content_taken};
 ghost use Rattle.hound_reader.specs.Fmt.{wave_format, wave_format_pcm, wave_format_ieee_float, wave_format_extensible, by_subformat, by_tag, fmt_len, fmt_of, IsSoundSpec};
 
 use crate::cause::{Cause, HeadError, Reason};

@@ -2,7 +2,7 @@
 ghost use Rattle.std.specs.Prelude.{◌≡◌, ℕ, ◌<◌, List, [], length, if◌then◌else◌, None, Some, OnOk, OnErr, IfErr};
 ghost use Rattle.std.specs.Io.KnownBytes.{Consumes};
 ghost use Rattle.hound_number.specs.{WhereKnown};
-ghost use Rattle.hound_reader.specs.Walk.{Refuses, CountsFailed};
+ghost use Rattle.hound_reader.specs.Walking.{Refuses, CountsFailed};
 ghost use Rattle.hound_reader.specs.Sources.{Untouched, account_of, unread};
 
 use crate::cause::{Cause, HeadError};

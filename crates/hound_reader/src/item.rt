@@ -1,10 +1,11 @@
 // Items: a reader that saves its last fault, and one that counts the bytes that it gives.
 ghost use Rattle.std.specs.Prelude.{◌≡◌, ◌<◌, ◌≤◌, List, Option, Result, ℕ, None, IsSome, length, take};
-ghost use Rattle.hound_sample.specs.{FillsFront, error_of_item, ItemError};
+ghost use Rattle.hound_sample.specs.{FillsFront, error_of_item};
+ghost use Rattle.hound_sample.specs.declared.item.ItemError.{ItemError};
 ghost use Rattle.hound_reader.specs.Reader.{AnswersReadMany, refusal_at, AnswersRead, taken_without, HasGiven, HasGiven-prop};
 ghost use Rattle.std.specs.Borrow.{GName};
 ghost use Rattle.std.specs.Io.KnownBytes.{Consumes, IsAtEnd, Keeps};
-ghost use Rattle.hound_spec.specs.{WavSpecEx};
+ghost use Rattle.hound_spec.specs.declared.spec.WavSpecEx.{WavSpecEx};
 
 use hound_number::early_end;
 use hound_sample::{ContainerReader, ItemError, Sample, reason_of};

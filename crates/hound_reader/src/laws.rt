@@ -1,12 +1,14 @@
 // What holds for all bytes, all files that are written, and all readers.
 ghost use Rattle.hound_medium.specs.{WhereTells};
 ghost use Rattle.std.specs.Prelude.{◌≡◌, ℕ, ◌+◌, ◌*◌, ◌/◌, List, length, map, drop, ◌++◌, ◌<◌, ◌≤◌, IsTrue, IsSome, Option, None, Some, Ok, Result, IfSome};
-ghost use Rattle.hound_spec.specs.{IsWritable, header, data_start, canonical, greatest_u32, WavSpecEx, Error};
-ghost use Rattle.hound_reader.specs.Chunks.{HasOneAnswer, HasOneFileAnswer, Head, Readable, AreContainers};
+ghost use Rattle.hound_spec.specs.{IsWritable, header, data_start, canonical, greatest_u32};
+ghost use Rattle.hound_spec.specs.declared.spec.WavSpecEx.{WavSpecEx};
+ghost use Rattle.hound_reader.specs.Grammar.{HasOneAnswer, HasOneFileAnswer, Head, Readable, AreContainers};
 ghost use Rattle.hound_reader.specs.Reader.{GivesItemsOfBytes, ReadsBlock, over_bytes, AreItems, GivesItems, ReaderState, IsNext, refusal_at, meaning_at, samples_left};
 ghost use Rattle.hound_sample.specs.{containers};
 ghost use Rattle.hound_reader.specs.Seeking.{HasSought, Seeks, StandsAsCounted, IsAtCount, ReadsInPlace, PassesItem, Follows, IsMeaningOf, container_at, samples_before, bytes_before};
 ghost use Rattle.hound_reader.specs.Sources.{unread};
+ghost use Rattle.hound_spec.specs.declared.error.Error.{Error};
 
 use hound_medium::Source;
 use hound_sample::Sample;

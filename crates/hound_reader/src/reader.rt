@@ -1,10 +1,11 @@
 // Readers of files.
 ghost use Rattle.std.specs.Prelude.{◌≡◌, ℕ, ◌+◌, ◌*◌, ◌/◌, ◌%◌, ◌++◌, ⊤, List, length, drop, Some, IsTrue, IfOk, IfErr, IfSome, MatchResult};
 ghost use Rattle.hound_number.specs.{WhereKnown, number};
-ghost use Rattle.hound_spec.specs.{riff_tag, wave_tag, WavSpecEx};
-ghost use Rattle.hound_reader.specs.Walk.{CountsFailed, Refuses, ReportsFront, TakesAll, UnreadableAfter};
+ghost use Rattle.hound_spec.specs.{riff_tag, wave_tag};
+ghost use Rattle.hound_spec.specs.declared.spec.WavSpecEx.{WavSpecEx};
+ghost use Rattle.hound_reader.specs.Walking.{CountsFailed, Refuses, ReportsFront, TakesAll, UnreadableAfter};
 ghost use Rattle.hound_reader.specs.Fmt.{IsSoundSpec};
-ghost use Rattle.hound_reader.specs.Chunks.{Readable, Unreadable};
+ghost use Rattle.hound_reader.specs.Grammar.{Readable, Unreadable};
 ghost use Rattle.hound_reader.specs.declared.cause.Cause.{Cause};
 ghost use Rattle.hound_reader.specs.Refusals.{IsRefusal, OpensAs, FailsAs};
 ghost use Rattle.hound_medium.specs.{Shifts, WhereTells};

@@ -6,7 +6,8 @@ use Rattle.std.proofs.lemmas.Bool.{cases_lt}
 use Rattle.std.proofs.lemmas.List.{take-take, take-append-le, drop-append-le, length-take-le, take_all}
 use Rattle.std.proofs.lemmas.Nat.{div-add-mod', mul-le}
 use Rattle.std.proofs.Math.Nat.{div-mul-le_self, le-div_iff_mul-le, mul_assoc}
-use Rattle.hound_spec.specs.{WavSpecEx, riff_size, Error}
+use Rattle.hound_spec.specs.declared.spec.WavSpecEx.{WavSpecEx}
+use Rattle.hound_spec.specs.{riff_size}
 use Rattle.hound_medium.specs.{MediumState, one_more}
 use Rattle.hound_sample.specs.{containers}
 use Rattle.hound_reader.specs.{Head, IsSoundSpec}
@@ -16,6 +17,7 @@ use Rattle.hound_sample.proofs.Containers.{containers_front}
 use Rattle.hound_writer.proofs.Heads.{head_behind, head_inside}
 use Rattle.hound_writer.specs.{with_sizes, IsStored, IsIoError, AppendFault, NamesFault, PutsNothing}
 use Rattle.hound_repair.specs.Held.{data_held, ends_with_pad, frame_length, held, missing_pad}
+use Rattle.hound_spec.specs.declared.error.Error.{Error}
 use Rattle.hound_repair.specs.Repairing.{IsNoPad, IsNotRepaired, IsRepairFault, LeavesFor, LeavesHalf, ReadsFrames, Repairs, found_length, repair_fault}
 use Rattle.hound_repair.specs.declared.sizes.Repair.{Repair}
 use Rattle.hound_repair.specs.declared.sizes.RepairState.{RepairState}

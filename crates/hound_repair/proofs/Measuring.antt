@@ -3,12 +3,17 @@ use Rattle.std.proofs.Common.{◌≡◌, ℕ, ◌+◌, ◌*◌, ◌/◌, ◌≤�
 use Rattle.std.proofs.lemmas.Bool.Decides.{nat_tests}
 use Rattle.std.proofs.lemmas.Bool.{cases_lt}
 use Rattle.std.proofs.Math.Nat.{lt-div-mul-add, le-mul_of_pos_right}
-use Rattle.hound_spec.specs.{Error, WavSpecEx, greatest_u32, riff_size, is_pair}
+use Rattle.hound_spec.specs.declared.error.Error.{Error}
 use Rattle.hound_spec.specs.declared.error.Error.TheVariants as errors
+use Rattle.hound_spec.specs.declared.spec.WavSpecEx.{WavSpecEx}
+use Rattle.hound_spec.specs.{greatest_u32, riff_size, is_pair}
 use Rattle.hound_medium.specs.{MediumState}
-use Rattle.hound_reader.specs.{HeadError, Unsupported, IsSoundSpec, ReportsError, FindsData, FileHead}
+use Rattle.hound_reader.specs.declared.cause.HeadError.{HeadError}
+use Rattle.hound_reader.specs.declared.cause.Cause.TheVariants.{Unsupported}
+use Rattle.hound_reader.specs.{IsSoundSpec, ReportsError, FindsData}
 use Rattle.hound_writer.specs.{AppendFault, by_bytes, too_long, FailsCheck, NamesFault}
 use Rattle.hound_writer.proofs.Appending.{no_head, walk_puts_nothing}
+use Rattle.hound_reader.specs.declared.chunks.FileHead.{FileHead}
 use Rattle.hound_repair.specs.Damages.{IsNotMeasured}
 use Rattle.hound_repair.specs.Held.{data_held, ends_with_pad, frame_length, right_length}
 use Rattle.hound_repair.specs.Repairing.{IsNotFound, IsRepairFault, repair_fault, size_fault}

@@ -5,7 +5,8 @@ use Rattle.std.proofs.lemmas.List.{take-append-le}
 use Rattle.std.proofs.lemmas.Nat.{div-add-mod', div-mul-add}
 use Rattle.hound_number.specs.{bytes_of, mix, number}
 use Rattle.hound_spec.proofs.FmtLemmas.{number-bytes_of}
-use Rattle.hound_spec.specs.{WavSpecEx, greatest_u32, riff_size}
+use Rattle.hound_spec.specs.declared.spec.WavSpecEx.{WavSpecEx}
+use Rattle.hound_spec.specs.{greatest_u32, riff_size}
 use Rattle.hound_medium.specs.{MediumState}
 use Rattle.hound_reader.specs.{Head}
 use Rattle.hound_reader.proofs.Unique.{heads_agree}

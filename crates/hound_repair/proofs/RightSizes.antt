@@ -5,9 +5,12 @@ use Rattle.std.proofs.lemmas.List.{take-append-le, drop-append-le}
 use Rattle.std.proofs.lemmas.Nat.{div-mul-add, mod-mul-add}
 use Rattle.std.proofs.Math.Nat.{mul_assoc}
 use Rattle.hound_number.specs.{bytes_of, number}
-use Rattle.hound_spec.specs.{WavSpecEx, greatest_u32, riff_size, is_pair}
+use Rattle.hound_spec.specs.declared.spec.WavSpecEx.{WavSpecEx}
+use Rattle.hound_spec.specs.{greatest_u32, riff_size, is_pair}
 use Rattle.hound_medium.specs.{placed, overlay}
-use Rattle.hound_reader.specs.{Format, Unsupported, DataLength, FrameLength, Head, Readable, data_fault, IsSoundSpec}
+use Rattle.hound_reader.specs.declared.cause.Cause.TheVariants.{Format, Unsupported}
+use Rattle.hound_reader.specs.declared.cause.Reason.TheVariants.{DataLength, FrameLength}
+use Rattle.hound_reader.specs.{Head, Readable, data_fault, IsSoundSpec}
 use Rattle.hound_writer.specs.{by_bytes, too_long, SameButSizes, field, with_sizes}
 use Rattle.hound_writer.proofs.Heads.{head_behind, head_field, head_inside, head_with}
 use Rattle.hound_writer.proofs.Patching.{data_length_of_sizes, riff_size_of_sizes, sizes_put}

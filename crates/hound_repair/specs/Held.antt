@@ -1,7 +1,8 @@
 -- What a file holds after the header of its data, whatever its sizes say, the sizes that it should have,
 -- and what follows the data.
 use Rattle.std.specs.Prelude.{ℕ, ◌+◌, ◌-◌, ◌*◌, ◌/◌, ◌%◌, Bool, ◌==◌, ◌&&◌, List, [], ◌++◌, length, drop, if◌then◌else◌, zero, suc, true, false, ◌||◌, ◌∷◌, Option, None, Some, take, slice_index, slice_range, nat_le, nat_lt, bytes_eq, codes}
-use Rattle.hound_spec.specs.{WavSpecEx, riff_size, padding, padded}
+use Rattle.hound_spec.specs.declared.spec.WavSpecEx.{WavSpecEx}
+use Rattle.hound_spec.specs.{riff_size, padding, padded}
 use Rattle.hound_writer.specs.{with_sizes}
 use Rattle.std.specs.List.{list_any}
 use Rattle.hound_number.specs.{number}

@@ -3,7 +3,8 @@ ghost use Rattle.std.specs.Prelude.{◌≡◌, ◌≤◌, ℕ, Bool, IsTrue, Lis
 ghost use Rattle.std.specs.List.{concat, AllByRecursion};
 ghost use Rattle.hound_medium.specs.{MediumState};
 ghost use Rattle.hound_reader.specs.{Head, IsSoundSpec};
-ghost use Rattle.hound_spec.specs.{Error, WavSpecEx};
+ghost use Rattle.hound_spec.specs.declared.error.Error.{Error};
+ghost use Rattle.hound_spec.specs.declared.spec.WavSpecEx.{WavSpecEx};
 ghost use Rattle.hound_writer.specs.{IsIoError, IsStored};
 ghost use Rattle.hound_repair.specs.Held.{frame_length, held};
 ghost use Rattle.hound_repair.specs.Repairing.{HalfMended, IsFoundAt, IsNoPad, IsNotRepaired, ReadsFrames, Repairs, found_length, repair_fault};

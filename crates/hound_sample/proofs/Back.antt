@@ -5,10 +5,10 @@ use Rattle.hound_number.specs.{number, bytes_of, signed_of, signed_number, signe
 use Rattle.hound_number.proofs.Mixing.{length-bytes_of}
 use Rattle.hound_spec.proofs.FmtLemmas.{number-bytes_of}
 use Rattle.hound_spec.proofs.WritableLemmas.{of_pair}
-use Rattle.hound_spec.specs.{Int}
+use Rattle.hound_spec.specs.declared.spec.SampleFormat.TheVariants.{Int}
 use Rattle.hound_sample.specs.Container.{fits, int_bytes, int_container, offset_byte}
 use Rattle.hound_sample.specs.ContainerLaws.{contained}
-use Rattle.hound_sample.specs.Reads.{int_meaning, int_refusal, low_short}
+use Rattle.hound_sample.specs.Reading.{int_meaning, int_refusal, low_short}
 
 -- a number below half of the range is itself
 signed_of-pos : (k n : ℕ) → 2 * n < 256 ^ k → signed_of k n ≡ pos n

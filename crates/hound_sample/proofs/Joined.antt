@@ -4,7 +4,7 @@ use Rattle.std.proofs.lemmas.List.{take_more, drop_at, take_at, append-nil, leng
 use Rattle.std.proofs.lemmas.Grind.{flat_map-append}
 use Rattle.std.proofs.Math.Bool.{and_assoc}
 use Rattle.std.specs.List.{concat}
-use Rattle.hound_spec.specs.{Error}
+use Rattle.hound_spec.specs.declared.error.Error.{Error}
 use Rattle.hound_sample.specs.Container.{Refusal, containers, IsEncoded, error_of, all_containers, and_more, bytes_in, first_error, joined_containers}
 
 -- there is a list if both results are Ok

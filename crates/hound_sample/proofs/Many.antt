@@ -5,9 +5,10 @@ use Rattle.std.proofs.lemmas.Slice.{take-put_mid}
 use Rattle.std.specs.Io.KnownBytes.{Consumes}
 use borrow.Rule.Slice.PartMut.{put_mid}
 use Rattle.std.specs.declared.io.Error.{Error as IoFault}
-use Rattle.hound_spec.specs.{Error, IoError}
+use Rattle.hound_spec.specs.declared.error.Error.{Error}
+use Rattle.hound_spec.specs.declared.error.Error.TheVariants.{IoError}
 use Rattle.hound_sample.specs.Container.{containers}
-use Rattle.hound_sample.specs.Reads.{ReadRefusal, ReadsEach, Reads}
+use Rattle.hound_sample.specs.Reading.{ReadRefusal, ReadsEach, Reads}
 use Rattle.hound_sample.proofs.Containers.{containers_front, length-containers}
 use Rattle.hound_sample.proofs.Reading.{takes_container, takes_part}
 

@@ -3,7 +3,7 @@ use Rattle.std.proofs.Common.{◌≡◌, ℕ, ◌<◌, List, length, refl, sym, 
 use Rattle.std.specs.Io.KnownBytes.{Consumes}
 use Rattle.hound_number.specs.{WhereKnown}
 use Rattle.hound_number.proofs.KnownSteps.{known_from}
-use Rattle.hound_sample.specs.Reads.{TakesContainer, TakesPart}
+use Rattle.hound_sample.specs.Reading.{TakesContainer, TakesPart}
 
 pub takes_container : {A : Type 0} (bytes : List ℕ) (old new : Option (List ℕ)) (width : ℕ)
     (meaning : List ℕ → A) (value : A) → Consumes old new bytes → length bytes ≡ width

@@ -2,8 +2,11 @@
 -- what the calls that make it return; and those of many samples.
 use Rattle.std.specs.Prelude.{ℕ, zero, suc, ℤ, pos, negsuc, ◌+◌, ◌-◌, ◌/◌, ◌^◌, Bool, ◌==◌, nat_lt, if◌then◌else◌, List, [], ◌∷◌, ◌++◌, take, drop, replicate, Result, Ok, Err, ◌≡◌, ◌<◌, length, Option}
 use Rattle.hound_number.specs.{bytes_of, signed_bytes_of}
-use Rattle.hound_spec.specs.{is_pair, Int, Float, Error, IoError, TooWide, Unsupported}
+use Rattle.hound_spec.specs.{is_pair}
+use Rattle.hound_spec.specs.declared.spec.SampleFormat.TheVariants.{Int, Float}
 use Rattle.std.specs.Io.KnownBytes.{Appends}
+use Rattle.hound_spec.specs.declared.error.Error.{Error}
+use Rattle.hound_spec.specs.declared.error.Error.TheVariants.{IoError, TooWide, Unsupported}
 use Rattle.std.specs.List.{flat_map}
 
 -- why a value has no container: it needs more bits, or its type is not written with these bits and

@@ -2,8 +2,9 @@
 use Rattle.std.proofs.Common.{◌≡◌, ℕ, ℤ, pos, negsuc, ◌≤◌, Bool, true, false, cond, List, length, Result, Ok, Err, IsTrue, refl, ◌∙◌, ap, lit≤}
 use Rattle.std.specs.List.{AllByRecursion}
 use Rattle.hound_number.specs.{bytes_of}
-use Rattle.hound_spec.specs.{IsPair, is_pair, pairs, Int, Float}
+use Rattle.hound_spec.specs.{IsPair, is_pair, pairs}
 use Rattle.hound_spec.proofs.WritableLemmas.{of_pair}
+use Rattle.hound_spec.specs.declared.spec.SampleFormat.TheVariants.{Int, Float}
 use Rattle.hound_sample.specs.Container.{Refusal, too_wide, unsupported, fits, int_bytes, int_container, pattern_container, offset_byte}
 
 -- one to four bytes, as many as the width says

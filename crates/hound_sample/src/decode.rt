@@ -3,8 +3,8 @@
 ghost use Rattle.std.specs.Prelude.{◌≡◌, ◌≤◌, ◌<◌, ◌*◌, ℕ, List, length, map, take, Option, None, Ok, Err, IsOk, OnErr, OnOk};
 ghost use Rattle.std.specs.Io.KnownBytes.{Consumes};
 ghost use Rattle.hound_sample.specs.Container.{containers};
-ghost use Rattle.hound_sample.specs.Reads.{ReadsItem, FillsFront, ReadsEach, items_of, ReadRefusal, ReadsContainer, read_error};
-ghost use Rattle.hound_spec.specs.{SampleFormat};
+ghost use Rattle.hound_sample.specs.Reading.{ReadsItem, FillsFront, ReadsEach, items_of, ReadRefusal, ReadsContainer, read_error};
+ghost use Rattle.hound_spec.specs.declared.spec.SampleFormat.{SampleFormat};
 
 use crate::item::{ContainerReader, ItemError};
 use hound_number::{early_end, read_into};

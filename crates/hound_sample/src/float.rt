@@ -4,8 +4,9 @@ ghost use lib.Ieee.{binary32};
 ghost use Rattle.hound_number.specs.{number};
 ghost use Rattle.hound_sample.specs.Container.{pattern_container};
 ghost use Rattle.hound_sample.specs.ContainerLaws.{pattern_container-in_width};
-ghost use Rattle.hound_sample.specs.Reads.{float_refusal, pattern, ReadsContainer};
-ghost use Rattle.hound_spec.specs.{InvalidSampleFormat, TooWide, Unsupported, Float, Int};
+ghost use Rattle.hound_sample.specs.Reading.{float_refusal, pattern, ReadsContainer};
+ghost use Rattle.hound_spec.specs.declared.error.Error.TheVariants.{InvalidSampleFormat, TooWide, Unsupported};
+ghost use Rattle.hound_spec.specs.declared.spec.SampleFormat.TheVariants.{Float, Int};
 
 use crate::Sample;
 use crate::decode::{Decode, decode_next, read_container, read_pieces, refuse_many};

@@ -2,8 +2,10 @@
 ghost use Rattle.std.specs.Prelude.{◌≡◌, ◌<◌, ◌≤◌, ◌++◌, ◌∷◌, [], take, None, Ok, Err, IsOk, if◌then◌else◌};
 ghost use Rattle.hound_number.specs.{signed_bytes_of};
 ghost use Rattle.hound_sample.specs.Container.{fits, if_fits, offset_byte, int_container, IsEncoded};
-ghost use Rattle.hound_sample.specs.Reads.{int_meaning, int_refusal, low_short, ReadsContainer, read_error};
-ghost use Rattle.hound_spec.specs.{IsPair, InvalidSampleFormat, TooWide, Unsupported, Float, Int};
+ghost use Rattle.hound_sample.specs.Reading.{int_meaning, int_refusal, low_short, ReadsContainer, read_error};
+ghost use Rattle.hound_spec.specs.{IsPair};
+ghost use Rattle.hound_spec.specs.declared.error.Error.TheVariants.{InvalidSampleFormat, TooWide, Unsupported};
+ghost use Rattle.hound_spec.specs.declared.spec.SampleFormat.TheVariants.{Float, Int};
 
 use crate::decode::Decode;
 use hound_number::{

@@ -1,7 +1,7 @@
 // Items: why one has no sample, and what they are read from.
 ghost use Rattle.std.specs.Prelude.{◌≡◌, ◌≤◌, ◌<◌, ℕ, List, None, IfSome, length, take};
 ghost use Rattle.std.specs.Io.KnownBytes.{Consumes};
-ghost use Rattle.hound_sample.specs.Reads.{reason_of};
+ghost use Rattle.hound_sample.specs.Reading.{reason_of};
 
 use hound_spec::Error;
 use std::io;

@@ -1,8 +1,8 @@
 // What holds for all integers and their containers.
 ghost use Rattle.std.specs.Prelude.{◌≡◌, ℕ, ℤ, List, Ok, None, IsTrue};
 ghost use Rattle.hound_sample.specs.Container.{fits, int_container};
-ghost use Rattle.hound_sample.specs.Reads.{int_meaning, int_refusal, low_short};
-ghost use Rattle.hound_spec.specs.{Int};
+ghost use Rattle.hound_sample.specs.Reading.{int_meaning, int_refusal, low_short};
+ghost use Rattle.hound_spec.specs.declared.spec.SampleFormat.TheVariants.{Int};
 
 /// Each integer that has a container is read back from it as the same `i32`, whatever type it
 /// was written as.

@@ -2,8 +2,8 @@
 ghost use Rattle.std.specs.Prelude.{◌≡◌, ◌≤◌, ◌/◌, ℕ, ℤ, ⊤, List, Option, Result, Ok, IsSome, IsErr, length, take};
 ghost use Rattle.hound_sample.specs.Container.{Refusal, int_container, IsEncoded, WritesContainer};
 ghost use Rattle.hound_sample.specs.ContainerLaws.{int_container-in_width};
-ghost use Rattle.hound_sample.specs.Reads.{ReadRefusal, int_refusal, int_meaning, low_short, ReadsItem, FillsFront, ReadsEach, items_of, Reads};
-ghost use Rattle.hound_spec.specs.{SampleFormat};
+ghost use Rattle.hound_sample.specs.Reading.{ReadRefusal, int_refusal, int_meaning, low_short, ReadsItem, FillsFront, ReadsEach, items_of, Reads};
+ghost use Rattle.hound_spec.specs.declared.spec.SampleFormat.{SampleFormat};
 
 use crate::decode::{decode_next, read_container, read_pieces, refuse_many};
 use crate::integer::{encode_integer, integer_refusal, lowest_16_bits};

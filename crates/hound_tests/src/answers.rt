@@ -1,8 +1,9 @@
 // Results that the definition of a run's result excludes, as the prover shows.
 ghost use Rattle.std.specs.Borrow.{Bor};
 ghost use Rattle.std.specs.Prelude.{◌≡◌, ◌<◌, ◌≤◌, ℕ, ℤ, List, [], ◌∷◌, length, min, pos, Ok, Err};
-ghost use Rattle.hound.specs.{ReadsBlock, AnswersAll, AnswersSession, ReaderState, samples_left, Error, Step};
+ghost use Rattle.hound.specs.{ReadsBlock, AnswersAll, AnswersSession, ReaderState, samples_left, Error};
 ghost use Rattle.hound.specs.declared.Error.TheVariants.{OutOfMemory, TooLong, UnfinishedSample};
+ghost use Rattle.hound.specs.declared.Step.{Step};
 ghost use Rattle.hound.specs.declared.Step.TheVariants.{Whole, Batch, Flush};
 ghost use Rattle.hound_tests.specs.Rows.{mono, stereo};
 

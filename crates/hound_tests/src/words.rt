@@ -42,7 +42,7 @@ impl SpecVariants {
 struct SampleWords;
 
 impl SampleWords {
-    ghost use Rattle.hound.specs.{FillsFront, IsEncoded, ItemError, ReadRefusal, Reads, ReadsContainer, ReadsEach, ReadsItem, Refusal, WritesContainer, all_containers, clipped, containers, error_of_item, first_error, fits, float_of_int, float_refusal, if_fits, int_container, int_container-in_width, int_meaning, int_refusal, items_of, joined_containers, low_short, offset_byte, pattern, pattern_container, pattern_container-in_width, read_error, reason_of, scaled, with_bits};
+    ghost use Rattle.hound.specs.{FillsFront, IsEncoded, ReadRefusal, Reads, ReadsContainer, ReadsEach, ReadsItem, Refusal, WritesContainer, all_containers, clipped, containers, error_of_item, first_error, fits, float_of_int, float_refusal, if_fits, int_container, int_container-in_width, int_meaning, int_refusal, items_of, joined_containers, low_short, offset_byte, pattern, pattern_container, pattern_container-in_width, read_error, reason_of, scaled, with_bits};
 
     fn read() -> bool
         ensures { result ≡ result }
@@ -126,21 +126,7 @@ impl RepairVariants {
 struct SessionWords;
 
 impl SessionWords {
-    ghost use Rattle.hound.specs.{AppendedSurvives, Begin, BeginsAs, End, EndsAs, HasPublished, Holds, IsAnswered, IsLeftAfter, IsNotBegunAs, IsSession, Keeps, Kept, KeptWithin, LosesNothing, NoFault, Ran, RunsFrom, RunsOn, RunsOnce, RunsUntil, StopsShort, Takes, accepted_by_all, accepted_by_steps, accepted_of, all_calls, all_steps, asked_by, batch_containers, begins_at, containers_of, is_sixteen};
-
-    fn read() -> bool
-        ensures { result ≡ result }
-    {
-        true
-    }
-}
-
-struct SessionVariants;
-
-impl SessionVariants {
-    ghost use Rattle.hound.specs.declared.Begin.TheVariants.{Append, New};
-    ghost use Rattle.hound.specs.declared.End.TheVariants.{Finalize};
-    ghost use Rattle.hound.specs.declared.Step.TheVariants.{Flush};
+    ghost use Rattle.hound.specs.{AppendedSurvives, BeginsAs, EndsAs, HasPublished, Holds, IsAnswered, IsLeftAfter, IsNotBegunAs, IsSession, Keeps, Kept, KeptWithin, LosesNothing, NoFault, Ran, RunsFrom, RunsOn, RunsOnce, RunsUntil, StopsShort, Takes, accepted_by_all, accepted_by_steps, accepted_of, all_calls, all_steps, asked_by, batch_containers, begins_at, containers_of, is_sixteen};
 
     fn read() -> bool
         ensures { result ≡ result }

@@ -7,7 +7,9 @@ use Rattle.std.specs.declared.io.Error.{Error as IoFault}
 use Rattle.hound_medium.specs.{put_at, placed, overlay, moment, MediumState, WhereTells, WhereKeeps, Span}
 use Rattle.hound_medium.proofs.Overlays.{overlay_is, length-put_at, take_overlay_before, length_overlay_le, front_part}
 use Rattle.hound_medium.proofs.Spans.{span_puts, span_still}
-use Rattle.hound_spec.specs.{Error, IoError, OutOfMemory, riff_size, greatest_u32}
+use Rattle.hound_spec.specs.declared.error.Error.{Error}
+use Rattle.hound_spec.specs.declared.error.Error.TheVariants.{IoError, OutOfMemory}
+use Rattle.hound_spec.specs.{riff_size, greatest_u32}
 use Rattle.hound_sample.specs.{Refusal, containers, IsEncoded}
 use Rattle.hound_writer.specs.Accepting.{Accepts, AddsAtEach, AcceptAnswer, FitAnswer, IsIoError, OnRefused, faults_told, if_marked, mark_of}
 use Rattle.hound_writer.specs.Parts.{all_out, PutsAt, IsStanding}

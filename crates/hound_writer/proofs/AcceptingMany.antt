@@ -6,7 +6,10 @@ use Rattle.std.specs.List.{concat}
 use Rattle.std.specs.declared.io.Error.{Error as IoFault}
 use Rattle.hound_medium.specs.{overlay, MediumState, WhereTells, WhereKeeps}
 use Rattle.hound_sample.specs.{Refusal, too_wide, unsupported, containers}
-use Rattle.hound_spec.specs.{Error, TooLong, TooWide, Unsupported, WavSpecEx, greatest_u32}
+use Rattle.hound_spec.specs.declared.error.Error.{Error}
+use Rattle.hound_spec.specs.declared.error.Error.TheVariants.{TooLong, TooWide, Unsupported}
+use Rattle.hound_spec.specs.declared.spec.WavSpecEx.{WavSpecEx}
+use Rattle.hound_spec.specs.{greatest_u32}
 use Rattle.hound_writer.specs.Accepting.{Accepts, IsIoError, containers_in, outcome_of, sample_bytes}
 use Rattle.hound_writer.specs.Parts.{GoesOut, result_of, IsConsistent}
 use Rattle.hound_writer.specs.Writer.{WriterState, HasRoom, IsCounted, IsWhole, data_end}

@@ -3,7 +3,9 @@ use Rattle.std.proofs.Common.{◌≡◌, ℕ, ◌+◌, ◌/◌, ◌%◌, nat_le,
 use Rattle.std.proofs.lemmas.Bool.{false≢true}
 use Rattle.std.specs.List.{concat}
 use Rattle.std.specs.declared.io.Error.{Error as IoFault}
-use Rattle.hound_spec.specs.{Error, IoError, OutOfMemory, UnfinishedSample, greatest_u32, riff_size}
+use Rattle.hound_spec.specs.declared.error.Error.{Error}
+use Rattle.hound_spec.specs.declared.error.Error.TheVariants.{IoError, OutOfMemory, UnfinishedSample}
+use Rattle.hound_spec.specs.{greatest_u32, riff_size}
 use Rattle.hound_medium.specs.{faults_after}
 use Rattle.hound_sample.specs.{Refusal}
 use Rattle.hound_writer.specs.Accepting.{AcceptAnswer, FitAnswer, IsIoError, IsPublishing, OnRefused, OnPublished, UnlessFailed, faults_told, mark_of}

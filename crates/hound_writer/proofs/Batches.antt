@@ -2,7 +2,7 @@
 use Rattle.std.proofs.Common.{◌≡◌, ℕ, ℤ, pos, negsuc, ◌*◌, ◌/◌, ◌^◌, ◌&&◌, ◌≤◌, Bool, cond, false, List, [], ◌∷◌, ◌++◌, length, Result, Ok, Err, IsOk, is_ok, FitsSigned, w16, refl, sym, ◌∙◌, ap, subst, arith, length-append, lt-ltb}
 use Rattle.std.proofs.lemmas.List.{append-nil}
 use Rattle.hound_number.specs.{signed_bytes_of}
-use Rattle.hound_spec.specs.{Error}
+use Rattle.hound_spec.specs.declared.error.Error.{Error}
 use Rattle.hound_medium.specs.{MediumState}
 use Rattle.hound_sample.specs.{Refusal, containers, int_bytes, int_container, too_wide, all_containers, bytes_in, joined_containers, contained, int_container-in_width}
 use Rattle.hound_writer.specs.Accepting.{Accepts, AreShort, containers_in, sample_bytes, short_bytes}

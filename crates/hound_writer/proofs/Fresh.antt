@@ -2,7 +2,8 @@
 use Rattle.std.proofs.Common.{◌≡◌, ℕ, zero, suc, ◌+◌, ◌/◌, Bool, List, [], ◌++◌, length, take, drop, Ok, IsTrue, refl, sym, ◌∙◌, ap, subst, arith, length-append, length-drop}
 use Rattle.std.proofs.lemmas.List.{take_all}
 use Rattle.std.specs.Io.{StartsWith}
-use Rattle.hound_spec.specs.{WavSpecEx, header, data_start, canonical}
+use Rattle.hound_spec.specs.declared.spec.WavSpecEx.{WavSpecEx}
+use Rattle.hound_spec.specs.{header, data_start, canonical}
 use Rattle.hound_spec.proofs.HeaderLemmas.{length-canonical, length-header}
 use Rattle.hound_sample.specs.{containers}
 use Rattle.hound_medium.specs.{placed, overlay, MediumState}

@@ -3,7 +3,8 @@ use Rattle.std.proofs.Common.{◌≡◌, ℕ, ◌+◌, ◌-◌, ◌≤◌, List,
 use Rattle.std.proofs.lemmas.List.{take_at, drop_at, drop-drop, length-take-le}
 use Rattle.std.proofs.lemmas.Slice.{between_is}
 use Rattle.hound_number.specs.{number}
-use Rattle.hound_spec.specs.{WavSpecEx, riff_tag, wave_tag, data_tag}
+use Rattle.hound_spec.specs.declared.spec.WavSpecEx.{WavSpecEx}
+use Rattle.hound_spec.specs.{riff_tag, wave_tag, data_tag}
 use Rattle.hound_reader.specs.{Head, joined}
 use Rattle.hound_writer.specs.Writer.{field}
 use Rattle.hound_writer.proofs.Sizes.{take_front}

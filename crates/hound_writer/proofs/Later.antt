@@ -5,7 +5,8 @@ use Rattle.std.specs.List.{concat}
 use Rattle.std.specs.declared.io.Error.{Error as IoFault}
 use Rattle.hound_medium.specs.{MediumState}
 use Rattle.hound_medium.proofs.Spans.{join, span_weaker}
-use Rattle.hound_spec.specs.{Error, IoError}
+use Rattle.hound_spec.specs.declared.error.Error.{Error}
+use Rattle.hound_spec.specs.declared.error.Error.TheVariants.{IoError}
 use Rattle.hound_sample.specs.{Refusal, containers}
 use Rattle.hound_writer.specs.Accepting.{Accepts, AddsAtEach, FitAnswer, IsIoError, faults_told, if_marked, mark_of, KeepsStored}
 use Rattle.hound_writer.specs.Parts.{GoesOut, after_out, or_fault}

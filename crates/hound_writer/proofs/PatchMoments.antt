@@ -9,12 +9,13 @@ use Rattle.std.specs.declared.io.Error.{Error as IoFault}
 use Rattle.hound_number.specs.{bytes_of, mix, AreBytes}
 use Rattle.hound_number.proofs.Mixing.{mix_none, mix_all}
 use Rattle.hound_medium.specs.{placed, overlay, moment, MediumState, Stays, WhereTells, WhereKeeps, Span, FlushedSince}
-use Rattle.hound_spec.specs.{riff_size, padding, Error}
+use Rattle.hound_spec.specs.{riff_size, padding}
 use Rattle.hound_sample.specs.{containers}
 use Rattle.hound_medium.proofs.Outcomes.{from_ok}
 use Rattle.hound_medium.proofs.Overlays.{length-placed}
 use Rattle.hound_medium.proofs.Spans.{span_puts, join, and_still}
 use Rattle.hound_medium.proofs.Torn.{number_at_small}
+use Rattle.hound_spec.specs.declared.error.Error.{Error}
 use Rattle.hound_writer.specs.Writer.{Counts, field, WriterState, AreFrames, IsPadded, IsSound, IsWhole, accepted_samples, data_length, data_end, sample_count}
 use Rattle.hound_writer.specs.Parts.{HasSize, IsPatched, Patches, PatchesAtEach, PutsAt, IsStanding, IsPublishResult}
 use Rattle.hound_writer.specs.Accepting.{IsPublishing}

@@ -12,7 +12,9 @@ use Rattle.hound_medium.specs.{moment, MediumState, WhereTells, Span}
 use Rattle.hound_medium.proofs.Overlays.{front_part}
 use Rattle.hound_medium.proofs.Spans.{join, moment_before, span_weaker}
 use Rattle.hound_medium.proofs.Torn.{number_at_small}
-use Rattle.hound_spec.specs.{Error, IoError, canonical, padded, padding, riff_size}
+use Rattle.hound_spec.specs.declared.error.Error.{Error}
+use Rattle.hound_spec.specs.declared.error.Error.TheVariants.{IoError}
+use Rattle.hound_spec.specs.{canonical, padded, padding, riff_size}
 use Rattle.hound_writer.specs.Accepting.{OnPublished, faults_told, KeepsStored}
 use Rattle.hound_writer.specs.Parts.{GoesAtEach, GoesOut, StaysAround, after_out}
 use Rattle.hound_writer.specs.Writer.{Counts, ChangesSizesOnly, field, WriterState, IsBegun, IsPadded, IsSound, HasHeader, accepted_samples, data_length, padded_end}

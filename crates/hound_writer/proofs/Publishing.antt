@@ -9,7 +9,9 @@ use Rattle.hound_medium.specs.{MediumState, WhereTells}
 use Rattle.std.proofs.lemmas.Result.{on_ok_weaker}
 use Rattle.hound_medium.proofs.Outcomes.{on_ok}
 use Rattle.hound_medium.proofs.Torn.{bytes_at}
-use Rattle.hound_spec.specs.{Error, WavSpecEx, riff_tag, data_start, header, riff_size, padding, canonical}
+use Rattle.hound_spec.specs.declared.error.Error.{Error}
+use Rattle.hound_spec.specs.declared.spec.WavSpecEx.{WavSpecEx}
+use Rattle.hound_spec.specs.{riff_tag, data_start, header, riff_size, padding, canonical}
 use Rattle.hound_spec.proofs.HeaderLemmas.{described, header-parts, length-header, length-described}
 use Rattle.hound_sample.specs.{containers}
 use Rattle.hound_writer.specs.Parts.{IsConsistent, IsPublishResult, Patches, IsStanding}
@@ -19,7 +21,8 @@ use Rattle.hound_writer.proofs.Answers.{published, told_faults, told_ok}
 use Rattle.hound_writer.proofs.Keeping.{consistent_moved}
 use Rattle.hound_writer.proofs.Later.{drop_later}
 use Rattle.hound_writer.proofs.Samples.{concat-samples, counts_at, length-samples, length_out, whole_out}
-use Rattle.hound_reader.specs.{Cause, Readable, data_fault}
+use Rattle.hound_reader.specs.declared.cause.Cause.{Cause}
+use Rattle.hound_reader.specs.{Readable, data_fault}
 use Rattle.hound_writer.proofs.Patching.{riff_size_of_sizes, data_length_of_sizes}
 use Rattle.hound_writer.proofs.Heads.{in_parts}
 use Rattle.hound_writer.proofs.Standing.{inside, stands_patched}

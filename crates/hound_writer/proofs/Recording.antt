@@ -2,7 +2,8 @@
 use Rattle.std.proofs.Common.{ℕ, MatchResult, Ok, Err, arith, Bool, false, List, [], ◌∷◌, ◌++◌, ◌≡◌, length, Result, refl, subst, sym, ◌∙◌, ap}
 use Rattle.std.specs.Prelude.{⊤}
 use Rattle.std.proofs.lemmas.Bool.{false≢true}
-use Rattle.hound_spec.specs.{Error, WavSpecEx}
+use Rattle.hound_spec.specs.declared.error.Error.{Error}
+use Rattle.hound_spec.specs.declared.spec.WavSpecEx.{WavSpecEx}
 use Rattle.hound_medium.specs.{MediumState, WhereTells}
 use Rattle.hound_sample.specs.{Refusal, containers}
 use Rattle.hound_writer.specs.Accepting.{Accepts}

@@ -3,7 +3,8 @@ use Rattle.std.proofs.Common.{◌≡◌, ℕ, ◌+◌, ◌-◌, ◌≤◌, List,
 use Rattle.std.proofs.lemmas.List.{take-take}
 use Rattle.std.proofs.lemmas.Slice.{between_is}
 use Rattle.hound_number.specs.{number}
-use Rattle.hound_spec.specs.{WavSpecEx, data_start, header}
+use Rattle.hound_spec.specs.declared.spec.WavSpecEx.{WavSpecEx}
+use Rattle.hound_spec.specs.{data_start, header}
 use Rattle.hound_spec.proofs.HeaderLemmas.{length-header}
 use Rattle.hound_medium.specs.{placed, overlay}
 use Rattle.hound_medium.proofs.Inside.{take_before, drop_behind, same_size}

@@ -4,7 +4,7 @@ use Rattle.std.proofs.Common.{◌≡◌, ℕ, ◌-◌, ◌≤◌, List, length, 
 use Rattle.hound_number.specs.{number, mix}
 use Rattle.hound_number.proofs.Mixing.{mix_le}
 use Rattle.hound_medium.proofs.Overlays.{front_part}
-use Rattle.hound_spec.specs.{WavSpecEx}
+use Rattle.hound_spec.specs.declared.spec.WavSpecEx.{WavSpecEx}
 use Rattle.hound_writer.specs.Parts.{IsStanding}
 use Rattle.hound_writer.specs.Writer.{SameButSizes, field}
 use Rattle.hound_writer.proofs.Heads.{head_with, head_front, head_behind, head_inside}

@@ -3,7 +3,9 @@ use Rattle.std.proofs.Common.{◌≡◌, ℕ, ◌+◌, ◌/◌, ◌%◌, ◌≤�
 use Rattle.std.proofs.lemmas.Bool.Decides.{nat_tests}
 use Rattle.std.specs.List.{concat}
 use Rattle.hound_medium.specs.{overlay, MediumState, WhereTells, WhereKeeps}
-use Rattle.hound_spec.specs.{Error, TooLong, TooWide, Unsupported, riff_size, greatest_u32}
+use Rattle.hound_spec.specs.declared.error.Error.{Error}
+use Rattle.hound_spec.specs.declared.error.Error.TheVariants.{TooLong, TooWide, Unsupported}
+use Rattle.hound_spec.specs.{riff_size, greatest_u32}
 use Rattle.hound_sample.specs.{Refusal, too_wide, unsupported, containers, IsEncoded}
 use Rattle.hound_writer.specs.Accepting.{Accepts, FitAnswer, one}
 use Rattle.hound_writer.specs.Parts.{IsConsistent}

@@ -1,11 +1,14 @@
 -- What a call for samples returns and leaves, whether it accepts them or not, for one or many.
 use Rattle.std.specs.Prelude.{◌≡◌, ℕ, ◌+◌, ⊤, nat_le, Bool, true, false, IsTrue, List, [], ◌∷◌, length, Result, Ok, Err, ◌≤◌, take, drop, max, ◌++◌, ℤ, IsOk}
 use Rattle.std.specs.List.{concat, flat_map}
-use Rattle.hound_spec.specs.{Error, IoError, UnfinishedSample, TooLong, OutOfMemory, riff_size, greatest_u32, WavSpecEx}
+use Rattle.hound_spec.specs.declared.error.Error.{Error}
+use Rattle.hound_spec.specs.declared.error.Error.TheVariants.{IoError, UnfinishedSample, TooLong, OutOfMemory}
+use Rattle.hound_spec.specs.{riff_size, greatest_u32}
 use Rattle.hound_sample.specs.{Refusal, error_of, int_container, too_wide, unsupported, all_containers, joined_containers}
 use Rattle.hound_medium.specs.{one_more, moment, MediumState, WhereTells, WhereKeeps, Span}
 use Rattle.hound_writer.specs.Writer.{WriterState, AreFrames, data_length, Counts, IsWhole, IsCounted, accepted_samples, data_end}
 use Rattle.hound_number.specs.{signed_bytes_of}
+use Rattle.hound_spec.specs.declared.spec.WavSpecEx.{WavSpecEx}
 use Rattle.hound_writer.specs.declared.outcome.Outcome.{Outcome}
 use Rattle.hound_writer.specs.declared.outcome.Outcome.TheVariants.{Accepted, OutOfRange, WrongPair}
 

@@ -1,8 +1,14 @@
 -- Appending to an existing file.
 use Rattle.std.specs.Prelude.{◌≡◌, ℕ, ◌/◌, ◌%◌, ◌==◌, ◌⊎◌, not, nat_lt, if◌then◌else◌, Bool, List, [], Option, None, Some, Result, Ok, Err}
-use Rattle.hound_spec.specs.{Error, TooLong, WavSpecEx, greatest_u32, riff_size, is_pair}
+use Rattle.hound_spec.specs.declared.error.Error.{Error}
+use Rattle.hound_spec.specs.declared.error.Error.TheVariants.{TooLong}
+use Rattle.hound_spec.specs.declared.spec.WavSpecEx.{WavSpecEx}
+use Rattle.hound_spec.specs.{greatest_u32, riff_size, is_pair}
 use Rattle.hound_medium.specs.{MediumState, Stays, WhereTells, one_more}
-use Rattle.hound_reader.specs.{Cause, Format, Unsupported, DataLength, FrameLength, Head, Refused, Names}
+use Rattle.hound_reader.specs.declared.cause.Cause.{Cause}
+use Rattle.hound_reader.specs.declared.cause.Cause.TheVariants.{Format, Unsupported}
+use Rattle.hound_reader.specs.declared.cause.Reason.TheVariants.{DataLength, FrameLength}
+use Rattle.hound_reader.specs.{Head, Refused, Names}
 use Rattle.hound_writer.specs.Accepting.{IsIoError}
 use Rattle.hound_writer.specs.Writer.{WriterState, IsSound, IsWhole, IsCounted, data_length, data_end}
 

@@ -1,6 +1,9 @@
 -- How a new file begins.
 use Rattle.std.specs.Prelude.{◌≡◌, ◌⊎◌, Bool, [], length, Err}
-use Rattle.hound_spec.specs.{Error, Unsupported, WavSpecEx, header, data_start, IsWritable}
+use Rattle.hound_spec.specs.declared.error.Error.{Error}
+use Rattle.hound_spec.specs.declared.error.Error.TheVariants.{Unsupported}
+use Rattle.hound_spec.specs.declared.spec.WavSpecEx.{WavSpecEx}
+use Rattle.hound_spec.specs.{header, data_start, IsWritable}
 use Rattle.hound_medium.specs.{MediumState, PutsFirst, PutsAll, WhereTells}
 use Rattle.hound_writer.specs.Accepting.{IsIoError}
 use Rattle.hound_writer.specs.Writer.{WriterState, HasHeader, IsSound, IsWhole, IsCounted}

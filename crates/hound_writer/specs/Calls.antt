@@ -1,7 +1,10 @@
 -- A list of calls of a writer, from its constructor on.
 use Rattle.std.specs.Prelude.{◌≡◌, ℕ, ◌≤◌, ◌&&◌, ⊤, nat_lt, Bool, true, false, IsTrue, List, [], ◌∷◌, ◌++◌, length, Option, None, Some, IfSome, Result, Ok, Err}
 use Rattle.std.specs.List.{concat}
-use Rattle.hound_spec.specs.{Error, IoError, WavSpecEx, data_start}
+use Rattle.hound_spec.specs.declared.error.Error.{Error}
+use Rattle.hound_spec.specs.declared.error.Error.TheVariants.{IoError}
+use Rattle.hound_spec.specs.declared.spec.WavSpecEx.{WavSpecEx}
+use Rattle.hound_spec.specs.{data_start}
 use Rattle.hound_medium.specs.{MediumState, WhereTells, WhereKeeps}
 use Rattle.hound_sample.specs.{Refusal}
 use Rattle.hound_writer.specs.Accepting.{Accepts, IsPublishing, mark_of}

@@ -3,11 +3,14 @@
 use Rattle.std.specs.Prelude.{◌≡◌, ℕ, ◌+◌, ◌-◌, ◌≤◌, List, ◌++◌, length, take, Bool, true, false, IsTrue, Result, Ok, Err, OnOk, max, [], drop, ℤ, ◌%◌, Option, None, Some}
 use Rattle.hound_number.specs.{AreBytes, mix}
 use Rattle.std.specs.declared.io.Error.{Error as IoFault}
-use Rattle.hound_spec.specs.{Error, IoError, UnfinishedSample, TooLong, TooWide, Unsupported, WavSpecEx, riff_size, greatest_u32}
+use Rattle.hound_spec.specs.declared.error.Error.{Error}
+use Rattle.hound_spec.specs.declared.error.Error.TheVariants.{IoError, UnfinishedSample, TooLong, TooWide, Unsupported}
+use Rattle.hound_spec.specs.declared.spec.WavSpecEx.{WavSpecEx}
 use Rattle.hound_medium.specs.{placed, overlay, MediumState, faults_after, Span, WhereTells, WhereKeeps}
 use Rattle.hound_reader.specs.{Head}
 use Rattle.hound_writer.specs.Publishing.{PutsLast, PutsFrom}
 use Rattle.hound_writer.specs.Writer.{SameButSizes, field, with_sizes, WriterState, IsSound, IsWhole, IsCounted, accepted_samples, data_length}
+use Rattle.hound_spec.specs.{riff_size, greatest_u32}
 use Rattle.hound_writer.specs.Accepting.{AddsAtEach, short_bytes}
 use Rattle.hound_writer.specs.declared.outcome.Outcome.{Outcome}
 use Rattle.hound_writer.specs.declared.outcome.Outcome.TheVariants.{Accepted, OutOfRange, WrongPair, NoRoom, Failed}

@@ -3,7 +3,9 @@ use Rattle.std.specs.Prelude.{◌≡◌, ◌⊎◌, ℕ, ◌+◌, ◌-◌, ◌<�
 use Rattle.std.specs.List.{concat}
 use Rattle.std.specs.Io.{StartsWith}
 use Rattle.hound_number.specs.{mix}
-use Rattle.hound_spec.specs.{Error, WavSpecEx, canonical, riff_size}
+use Rattle.hound_spec.specs.declared.error.Error.{Error}
+use Rattle.hound_spec.specs.declared.spec.WavSpecEx.{WavSpecEx}
+use Rattle.hound_spec.specs.{canonical, riff_size}
 use Rattle.hound_sample.specs.{containers}
 use Rattle.hound_medium.specs.{moment, MediumState, WhereTells, WhereKeeps, Span}
 use Rattle.hound_durable.specs.{place_of}

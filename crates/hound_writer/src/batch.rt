@@ -2,7 +2,7 @@
 ghost use Rattle.std.specs.Prelude.{◌≡◌, List, ◌∷◌, ◌+◌, ◌*◌, ◌^◌, ◌≤◌, ◌<◌, length, ◌/◌, ◌++◌, max, [], take, IfOk, IfErr, OnOk, Ok, Err, false};
 ghost use Rattle.std.specs.Borrow.{sem, RestsIfErr};
 ghost use Rattle.hound_number.specs.{signed_bytes_of};
-ghost use Rattle.hound_spec.specs.{OutOfMemory, TooLong};
+ghost use Rattle.hound_spec.specs.declared.error.Error.TheVariants.{OutOfMemory, TooLong};
 ghost use Rattle.hound_sample.specs.{containers};
 ghost use Rattle.hound_writer.specs.contracts.write.WavWriter.{the_row};
 ghost use Rattle.hound_writer.specs.Accepting.{Accepts, mark_of, AreShort, short_bytes};

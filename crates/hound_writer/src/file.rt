@@ -1,6 +1,7 @@
 // Writers of files on disk.
 ghost use Rattle.std.specs.Prelude.{◌≡◌, ◌⊎◌, IfOk, IfErr, MatchResult};
-ghost use Rattle.hound_spec.specs.{OutOfMemory, Unsupported, IsWritable, with_default_width};
+ghost use Rattle.hound_spec.specs.declared.error.Error.TheVariants.{OutOfMemory, Unsupported};
+ghost use Rattle.hound_spec.specs.{IsWritable, with_default_width};
 ghost use Rattle.hound_reader.specs.{IsDataPlace, IsSoundSpec};
 ghost use Rattle.hound_writer.specs.Accepting.{IsIoError};
 ghost use Rattle.hound_writer.specs.Beginning.{HasBegun};

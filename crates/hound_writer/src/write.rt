@@ -45,12 +45,14 @@ impl<W: Medium> Model for WavWriter<W> {
 
 impl<W: Medium> WavWriter<W> {
     ghost use Rattle.std.specs.Prelude.{◌≡◌, ◌+◌, ◌-◌, ◌/◌, ◌%◌, ◌≤◌, ◌^◌, ◌↔◌, ◌++◌, ⊤, List, ℕ, [], ◌∷◌, false, IsTrue, Ok, Err, Result, MatchResult, IfErr, OnOk, length, take};
-    ghost use Rattle.hound_spec.specs.{Error, riff_size, with_default_width, WavSpecEx};
+    ghost use Rattle.hound_spec.specs.declared.error.Error.{Error};
+    ghost use Rattle.hound_spec.specs.{riff_size, with_default_width};
     ghost use Rattle.hound_sample.specs.{containers};
     ghost use Rattle.hound_medium.specs.{Goes, WhereTells, WhereKeeps};
     ghost use Rattle.hound_writer.specs.Accepting.{Accepts, IsIoError, mark_of, one, containers_in};
     ghost use Rattle.hound_writer.specs.Beginning.{Begins, IsNotBegun};
     ghost use Rattle.hound_writer.specs.Calls.{Ends, Extends, Recorded, made, marked, new_file, publish, write};
+    ghost use Rattle.hound_spec.specs.declared.spec.WavSpecEx.{WavSpecEx};
     ghost use Rattle.hound_writer.specs.Parts.{of_fields, IsStanding};
     ghost use Rattle.hound_writer.specs.Publishing.{Checkpoints, Finishes};
     ghost use Rattle.hound_writer.specs.Writer.{AreFrames, HasRoom, IsSound, IsWhole, IsCounted, data_length, sample_count};
@@ -312,7 +314,7 @@ impl<W: Medium> WavWriter<W> {
 
 impl<W: Medium> Drop for WavWriter<W> {
     ghost use Rattle.std.specs.Prelude.{Result};
-    ghost use Rattle.hound_spec.specs.{Error};
+    ghost use Rattle.hound_spec.specs.declared.error.Error.{Error};
     ghost use Rattle.hound_writer.specs.Calls.{Ends, made, publish};
     ghost use Rattle.hound_writer.specs.Publishing.{Finishes};
 

@@ -1,5 +1,5 @@
 use Rattle.std.proofs.Common.{◌≡◌, false, true, if◌then◌else◌, Err, refl, rules, subst, sym}
-use Rattle.hound_spec.specs.{Unsupported}
+use Rattle.hound_spec.specs.declared.error.Error.TheVariants.{Unsupported}
 use Rattle.hound_sample.specs.{int_container, unsupported}
 use Rattle.hound_writer.specs.{Accepts, containers_in}
 use Rattle.hound_writer.proofs.Accepting.{accepts_refused}

@@ -1,9 +1,10 @@
 use Rattle.std.proofs.Common.{rules, ◌≡◌, ℕ, ◌≤◌, ◌<◌, List, [], ◌∷◌, codes, get_or, length, Result, Ok, Err, IfErr, MatchResult, inl, inr, sym, subst, arith}
 use Rattle.std.specs.Borrow.{Bor}
-use Rattle.hound_spec.specs.{WavSpec, with_default_width}
+use Rattle.hound_spec.specs.declared.spec.WavSpec.{WavSpec}
 use Rattle.hound_commands.specs.Commands.{IsPackCommand, IsShowCommand, PacksUntil, SaySpec}
 use Rattle.hound_commands.specs.Showing.{ShowsUntil}
 use Rattle.hound_commands.specs.declared.failure.Failure.{Failure}
+use Rattle.hound_spec.specs.{with_default_width}
 use Rattle.hound_commands.proofs.commands.run.Goals as goal
 use Rattle.hound_commands.proofs.commands.run.Goals.{in-show, in-pack+in-Some}
 

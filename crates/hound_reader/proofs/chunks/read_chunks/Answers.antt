@@ -1,6 +1,6 @@
 use Rattle.std.proofs.Common.{ℕ, Option, Some, None}
-use Rattle.hound_reader.specs.Walk.{Walked, ReadsChunk, IsSoundChunk, IsSoundOption}
-use Rattle.hound_spec.specs.{WavSpecEx}
+use Rattle.hound_reader.specs.Walking.{Walked, ReadsChunk, IsSoundChunk, IsSoundOption}
+use Rattle.hound_spec.specs.declared.spec.WavSpecEx.{WavSpecEx}
 use Rattle.hound_reader.specs.declared.chunks.ChunkRead.TheVariants.{Other}
 use Rattle.hound_number.proofs.Counting.{NoneFailed-trans}
 use Rattle.hound_number.proofs.KnownSteps.{known_both}

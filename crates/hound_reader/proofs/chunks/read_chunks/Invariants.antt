@@ -1,6 +1,6 @@
 use Rattle.std.proofs.Common.{◌≤◌, ◌-◌}
 use Rattle.hound_number.specs.{WhereKnown, NoneFailed}
-use Rattle.hound_reader.specs.Walk.{Walked, IsSoundOption}
+use Rattle.hound_reader.specs.Walking.{Walked, IsSoundOption}
 use Rattle.hound_reader.proofs.chunks.read_chunks.Given as goal
 use Rattle.hound_spec.specs.{greatest_u32}
 

@@ -1,7 +1,7 @@
 use Rattle.std.proofs.Common.{◌+◌, Some, true, false, refl, ◌∙◌, arith}
-use Rattle.hound_reader.specs.Chunks.{spec_after}
+use Rattle.hound_reader.specs.Grammar.{spec_after}
 use Rattle.hound_spec.specs.{fmt_tag, data_tag}
-use Rattle.hound_reader.specs.Walk.{ReadsContent}
+use Rattle.hound_reader.specs.Walking.{ReadsContent}
 use Rattle.hound_reader.specs.declared.chunks.ChunkRead.TheVariants.{Other}
 use Rattle.hound_number.proofs.KnownSteps.{known_from, known_weaker}
 use Rattle.hound_reader.proofs.WalkLemmas.{tag_test}

@@ -2,7 +2,7 @@ use Rattle.std.proofs.Common.{◌≡◌, ◌++◌, take, refl, sym, ap, ◌∙�
 use Rattle.std.proofs.lemmas.List.{take-append-drop}
 use Rattle.hound_number.proofs.KnownSteps.{known_from, known_both}
 use Rattle.hound_reader.specs.Fmt.{fmt_len}
-use Rattle.hound_reader.specs.Walk.{ReadsFmt}
+use Rattle.hound_reader.specs.Walking.{ReadsFmt}
 use Rattle.hound_reader.proofs.FmtLemmas.{fmt_and_rest}
 use Rattle.hound_reader.proofs.chunks.read_fmt_content.Goals as goal
 

@@ -1,6 +1,6 @@
 use Rattle.std.proofs.Common.{take, subst, arith, length}
 use Rattle.std.proofs.lemmas.Result.{IfOk-weaker}
-use Rattle.hound_reader.specs.Walk.{ReadsContent, chunk_taken, content_taken}
+use Rattle.hound_reader.specs.Walking.{ReadsContent, chunk_taken, content_taken}
 use Rattle.hound_number.proofs.KnownSteps.{known_then}
 use Rattle.hound_reader.proofs.WalkLemmas.{chunk_from}
 use Rattle.hound_spec.specs.{fmt_fields}

@@ -1,8 +1,8 @@
 use Rattle.std.proofs.Common.{ℕ, List, Option, Result, Ok, Err, drop, ◌≡◌}
 use Rattle.std.specs.Prelude.{IfOk, IfErr}
-use Rattle.hound_reader.specs.Walk.{Refuses, UnlessReadFailed}
+use Rattle.hound_reader.specs.Walking.{Refuses, UnlessReadFailed}
 use Rattle.hound_number.specs.{WhereKnown}
-use Rattle.hound_reader.specs.Chunks.{Head, Refused, Answer, Answers, ReportsAnswer}
+use Rattle.hound_reader.specs.Grammar.{Head, Refused, Answer, Answers, ReportsAnswer}
 use Rattle.hound_reader.specs.declared.chunks.FileHead.{FileHead}
 use Rattle.hound_reader.specs.declared.cause.HeadError.{HeadError}
 use Rattle.hound_reader.specs.declared.cause.HeadError.TheVariants.{Failed, Refused as Refused'}

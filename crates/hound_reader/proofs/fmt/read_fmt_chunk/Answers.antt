@@ -2,13 +2,14 @@ use Rattle.std.proofs.Common.{◌≡◌, ℕ, ◌+◌, ◌-◌, ◌≤◌, List,
 use Rattle.std.specs.Prelude.{IfErr}
 use Rattle.std.specs.Io.KnownBytes.{Consumes}
 use Rattle.std.proofs.lemmas.Result.{err_from_is_err_and}
-use Rattle.hound_spec.specs.{fmt_fields, WavSpecEx}
+use Rattle.hound_spec.specs.{fmt_fields}
 use Rattle.hound_reader.specs.Fmt.{◌>>=◌, fmt_len, fmt_of, by_tag}
 use Rattle.hound_reader.proofs.Gives.{gives_from, known_err}
 use Rattle.hound_reader.proofs.FmtLemmas.{fmt_head}
 use Rattle.hound_reader.proofs.TakenLemmas.{take_within, takes_after, takes_these, wave_format_takes}
-use Rattle.hound_reader.specs.Walk.{TakesFor, content_taken, Refuses}
+use Rattle.hound_reader.specs.Walking.{TakesFor, content_taken, Refuses}
 use Rattle.hound_number.specs.{number}
+use Rattle.hound_spec.specs.declared.spec.WavSpecEx.{WavSpecEx}
 use Rattle.hound_reader.specs.declared.cause.HeadError.{HeadError}
 use Rattle.hound_reader.proofs.fmt.read_fmt_chunk.Goals as goal
 

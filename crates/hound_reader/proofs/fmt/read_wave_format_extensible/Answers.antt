@@ -6,7 +6,7 @@ use Rattle.hound_number.specs.{number}
 use Rattle.hound_reader.proofs.Gives.{ok_from_taken, err_from_taken}
 use Rattle.hound_reader.proofs.FmtLemmas.{extensible_at}
 use Rattle.hound_reader.proofs.TakenLemmas.{subformat_fails, takes_these}
-use Rattle.hound_reader.specs.Walk.{content_taken}
+use Rattle.hound_reader.specs.Walking.{content_taken}
 use Rattle.hound_spec.specs.{extensible, extension}
 use Rattle.hound_reader.proofs.fmt.read_wave_format_extensible.Goals as goal
 

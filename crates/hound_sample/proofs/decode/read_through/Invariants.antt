@@ -1,5 +1,5 @@
 use Rattle.std.proofs.Common.{◌≡◌, ◌≤◌, ◌-◌, length, map, take, drop, None, Ok}
-use Rattle.hound_sample.specs.Reads.{ReadsEach}
+use Rattle.hound_sample.specs.Reading.{ReadsEach}
 use Rattle.hound_sample.proofs.decode.read_through.Given as goal
 
 abbrev pub invariant-loop-done : goal.invariant-loop-done

@@ -1,4 +1,4 @@
-use Rattle.hound_reader.specs.Chunks.{Unreadable}
+use Rattle.hound_reader.specs.Grammar.{Unreadable}
 use Rattle.hound_reader.proofs.ReaderLemmas.{opens_ok, refusal_told, opens_told, no_fault_ok, fails_told, is_told}
 use Rattle.hound_reader.proofs.reader.WavReader.new.Goals as goal
 

@@ -1,6 +1,6 @@
 use Rattle.std.proofs.Common.{◌≡◌, ◌<◌, ◌^◌, ℕ, ap, subst, sym, ◌∙◌, arith, ◌+◌, Some, Ok, Err}
 use Rattle.std.specs.Prelude.{IsSome}
-use Rattle.hound_spec.specs.{WavSpecEx}
+use Rattle.hound_spec.specs.declared.spec.WavSpecEx.{WavSpecEx}
 use Rattle.hound_sample.specs.{ReadsItem}
 use Rattle.hound_reader.specs.Reader.{AnswersNext, taken_without, ReaderState, meaning_at, refusal_at}
 use Rattle.hound_reader.specs.declared.item.KeepingReader.{KeepingReader}

@@ -1,6 +1,6 @@
 use Rattle.std.proofs.Common.{◌+◌, ◌∷◌, [], arith, rules, ap, sym, ◌∙◌, map, take, subst, Ok}
 use Rattle.std.proofs.lemmas.List.{map-append, take_more_set, drop-set-lt}
-use Rattle.hound_sample.specs.Reads.{ReadsEach}
+use Rattle.hound_sample.specs.Reading.{ReadsEach}
 use Rattle.hound_sample.proofs.Many.{each_more, drop_further}
 use Rattle.hound_sample.proofs.sample.Sample.read_many.Goals as goal
 

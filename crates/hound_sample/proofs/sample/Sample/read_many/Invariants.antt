@@ -1,6 +1,6 @@
 use Rattle.std.proofs.Common.{◌≡◌, length, map, take, drop, Ok}
 use Rattle.std.specs.Prelude.{IsSome}
-use Rattle.hound_sample.specs.Reads.{ReadsEach}
+use Rattle.hound_sample.specs.Reading.{ReadsEach}
 use Rattle.hound_sample.proofs.sample.Sample.read_many.Given as goal
 
 abbrev pub invariant-loop-i : goal.invariant-loop-i

@@ -1,6 +1,6 @@
 use Rattle.std.proofs.Common.{◌≡◌, ◌*◌, ◌∙◌, Ok, Err, IsOk, length, subst, sym, arith, ap, refl}
 use Rattle.std.proofs.lemmas.Bool.{false≢true}
-use Rattle.hound_spec.specs.{IoError}
+use Rattle.hound_spec.specs.declared.error.Error.TheVariants.{IoError}
 use Rattle.hound_writer.specs.Accepting.{containers_in, outcome_of}
 use Rattle.hound_writer.specs.declared.outcome.Outcome.TheVariants.{Accepted}
 use Rattle.hound_writer.specs.Writer.{HasRoom}

@@ -1,5 +1,5 @@
 use Rattle.std.proofs.Common.{◌≡◌, ◌+◌, ◌*◌, ◌∙◌, [], Ok, Err, false, arith, length, rules, subst, sym}
-use Rattle.hound_spec.specs.{IoError}
+use Rattle.hound_spec.specs.declared.error.Error.TheVariants.{IoError}
 use Rattle.hound_writer.specs.Parts.{IsLimit, bytes_kept, of_fields}
 use Rattle.hound_writer.specs.Accepting.{sample_bytes}
 use Rattle.hound_writer.proofs.Accepting.{accepts_all, accepts_none}

@@ -5,14 +5,16 @@ use Rattle.hound_number.specs.{Account, WhereKnown, NoneFailed, OneFailed, numbe
 use Rattle.hound_reader.specs.declared.cause.HeadError.{HeadError}
 use Rattle.hound_reader.specs.declared.cause.HeadError.TheVariants.{Failed, Refused}
 use Rattle.hound_reader.specs.declared.cause.Cause.{Cause}
-use Rattle.hound_spec.specs.{greatest_u32, extensible, padded, data_tag, WavSpecEx, Error}
-use Rattle.hound_reader.specs.Chunks.{Chunks, joined, last_spec, chunk_fault, Chunk, IsChunk, chunk_bytes, spec_after, fmt_fault, front_fault, Head, Walk, data_fault}
+use Rattle.hound_spec.specs.{greatest_u32, extensible, padded, data_tag}
+use Rattle.hound_reader.specs.Grammar.{Chunks, joined, last_spec, chunk_fault, Chunk, IsChunk, chunk_bytes, spec_after, fmt_fault, front_fault, Head, Walk, data_fault}
 use Rattle.hound_reader.specs.Fmt.{fmt_of, IsSoundSpec}
 use Rattle.std.specs.Str.{bytes_eq}
+use Rattle.hound_spec.specs.declared.spec.WavSpecEx.{WavSpecEx}
 use Rattle.hound_reader.specs.declared.chunks.ChunkRead.{ChunkRead}
 use Rattle.hound_reader.specs.declared.chunks.ChunkRead.TheVariants.{Data, Other}
 use Rattle.hound_reader.specs.Reader.{AreTaken}
 use Rattle.hound_reader.specs.Refusals.{reason_text}
+use Rattle.hound_spec.specs.declared.error.Error.{Error}
 use Rattle.hound_spec.specs.declared.error.Error.TheVariants as errors
 use Rattle.hound_reader.specs.declared.cause.Cause.TheVariants.{Format, Ended, Unsupported}
 use Rattle.hound_reader.specs.declared.cause.Reason.{Reason}

@@ -2,7 +2,11 @@
 -- and what `read`, `read_item` and `read_many` return.
 use Rattle.std.specs.Prelude.{ℕ, ℤ, pos, ◌/◌, ◌-ℤ◌, ◌==◌, nat_lt, if◌then◌else◌, List, take, Option, None, Some, ◌≡◌, ◌<◌, ◌≤◌, length, drop, Result, Ok, Err, [], ◌∷◌, ◌++◌, map, OnOk, OnErr}
 use Rattle.hound_number.specs.{number, signed_number, signed_bytes_of, WhereKnown}
-use Rattle.hound_spec.specs.{is_pair, SampleFormat, Int, Float, Error, IoError, TooWide, Unsupported, InvalidSampleFormat}
+use Rattle.hound_spec.specs.{is_pair}
+use Rattle.hound_spec.specs.declared.spec.SampleFormat.{SampleFormat}
+use Rattle.hound_spec.specs.declared.spec.SampleFormat.TheVariants.{Int, Float}
+use Rattle.hound_spec.specs.declared.error.Error.{Error}
+use Rattle.hound_spec.specs.declared.error.Error.TheVariants.{IoError, TooWide, Unsupported, InvalidSampleFormat}
 use Rattle.std.specs.declared.io.Error.{Error as IoFault}
 use Rattle.hound_sample.specs.declared.item.ItemError.{ItemError}
 use Rattle.hound_sample.specs.declared.item.ItemError.TheVariants.{Failed, OtherFormat, Wider, OtherPair}
