@@ -3,22 +3,27 @@
 -- The file is made by `scripts/make_words`.
 pub use Rattle.hound_number.specs.{Account, CountsRead, CountsReads, IfEnded, NoneFailed, OneFailed, ReportsEnding, WhereKnown, Writes, one_failure_more, AreBytes, bytes_of, mix, number, signed_bytes_of, signed_number, signed_of, twos_complement}
 pub use Rattle.hound_number.specs.declared.input.ReadError.{ReadError}
-pub use Rattle.hound_spec.specs.{Extension, FieldsFit, FmtFields, extensible, extension, extension_bytes, extension_size, fmt_bytes, fmt_fields, greatest_u16, greatest_u32, guid, ieee_float, pcm, subformat, IsPair, IsWritable, canonical, data_start, data_tag, extended, fields, fmt_tag, header, is_pair, is_short, long_fmt, mask, padded, padding, pairs, riff_size, riff_tag, short_fmt, sized_fmt, wave_tag, with_default_width}
+pub use Rattle.hound_spec.specs.{Extension, FieldsFit, FmtFields, extensible, extension, extension_bytes, extension_size, fmt_bytes, fmt_fields, greatest_u16, greatest_u32, guid, ieee_float, pcm, subformat, IsPair, IsWritable, canonical, data_start, data_tag, extended, fields, fmt_tag, is_pair, is_short, long_fmt, mask, padded, padding, pairs, riff_size, riff_tag, short_fmt, wave_tag, with_default_width}
+unfoldable pub use Rattle.hound_spec.specs.{header, sized_fmt}
 pub use Rattle.hound_spec.specs.declared.error.Error.{Error}
 pub use Rattle.hound_spec.specs.declared.spec.SampleFormat.{SampleFormat}
 pub use Rattle.hound_spec.specs.declared.spec.WavSpec.{WavSpec}
 pub use Rattle.hound_spec.specs.declared.spec.WavSpecEx.{WavSpecEx}
-pub use Rattle.hound_sample.specs.{IsEncoded, Refusal, WritesContainer, all_containers, and_more, bytes_in, containers, error_of, first_error, fits, if_fits, int_bytes, int_container, joined_containers, offset_byte, pattern_container, too_wide, unsupported, contained, int_container-in_width, pattern_container-in_width, FillsFront, ReadRefusal, Reads, ReadsContainer, ReadsEach, ReadsItem, TakesContainer, TakesPart, answer_of, error_of_item, error_of_read, float_refusal, int_meaning, int_refusal, items_of, low_short, other_format, other_pair, pattern, read_error, reason_of, wider, clipped, float_of_int, full_scale, scaled, with_bits}
+pub use Rattle.hound_sample.specs.{IsEncoded, Refusal, WritesContainer, all_containers, and_more, bytes_in, containers, error_of, first_error, fits, if_fits, int_bytes, joined_containers, offset_byte, too_wide, unsupported, contained, int_container-in_width, pattern_container-in_width, FillsFront, ReadRefusal, Reads, ReadsContainer, ReadsEach, ReadsItem, TakesContainer, TakesPart, answer_of, error_of_item, error_of_read, float_refusal, int_meaning, int_refusal, items_of, low_short, other_format, other_pair, pattern, read_error, reason_of, wider, clipped, float_of_int, full_scale, scaled, with_bits}
+unfoldable pub use Rattle.hound_sample.specs.{int_container, pattern_container}
 pub use Rattle.hound_sample.specs.declared.item.ItemError.{ItemError}
 pub use Rattle.hound_medium.specs.{FlushedSince, Flushes, Gets, Goes, IsMoved, MediumState, Puts, PutsAll, PutsFirst, Shifts, Span, Stays, WhereKeeps, WhereTells, count_of, faults_after, moment, one_more, overlay, place_reached, placed, put_at, unknown, FailsAt, IsNumbered, SameRequests, calls, greatest_count}
 pub use Rattle.hound_durable.specs.{Ascends, IsBelow, IsItsFault, IsLastBefore, LeadsBack, OnlySyncs, SurvivesLoss, byte_at, left_of, left_own, own, place_of, replays_own, Around, synced, within}
-pub use Rattle.hound_reader.specs.{IsSoundSpec, by_subformat, by_tag, fmt_len, fmt_of, fmt_said, spec_of, wave_format, wave_format_extensible, wave_format_ieee_float, wave_format_pcm, width_of, with_format, with_valid_bits, Answer, Answers, AnswersFile, AreContainers, Chunk, Chunks, HasOneAnswer, HasOneFileAnswer, Head, IsChunk, IsDataPlace, Readable, Refused, ReportsAnswer, Unreadable, Walk, chunk_bytes, chunk_fault, content_fault, cut_fault, data_fault, fault_of, first_fault, fmt_fault, front_fault, joined, last_spec, ok_of, readable, spec_after, unreadable, Advances, CountsFailed, Gives, IsSoundChunk, IsSoundOption, MeetsFault, MeetsFaultAfter, ReachesData, ReadsChunk, ReadsContent, ReadsFmt, RefusedAfter, Refuses, RefusesFront, ReportsFront, TakesAll, TakesFor, TakesFront, TakesLess, UnlessReadFailed, UnreadableAfter, Walked, chunk_taken, content_taken, front_taken, AnswersNext, AnswersRead, AnswersReadMany, AreItems, AreTaken, CountsTaken, GivesItem, GivesItems, GivesItemsOfBytes, HasGiven, HasGiven-prop, HasSoundCounts, HasWholeFrames, IsNext, ReaderState, ReadsBlock, TookBytes, meaning_at, over_bytes, refusal_at, requested, samples_left, taken_without, FailsAs, IsRefusal, Names, OpensAs, ReportsError, reason_text, LendsNext, TakesNext, lender, lent_reader, taken_reader, AnswersBytes, FindsData, Untouched, account_of, faults_after_walk, unread, Follows, HasSought, IsAtCount, IsMeaningOf, PassesItem, ReadsInPlace, Recounts, Seeks, StandsAsCounted, bytes_before, container_at, count_after, samples_before, way_to}
+pub use Rattle.hound_reader.specs.{IsSoundSpec, by_subformat, fmt_len, fmt_of, spec_of, width_of, with_format, with_valid_bits, Answer, Answers, AnswersFile, AreContainers, Chunk, Chunks, HasOneAnswer, HasOneFileAnswer, Head, IsChunk, IsDataPlace, Readable, Refused, ReportsAnswer, Unreadable, Walk, chunk_bytes, cut_fault, data_fault, fault_of, first_fault, fmt_fault, joined, last_spec, ok_of, readable, unreadable, Advances, CountsFailed, Gives, IsSoundChunk, IsSoundOption, MeetsFault, MeetsFaultAfter, ReachesData, ReadsChunk, ReadsContent, ReadsFmt, RefusedAfter, Refuses, RefusesFront, ReportsFront, TakesAll, TakesFor, TakesFront, TakesLess, UnlessReadFailed, UnreadableAfter, Walked, chunk_taken, content_taken, front_taken, AnswersNext, AnswersRead, AnswersReadMany, AreItems, AreTaken, CountsTaken, GivesItem, GivesItems, GivesItemsOfBytes, HasGiven, HasGiven-prop, HasSoundCounts, HasWholeFrames, IsNext, ReaderState, ReadsBlock, TookBytes, meaning_at, over_bytes, refusal_at, requested, samples_left, taken_without, FailsAs, IsRefusal, Names, OpensAs, ReportsError, reason_text, LendsNext, TakesNext, lender, lent_reader, taken_reader, AnswersBytes, FindsData, Untouched, account_of, faults_after_walk, unread, Follows, HasSought, IsAtCount, IsMeaningOf, PassesItem, ReadsInPlace, Recounts, Seeks, StandsAsCounted, bytes_before, container_at, count_after, samples_before, way_to}
+unfoldable pub use Rattle.hound_reader.specs.{by_tag, fmt_said, wave_format, wave_format_extensible, wave_format_ieee_float, wave_format_pcm, chunk_fault, content_fault, front_fault, spec_after}
 pub use Rattle.hound_reader.specs.declared.cause.Cause.{Cause}
 pub use Rattle.hound_reader.specs.declared.cause.HeadError.{HeadError}
 pub use Rattle.hound_reader.specs.declared.cause.Reason.{Reason}
 pub use Rattle.hound_reader.specs.declared.chunks.FileHead.{FileHead}
-pub use Rattle.hound_writer.specs.{AcceptAnswer, Accepts, AcceptsEach, Adds, AddsAtEach, AddsToFile, AreShort, FitAnswer, IsIoError, IsPublishing, IsStored, KeepsStored, OnPublished, OnRefused, StaysTrue, UnlessFailed, containers_in, faults_told, if_marked, mark_of, one, outcome_of, sample_bytes, short_bytes, AnswersAppend, AppendAnswer, AppendFault, Appends, FailsCheck, FollowsData, HasOneAppendAnswer, IsAppendFault, IsNotAppended, NamesFault, PutsNothing, appendable, by_bytes, faulty, head_fault, too_long, IsSameFile, batch_bytes, batch_lender, batch_writer, remaining, Begins, HasBegun, IsNotBegun, PutsHeader, GoesAtEach, GoesOut, GoesToFile, HasSize, IsConsistent, IsLimit, IsPatched, IsPublishResult, IsStanding, Patches, PatchesAtEach, PutsAt, StaysAround, after_out, all_out, block_length, bytes_kept, of_fields, or_fault, result_of, AreKnown, Asked, Begun, Call, Does, Ends, Extends, HadData, IsKnown, KeepsCalls, Known, Lead, LeavesWriter, Left, LeftBy, OnBatched, Opens, Recorded, RecordedBy, appended, asked_by_all, batch, found_in, made, marked, new_file, publish, put, size_of, start_of, with_memory, write, AreFrames, ChangesSizesOnly, Counts, HasHeader, HasRoom, IsBegun, IsCounted, IsPadded, IsSixteen, IsSound, IsWhole, KeepsSamples, ReadsFirst, SameButSizes, WriterState, accepted_bytes, accepted_samples, data_end, data_length, field, padded_end, sample_count, with_sizes, Checkpoints, Finishes, IsHalfPublished, IsOldOrNew, IsOutside, OncePutBefore, Publishes, PublishesAtEach, PublishesTo, PutsFrom, PutsLast, ReadsAs, place_after}
-pub use Rattle.hound_repair.specs.{are_at_most, are_chunks, are_right, begins_chunk, broadcast_tags, chunk_content, data_held, ends_with_id3, ends_with_pad, frame_length, frames_held, has_known_tag, has_tag, held, if_some, is_followed, is_printable, known_tags, mended, metadata_tags, missing_pad, program_tags, riff_tags, right_length, said_length, torn_bytes, update_tags, Finds, FlushesBeforePad, HalfMended, HalfMendedAtEach, HasRightSizes, IsFoundAt, IsNoPad, IsNotFound, IsNotRepaired, IsRepairFault, LeavesFor, LeavesHalf, Looks, MendsAtEach, MendsMedium, ReadsFrames, Repairs, RepairsMedium, UnlessFollowed, found_length, frames_found, repair_fault, size_fault, state_of, torn_found, whole_frames, AreRightSizes, FindsDamage, IsNotMeasured, IsSame, IsSoundDamage, IsUnrepaired, LacksRoom, PutsPad, PutsSizes, RepairsBytes, as_medium, bytes_fault, repair_of}
+pub use Rattle.hound_writer.specs.{AcceptAnswer, Accepts, AcceptsEach, Adds, AddsAtEach, AddsToFile, AreShort, FitAnswer, IsIoError, IsPublishing, IsStored, KeepsStored, OnPublished, OnRefused, StaysTrue, UnlessFailed, containers_in, faults_told, if_marked, mark_of, one, outcome_of, sample_bytes, short_bytes, AnswersAppend, AppendAnswer, AppendFault, Appends, FailsCheck, FollowsData, HasOneAppendAnswer, IsAppendFault, IsNotAppended, NamesFault, PutsNothing, appendable, by_bytes, faulty, too_long, IsSameFile, batch_bytes, batch_lender, batch_writer, remaining, Begins, HasBegun, IsNotBegun, PutsHeader, GoesAtEach, GoesOut, GoesToFile, HasSize, IsConsistent, IsLimit, IsPatched, IsPublishResult, IsStanding, Patches, PatchesAtEach, PutsAt, StaysAround, after_out, all_out, block_length, bytes_kept, of_fields, or_fault, result_of, AreKnown, Asked, Begun, Call, Does, Ends, Extends, HadData, IsKnown, KeepsCalls, Known, Lead, LeavesWriter, LeftBy, OnBatched, Opens, RecordedBy, appended, asked_by_all, batch, found_in, made, marked, new_file, publish, put, size_of, start_of, with_memory, write, AreFrames, ChangesSizesOnly, Counts, HasHeader, HasRoom, IsBegun, IsCounted, IsPadded, IsSixteen, IsSound, IsWhole, KeepsSamples, ReadsFirst, SameButSizes, WriterState, accepted_bytes, accepted_samples, data_end, data_length, field, padded_end, sample_count, Checkpoints, Finishes, IsHalfPublished, IsOldOrNew, IsOutside, OncePutBefore, Publishes, PublishesAtEach, PublishesTo, PutsFrom, PutsLast, ReadsAs, place_after}
+unfoldable pub use Rattle.hound_writer.specs.{head_fault, Left, Recorded, with_sizes}
+pub use Rattle.hound_repair.specs.{are_right, begins_chunk, broadcast_tags, frame_length, frames_held, has_tag, held, if_some, is_printable, known_tags, mended, metadata_tags, missing_pad, program_tags, riff_tags, right_length, said_length, torn_bytes, update_tags, Finds, FlushesBeforePad, HalfMended, HalfMendedAtEach, HasRightSizes, IsFoundAt, IsNoPad, IsNotFound, IsNotRepaired, IsRepairFault, LeavesFor, LeavesHalf, Looks, MendsAtEach, MendsMedium, ReadsFrames, Repairs, RepairsMedium, UnlessFollowed, found_length, frames_found, state_of, torn_found, whole_frames, AreRightSizes, FindsDamage, IsNotMeasured, IsSame, IsSoundDamage, IsUnrepaired, LacksRoom, PutsPad, PutsSizes, RepairsBytes, as_medium, bytes_fault, may_be_chunks, repair_of}
+unfoldable pub use Rattle.hound_repair.specs.{are_at_most, are_chunks, chunk_content, data_held, ends_with_id3, ends_with_pad, has_known_tag, is_followed, repair_fault, size_fault}
 pub use Rattle.hound_repair.specs.declared.bytes.Unrepaired.{Unrepaired}
 pub use Rattle.hound_repair.specs.declared.sizes.Repair.{Repair}
 pub use Rattle.hound_repair.specs.declared.sizes.RepairState.{RepairState}

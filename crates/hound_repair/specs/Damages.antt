@@ -1,5 +1,5 @@
 -- What the private parts of a repair find and do, and what a repair of a file in memory leaves.
-use Rattle.std.specs.Prelude.{◌≡◌, ℕ, ◌≤◌, ◌^◌, ◌⊎◌, Bool, IsTrue, [], ◌∷◌, ◌++◌, length, take, Some, Result, OnOk, MatchResult, true, List, drop, Option, None}
+use Rattle.std.specs.Prelude.{◌≡◌, ℕ, ◌≤◌, ◌^◌, ◌⊎◌, Bool, IsTrue, false, [], ◌∷◌, ◌++◌, length, take, Some, Result, OnOk, MatchResult, true, List, drop, Option, None}
 use Rattle.hound_spec.specs.declared.error.Error.{Error}
 use Rattle.hound_spec.specs.{riff_size}
 use Rattle.hound_medium.specs.{placed, overlay, MediumState, faults_after, one_more, unknown}
@@ -9,12 +9,19 @@ use Rattle.hound_writer.specs.{IsIoError, AppendFault, NamesFault, PutsNothing, 
 use Rattle.hound_repair.specs.Held.{frames_held, held, mended, right_length, torn_bytes, missing_pad}
 use Rattle.hound_repair.specs.Repairing.{HalfMended, IsFoundAt, frames_found, repair_fault, torn_found, Repairs, found_length}
 use Rattle.hound_repair.specs.declared.look.Damage.{Damage}
+use Rattle.hound_repair.specs.declared.look.Rest.{Rest}
+use Rattle.hound_repair.specs.declared.look.Rest.TheVariants.{MayBeChunks, IsSamples}
 use Rattle.hound_repair.specs.declared.sizes.Repair.{Repair}
 use Rattle.hound_repair.specs.declared.sizes.Sizes.{Sizes}
 use Rattle.hound_reader.specs.declared.cause.Cause.TheVariants.{Unsupported}
 use Rattle.hound_repair.specs.declared.bytes.Unrepaired.{Unrepaired}
 use Rattle.hound_repair.specs.declared.bytes.Unrepaired.TheVariants.{NoRoom, TooLong, Unsupported as UnsupportedSamples}
 use Rattle.hound_repair.specs.declared.sizes.RepairState.TheVariants.{CutOff}
+
+-- whether chunks after the data are looked for, by what follows them
+abbrev pub may_be_chunks : Rest → Bool
+may_be_chunks MayBeChunks = true
+may_be_chunks IsSamples = false
 
 -- the sizes are those of a file with this head that holds so many bytes from the data on
 pub record AreRightSizes (head : FileHead) (n : ℕ) (sizes : Sizes) : Type 0 where

@@ -4,7 +4,7 @@ ghost use Rattle.hound_reader.specs.{Head, IsDataPlace, IsSoundSpec};
 ghost use Rattle.hound_writer.specs.{with_sizes};
 ghost use Rattle.hound_repair.specs.Damages.{IsUnrepaired, RepairsBytes};
 
-use crate::look::measure;
+use crate::look::{Rest, measure};
 use crate::read_at::Window;
 use crate::sizes::{Repair, RepairState};
 use hound_number::le_u32;
@@ -56,7 +56,7 @@ pub fn repair_bytes(
     let mut window = Window {
         bytes: &bytes[..used],
     };
-    let damage = match measure(&mut window, head, true) {
+    let damage = match measure(&mut window, head, Rest::MayBeChunks) {
         Ok(damage) => damage,
         Err(Error::Unsupported) => return Err(Unrepaired::Unsupported),
         Err(Error::TooLong) => return Err(Unrepaired::TooLong),

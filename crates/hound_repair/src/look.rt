@@ -5,7 +5,7 @@ ghost use Rattle.hound_spec.specs.{padded, is_pair};
 ghost use Rattle.hound_medium.specs.{WhereTells};
 ghost use Rattle.hound_reader.specs.{Head, IsDataPlace, IsSoundSpec};
 ghost use Rattle.hound_writer.specs.{field};
-ghost use Rattle.hound_repair.specs.Damages.{FindsDamage, IsNotMeasured, IsSoundDamage, repair_of};
+ghost use Rattle.hound_repair.specs.Damages.{may_be_chunks, FindsDamage, IsNotMeasured, IsSoundDamage, repair_of};
 ghost use Rattle.hound_repair.specs.Held.{are_chunks, begins_chunk, chunk_content, ends_with_id3, has_known_tag, has_tag, is_followed, is_printable, said_length, are_right, held, missing_pad};
 ghost use Rattle.hound_repair.specs.Repairing.{Finds, IsNotFound, Looks, state_of};
 
@@ -30,6 +30,16 @@ const ID3_LENGTH: u64 = 128;
 
 // What an ID3v1 tag begins with.
 const ID3_TAG: [u8; 3] = *b"TAG";
+
+/// What follows data of the length that the header says.
+#[derive(Clone, Copy, PartialEq, Eq)]
+pub(crate) enum Rest {
+    /// Maybe chunks or a tag, which are looked for.
+    MayBeChunks,
+
+    /// Samples, whatever they look like.
+    IsSamples,
+}
 
 /// A file as it was found, and the sizes that it should have.
 #[derive(Clone, Copy)]
@@ -123,7 +133,7 @@ fn state_of<R: ReadAt>(
     head: FileHead,
     held: u64,
     sizes: Sizes,
-    looks: bool,
+    rest: Rest,
 ) -> io::Result<RepairState>
     requires start { IsDataPlace head.data_start }
     requires small { held ≤ 2 ^ 33 }
@@ -132,14 +142,14 @@ fn state_of<R: ReadAt>(
     ensures looks { WhereTells R.tells (Looks result (R.state source.old) (R.state source.new)) }
     ensures state { WhereTells R.tells (IfOk result (λ state. state
         ≡ state_of ((field 4 (R.state source.old).contents == sizes.riff_size) && (head.data_length == sizes.data_length))
-        (looks && is_followed head.data_length (drop head.data_start (R.state source.old).contents)))) }
+        (may_be_chunks rest && is_followed head.data_length (drop head.data_start (R.state source.old).contents)))) }
 {
     let mut says = [0; 4];
     source.read_at(4, &mut says)?;
     if u32_at(&says, 0) == sizes.riff_size && head.data_length == sizes.data_length {
         return Ok(RepairState::Whole);
     }
-    if !looks {
+    if rest == Rest::IsSamples {
         return Ok(RepairState::CutOff);
     }
     let start = head.data_start;
@@ -164,14 +174,14 @@ fn state_of<R: ReadAt>(
 }
 
 /// Looks at what a file with this head holds.
-pub(crate) fn measure<R: ReadAt>(source: &mut R, head: FileHead, looks: bool) -> Result<Damage>
+pub(crate) fn measure<R: ReadAt>(source: &mut R, head: FileHead, rest: Rest) -> Result<Damage>
     requires sound { IsSoundSpec head.spec_ex }
     requires start { IsDataPlace head.data_start }
     requires head { WhereTells R.tells
         (Head (R.state source.old).contents head.spec_ex head.data_length head.data_start) }
     ensures sound { IfOk result IsSoundDamage }
     ensures finds { WhereTells R.tells (MatchResult result
-        (λ damage. FindsDamage looks (R.state source.old) damage (R.state source.new))
+        (λ damage. FindsDamage (may_be_chunks rest) (R.state source.old) damage (R.state source.new))
         (λ error. IsNotMeasured head (R.state source.old) (R.state source.new) error)) }
 {
     let spec = head.spec_ex.spec;
@@ -184,7 +194,7 @@ pub(crate) fn measure<R: ReadAt>(source: &mut R, head: FileHead, looks: bool) ->
         Ok(sizes) => sizes,
         Err(error) => return Err(error),
     };
-    let was = state_of(source, head, held, sizes, looks)?;
+    let was = state_of(source, head, held, sizes, rest)?;
     Ok(Damage {
         head,
         held,
@@ -193,18 +203,18 @@ pub(crate) fn measure<R: ReadAt>(source: &mut R, head: FileHead, looks: bool) ->
     })
 }
 
-/// Looks at a file: chunks after its data are looked for, or all that it holds is taken for data.
-pub(crate) fn look<S: Source>(source: S, looks: bool) -> result::Result<(S, Damage), (S, Error)>
+/// Looks at a file; `rest` says what follows its data.
+pub(crate) fn look<S: Source>(source: S, rest: Rest) -> result::Result<(S, Damage), (S, Error)>
     requires { WhereTells S.tells ((S.state source).place ≡ 0) }
     ensures sound { IfOk result (λ found. IsSoundDamage found.1) }
     ensures finds { WhereTells S.tells (MatchResult result
-        (λ found. FindsDamage looks (S.state source) found.1 (S.state found.0))
+        (λ found. FindsDamage (may_be_chunks rest) (S.state source) found.1 (S.state found.0))
         (λ refused. IsNotFound (S.state source) (S.state refused.0) refused.1)) }
 {
     let (source, head) = find_data(source);
     let mut source = source;
     match head {
-        Ok(head) => match measure(&mut source, head, looks) {
+        Ok(head) => match measure(&mut source, head, rest) {
             Ok(damage) => Ok((source, damage)),
             Err(error) => Err((source, error)),
         },
@@ -258,7 +268,7 @@ pub fn find_damage<S: Source>(medium: S) -> result::Result<(S, Repair), (S, Erro
         (λ found. Finds true (S.state medium) found.1 (S.state found.0))
         (λ refused. IsNotFound (S.state medium) (S.state refused.0) refused.1)) }
 {
-    match look(medium, true) {
+    match look(medium, Rest::MayBeChunks) {
         Ok((medium, damage)) => Ok((medium, damage.repair())),
         Err(refused) => Err(refused),
     }

@@ -2,10 +2,10 @@
 ghost use Rattle.std.specs.Prelude.{◌≡◌, ◌+◌, ◌≤◌, true, false, IfOk, length};
 ghost use Rattle.hound_reader.specs.{IsSoundSpec};
 ghost use Rattle.hound_medium.specs.{WhereKeeps, WhereTells};
-ghost use Rattle.hound_repair.specs.Damages.{IsSoundDamage, PutsPad, PutsSizes};
+ghost use Rattle.hound_repair.specs.Damages.{may_be_chunks, IsSoundDamage, PutsPad, PutsSizes};
 ghost use Rattle.hound_repair.specs.Repairing.{FlushesBeforePad, HalfMendedAtEach, MendsMedium, RepairsMedium};
 
-use crate::look::{Damage, look};
+use crate::look::{Damage, Rest, look};
 use crate::sizes::{Repair, RepairState};
 use hound_medium::{Medium, Source, put_all};
 use hound_spec::Error;
@@ -42,17 +42,17 @@ fn put_sizes<M: Medium>(medium: &mut M, damage: Damage) -> io::Result<()>
     Ok(())
 }
 
-// Repairs a file: chunks after its data are looked for, or all that it holds is taken for data.
+// Repairs a file; `rest` says what follows its data.
 fn repair_with<M: Source + Medium>(
     medium: M,
-    looks: bool,
+    rest: Rest,
 ) -> result::Result<(M, Repair), (M, Error)>
     requires { WhereTells M.tells ((M.state medium).place ≡ 0) }
     ensures sound { IfOk result (λ done. IsSoundSpec done.1.spec_ex) }
-    ensures repaired { WhereTells M.tells (RepairsMedium looks M.state medium result) }
-    ensures moments { WhereKeeps M.tells M.keeps (MendsMedium looks M.state medium result) }
+    ensures repaired { WhereTells M.tells (RepairsMedium (may_be_chunks rest) M.state medium result) }
+    ensures moments { WhereKeeps M.tells M.keeps (MendsMedium (may_be_chunks rest) M.state medium result) }
 {
-    let (medium, damage) = match look(medium, looks) {
+    let (medium, damage) = match look(medium, rest) {
         Ok(found) => found,
         Err(refused) => return Err(refused),
     };
@@ -96,7 +96,7 @@ pub fn repair<M: Source + Medium>(medium: M) -> result::Result<(M, Repair), (M, 
     ensures repaired { WhereTells M.tells (RepairsMedium true M.state medium result) }
     ensures moments { WhereKeeps M.tells M.keeps (MendsMedium true M.state medium result) }
 {
-    repair_with(medium, true)
+    repair_with(medium, Rest::MayBeChunks)
 }
 
 /// Repairs a file as [`repair`] does, and takes all bytes from the data on for samples, also where
@@ -107,5 +107,5 @@ pub fn repair_to_end<M: Source + Medium>(medium: M) -> result::Result<(M, Repair
     ensures repaired { WhereTells M.tells (RepairsMedium false M.state medium result) }
     ensures moments { WhereKeeps M.tells M.keeps (MendsMedium false M.state medium result) }
 {
-    repair_with(medium, false)
+    repair_with(medium, Rest::IsSamples)
 }

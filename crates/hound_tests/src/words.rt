@@ -102,7 +102,7 @@ impl WriterWords {
 struct RepairWords;
 
 impl RepairWords {
-    ghost use Rattle.hound.specs.{AreRightSizes, Finds, FindsDamage, FlushesBeforePad, HalfMended, HalfMendedAtEach, IsFoundAt, IsNoPad, IsNotFound, IsNotMeasured, IsNotRepaired, IsSoundDamage, IsUnrepaired, Looks, MendsMedium, PutsPad, PutsSizes, ReadsFrames, Repair, Repairs, RepairsBytes, RepairsMedium, are_chunks, are_right, as_medium, begins_chunk, chunk_content, data_held, ends_with_id3, found_length, frame_length, has_known_tag, has_tag, held, is_followed, is_printable, missing_pad, repair_fault, repair_of, said_length, size_fault, state_of};
+    ghost use Rattle.hound.specs.{AreRightSizes, Finds, FindsDamage, FlushesBeforePad, HalfMended, HalfMendedAtEach, IsFoundAt, IsNoPad, IsNotFound, IsNotMeasured, IsNotRepaired, IsSoundDamage, IsUnrepaired, Looks, MendsMedium, PutsPad, PutsSizes, ReadsFrames, Repair, Repairs, RepairsBytes, RepairsMedium, are_chunks, are_right, as_medium, begins_chunk, chunk_content, data_held, ends_with_id3, found_length, frame_length, has_known_tag, has_tag, held, is_followed, is_printable, may_be_chunks, missing_pad, repair_fault, repair_of, said_length, size_fault, state_of};
 
     fn read() -> bool
         ensures { result ≡ result }

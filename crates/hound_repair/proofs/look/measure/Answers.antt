@@ -2,6 +2,7 @@ use Rattle.std.proofs.Common.{◌≡◌, ◌<◌, ◌^◌, ◌==◌, ◌&&◌, t
 use Rattle.hound_spec.specs.{riff_size, is_pair}
 use Rattle.hound_writer.specs.{field}
 use Rattle.hound_writer.proofs.Heads.{head_inside}
+use Rattle.hound_repair.specs.Damages.{may_be_chunks}
 use Rattle.hound_repair.specs.Held.{is_followed, held, right_length}
 use Rattle.hound_repair.specs.Repairing.{frames_found, state_of, torn_found}
 use Rattle.hound_repair.specs.declared.sizes.Sizes.{Sizes}
@@ -84,7 +85,7 @@ returns-clause-finds g c told =
         check = written s len head.data_start n pair ∙ sym same ∙ sizes.check;
         was = c.in_ok-was.ensures.state told
             ∙ (λ i. state_of ((field 4 (stays i) == riff i) && (len == length_is i))
-            (c.args.looks && is_followed len (drop head.data_start (stays i))));
+            ((may_be_chunks c.args.rest) && is_followed len (drop head.data_start (stays i))));
         frames = ap (frames_found c.in_ok-was.was' s len) all;
         left_over = ap (torn_found c.in_ok-was.was' s len) all;
       };

@@ -1,5 +1,6 @@
 use Rattle.std.proofs.Common.{inr, ap, subst, sym, ◌∙◌, rules}
 use Rattle.hound_medium.specs.{one_more}
+use Rattle.hound_repair.specs.Damages.{may_be_chunks}
 use Rattle.hound_repair.specs.Repairing.{Repairs}
 use Rattle.hound_repair.proofs.Halves.{mends_at_each}
 use Rattle.hound_repair.proofs.Mending.{half_after, put_ok, repairs_kept}
@@ -9,21 +10,21 @@ pub returns-then-ne-clause-repaired : goal.returns-then-ne-clause-repaired
 returns-then-ne-clause-repaired g c told =
     let state = g.M.Placed.state in
     let finds = c.in-Ok.ensures.finds told in
-    subst (λ r. Repairs c.args.looks (state c.args.medium) r (state c.in-Ok.found.0)) (sym c.repair.ensures)
-    (repairs_kept c.args.looks _ _ _ _ _ finds.found c.in-Ok.ensures.sound.spec (search rules) finds.puts finds.faults)
+    subst (λ r. Repairs (may_be_chunks c.args.rest) (state c.args.medium) r (state c.in-Ok.found.0)) (sym c.repair.ensures)
+    (repairs_kept (may_be_chunks c.args.rest) _ _ _ _ _ finds.found c.in-Ok.ensures.sound.spec (search rules) finds.puts finds.faults)
 
 pub returns-in-Ok-put_sizes-clause-repaired : goal.returns-in-Ok-put_sizes-clause-repaired
 returns-in-Ok-put_sizes-clause-repaired g c told =
     let state = g.M.Placed.state in
     let puts = c.in-Ok-put_sizes.ensures.sizes told in
-    subst (λ r. Repairs c.args.looks (state c.args.medium) r (state c.put_sizes.new.medium))
+    subst (λ r. Repairs (may_be_chunks c.args.rest) (state c.args.medium) r (state c.put_sizes.new.medium))
     (sym c.repair-in-Ok-put_sizes.ensures)
-    (put_ok c.args.looks _ _ _ c.in-Ok.found.1 c.in-Ok.ensures.sound (c.in-Ok.ensures.finds told) (search rules)
+    (put_ok (may_be_chunks c.args.rest) _ _ _ c.in-Ok.found.1 c.in-Ok.ensures.sound (c.in-Ok.ensures.finds told) (search rules)
     puts.contents puts.flushed puts.faults)
 
 pub returns-in-Ok-put_sizes-clause-moments : goal.returns-in-Ok-put_sizes-clause-moments
 returns-in-Ok-put_sizes-clause-moments g c told kept =
-    mends_at_each c.args.looks _ _ (g.M.Placed.state c.put_sizes.new.medium) c.in-Ok.found.1 c.in-Ok.ensures.sound (c.in-Ok.ensures.finds told)
+    mends_at_each (may_be_chunks c.args.rest) _ _ (g.M.Placed.state c.put_sizes.new.medium) c.in-Ok.found.1 c.in-Ok.ensures.sound (c.in-Ok.ensures.finds told)
     (search rules) (c.in-Ok-put_sizes.ensures.order told kept) (c.in-Ok-put_sizes.ensures.moments told kept)
 
 pub returns-in-Err-put_sizes-clause-repaired : goal.returns-in-Err-put_sizes-clause-repaired
@@ -39,7 +40,7 @@ returns-in-Err-put_sizes-clause-repaired g c told =
           _,
           finds.found,
           search rules,
-          half_after c.args.looks _ _ (g.M.Placed.state c.put_sizes.new.medium) c.in-Ok.found.1
+          half_after (may_be_chunks c.args.rest) _ _ (g.M.Placed.state c.put_sizes.new.medium) c.in-Ok.found.1
               c.in-Ok.ensures.sound finds (search rules) _ puts.half,
         ),
         puts.faults ∙ ap one_more finds.faults,
@@ -48,5 +49,5 @@ returns-in-Err-put_sizes-clause-repaired g c told =
 
 pub returns-in-Err-put_sizes-clause-moments : goal.returns-in-Err-put_sizes-clause-moments
 returns-in-Err-put_sizes-clause-moments g c told kept =
-    mends_at_each c.args.looks _ _ (g.M.Placed.state c.put_sizes.new.medium) c.in-Ok.found.1 c.in-Ok.ensures.sound (c.in-Ok.ensures.finds told)
+    mends_at_each (may_be_chunks c.args.rest) _ _ (g.M.Placed.state c.put_sizes.new.medium) c.in-Ok.found.1 c.in-Ok.ensures.sound (c.in-Ok.ensures.finds told)
     (search rules) (c.in-Err-put_sizes.ensures.order told kept) (c.in-Err-put_sizes.ensures.moments told kept)
