@@ -1,7 +1,7 @@
 // Functions of a user of the library, whose contracts follow from its public ones.
-ghost use Rattle.std.specs.Prelude.{◌≡◌, ℕ, suc, ◌+◌, ◌-◌, ◌/◌, ◌<◌, ◌≤◌, ◌++◌, Bool, false, true, List, length, drop, [], ◌∷◌, slice_index_or, None, Ok, Result, IfOk, IfSome, OnOk};
+ghost use Rattle.std.specs.Prelude.{◌≡◌, ℕ, suc, ◌+◌, ◌-◌, ◌/◌, ◌<◌, ◌≤◌, ◌++◌, Bool, false, true, List, length, map, drop, [], ◌∷◌, slice_index_or, None, Some, Ok, Result, IfOk, IfSome, OnOk};
 ghost use Rattle.std.specs.List.{concat};
-ghost use Rattle.hound.specs.{Asked, Begun, Call, found_in, start_of, IsSoundSpec, IsSameFile, containers, AreContainers, Counts, canonical, data_start, Around, HasPublished, IsLeftAfter, Keeps, LosesNothing, accepted_by_all, begins_at, held, SurvivesLoss, containers_in, ReadsAs, samples_left, OpensAs, IsNoPad, ReadsFrames, IsSixteen, IsSession, Ran, all_calls, accepted_by_steps, field, MediumState, WhereKeeps, WhereTells, Error, IsWritable, IsWhole, accepted_samples, sample_count, WavSpecEx};
+ghost use Rattle.hound.specs.{Asked, Begun, Call, found_in, start_of, IsSoundSpec, IsSameFile, containers, AreContainers, Counts, canonical, data_start, Around, HasPublished, IsLeftAfter, Keeps, LosesNothing, accepted_by_all, begins_at, held, SurvivesLoss, containers_in, ReadsAs, samples_left, OpensAs, IsNoPad, ReadsFrames, IsSixteen, IsSession, Ran, all_calls, accepted_by_steps, field, MediumState, WhereKeeps, WhereTells, Error, IsWritable, IsWhole, accepted_samples, sample_count, WavSpecEx, container_at, meaning_at, refusal_at, samples_before, unread};
 ghost use Rattle.hound.specs.declared.session.Begin.TheVariants.{New};
 ghost use Rattle.hound.specs.declared.session.End.{End};
 ghost use Rattle.hound.specs.declared.session.End.TheVariants.{Drop};
@@ -10,8 +10,9 @@ ghost use Rattle.hound_callers.specs.Recording.{IsLast};
 
 use hound::{
     Begin, Durable, End, Error, Medium, Placed, Repair, Sample, Source, Step, WavReader, WavSpecEx,
-    WavWriter, a_repair_loses_no_published_sample, one_answer, repair_to_end, run_durable_session,
-    written_is_read,
+    WavWriter, a_repair_loses_no_published_sample, a_seek_leads_to_its_frame,
+    an_iterator_gives_what_it_hints, items_are_of_the_file, one_answer, repair_to_end,
+    run_durable_session, written_is_read,
 };
 use std::alloc::Global;
 use std::{io, result};
@@ -151,6 +152,40 @@ pub fn convert<R: io::Read + Drop, M: Medium>(
         writer.write_sample(sample?)?;
     }
     Ok(())
+}
+
+/// The first sample of a frame: that of its container, for a reader that has read nothing yet and a
+/// type that reads the file.
+pub fn sample_at<S: Sample, R: Source>(reader: WavReader<R>, time: u32) -> hound::Result<Option<S>>
+    requires { reader.bytes_read ≡ 0 }
+    ensures { WhereTells R.tells (time < reader.num_samples / reader.spec_ex.spec.channels
+        → refusal_at S.refusal reader.spec_ex ≡ None → IfOk result (λ sample. sample
+        ≡ Some (meaning_at S.meaning reader.spec_ex (container_at reader.spec_ex.bytes_per_sample
+        (samples_before time reader.spec_ex) (unread (R.state reader.reader)))))) }
+{
+    a_seek_leads_to_its_frame::<R, S>();
+    let mut reader = reader;
+    reader.seek(time)?;
+    reader.into_samples().next().transpose()
+}
+
+/// All samples that a reader has left, for a type that reads the file: the meanings of its containers.
+pub fn samples_of<S: Sample, R: io::Read + Drop>(
+    alloc: Global,
+    reader: WavReader<R>,
+) -> hound::Result<Vec<S>>
+    ensures { IfSome (R.remaining reader.reader) (λ bytes.
+        refusal_at S.refusal reader.spec_ex ≡ None → IfOk result (λ samples. samples.items
+        ≡ map (meaning_at S.meaning reader.spec_ex)
+        (containers reader.spec_ex.bytes_per_sample (samples_left reader) bytes))) }
+{
+    items_are_of_the_file::<R, S>();
+    an_iterator_gives_what_it_hints::<R, S>();
+    let mut samples = Vec::new(alloc);
+    for sample in reader.into_samples::<S>() {
+        samples.push(sample?)?;
+    }
+    Ok(samples)
 }
 
 /// Opens a file that was written: what is left in the reader are the containers.

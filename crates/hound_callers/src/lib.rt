@@ -10,7 +10,7 @@ mod twelve;
 
 pub use callers::{
     convert, give_up_batch, open_written, publish, record_blocks, record_checkpoint,
-    record_through_a_loss, repair_recording,
+    record_through_a_loss, repair_recording, sample_at, samples_of,
 };
 pub use either::EitherSample;
 pub use example::record_and_read;

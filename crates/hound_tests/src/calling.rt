@@ -1,7 +1,7 @@
 // The functions of `callers`, each run once.
-use crate::helpers::{FOUR_SAMPLES, empty_tape, integers, sixteen};
+use crate::helpers::{FOUR_SAMPLES, empty_tape, integers, sixteen, tape_of};
 use hound::{WavReader, WavWriter};
-use hound_callers::{convert, open_written, publish, record_checkpoint};
+use hound_callers::{convert, open_written, publish, record_checkpoint, sample_at, samples_of};
 use std::test::Fail;
 
 // Stereo, 44100 Hz, 16 bits: 2, -3, 5, -7.
@@ -48,5 +48,15 @@ fn a_written_file_is_opened(rt: HostRuntime) -> Result<(), Fail> {
     let count = reader.len();
     let is_at_data = reader.into_inner() == [2u8, 0, 0xfd, 0xff, 5, 0, 0xf9, 0xff].as_slice();
     assert_eq!(rt; (count, is_at_data), (4, true));
+    Ok(())
+}
+
+#[test]
+fn samples_are_collected_and_found(rt: HostRuntime) -> Result<(), Fail> {
+    let samples: Vec<i32> = samples_of(rt.alloc(), WavReader::new(STEREO)?)?;
+    assert_eq!(rt; samples.as_slice(), [2, -3, 5, -7].as_slice());
+    let second: Option<i16> = sample_at(WavReader::new(tape_of(rt.alloc(), STEREO)?)?, 1)?;
+    let third: Option<i16> = sample_at(WavReader::new(tape_of(rt.alloc(), STEREO)?)?, 2)?;
+    assert_eq!(rt; (second, third), (Some(5), None));
     Ok(())
 }

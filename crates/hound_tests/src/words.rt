@@ -1,136 +1,19 @@
 // Each word that a clause of the library imports can be imported over `hound` alone. The file is
-// made by `scripts/make_words`. The checker reads the imports because the clauses use them.
+// made by `scripts/make_words`. The checker reads the imports because the clause uses one.
 ghost use Rattle.std.specs.Prelude.{◌≡◌};
+ghost use Rattle.hound.specs.{Accepts, AcceptsEach, Account, Advances, Answer, Answers, AnswersNext, AnswersRead, AnswersReadMany, AppendedSurvives, Appends, AreBytes, AreContainers, AreFrames, AreItems, AreKnown, AreRightSizes, AreShort, Around, Ascends, Asked, Begins, BeginsAs, Begun, Call, Cause, Checkpoints, Counts, CountsFailed, CountsRead, CountsReads, Ends, EndsAs, Error, Extends, Extension, FailsAs, FailsAt, FailsCheck, FieldsFit, FillsFront, Finds, FindsDamage, FindsData, Finishes, Flushes, FlushesBeforePad, FmtFields, Follows, Gets, Gives, GivesItems, GivesItemsOfBytes, Goes, GoesOut, HalfMended, HalfMendedAtEach, HasBegun, HasGiven, HasGiven-prop, HasOneAnswer, HasOneAppendAnswer, HasOneFileAnswer, HasPublished, HasRoom, HasSize, HasSought, HasSoundCounts, HasWholeFrames, Head, Holds, IfEnded, IsAnswered, IsAtCount, IsBelow, IsConsistent, IsCounted, IsDataPlace, IsEncoded, IsFoundAt, IsIoError, IsItsFault, IsKnown, IsLastBefore, IsLeftAfter, IsLimit, IsMeaningOf, IsNext, IsNoPad, IsNotAppended, IsNotBegun, IsNotBegunAs, IsNotFound, IsNotMeasured, IsNotRepaired, IsNumbered, IsPadded, IsPair, IsPatched, IsPublishResult, IsRefusal, IsSameFile, IsSession, IsSixteen, IsSound, IsSoundChunk, IsSoundDamage, IsSoundOption, IsSoundSpec, IsStanding, IsStored, IsUnrepaired, IsWhole, IsWritable, Keeps, KeepsCalls, Kept, KeptWithin, Known, Lead, LeadsBack, Left, LendsNext, Looks, LosesNothing, MediumState, MeetsFault, MeetsFaultAfter, MendsMedium, Names, NoFault, OnlySyncs, OpensAs, PassesItem, Patches, PatchesAtEach, PublishesTo, Puts, PutsAll, PutsAt, PutsPad, PutsSizes, Ran, ReachesData, ReadRefusal, Readable, ReaderState, Reads, ReadsBlock, ReadsChunk, ReadsContainer, ReadsContent, ReadsEach, ReadsFmt, ReadsFrames, ReadsInPlace, ReadsItem, Recorded, Recounts, Refusal, Refused, RefusedAfter, Refuses, Repair, Repairs, RepairsBytes, RepairsMedium, ReportsAnswer, ReportsEnding, ReportsError, ReportsFront, RunsFrom, RunsOn, RunsOnce, RunsUntil, SampleFormat, Seeks, Shifts, Span, StandsAsCounted, Stays, StopsShort, SurvivesLoss, Takes, TakesAll, TakesFor, TakesFront, TakesNext, UnlessReadFailed, Unreadable, UnreadableAfter, Untouched, WavSpecEx, WhereKeeps, WhereKnown, WhereTells, WriterState, Writes, WritesContainer, accepted_by_all, accepted_by_steps, accepted_of, accepted_samples, account_of, all_calls, all_containers, all_out, all_steps, appended, are_chunks, are_right, as_medium, asked_by, asked_by_all, batch_bytes, batch_containers, batch_lender, batch_writer, begins_at, begins_chunk, block_length, by_subformat, by_tag, bytes_before, bytes_kept, bytes_of, calls, canonical, chunk_content, chunk_fault, chunk_taken, clipped, container_at, containers, containers_in, containers_of, content_fault, content_taken, cut_fault, data_end, data_held, data_length, data_start, ends_with_id3, error_of_item, extensible, extension, extension_bytes, extension_size, fault_of, faults_after, field, fields, first_error, first_fault, fits, float_of_int, float_refusal, fmt_bytes, fmt_fields, fmt_len, fmt_of, found_in, found_length, frame_length, front_fault, greatest_count, greatest_u32, has_known_tag, has_tag, head_fault, header, held, ieee_float, if_fits, int_container, int_container-in_width, int_meaning, int_refusal, is_followed, is_pair, is_printable, is_short, is_sixteen, items_of, joined_containers, left_of, left_own, lender, lent_reader, long_fmt, low_short, made, mark_of, marked, mask, may_be_chunks, meaning_at, missing_pad, moment, new_file, number, of_fields, offset_byte, one, one_more, or_fault, outcome_of, over_bytes, overlay, own, padded, padded_end, pattern, pattern_container, pattern_container-in_width, pcm, place_after, placed, publish, read_error, reason_of, reason_text, refusal_at, remaining, repair_fault, repair_of, replays_own, result_of, riff_size, riff_tag, said_length, sample_bytes, sample_count, samples_before, samples_left, scaled, short_bytes, short_fmt, signed_bytes_of, signed_number, size_fault, sized_fmt, start_of, state_of, subformat, synced, taken_reader, taken_without, unknown, unread, wave_format, wave_format_extensible, wave_format_ieee_float, wave_format_pcm, wave_tag, way_to, with_bits, with_default_width, with_sizes, within, write};
+ghost use Rattle.hound.specs.declared.Error.TheVariants.{IoError as ErrorIoError, TooWide as ErrorTooWide, Unsupported as ErrorUnsupported, InvalidSampleFormat as ErrorInvalidSampleFormat, TooLong as ErrorTooLong, OutOfMemory as ErrorOutOfMemory};
+ghost use Rattle.hound.specs.declared.SampleFormat.TheVariants.{Float as SampleFormatFloat, Int as SampleFormatInt};
+ghost use Rattle.hound.specs.declared.RepairState.TheVariants.{Whole as RepairStateWhole, HasChunksAfterData as RepairStateHasChunksAfterData};
+ghost use Rattle.hound.specs.declared.Begin.{Begin};
+ghost use Rattle.hound.specs.declared.Begin.TheVariants.{New as BeginNew, Append as BeginAppend};
+ghost use Rattle.hound.specs.declared.End.{End};
+ghost use Rattle.hound.specs.declared.End.TheVariants.{Finalize as EndFinalize};
+ghost use Rattle.hound.specs.declared.Step.TheVariants.{Flush as StepFlush};
 
-struct NumberWords;
-
-impl NumberWords {
-    ghost use Rattle.hound.specs.{Account, AreBytes, CountsRead, CountsReads, IfEnded, ReportsEnding, WhereKnown, Writes, bytes_of, number, signed_bytes_of, signed_number};
-
-    fn read() -> bool
-        ensures { result ≡ result }
-    {
-        true
-    }
-}
-
-struct SpecWords;
-
-impl SpecWords {
-    ghost use Rattle.hound.specs.{Error, Extension, FieldsFit, FmtFields, IsPair, IsWritable, SampleFormat, WavSpecEx, canonical, data_start, extensible, extension, extension_bytes, extension_size, fields, fmt_bytes, fmt_fields, greatest_u32, header, ieee_float, is_pair, is_short, long_fmt, mask, padded, pcm, riff_size, riff_tag, short_fmt, sized_fmt, subformat, wave_tag, with_default_width};
-
-    fn read() -> bool
-        ensures { result ≡ result }
-    {
-        true
-    }
-}
-
-struct SpecVariants;
-
-impl SpecVariants {
-    ghost use Rattle.hound.specs.declared.Error.TheVariants.{InvalidSampleFormat, IoError, OutOfMemory, TooLong, TooWide, Unsupported};
-    ghost use Rattle.hound.specs.declared.SampleFormat.TheVariants.{Float, Int};
-
-    fn read() -> bool
-        ensures { result ≡ result }
-    {
-        true
-    }
-}
-
-struct SampleWords;
-
-impl SampleWords {
-    ghost use Rattle.hound.specs.{FillsFront, IsEncoded, ReadRefusal, Reads, ReadsContainer, ReadsEach, ReadsItem, Refusal, WritesContainer, all_containers, clipped, containers, error_of_item, first_error, fits, float_of_int, float_refusal, if_fits, int_container, int_container-in_width, int_meaning, int_refusal, items_of, joined_containers, low_short, offset_byte, pattern, pattern_container, pattern_container-in_width, read_error, reason_of, scaled, with_bits};
-
-    fn read() -> bool
-        ensures { result ≡ result }
-    {
-        true
-    }
-}
-
-struct MediumWords;
-
-impl MediumWords {
-    ghost use Rattle.hound.specs.{FailsAt, Flushes, Gets, Goes, IsNumbered, MediumState, Puts, PutsAll, Shifts, Span, Stays, WhereKeeps, WhereTells, calls, faults_after, greatest_count, moment, one_more, overlay, placed, unknown};
-
-    fn read() -> bool
-        ensures { result ≡ result }
-    {
-        true
-    }
-}
-
-struct DurableWords;
-
-impl DurableWords {
-    ghost use Rattle.hound.specs.{Around, Ascends, IsBelow, IsItsFault, IsLastBefore, LeadsBack, OnlySyncs, SurvivesLoss, left_of, left_own, own, replays_own, synced, within};
-
-    fn read() -> bool
-        ensures { result ≡ result }
-    {
-        true
-    }
-}
-
-struct ReaderWords;
-
-impl ReaderWords {
-    ghost use Rattle.hound.specs.{Advances, Answer, Answers, AnswersNext, AnswersRead, AnswersReadMany, AreContainers, AreItems, Cause, CountsFailed, FailsAs, FindsData, Follows, Gives, GivesItems, GivesItemsOfBytes, HasGiven, HasGiven-prop, HasOneAnswer, HasOneFileAnswer, HasSought, HasSoundCounts, HasWholeFrames, Head, IsAtCount, IsDataPlace, IsMeaningOf, IsNext, IsRefusal, IsSoundChunk, IsSoundOption, IsSoundSpec, LendsNext, MeetsFault, MeetsFaultAfter, Names, OpensAs, PassesItem, ReachesData, Readable, ReaderState, ReadsBlock, ReadsChunk, ReadsContent, ReadsFmt, ReadsInPlace, Recounts, Refused, RefusedAfter, Refuses, ReportsAnswer, ReportsError, ReportsFront, Seeks, StandsAsCounted, TakesAll, TakesFor, TakesFront, TakesNext, UnlessReadFailed, Unreadable, UnreadableAfter, Untouched, account_of, by_subformat, by_tag, bytes_before, chunk_fault, chunk_taken, container_at, content_fault, content_taken, cut_fault, fault_of, first_fault, fmt_len, fmt_of, front_fault, lender, lent_reader, meaning_at, over_bytes, reason_text, refusal_at, samples_before, samples_left, taken_reader, taken_without, unread, wave_format, wave_format_extensible, wave_format_ieee_float, wave_format_pcm, way_to};
-
-    fn read() -> bool
-        ensures { result ≡ result }
-    {
-        true
-    }
-}
-
-struct WriterWords;
-
-impl WriterWords {
-    ghost use Rattle.hound.specs.{Accepts, AcceptsEach, Appends, AreFrames, AreKnown, AreShort, Asked, Begins, Begun, Call, Checkpoints, Counts, Ends, Extends, FailsCheck, Finishes, GoesOut, HasBegun, HasOneAppendAnswer, HasRoom, HasSize, IsConsistent, IsCounted, IsIoError, IsKnown, IsLimit, IsNotAppended, IsNotBegun, IsPadded, IsPatched, IsPublishResult, IsSameFile, IsSixteen, IsSound, IsStanding, IsStored, IsWhole, KeepsCalls, Known, Lead, Left, Patches, PatchesAtEach, PublishesTo, PutsAt, Recorded, WriterState, accepted_samples, all_out, appended, asked_by_all, batch_bytes, batch_lender, batch_writer, block_length, bytes_kept, containers_in, data_end, data_length, field, found_in, head_fault, made, mark_of, marked, new_file, of_fields, one, or_fault, outcome_of, padded_end, place_after, publish, remaining, result_of, sample_bytes, sample_count, short_bytes, start_of, with_sizes, write};
-
-    fn read() -> bool
-        ensures { result ≡ result }
-    {
-        true
-    }
-}
-
-struct RepairWords;
-
-impl RepairWords {
-    ghost use Rattle.hound.specs.{AreRightSizes, Finds, FindsDamage, FlushesBeforePad, HalfMended, HalfMendedAtEach, IsFoundAt, IsNoPad, IsNotFound, IsNotMeasured, IsNotRepaired, IsSoundDamage, IsUnrepaired, Looks, MendsMedium, PutsPad, PutsSizes, ReadsFrames, Repair, Repairs, RepairsBytes, RepairsMedium, are_chunks, are_right, as_medium, begins_chunk, chunk_content, data_held, ends_with_id3, found_length, frame_length, has_known_tag, has_tag, held, is_followed, is_printable, may_be_chunks, missing_pad, repair_fault, repair_of, said_length, size_fault, state_of};
-
-    fn read() -> bool
-        ensures { result ≡ result }
-    {
-        true
-    }
-}
-
-struct RepairVariants;
-
-impl RepairVariants {
-    ghost use Rattle.hound.specs.declared.RepairState.TheVariants.{HasChunksAfterData, Whole};
-
-    fn read() -> bool
-        ensures { result ≡ result }
-    {
-        true
-    }
-}
-
-struct SessionWords;
-
-impl SessionWords {
-    ghost use Rattle.hound.specs.{AppendedSurvives, BeginsAs, EndsAs, HasPublished, Holds, IsAnswered, IsLeftAfter, IsNotBegunAs, IsSession, Keeps, Kept, KeptWithin, LosesNothing, NoFault, Ran, RunsFrom, RunsOn, RunsOnce, RunsUntil, StopsShort, Takes, accepted_by_all, accepted_by_steps, accepted_of, all_calls, all_steps, asked_by, batch_containers, begins_at, containers_of, is_sixteen};
-
-    fn read() -> bool
-        ensures { result ≡ result }
-    {
-        true
-    }
+// Reads them.
+pub fn words() -> bool
+    ensures { result ≡ result }
+{
+    true
 }

@@ -1,0 +1,31 @@
+use Rattle.std.proofs.Common.{◌≡◌, ℕ, List, [], Option, None, Some, Result, Ok, Err, IfOk, ap, refl, subst, sym}
+use Rattle.std.specs.Option.{option_transpose}
+use Rattle.hound.specs.{Error, IsMeaningOf, Seeks, container_at, meaning_at, samples_before, taken_reader, unread}
+use Rattle.hound_callers.proofs.callers.sample_at.Goals as goal
+
+-- an item that is the meaning of a container, as a result
+found : {A : Type 0} (meaning : List ℕ → A) (container : List ℕ) (next : Option (Result A Error))
+    (result : Result (Option A) Error) → result ≡ option_transpose next
+    → IsMeaningOf meaning container next → IfOk result (λ sample. sample ≡ Some (meaning container))
+found meaning container None result told is = absurd is
+found meaning container (Some (Ok value)) result told is =
+    subst (λ r. IfOk r (λ sample. sample ≡ Some (meaning container))) (sym told) (ap Some is)
+found meaning container (Some (Err e)) result told is =
+    subst (λ r. IfOk r (λ sample. sample ≡ Some (meaning container))) (sym told) tt
+
+pub returns : goal.returns
+returns g c told inside none =
+    let reader = c.args.reader in
+    let s = reader.spec_ex in
+    let state = g.R.Placed.state in
+    let seeks : Seeks state c.args.time reader c.seek.new.self = record {
+      counts = c.in_ok-seek.ensures.counts;
+      source = c.in_ok-seek.ensures.source told;
+    } in
+    found (meaning_at g.S.Sample.meaning s)
+    (container_at s.bytes_per_sample (samples_before c.args.time s) (unread (state reader.reader)))
+    c.next.result c.transpose.result c.transpose.ensures
+    (c.a_seek_leads_to_its_frame.ensures.since_new [] c.args.time reader reader
+    (taken_reader c.into_samples.result) _ c.next.result told c.requires refl
+    (subst (Seeks state c.args.time reader) (sym c.into_samples.ensures) seeks) inside none
+    c.next.ensures.steps)

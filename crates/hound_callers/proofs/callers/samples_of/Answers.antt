@@ -1,0 +1,71 @@
+use Rattle.std.proofs.Common.{◌≡◌, ℕ, zero, suc, List, [], ◌∷◌, ◌++◌, length, map, drop, take, Option, None, Some, Result, Ok, Err, IfSome, refl, sym, ap, subst, ◌∙◌}
+use Rattle.std.proofs.lemmas.List.{length-map}
+use Rattle.hound.specs.{AreItems, Error, GivesItems, IsNext, ReaderState, ReadRefusal, containers, meaning_at, refusal_at, samples_left, taken_reader}
+use Rattle.hound.specs.declared.SampleFormat.{SampleFormat}
+use Rattle.hound_callers.proofs.callers.samples_of.Goals as goal
+
+-- items, and one more
+module _ {R A : Type 0} (left : R → Option (List ℕ))
+    (refusal : SampleFormat → ℕ → ℕ → Option ReadRefusal)
+    (meaning : SampleFormat → ℕ → ℕ → List ℕ → A) where
+  one_more : (values : List A) (value : A) (old mid new : ReaderState R)
+      → GivesItems left refusal meaning (map Ok values) old mid
+      → IsNext left refusal meaning (Some (Ok value)) mid new
+      → GivesItems left refusal meaning (map Ok (values ++ value ∷ [])) old new
+  one_more [] value old mid new is next =
+      (new, subst (λ r. IsNext left refusal meaning (Some (Ok value)) r new) is next, refl)
+  one_more (first ∷ values) value old mid new (then, given, others) next =
+      (then, given, one_more values value then mid new others next)
+
+-- items that are all samples are the meanings of the containers
+meanings : {A : Type 0} (meaning : List ℕ → A) (width : ℕ) (bytes : List ℕ) (values : List A)
+    → AreItems None meaning width bytes (map Ok values)
+    → values ≡ map meaning (containers width (length values) bytes)
+meanings meaning width bytes [] are = refl
+meanings meaning width bytes (value ∷ values) (whole, is, are) =
+    λ i. is i ∷ meanings meaning width (drop width bytes) values are i
+
+-- the same where the bytes are known, of so many samples
+if_known : {A : Type 0} (left : Option (List ℕ)) (refusal : Option ReadRefusal)
+    (meaning : List ℕ → A) (width count : ℕ) (values : List A) → length values ≡ count
+    → IfSome left (λ bytes. AreItems refusal meaning width bytes (map Ok values))
+    → IfSome left (λ bytes. refusal ≡ None
+    → values ≡ map meaning (containers width count bytes))
+if_known None refusal meaning width count values all are = tt
+if_known (Some bytes) refusal meaning width count values all are = λ none.
+    meanings meaning width bytes values
+    (subst (λ r. AreItems r meaning width bytes (map Ok values)) none are)
+    ∙ ap (λ n. map meaning (containers width n bytes)) all
+
+pub loop-sample-init : goal.loop-sample-init
+loop-sample-init g c =
+    subst (λ items. GivesItems g.R.Read.remaining g.S.Sample.refusal g.S.Sample.meaning (map Ok items)
+    c.args.reader (taken_reader c.into_iter-sample-iterator.result)) (sym c.new-samples.ensures.items)
+    (ap taken_reader c.into_iter-sample-iterator.ensures.into_iter_gives
+    ∙ c.into_samples-sample-items.ensures)
+
+pub loop-sample-preserved : goal.loop-sample-preserved
+loop-sample-preserved g c =
+    let left = g.R.Read.remaining in
+    let refusal = g.S.Sample.refusal in
+    let meaning = g.S.Sample.meaning in
+    let old = taken_reader c.loop-sample.sample-iterator in
+    let new = taken_reader c.next.new.self in
+    subst (λ items. GivesItems left refusal meaning (map Ok items) c.args.reader new)
+    (sym c.in_ok-push.ensures.items)
+    (one_more left refusal meaning c.loop-sample.samples.items c.in_ok-sample.field-0 c.args.reader
+    old new c.loop-sample.invariant
+    (subst (λ item. IsNext left refusal meaning (Some item) old new) c.in_ok-sample.was
+    c.in-Some.ensures.steps))
+
+pub returns : goal.returns
+returns g c =
+    let s = c.args.reader.spec_ex in
+    let items = c.loop-sample.samples.items in
+    let last = taken_reader c.loop-sample.sample-iterator in
+    let count = c.an_iterator_gives_what_it_hints.ensures.after (map Ok items) c.args.reader last _
+    c.loop-sample.invariant c.in-None.ensures.steps in
+    if_known (g.R.Read.remaining c.args.reader.reader) (refusal_at g.S.Sample.refusal s)
+    (meaning_at g.S.Sample.meaning s) s.bytes_per_sample (samples_left c.args.reader) items
+    (sym (length-map items Ok) ∙ count)
+    (c.items_are_of_the_file.ensures.items (map Ok items) c.args.reader last c.loop-sample.invariant)
