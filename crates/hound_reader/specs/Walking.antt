@@ -1,13 +1,13 @@
 -- The walk over chunks, step by step: what each call returns, and how many bytes are taken of a file
 -- that is rejected.
-use Rattle.std.specs.Prelude.{◌≡◌, ℕ, ◌≤◌, List, length, drop, ⊤, Option, Result, Ok, Err, ◌+◌, ◌++◌, Some, None, true, false, ◌<◌, ◌==◌, ◌⊎◌, slice_range, nat_lt, if◌then◌else◌}
+use Rattle.std.specs.Prelude.{◌≡◌, ℕ, ◌≤◌, List, length, take, drop, ⊤, Option, IfOk, IfErr, ◌-◌, Result, Ok, Err, ◌+◌, ◌++◌, Some, None, true, false, ◌<◌, ◌==◌, ◌⊎◌, slice_range, nat_lt, if◌then◌else◌}
 use Rattle.hound_number.specs.{Account, WhereKnown, NoneFailed, OneFailed, number}
 use Rattle.hound_reader.specs.declared.cause.HeadError.{HeadError}
 use Rattle.hound_reader.specs.declared.cause.HeadError.TheVariants.{Failed, Refused}
 use Rattle.hound_reader.specs.declared.cause.Cause.{Cause}
 use Rattle.hound_spec.specs.{greatest_u32, extensible, padded, data_tag}
 use Rattle.hound_reader.specs.Grammar.{Chunks, joined, last_spec, chunk_fault, Chunk, IsChunk, chunk_bytes, spec_after, fmt_fault, front_fault, Head, Walk, data_fault}
-use Rattle.hound_reader.specs.Fmt.{fmt_of, IsSoundSpec}
+use Rattle.hound_reader.specs.Fmt.{fmt_len, fmt_of, IsSoundSpec}
 use Rattle.std.specs.Str.{bytes_eq}
 use Rattle.hound_spec.specs.declared.spec.WavSpecEx.{WavSpecEx}
 use Rattle.hound_reader.specs.declared.chunks.ChunkRead.{ChunkRead}
@@ -192,3 +192,17 @@ abbrev pub TakesAll : (List ℕ → Cause → ℕ → Type 0) → Option (List �
     → Type 0
 TakesAll P old new e = Refuses e (λ c. WhereKnown old new (λ xs ys.
     (n : ℕ) × P xs c n × AreTaken n xs ys))
+
+-- What a call does with the content of a fmt chunk of this length, after its first sixteen bytes: it
+-- returns `read` of what follows, unless a read failed, and takes as many bytes for a cause as the
+-- format tag says.
+pub record ReadsFormat {R Kept : Type 0} (account : R → Option (Account Kept))
+    (left : R → Option (List ℕ)) (tag len : ℕ) (read : List ℕ → Result WavSpecEx Cause)
+    (old new : R) (result : Result WavSpecEx HeadError) : Type 0 where
+  pub sound : IfOk result IsSoundSpec
+  pub failures : CountsFailed (account old) (account new) result
+  pub gives : Gives (left old) (left new) (fmt_len len - 16) result
+      (λ xs. read (take (fmt_len len - 16) xs))
+  pub taken : IfErr result (TakesFor (left old) (left new)
+      (λ c xs. content_taken tag len c (16 + length xs) - 16))
+  pub late : IfErr result (λ e. Refuses e (λ c. (n : ℕ) → 16 ≤ content_taken tag len c (16 + n)))
