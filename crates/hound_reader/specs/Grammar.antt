@@ -180,12 +180,3 @@ AnswersFile bytes (unreadable cause) = Unreadable bytes cause
 abbrev pub HasOneFileAnswer : List ℕ → Type 0
 HasOneFileAnswer bytes =
     (a : Answer) × AnswersFile bytes a × ((b : Answer) → AnswersFile bytes b → b ≡ a)
-
--- What was returned, and the bytes that are left, are this answer, unless a read failed.
-abbrev pub ReportsAnswer : Result FileHead HeadError → List ℕ → List ℕ → Answer → Type 0
-ReportsAnswer (Ok r) bytes rest (readable spec len h) = (r.spec_ex ≡ spec) × (r.data_length ≡ len)
-    × (r.data_start ≡ h) × (rest ≡ drop h bytes)
-ReportsAnswer (Ok r) bytes rest (unreadable cause) = ⊥
-ReportsAnswer (Err (Failed e)) bytes rest a = ⊤
-ReportsAnswer (Err (Refuses c)) bytes rest (readable spec len h) = ⊥
-ReportsAnswer (Err (Refuses c)) bytes rest (unreadable cause) = c ≡ cause

@@ -1,7 +1,7 @@
 // The content of a fmt chunk.
 ghost use Rattle.std.specs.Prelude.{◌≡◌, ℕ, ◌+◌, ◌-◌, ◌≤◌, length, take, IfOk, IfErr};
 ghost use Rattle.hound_spec.specs.{fmt_fields, extension, pcm, ieee_float, extensible};
-ghost use Rattle.hound_reader.specs.Walking.{Gives, CountsFailed, ReadsFormat, TakesFor, content_taken};
+ghost use Rattle.hound_reader.specs.Walking.{Gives, CountsFailed, ReadsFormat, TakesFor, content_takes};
 ghost use Rattle.hound_reader.specs.Fmt.{wave_format, wave_format_pcm, wave_format_ieee_float, wave_format_extensible, by_subformat, by_tag, fmt_len, fmt_of, IsSoundSpec};
 
 use crate::cause::{Cause, HeadError, Reason};
@@ -218,7 +218,7 @@ pub(crate) fn read_fmt_chunk<R: Input>(
     ensures gives { Gives (R.left reader.old) (R.left reader.new)
         (fmt_len chunk_len) result (fmt_of chunk_len) }
     ensures taken { IfErr result (TakesFor (R.left reader.old) (R.left reader.new)
-        (λ c xs. content_taken (fmt_fields xs).tag chunk_len c (length xs))) }
+        (content_takes chunk_len)) }
 {
     // Fourteen bytes would say all but the bits; no program is known to write so short a chunk.
     if chunk_len < PCMWAVEFORMAT_LENGTH {

@@ -5,7 +5,7 @@ ghost use Rattle.hound_spec.specs.{riff_tag, wave_tag};
 ghost use Rattle.hound_spec.specs.declared.spec.WavSpecEx.{WavSpecEx};
 ghost use Rattle.hound_reader.specs.Walking.{CountsFailed, Refuses, ReportsFront, TakesAll, UnreadableAfter};
 ghost use Rattle.hound_reader.specs.Fmt.{IsSoundSpec};
-ghost use Rattle.hound_reader.specs.Grammar.{Readable, Unreadable};
+ghost use Rattle.hound_reader.specs.Grammar.{IsDataPlace, Readable, Unreadable};
 ghost use Rattle.hound_reader.specs.declared.cause.Cause.{Cause};
 ghost use Rattle.hound_reader.specs.Refusals.{IsRefusal, OpensAs, FailsAs};
 ghost use Rattle.hound_medium.specs.{Shifts, WhereTells};
@@ -14,7 +14,7 @@ ghost use Rattle.hound_reader.specs.Seeking.{Recounts, way_to};
 ghost use Rattle.hound_reader.specs.Samples.{lent_reader, lender, taken_reader};
 
 use crate::cause::{Cause, HeadError, Reason, error_of};
-use crate::chunks::{read_riff_header, read_until_data};
+use crate::chunks::{FileHead, read_riff_header, read_until_data};
 use crate::item::{KeepingReader, error_of_item, read_item_since, read_many_since, taken_without};
 use crate::samples::{WavIntoSamples, WavSamples};
 use hound_medium::{Placed, Source};
@@ -25,29 +25,29 @@ use std::io::ErrorKind;
 use std::marker::{Brand, Model};
 use std::{io, result};
 
-// Takes what is before the data, which must be whole frames: the spec, and how many samples
-// follow.
-fn read_until_samples<R: Input>(reader: &mut R) -> result::Result<(WavSpecEx, u32), HeadError>
-    ensures sound { IfOk result (λ r. IsSoundSpec r.0) }
+/// Takes exactly what is before the data, which must be whole frames: the head, and how many samples
+/// follow it. The walk over a file that reading in memory shares.
+pub fn read_until_samples<R: Input>(reader: &mut R) -> result::Result<(FileHead, u32), HeadError>
+    ensures sound { IfOk result (λ r. IsSoundSpec r.0.spec_ex) }
+    ensures start { IfOk result (λ r. IsDataPlace r.0.data_start) }
     ensures failures { CountsFailed (R.account reader.old) (R.account reader.new) result }
     ensures found { IfOk result (λ r. WhereKnown (R.left reader.old) (R.left reader.new) (λ xs ys.
-        (h : ℕ) × Readable xs r.0 r.1 h × (ys ≡ drop h xs))) }
+        Readable xs r.0.spec_ex r.1 r.0.data_start × (ys ≡ drop r.0.data_start xs))) }
     ensures refused { IfErr result (λ e. Refuses e
         (λ c. WhereKnown (R.left reader.old) (R.left reader.new) (λ xs ys. Unreadable xs c))) }
     ensures taken { IfErr result (TakesAll UnreadableAfter (R.left reader.old) (R.left reader.new)) }
-    ensures frames { IfOk result (λ r. r.1 % r.0.spec.channels ≡ 0) }
+    ensures frames { IfOk result (λ r. r.1 % r.0.spec_ex.spec.channels ≡ 0) }
 {
     let head = read_until_data(reader)?;
-    let spec_ex = head.spec_ex;
-    let width = spec_ex.bytes_per_sample as u32;
+    let width = head.spec_ex.bytes_per_sample as u32;
     if head.data_length % width != 0 {
         return Err(HeadError::Refused(Cause::Format(Reason::DataLength)));
     }
     let num_samples = head.data_length / width;
-    if num_samples % spec_ex.spec.channels as u32 != 0 {
+    if num_samples % head.spec_ex.spec.channels as u32 != 0 {
         return Err(HeadError::Refused(Cause::Format(Reason::FrameLength)));
     }
-    Ok((spec_ex, num_samples))
+    Ok((head, num_samples))
 }
 
 /// Takes the first twelve bytes of a file, and returns the size of the whole file in bytes by
@@ -143,9 +143,9 @@ impl<R: io::Read + Drop> WavReader<R> {
         let fault = io::Error::from(ErrorKind::Other);
         let mut reader = reader;
         match read_until_samples(&mut reader) {
-            Ok((spec_ex, num_samples)) => Ok(WavReader {
+            Ok((head, num_samples)) => Ok(WavReader {
                 reader: KeepingReader { reader, fault },
-                spec_ex,
+                spec_ex: head.spec_ex,
                 num_samples,
                 samples_read: 0,
                 bytes_read: 0,
