@@ -46,7 +46,8 @@ pub struct FileHead {
     pub data_start: u64,
 }
 
-// Takes bytes and drops them. If there is none to skip, no buffer is made.
+// Takes bytes and drops them.
+#[inline(never)]
 fn skip_bytes<R: Input>(reader: &mut R, count: u32) -> Result<(), HeadError>
     ensures failures { CountsFailed (R.account reader.old) (R.account reader.new) result }
     ensures ok { OnOk result ((bytes : List ℕ)
@@ -109,7 +110,11 @@ fn read_fmt_content<R: Input>(
         (content_takes chunk_len) reader.old reader.new result }
 {
     let spec_ex = read_fmt_chunk(reader, chunk_len)?;
-    skip_bytes(reader, content - chunk_len.min(40))?;
+    let rest = content - chunk_len.min(40);
+    if rest == 0 {
+        return Ok(spec_ex);
+    }
+    skip_bytes(reader, rest)?;
     Ok(spec_ex)
 }
 

@@ -22,7 +22,7 @@ use hound_number::Input;
 use hound_sample::{ItemError, Sample};
 use hound_spec::{Error, Result, WavSpec, WavSpecEx};
 use std::io::ErrorKind;
-use std::marker::{Brand, Model};
+use std::marker::{Brand, Model, PhantomData};
 use std::{io, result};
 
 /// Takes exactly what is before the data, which must be whole frames: the head, and how many samples
@@ -203,8 +203,11 @@ impl<R: io::Read + Drop> WavReader<R> {
         ensures reader { lent_reader result ≡ self.old }
         ensures lender { lender result ≡ self.entry.ghost_name }
     {
-        let spec_ex = self.spec_ex;
-        WavSamples::new(self, spec_ex)
+        WavSamples {
+            spec_ex: self.spec_ex,
+            reader: self,
+            phantom_sample: PhantomData,
+        }
     }
 
     /// The same iterator, which owns the reader. To use the reader afterwards, call
@@ -212,8 +215,11 @@ impl<R: io::Read + Drop> WavReader<R> {
     pub fn into_samples<S: Sample>(self) -> WavIntoSamples<R, S>
         ensures { taken_reader result ≡ self }
     {
-        let spec_ex = self.spec_ex;
-        WavIntoSamples::new(self, spec_ex)
+        WavIntoSamples {
+            spec_ex: self.spec_ex,
+            reader: self,
+            phantom_sample: PhantomData,
+        }
     }
 
     /// Reads the next samples into the front of a slice, channels in turn. Returns how many came, and
@@ -294,15 +300,6 @@ impl<R: io::Read + Drop> WavReader<R> {
         ensures { result ≡ self.reader }
     {
         self.reader.reader
-    }
-
-    /// As many items as samples are left, and no more.
-    pub(crate) fn size_hint(&self) -> (usize, Option<usize>)
-        ensures exact { (result.0 ≡ samples_left self.now)
-            × (result.1 ≡ Some (samples_left self.now)) }
-    {
-        let left = self.samples_left() as usize;
-        (left, Some(left))
     }
 
     /// The next item, while a sample is left, by the iterator's copy of the spec. An `Error` is
