@@ -25,29 +25,11 @@ pub enum Fault {
     NoRoom,
 }
 
-// The number of what is wrong with a file.
+// The number of what is wrong with a file: from -10 down, in the order of the reasons.
 fn code_of_reason(reason: Reason) -> i32
     ensures { result ≡ reason_code reason }
 {
-    match reason {
-        Reason::NoRiffTag => -10,
-        Reason::NoWaveTag => -11,
-        Reason::NoDataChunk => -12,
-        Reason::NoFmtChunk => -13,
-        Reason::FmtSize => -14,
-        Reason::UnexpectedFmtSize => -15,
-        Reason::ZeroChannels => -16,
-        Reason::BitsExceedWidth => -17,
-        Reason::Inconsistent => -18,
-        Reason::BitsNotWholeBytes => -19,
-        Reason::ZeroBits => -20,
-        Reason::BitsNot8Or16 => -21,
-        Reason::ExSize => -22,
-        Reason::BitsNot32 => -23,
-        Reason::ExtensibleSize => -24,
-        Reason::DataLength => -25,
-        Reason::FrameLength => -26,
-    }
+    -10 - reason as i32
 }
 
 /// The number that C gets for a fault.

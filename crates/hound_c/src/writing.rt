@@ -125,9 +125,7 @@ pub(crate) fn write_file<S: Sample + Copy>(
     }
     let bits = spec_ex.spec.bits_per_sample;
     let width = spec_ex.bytes_per_sample;
-    if let Err(fault) = check_samples(samples, bits, width) {
-        return Err(fault);
-    }
+    check_samples(samples, bits, width)?;
     let data_start = data_start_of(spec_ex);
     let (data_length, size) = sizes_of(spec_ex, data_start, samples.len() as u64)?;
     if size > out.len() {
@@ -158,9 +156,7 @@ pub(crate) fn encode_block<S: Sample + Copy>(
     if !is_pair(spec_ex.spec.sample_format, bits, width) {
         return Err(Fault::OtherPair);
     }
-    if let Err(fault) = check_samples(samples, bits, width) {
-        return Err(fault);
-    }
+    check_samples(samples, bits, width)?;
     if samples.len() > out.len() / width as usize {
         return Err(Fault::NoRoom);
     }
