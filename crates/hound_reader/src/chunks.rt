@@ -16,14 +16,6 @@ use hound_medium::Source;
 use hound_number::{Input, u32_at};
 use hound_spec::WavSpecEx;
 
-const RIFF: [u8; 4] = *b"RIFF";
-
-const WAVE: [u8; 4] = *b"WAVE";
-
-const FMT: [u8; 4] = *b"fmt ";
-
-const DATA: [u8; 4] = *b"data";
-
 /// What one chunk was (RIFF, "Chunks").
 #[derive(Drop)]
 pub enum ChunkRead {
@@ -79,22 +71,15 @@ pub(crate) fn read_riff_header<R: Input>(reader: &mut R) -> Result<u32, HeadErro
 {
     let mut tag = [0; 4];
     fill(reader, &mut tag)?;
-    if tag.as_slice() != RIFF.as_slice() {
+    if tag.as_slice() != b"RIFF".as_slice() {
         return Err(HeadError::Refused(Cause::Format(Reason::NoRiffTag)));
     }
     let mut rest = [0; 8];
     fill(reader, &mut rest)?;
-    if &rest[4..8] != WAVE.as_slice() {
+    if &rest[4..8] != b"WAVE".as_slice() {
         return Err(HeadError::Refused(Cause::Format(Reason::NoWaveTag)));
     }
     Ok(u32_at(&rest, 0))
-}
-
-// How many bytes a content of this length takes, with its pad byte.
-fn with_pad_byte(chunk_len: u32) -> u64
-    ensures { result ≡ padded chunk_len }
-{
-    chunk_len as u64 + chunk_len as u64 % 2
 }
 
 // Takes the content of a fmt chunk of this length, this many bytes: the used part, and the
@@ -133,18 +118,19 @@ fn read_content<R: Input>(
         (content_fault taken found tag.now chunk_len) (content_takes chunk_len) reader.old
         reader.new result }
 {
-    if tag == DATA.as_slice() {
+    if tag == b"data".as_slice() {
         return match found {
             None => Err(HeadError::Refused(Cause::Format(Reason::NoFmtChunk))),
             Some(spec_ex) => Ok(ChunkRead::Data(spec_ex, chunk_len)),
         };
     }
-    let content = with_pad_byte(chunk_len);
+    // With the pad byte after an odd length.
+    let content = chunk_len as u64 + chunk_len as u64 % 2;
     if content > 4_294_967_287 - taken as u64 {
         return Err(HeadError::Refused(Cause::Format(Reason::NoDataChunk)));
     }
     let content = content as u32;
-    if tag == FMT.as_slice() {
+    if tag == b"fmt ".as_slice() {
         let spec_ex = read_fmt_content(reader, chunk_len, content)?;
         return Ok(ChunkRead::Other(Some(spec_ex), taken + 8 + content));
     }

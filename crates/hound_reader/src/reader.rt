@@ -123,7 +123,7 @@ impl<R: io::Read + Drop> WavReader<R> {
     /// frames. `IoError` is a fault of the reader, or an early end, of kind `Other`. Chunks that
     /// would take more than 4294967295 bytes after the WAVE tag are a `FormatError`, so the call
     /// returns for an endless reader too.
-    pub fn new(reader: R) -> Result<WavReader<R>>
+    pub fn new(mut reader: R) -> Result<WavReader<R>>
         ensures found { IfOk result (λ r. WhereKnown (R.remaining reader) (R.remaining r.reader)
             (λ xs ys.
             (h : ℕ) × Readable xs r.spec_ex r.num_samples h × (ys ≡ drop h xs))) }
@@ -141,7 +141,6 @@ impl<R: io::Read + Drop> WavReader<R> {
     {
         // No item returns this one: an `IoError` comes after a read that failed or ended.
         let fault = io::Error::from(ErrorKind::Other);
-        let mut reader = reader;
         match read_until_samples(&mut reader) {
             Ok((head, num_samples)) => Ok(WavReader {
                 reader: KeepingReader { reader, fault },

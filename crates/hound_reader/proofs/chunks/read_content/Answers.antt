@@ -1,6 +1,6 @@
 use Rattle.std.proofs.Common.{◌+◌, Some, true, false, refl, ◌∙◌, arith, rules}
 use Rattle.hound_reader.specs.Grammar.{spec_after}
-use Rattle.hound_spec.specs.{fmt_tag, data_tag}
+use Rattle.hound_spec.specs.{fmt_tag, data_tag, padded}
 use Rattle.hound_reader.specs.Walking.{ReadsContent}
 use Rattle.hound_reader.specs.declared.chunks.ChunkRead.TheVariants.{Other}
 use Rattle.hound_number.proofs.KnownSteps.{known_from, known_weaker}
@@ -19,15 +19,15 @@ returns-then-eq-2 g c =
       failures = c.in_ok-spec_ex.ensures.failures;
       ok = known_weaker _ _ _
           (ReadsContent c.args.taken c.args.found tag len
-          (Other (Some c.in_ok-spec_ex.spec_ex) (c.args.taken + 8 + c.with_pad_byte-content.result)))
+          (Other (Some c.in_ok-spec_ex.spec_ex) (c.args.taken + 8 + padded len)))
           c.in_ok-spec_ex.ensures.ok (λ xs ys (content, n, read, e). (
             content,
             n,
             other,
             rw (is_fmt, read) refl,
-            omega (arith, c.with_pad_byte-content.ensures),
+            omega arith,
             rw (is_fmt, read) refl,
-            omega (arith, n, c.with_pad_byte-content.ensures),
+            omega (arith, n),
             e,
           ));
       err = tt;
@@ -48,13 +48,13 @@ returns g c =
       failures = c.in_ok-skip_bytes.ensures.failures;
       ok = known_from bytes _ _
           (ReadsContent c.args.taken c.args.found tag len
-          (Other c.args.found (c.args.taken + 8 + c.with_pad_byte-content.result)))
+          (Other c.args.found (c.args.taken + 8 + padded len)))
           taken (λ ys. (
             bytes,
-            n ∙ c.with_pad_byte-content.ensures,
+            n,
             other,
             rw not_fmt refl,
-            omega (arith, c.with_pad_byte-content.ensures),
+            omega arith,
             rw not_fmt refl,
             omega (arith, n),
             refl,
