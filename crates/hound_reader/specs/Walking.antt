@@ -60,11 +60,6 @@ ReadsContent c found tag len (Other next taken) xs ys = (content : List ℕ)
     × (next ≡ spec_after found tag len content) × (taken ≡ c + 8 + length content)
     × (xs ≡ content ++ ys)
 
--- What was taken of xs, of which ys are left, if the content of a fmt chunk was read.
-abbrev pub ReadsFmt : ℕ → WavSpecEx → List ℕ → List ℕ → Type 0
-ReadsFmt len found xs ys = (content : List ℕ) × (length content ≡ padded len)
-    × (fmt_of len content ≡ Ok found) × (xs ≡ content ++ ys)
-
 -- The first twelve bytes of xs and whole chunks, and then ys: the spec so far, and how many bytes the
 -- chunks take.
 pub record Walked (xs ys : List ℕ) (found : Option WavSpecEx) (taken : ℕ) : Type 0 where

@@ -4,9 +4,9 @@ ghost use Rattle.std.specs.Prelude.{◌≡◌, ℕ, ◌+◌, ◌++◌, ◌<◌, 
 ghost use Rattle.std.specs.Io.KnownBytes.{Consumes};
 ghost use Rattle.hound_number.specs.{WhereKnown, number};
 ghost use Rattle.hound_spec.specs.{fmt_fields, greatest_u32, padded, riff_tag, wave_tag};
-ghost use Rattle.hound_reader.specs.Walking.{CountsFailed, Refuses, Walks, TakesFront, RefusedAfter, TakesAll, chunk_taken, content_takes, ReadsChunk, ReadsContent, ReadsFmt, IsSoundOption, IsSoundChunk};
-ghost use Rattle.hound_reader.specs.Fmt.{fmt_of, IsSoundSpec};
-ghost use Rattle.hound_reader.specs.Grammar.{Head, IsDataPlace, Refused, fault_of, first_fault, cut_fault, front_fault, content_fault, chunk_fault};
+ghost use Rattle.hound_reader.specs.Walking.{CountsFailed, Refuses, Walks, TakesFront, RefusedAfter, TakesAll, chunk_taken, content_takes, ReadsChunk, ReadsContent, IsSoundOption, IsSoundChunk};
+ghost use Rattle.hound_reader.specs.Fmt.{IsSoundSpec};
+ghost use Rattle.hound_reader.specs.Grammar.{Head, IsDataPlace, Refused, front_fault, content_fault, chunk_fault};
 ghost use Rattle.hound_reader.specs.Sources.{FindsData, unread};
 
 use crate::cause::{Cause, HeadError, Reason};
@@ -82,27 +82,6 @@ pub(crate) fn read_riff_header<R: Input>(reader: &mut R) -> Result<u32, HeadErro
     Ok(u32_at(&rest, 0))
 }
 
-// Takes the content of a fmt chunk of this length, this many bytes: the used part, and the
-// rest.
-fn read_fmt_content<R: Input>(
-    reader: &mut R,
-    chunk_len: u32,
-    content: u32,
-) -> Result<WavSpecEx, HeadError>
-    requires { content ≡ padded chunk_len }
-    ensures { Walks R.account R.left IsSoundSpec (ReadsFmt chunk_len)
-        (λ xs. first_fault (fault_of (fmt_of chunk_len (take content xs))) (cut_fault content xs))
-        (content_takes chunk_len) reader.old reader.new result }
-{
-    let spec_ex = read_fmt_chunk(reader, chunk_len)?;
-    let rest = content - chunk_len.min(40);
-    if rest == 0 {
-        return Ok(spec_ex);
-    }
-    skip_bytes(reader, rest)?;
-    Ok(spec_ex)
-}
-
 // Takes the content of a chunk, after the eight bytes of its header.
 #[tactic(auto, unfolding(crate::specs::Grammar::content_fault))]
 fn read_content<R: Input>(
@@ -131,7 +110,11 @@ fn read_content<R: Input>(
     }
     let content = content as u32;
     if tag == b"fmt ".as_slice() {
-        let spec_ex = read_fmt_content(reader, chunk_len, content)?;
+        let spec_ex = read_fmt_chunk(reader, chunk_len)?;
+        let rest = content - chunk_len.min(40);
+        if rest > 0 {
+            skip_bytes(reader, rest)?;
+        }
         return Ok(ChunkRead::Other(Some(spec_ex), taken + 8 + content));
     }
     skip_bytes(reader, content)?;
