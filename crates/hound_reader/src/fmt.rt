@@ -182,8 +182,7 @@ fn read_wave_format_extensible<R: Input>(
     }
     let mut rest = [0; EXTENSION_LENGTH as usize];
     fill(reader, &mut rest)?;
-    let found = choose_subformat(found, &rest)?;
-    Ok(found)
+    Ok(choose_subformat(found, &rest)?)
 }
 
 #[tactic(auto, unfolding(crate::specs::Fmt::by_tag))]
