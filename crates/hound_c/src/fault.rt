@@ -1,8 +1,8 @@
 // Why a call doesn't do its work, and the number that C gets for it.
 ghost use Rattle.std.specs.Prelude.{◌≡◌, ◌<◌, ◌^◌, IfOk};
-ghost use Rattle.hound_c.specs.Codes.{fault_code, code_for, reason_code};
+ghost use Rattle.hound_c.specs.Codes.{fault_code, code_for};
 
-use hound_reader::{Cause, Reason};
+use hound_reader::Cause;
 
 /// Why a call doesn't do its work.
 #[derive(Clone, Copy, Debug, PartialEq, Eq)]
@@ -25,13 +25,6 @@ pub enum Fault {
     NoRoom,
 }
 
-// The number of what is wrong with a file: from -10 down, in the order of the reasons.
-fn code_of_reason(reason: Reason) -> i32
-    ensures { result ≡ reason_code reason }
-{
-    -10 - reason as i32
-}
-
 /// The number that C gets for a fault.
 pub(crate) fn code_of_fault(fault: Fault) -> i32
     ensures { result ≡ fault_code fault }
@@ -39,7 +32,8 @@ pub(crate) fn code_of_fault(fault: Fault) -> i32
     match fault {
         Fault::Head(Cause::Ended) => -1,
         Fault::Head(Cause::Unsupported) => -2,
-        Fault::Head(Cause::Format(reason)) => code_of_reason(reason),
+        // From -10 down, in the order of the reasons.
+        Fault::Head(Cause::Format(reason)) => -10 - reason as i32,
         Fault::OtherFormat => -3,
         Fault::Wider => -4,
         Fault::OtherPair => -5,

@@ -102,8 +102,7 @@ pub(crate) fn file_size(spec: HoundSpec, samples: u64) -> Result<usize, Fault>
     if !spec_ex.is_writable() {
         return Err(Fault::OtherPair);
     }
-    let (_, size) = sizes_of(spec_ex, data_start_of(spec_ex), samples)?;
-    Ok(size)
+    Ok(sizes_of(spec_ex, data_start_of(spec_ex), samples)?.1)
 }
 
 /// Writes the file of these samples to the front of `out`, and returns its length.
