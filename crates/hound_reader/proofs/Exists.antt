@@ -1,17 +1,15 @@
 -- Bytes have an answer.
-use Rattle.std.proofs.Common.{◌≡◌, ℕ, zero, suc, ◌+◌, ◌≤◌, ◌⊎◌, inl, inr, Bool, true, false, not, cond, List, [], ◌∷◌, ◌++◌, length, take, drop, slice_range, refl, sym, ap, le_refl, zero-add, ◌∙◌, subst, arith, length-append, append_assoc, length-take, length-drop, length-take-le, ltb-false, nat_lt, Option, Some, None, Ok, Err}
+use Rattle.std.proofs.Common.{◌≡◌, ℕ, zero, suc, ◌+◌, ◌≤◌, ◌⊎◌, inl, inr, Bool, true, false, not, cond, List, [], ◌∷◌, ◌++◌, length, take, drop, slice_range, refl, sym, ap, le_refl, zero-add, ◌∙◌, subst, arith, length-append, append_assoc, length-take, length-drop, length-take-le, ltb-false, nat_lt, Option, Some, None}
 use Rattle.std.specs.Prelude.{is_none}
 use Rattle.std.specs.Str.{bytes_eq}
 use Rattle.std.proofs.lemmas.Bool.{cases_Bool, not-false}
 use Rattle.std.proofs.lemmas.List.{take-append-drop, drop-drop}
 use Rattle.hound_spec.specs.declared.spec.WavSpecEx.{WavSpecEx}
-use Rattle.hound_reader.specs.declared.chunks.FileHead.{FileHead}
 use Rattle.hound_reader.specs.declared.cause.Cause.{Cause}
 use Rattle.hound_number.specs.{number}
-use Rattle.hound_reader.specs.Grammar.{Chunk, IsChunk, chunk_bytes, fmt_fault, first_fault, Chunks, joined, last_spec, Head, Refused, spec_after, front_fault, content_fault, chunk_fault, Answer, readable, unreadable, Answers, HasOneAnswer}
+use Rattle.hound_reader.specs.Grammar.{Chunk, IsChunk, chunk_bytes, fmt_fault, first_fault, Chunks, joined, last_spec, spec_after, front_fault, content_fault, chunk_fault, Answer, readable, unreadable, Answers, HasOneAnswer}
 use Rattle.hound_spec.specs.{greatest_u32, padded, riff_tag, wave_tag, data_tag}
 use Rattle.hound_reader.proofs.WalkLemmas.{same_tag}
-use Rattle.hound_reader.specs.declared.cause.HeadError.TheVariants as stops
 use Rattle.hound_reader.proofs.Unique.{spread, heads_agree, head_no_fault, faults_agree}
 
 -- the header of the data, with a spec before it

@@ -1,6 +1,6 @@
 -- A file as chunks (RIFF): what is before the data, what is wrong if it can't be read, and that it is one
 -- of these. The containers of the data.
-use Rattle.std.specs.Prelude.{◌≡◌, ℕ, ◌+◌, ◌≤◌, ◌/◌, ◌%◌, ◌==◌, ◌⊎◌, false, not, List, [], ◌∷◌, ◌++◌, length, take, drop, slice_range, Option, Some, None, is_none, Result, Ok, Err, nat_lt, if◌then◌else◌, ◌*◌, ⊤}
+use Rattle.std.specs.Prelude.{◌≡◌, ℕ, ◌+◌, ◌≤◌, ◌/◌, ◌%◌, ◌==◌, ◌⊎◌, false, not, List, [], ◌∷◌, ◌++◌, length, take, drop, slice_range, Option, Some, None, is_none, Result, Ok, Err, nat_lt, if◌then◌else◌, ◌*◌}
 use Rattle.std.specs.Str.{bytes_eq}
 use Rattle.std.specs.List.{flat_map, AllByRecursion}
 use Rattle.hound_number.specs.{number}
@@ -10,9 +10,6 @@ use Rattle.hound_spec.specs.declared.spec.WavSpecEx.{WavSpecEx}
 use Rattle.hound_reader.specs.declared.cause.Cause.{Cause}
 use Rattle.hound_reader.specs.declared.cause.Cause.TheVariants.{Ended, Format}
 use Rattle.hound_reader.specs.declared.cause.Reason.TheVariants.{NoRiffTag, NoWaveTag, NoDataChunk, NoFmtChunk, DataLength, FrameLength}
-use Rattle.hound_reader.specs.declared.chunks.FileHead.{FileHead}
-use Rattle.hound_reader.specs.declared.cause.HeadError.{HeadError}
-use Rattle.hound_reader.specs.declared.cause.HeadError.TheVariants.{Failed, Refused as Refuses}
 
 -- A chunk of the file: the tag, the length as four bytes, and the content with its
 -- pad byte, if it has one (RIFF, "Chunks").

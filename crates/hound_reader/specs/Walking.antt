@@ -6,8 +6,8 @@ use Rattle.hound_reader.specs.declared.cause.HeadError.{HeadError}
 use Rattle.hound_reader.specs.declared.cause.HeadError.TheVariants.{Failed, Refused}
 use Rattle.hound_reader.specs.declared.cause.Cause.{Cause}
 use Rattle.hound_spec.specs.{greatest_u32, extensible, fmt_fields, padded, data_tag}
-use Rattle.hound_reader.specs.Grammar.{Chunks, joined, last_spec, chunk_fault, Chunk, IsChunk, chunk_bytes, spec_after, fmt_fault, front_fault, Head, Walk, data_fault}
-use Rattle.hound_reader.specs.Fmt.{fmt_len, fmt_of, IsSoundSpec}
+use Rattle.hound_reader.specs.Grammar.{joined, last_spec, chunk_fault, Chunk, IsChunk, chunk_bytes, spec_after, fmt_fault, front_fault, Head, Walk, data_fault}
+use Rattle.hound_reader.specs.Fmt.{fmt_len, IsSoundSpec}
 use Rattle.std.specs.Str.{bytes_eq}
 use Rattle.hound_spec.specs.declared.spec.WavSpecEx.{WavSpecEx}
 use Rattle.hound_reader.specs.declared.chunks.ChunkRead.{ChunkRead}

@@ -1,5 +1,5 @@
 use Rattle.std.proofs.Common.{take, subst, arith, rules}
-use Rattle.std.proofs.lemmas.Result.{IfOk-weaker, IfErr-weaker}
+use Rattle.std.proofs.lemmas.Result.{IfOk-weaker}
 use Rattle.std.proofs.lemmas.Grind.{common_steps}
 use Rattle.hound_reader.specs.Grammar.{chunk_fault}
 use Rattle.hound_reader.specs.Walking.{ReadsContent, chunk_taken, content_takes}
