@@ -14,7 +14,7 @@ unfoldable pub use Rattle.hound_sample.specs.{int_container, pattern_container}
 pub use Rattle.hound_sample.specs.declared.item.ItemError.{ItemError}
 pub use Rattle.hound_medium.specs.{FlushedSince, Flushes, Gets, Goes, IsMoved, MediumState, Puts, PutsAll, PutsFirst, Shifts, Span, Stays, WhereKeeps, WhereTells, count_of, faults_after, moment, one_more, overlay, place_reached, placed, put_at, unknown, FailsAt, IsNumbered, SameRequests, calls, greatest_count}
 pub use Rattle.hound_durable.specs.{Ascends, IsBelow, IsItsFault, IsLastBefore, LeadsBack, OnlySyncs, SurvivesLoss, byte_at, left_of, left_own, own, place_of, replays_own, Around, synced, within}
-pub use Rattle.hound_reader.specs.{IsSoundSpec, by_subformat, fmt_len, fmt_of, spec_of, width_of, with_format, with_valid_bits, Answer, Answers, AnswersFile, AreContainers, Chunk, Chunks, HasOneAnswer, HasOneFileAnswer, Head, IsChunk, IsDataPlace, Readable, Refused, ReportsAnswer, Unreadable, Walk, chunk_bytes, cut_fault, data_fault, fault_of, first_fault, fmt_fault, joined, last_spec, ok_of, readable, unreadable, Advances, CountsFailed, Gives, IsSoundChunk, IsSoundOption, MeetsFault, MeetsFaultAfter, ReachesData, ReadsChunk, ReadsContent, ReadsFmt, RefusedAfter, Refuses, RefusesFront, ReportsFront, TakesAll, TakesFor, TakesFront, TakesLess, UnlessReadFailed, UnreadableAfter, Walked, chunk_taken, content_taken, front_taken, AnswersNext, AnswersRead, AnswersReadMany, AreItems, AreTaken, CountsTaken, GivesItem, GivesItems, GivesItemsOfBytes, HasGiven, HasGiven-prop, HasSoundCounts, HasWholeFrames, IsNext, ReaderState, ReadsBlock, TookBytes, meaning_at, over_bytes, refusal_at, requested, samples_left, taken_without, FailsAs, IsRefusal, Names, OpensAs, ReportsError, reason_text, LendsNext, TakesNext, lender, lent_reader, taken_reader, AnswersBytes, FindsData, Untouched, account_of, faults_after_walk, unread, Follows, HasSought, IsAtCount, IsMeaningOf, PassesItem, ReadsInPlace, Recounts, Seeks, StandsAsCounted, bytes_before, container_at, count_after, samples_before, way_to}
+pub use Rattle.hound_reader.specs.{IsSoundSpec, by_subformat, fmt_len, fmt_of, spec_of, width_of, with_format, with_valid_bits, Answer, Answers, AnswersFile, AreContainers, Chunk, Chunks, HasOneAnswer, HasOneFileAnswer, Head, IsChunk, IsDataPlace, Readable, Refused, Unreadable, Walk, chunk_bytes, cut_fault, data_fault, fault_of, first_fault, fmt_fault, joined, last_spec, ok_of, readable, unreadable, CountsFailed, Gives, IsSoundChunk, IsSoundOption, ReadsChunk, ReadsContent, ReadsFormat, RefusedAfter, Refuses, RefusesFront, ReportsFront, TakesAll, TakesFor, TakesFront, TakesLess, UnreadableAfter, Walked, Walks, chunk_taken, content_taken, content_takes, front_taken, AnswersNext, AnswersRead, AnswersReadMany, AreItems, AreTaken, CountsTaken, GivesItem, GivesItems, GivesItemsOfBytes, HasGiven, HasGiven-prop, HasSoundCounts, HasWholeFrames, IsNext, ReaderState, ReadsBlock, TookBytes, meaning_at, over_bytes, refusal_at, requested, samples_left, taken_without, FailsAs, IsRefusal, Names, OpensAs, ReportsError, reason_text, LendsNext, TakesNext, lender, lent_reader, taken_reader, AnswersBytes, FindsData, Untouched, account_of, faults_after_walk, unread, Follows, HasSought, IsAtCount, IsMeaningOf, PassesItem, ReadsInPlace, Recounts, Seeks, StandsAsCounted, bytes_before, container_at, count_after, samples_before, way_to}
 unfoldable pub use Rattle.hound_reader.specs.{by_tag, fmt_said, wave_format, wave_format_extensible, wave_format_ieee_float, wave_format_pcm, chunk_fault, content_fault, front_fault, spec_after}
 pub use Rattle.hound_reader.specs.declared.cause.Cause.{Cause}
 pub use Rattle.hound_reader.specs.declared.cause.HeadError.{HeadError}

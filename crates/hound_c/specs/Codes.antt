@@ -1,5 +1,6 @@
 -- The numbers that C gets.
 use Rattle.std.specs.Prelude.{◌≡◌, ℕ, ℤ, pos, negsuc, Result, Ok, Err}
+use Rattle.hound_reader.specs.declared.cause.Cause.{Cause}
 use Rattle.hound_reader.specs.declared.cause.Cause.TheVariants.{Ended, Format, Unsupported}
 use Rattle.hound_reader.specs.declared.cause.Reason.{Reason}
 use Rattle.hound_reader.specs.declared.cause.Reason.TheVariants.{NoRiffTag, NoWaveTag, NoDataChunk, NoFmtChunk, FmtSize, UnexpectedFmtSize, ZeroChannels, BitsExceedWidth, Inconsistent, BitsNotWholeBytes, ZeroBits, BitsNot8Or16, ExSize, BitsNot32, ExtensibleSize, DataLength, FrameLength}
@@ -36,6 +37,10 @@ fault_code Truncated = negsuc 5
 fault_code TooLong = negsuc 6
 fault_code UnfinishedFrame = negsuc 7
 fault_code NoRoom = negsuc 8
+
+-- the bytes have no data to be read, for a cause that P holds for
+abbrev pub IsHeadFault : (Cause → Type 0) → Fault → Type 0
+IsHeadFault P fault = (cause : Cause) × (fault ≡ Head cause) × P cause
 
 -- the count, or the number of the fault
 abbrev pub code_for : Result ℕ Fault → ℤ

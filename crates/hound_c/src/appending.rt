@@ -3,7 +3,7 @@ ghost use Rattle.std.specs.Prelude.{◌≡◌, ◌≤◌, IfOk, length};
 ghost use Rattle.hound_c.specs.Writing.{Appends};
 
 use crate::fault::Fault;
-use crate::head::find_data_in;
+use crate::head::find_samples;
 use crate::writing::{check_samples, sizes_of, write_data_at};
 use hound_repair::set_sizes;
 use hound_sample::Sample;
@@ -22,11 +22,8 @@ pub(crate) fn append_block<S: Sample + Copy>(
     if used > file.len() {
         return Err(Fault::NoRoom);
     }
-    let found = match find_data_in(&file[..used]) {
-        Ok(found) => found,
-        Err(cause) => return Err(Fault::Head(cause)),
-    };
-    let spec_ex = found.spec_ex;
+    let (head, stored) = find_samples(&file[..used])?;
+    let spec_ex = head.spec_ex;
     if spec_ex.spec.sample_format != format {
         return Err(Fault::OtherFormat);
     }
@@ -35,22 +32,21 @@ pub(crate) fn append_block<S: Sample + Copy>(
     if !is_pair(spec_ex.spec.sample_format, bits, width) {
         return Err(Fault::OtherPair);
     }
-    let end = found.data_start + found.samples as usize * width as usize;
+    let data_start = head.data_start as usize;
+    let end = data_start + stored as usize * width as usize;
     if end > used {
         return Err(Fault::Truncated);
     }
-    if let Err(fault) = check_samples(samples, bits, width) {
-        return Err(fault);
-    }
+    check_samples(samples, bits, width)?;
     if samples.len() > u32::MAX as usize {
         return Err(Fault::TooLong);
     }
-    let count = samples.len() as u64 + found.samples as u64;
-    let (data_length, size) = sizes_of(spec_ex, found.data_start, count)?;
+    let count = samples.len() as u64 + stored as u64;
+    let (data_length, size) = sizes_of(spec_ex, data_start, count)?;
     if size > file.len() {
         return Err(Fault::NoRoom);
     }
     write_data_at(file, end, samples, bits, width, data_length);
-    set_sizes(file, found.data_start - 4, (size - 8) as u32, data_length);
+    set_sizes(file, data_start - 4, (size - 8) as u32, data_length);
     Ok(size)
 }

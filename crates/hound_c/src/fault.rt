@@ -1,8 +1,8 @@
 // Why a call doesn't do its work, and the number that C gets for it.
 ghost use Rattle.std.specs.Prelude.{◌≡◌, ◌<◌, ◌^◌, IfOk};
-ghost use Rattle.hound_c.specs.Codes.{fault_code, code_for, reason_code};
+ghost use Rattle.hound_c.specs.Codes.{fault_code, code_for};
 
-use hound_reader::{Cause, Reason};
+use hound_reader::Cause;
 
 /// Why a call doesn't do its work.
 #[derive(Clone, Copy, Debug, PartialEq, Eq)]
@@ -25,31 +25,6 @@ pub enum Fault {
     NoRoom,
 }
 
-// The number of what is wrong with a file.
-fn code_of_reason(reason: Reason) -> i32
-    ensures { result ≡ reason_code reason }
-{
-    match reason {
-        Reason::NoRiffTag => -10,
-        Reason::NoWaveTag => -11,
-        Reason::NoDataChunk => -12,
-        Reason::NoFmtChunk => -13,
-        Reason::FmtSize => -14,
-        Reason::UnexpectedFmtSize => -15,
-        Reason::ZeroChannels => -16,
-        Reason::BitsExceedWidth => -17,
-        Reason::Inconsistent => -18,
-        Reason::BitsNotWholeBytes => -19,
-        Reason::ZeroBits => -20,
-        Reason::BitsNot8Or16 => -21,
-        Reason::ExSize => -22,
-        Reason::BitsNot32 => -23,
-        Reason::ExtensibleSize => -24,
-        Reason::DataLength => -25,
-        Reason::FrameLength => -26,
-    }
-}
-
 /// The number that C gets for a fault.
 pub(crate) fn code_of_fault(fault: Fault) -> i32
     ensures { result ≡ fault_code fault }
@@ -57,7 +32,8 @@ pub(crate) fn code_of_fault(fault: Fault) -> i32
     match fault {
         Fault::Head(Cause::Ended) => -1,
         Fault::Head(Cause::Unsupported) => -2,
-        Fault::Head(Cause::Format(reason)) => code_of_reason(reason),
+        // From -10 down, in the order of the reasons.
+        Fault::Head(Cause::Format(reason)) => -10 - reason as i32,
         Fault::OtherFormat => -3,
         Fault::Wider => -4,
         Fault::OtherPair => -5,

@@ -1,10 +1,11 @@
 // What is before the data.
-ghost use Rattle.std.specs.Prelude.{◌≡◌, ◌≤◌, ◌/◌, IfOk, IfErr, None, Some, length};
-ghost use Rattle.hound_reader.specs.{Head, IsDataPlace, Readable, Refused, Unreadable, data_fault, IsSoundSpec};
+ghost use Rattle.std.specs.Prelude.{◌≡◌, ◌≤◌, IfOk, IfErr, length};
+ghost use Rattle.hound_reader.specs.{Head, IsDataPlace, IsSoundSpec, Readable, Refused, Unreadable};
+ghost use Rattle.hound_c.specs.Codes.{IsHeadFault};
 
+use crate::fault::Fault;
 use hound_number::Input;
-use hound_reader::{Cause, FileHead, HeadError, Reason, read_until_data};
-use hound_spec::WavSpecEx;
+use hound_reader::{FileHead, HeadError, read_until_data, read_until_samples};
 use std::io;
 
 /// Bytes that are read from the front.
@@ -29,55 +30,35 @@ impl Input for Window<'_> {
     }
 }
 
-/// A file's spec, how many samples its header counts, and where they are.
-#[derive(Clone, Copy)]
-pub(crate) struct Found {
-    pub(crate) spec_ex: WavSpecEx,
-    pub(crate) samples: u32,
-    pub(crate) data_start: usize,
-}
-
 /// Walks over a file up to its data.
-pub(crate) fn find_head(file: &[u8]) -> Result<FileHead, Cause>
+pub(crate) fn find_head(file: &[u8]) -> Result<FileHead, Fault>
     ensures head { IfOk result (λ h. Head file.now h.spec_ex h.data_length h.data_start) }
     ensures sound { IfOk result (λ h. IsSoundSpec h.spec_ex) }
     ensures start { IfOk result (λ h. IsDataPlace h.data_start) }
     ensures inside { IfOk result (λ h. h.data_start ≤ length file.now) }
-    ensures refused { IfErr result (λ c. Refused file.now c) }
+    ensures refused { IfErr result (IsHeadFault (Refused file.now)) }
 {
     let mut window = Window { rest: file };
     match read_until_data(&mut window) {
         Ok(head) => Ok(head),
-        Err(HeadError::Refused(cause)) => Err(cause),
+        Err(HeadError::Refused(cause)) => Err(Fault::Head(cause)),
         // No read of a window fails.
         Err(HeadError::Failed(_)) => unreachable!(),
     }
 }
 
-/// Looks for the data in a file.
-pub(crate) fn find_data_in(file: &[u8]) -> Result<Found, Cause>
-    ensures readable { IfOk result (λ f. Readable file.now f.spec_ex f.samples f.data_start) }
-    ensures sound { IfOk result (λ f. IsSoundSpec f.spec_ex) }
-    ensures start { IfOk result (λ f. IsDataPlace f.data_start) }
-    ensures inside { IfOk result (λ f. f.data_start ≤ length file.now) }
-    ensures unreadable { IfErr result (λ c. Unreadable file.now c) }
+/// Walks over a file up to its data, and says how many samples follow: the data are whole frames.
+pub(crate) fn find_samples(file: &[u8]) -> Result<(FileHead, u32), Fault>
+    ensures readable { IfOk result (λ r. Readable file.now r.0.spec_ex r.1 r.0.data_start) }
+    ensures sound { IfOk result (λ r. IsSoundSpec r.0.spec_ex) }
+    ensures start { IfOk result (λ r. IsDataPlace r.0.data_start) }
+    ensures inside { IfOk result (λ r. r.0.data_start ≤ length file.now) }
+    ensures unreadable { IfErr result (IsHeadFault (Unreadable file.now)) }
 {
-    let head = match find_head(file) {
-        Ok(head) => head,
-        Err(cause) => return Err(cause),
-    };
-    let spec_ex = head.spec_ex;
-    let width = spec_ex.bytes_per_sample as u32;
-    if head.data_length % width != 0 {
-        return Err(Cause::Format(Reason::DataLength));
+    let mut window = Window { rest: file };
+    match read_until_samples(&mut window) {
+        Ok(found) => Ok(found),
+        Err(HeadError::Refused(cause)) => Err(Fault::Head(cause)),
+        Err(HeadError::Failed(_)) => unreachable!(),
     }
-    let samples = head.data_length / width;
-    if samples % spec_ex.spec.channels as u32 != 0 {
-        return Err(Cause::Format(Reason::FrameLength));
-    }
-    Ok(Found {
-        spec_ex,
-        samples,
-        data_start: head.data_start as usize,
-    })
 }

@@ -24,8 +24,8 @@ ghost use Rattle.hound_c.specs.Writing.{Appends, Encodes, Sizes, Writes, spec_of
 ghost use Rattle.hound_c.specs.declared.fault.Fault.TheVariants.{Head};
 
 use appending::append_block;
-use fault::{Fault, code_of, code_of_fault};
-use head::find_data_in;
+use fault::{code_of, code_of_fault};
+use head::find_samples;
 use hound_sample::FloatBits;
 use hound_spec::SampleFormat;
 use reading::{decode_block, read_block};
@@ -41,16 +41,16 @@ pub extern "C" fn hound_info(file: &[u8], info: &mut HoundInfo) -> i32
     ensures refused { (result ≡ pos 0 → ⊥) → (info.new ≡ info.old)
         × ((cause : Cause) × (result ≡ fault_code (Head cause)) × Unreadable file.now cause) }
 {
-    match find_data_in(file) {
-        Ok(found) => {
+    match find_samples(file) {
+        Ok((head, samples)) => {
             *info = HoundInfo {
-                spec: spec_for_c(found.spec_ex),
-                samples: found.samples,
-                data_start: found.data_start as u64,
+                spec: spec_for_c(head.spec_ex),
+                samples,
+                data_start: head.data_start,
             };
             0
         }
-        Err(cause) => code_of_fault(Fault::Head(cause)),
+        Err(fault) => code_of_fault(fault),
     }
 }
 

@@ -5,7 +5,7 @@ ghost use Rattle.hound_c.specs.Reading.{Decodes, DecodesSamples, Reads, read_che
 ghost use Rattle.hound_c.specs.Writing.{spec_of};
 
 use crate::fault::Fault;
-use crate::head::find_data_in;
+use crate::head::find_samples;
 use crate::spec::{HoundSpec, spec_of};
 use hound_sample::{Decode, decode_containers};
 use hound_spec::{Error, WavSpecEx};
@@ -51,19 +51,16 @@ fn decode_front<S: Decode>(spec_ex: WavSpecEx, bytes: &[u8], out: &mut [S]) -> u
 pub(crate) fn read_block<S: Decode>(file: &[u8], first: u64, out: &mut [S]) -> Result<usize, Fault>
     ensures { Reads S.decode_refusal S.value file.now first out.old out.new result }
 {
-    let found = match find_data_in(file) {
-        Ok(found) => found,
-        Err(cause) => return Err(Fault::Head(cause)),
-    };
-    let spec_ex = found.spec_ex;
+    let (head, samples) = find_samples(file)?;
+    let spec_ex = head.spec_ex;
     check_type::<S>(spec_ex)?;
-    if first >= found.samples as u64 || out.is_empty() {
+    if first >= samples as u64 || out.is_empty() {
         return Ok(0);
     }
     let first = first as usize;
     let width = spec_ex.bytes_per_sample as usize;
-    let data = &file[found.data_start..];
-    let stored = (found.samples as usize).min(data.len() / width);
+    let data = &file[head.data_start as usize..];
+    let stored = (samples as usize).min(data.len() / width);
     if first >= stored {
         return Err(Fault::Truncated);
     }

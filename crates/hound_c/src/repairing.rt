@@ -30,10 +30,7 @@ pub(crate) fn repair_file(
     if used > file.len() {
         return Err(Fault::NoRoom);
     }
-    let head = match find_head(&file[..used]) {
-        Ok(head) => head,
-        Err(cause) => return Err(Fault::Head(cause)),
-    };
+    let head = find_head(&file[..used])?;
     match repair_bytes(file, used, head) {
         Ok((repair, length)) => {
             *found = HoundRepair {

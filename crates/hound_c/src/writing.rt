@@ -102,8 +102,7 @@ pub(crate) fn file_size(spec: HoundSpec, samples: u64) -> Result<usize, Fault>
     if !spec_ex.is_writable() {
         return Err(Fault::OtherPair);
     }
-    let (_, size) = sizes_of(spec_ex, data_start_of(spec_ex), samples)?;
-    Ok(size)
+    Ok(sizes_of(spec_ex, data_start_of(spec_ex), samples)?.1)
 }
 
 /// Writes the file of these samples to the front of `out`, and returns its length.
@@ -125,9 +124,7 @@ pub(crate) fn write_file<S: Sample + Copy>(
     }
     let bits = spec_ex.spec.bits_per_sample;
     let width = spec_ex.bytes_per_sample;
-    if let Err(fault) = check_samples(samples, bits, width) {
-        return Err(fault);
-    }
+    check_samples(samples, bits, width)?;
     let data_start = data_start_of(spec_ex);
     let (data_length, size) = sizes_of(spec_ex, data_start, samples.len() as u64)?;
     if size > out.len() {
@@ -158,9 +155,7 @@ pub(crate) fn encode_block<S: Sample + Copy>(
     if !is_pair(spec_ex.spec.sample_format, bits, width) {
         return Err(Fault::OtherPair);
     }
-    if let Err(fault) = check_samples(samples, bits, width) {
-        return Err(fault);
-    }
+    check_samples(samples, bits, width)?;
     if samples.len() > out.len() / width as usize {
         return Err(Fault::NoRoom);
     }

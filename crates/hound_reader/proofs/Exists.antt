@@ -1,17 +1,15 @@
 -- Bytes have an answer.
-use Rattle.std.proofs.Common.{◌≡◌, ℕ, zero, suc, ◌+◌, ◌≤◌, ◌⊎◌, inl, inr, Bool, true, false, not, cond, List, [], ◌∷◌, ◌++◌, length, take, drop, slice_range, refl, sym, ap, le_refl, zero-add, ◌∙◌, subst, arith, length-append, append_assoc, length-take, length-drop, length-take-le, ltb-false, nat_lt, Option, Some, None, Ok, Err}
+use Rattle.std.proofs.Common.{◌≡◌, ℕ, zero, suc, ◌+◌, ◌≤◌, ◌⊎◌, inl, inr, Bool, true, false, not, cond, List, [], ◌∷◌, ◌++◌, length, take, drop, slice_range, refl, sym, ap, le_refl, zero-add, ◌∙◌, subst, arith, length-append, append_assoc, length-take, length-drop, length-take-le, ltb-false, nat_lt, Option, Some, None}
 use Rattle.std.specs.Prelude.{is_none}
 use Rattle.std.specs.Str.{bytes_eq}
 use Rattle.std.proofs.lemmas.Bool.{cases_Bool, not-false}
 use Rattle.std.proofs.lemmas.List.{take-append-drop, drop-drop}
 use Rattle.hound_spec.specs.declared.spec.WavSpecEx.{WavSpecEx}
-use Rattle.hound_reader.specs.declared.chunks.FileHead.{FileHead}
 use Rattle.hound_reader.specs.declared.cause.Cause.{Cause}
 use Rattle.hound_number.specs.{number}
-use Rattle.hound_reader.specs.Grammar.{Chunk, IsChunk, chunk_bytes, fmt_fault, first_fault, Chunks, joined, last_spec, Head, Refused, spec_after, front_fault, content_fault, chunk_fault, Answer, readable, unreadable, Answers, HasOneAnswer, ReportsAnswer}
+use Rattle.hound_reader.specs.Grammar.{Chunk, IsChunk, chunk_bytes, fmt_fault, first_fault, Chunks, joined, last_spec, spec_after, front_fault, content_fault, chunk_fault, Answer, readable, unreadable, Answers, HasOneAnswer}
 use Rattle.hound_spec.specs.{greatest_u32, padded, riff_tag, wave_tag, data_tag}
 use Rattle.hound_reader.proofs.WalkLemmas.{same_tag}
-use Rattle.hound_reader.specs.declared.cause.HeadError.TheVariants as stops
 use Rattle.hound_reader.proofs.Unique.{spread, heads_agree, head_no_fault, faults_agree}
 
 -- the header of the data, with a spec before it
@@ -261,18 +259,3 @@ same_answer bytes (unreadable c) (unreadable d) a b = ap unreadable (faults_agre
 
 pub one_answer : (bytes : List ℕ) → HasOneAnswer bytes
 one_answer bytes = let s = some_answer bytes in (s.0, s.1, λ b h. same_answer bytes s.0 b s.1 h)
-
--- what a reader returned, for any answer of the bytes
-pub tells_ok : (bytes rest : List ℕ) (r : FileHead) (a : Answer)
-    → Head bytes r.spec_ex r.data_length r.data_start → rest ≡ drop r.data_start bytes
-    → Answers bytes a → ReportsAnswer (Ok r) bytes rest a
-tells_ok bytes rest r (readable s n k) head e b = let g =
-    heads_agree bytes r.spec_ex s r.data_length n r.data_start k head b in
-    (g.0, g.1, g.2, e ∙ ap (λ i. drop i bytes) g.2)
-tells_ok bytes rest r (unreadable c) head e b =
-    head_no_fault bytes r.spec_ex r.data_length r.data_start c head b
-
-pub tells_err : (bytes rest : List ℕ) (c : Cause) (a : Answer) → Refused bytes c → Answers bytes a
-    → ReportsAnswer (Err (stops.Refused c)) bytes rest a
-tells_err bytes rest c (readable s n k) f b = head_no_fault bytes s n k c b f
-tells_err bytes rest c (unreadable d) f b = faults_agree bytes c d f b

@@ -120,12 +120,12 @@ opens_told o n (Refused' c) e P r f =
     known_some o n _ _ f
     (λ xs ys u spec samples h a. absurd (readable_no_fault xs spec samples h c a u))
 
-pub opens_ok : (o n : Option (List ℕ)) (spec : WavSpecEx) (samples : ℕ)
-    → WhereKnown o n (λ xs ys. (h : ℕ) × Readable xs spec samples h × (ys ≡ drop h xs))
+pub opens_ok : (o n : Option (List ℕ)) (spec : WavSpecEx) (samples place : ℕ)
+    → WhereKnown o n (λ xs ys. Readable xs spec samples place × (ys ≡ drop place xs))
     → IfSome o (λ xs. (s : WavSpecEx) (m h : ℕ) → Readable xs s m h → (spec ≡ s) × (samples ≡ m))
-opens_ok o n spec samples k =
+opens_ok o n spec samples place k =
     known_some o n _ (λ xs. (s : WavSpecEx) (m h : ℕ) → Readable xs s m h → (spec ≡ s)
-    × (samples ≡ m)) k (λ xs ys p s m h a. let e = readable_one xs spec s samples m p.0 h p.1 a in
+    × (samples ≡ m)) k (λ xs ys p s m h a. let e = readable_one xs spec s samples m place h p.0 a in
     (e.0, e.1))
 
 names_fails : (e : Error) (c : Cause) → Names e c → FailsAs e c
@@ -138,12 +138,12 @@ names_fails errors.InvalidSampleFormat c n = n
 names_fails errors.TooLong c n = n
 names_fails errors.OutOfMemory c n = n
 
-pub no_fault_ok : (o n : Option (List ℕ)) (spec : WavSpecEx) (samples : ℕ)
-    → WhereKnown o n (λ xs ys. (h : ℕ) × Readable xs spec samples h × (ys ≡ drop h xs))
+pub no_fault_ok : (o n : Option (List ℕ)) (spec : WavSpecEx) (samples place : ℕ)
+    → WhereKnown o n (λ xs ys. Readable xs spec samples place × (ys ≡ drop place xs))
     → IfSome o (λ xs. (c : Cause) → Unreadable xs c → ⊥)
-no_fault_ok o n spec samples k =
+no_fault_ok o n spec samples place k =
     known_some o n _ (λ xs. (c : Cause) → Unreadable xs c → ⊥) k
-    (λ xs ys p c u. readable_no_fault xs spec samples p.0 c p.1 u)
+    (λ xs ys p c u. readable_no_fault xs spec samples place c p.0 u)
 
 pub fails_told : (o n : Option (List ℕ)) (stop : HeadError) (e : Error) → ReportsError stop e
     → Refuses stop (λ c. WhereKnown o n (λ xs ys. Unreadable xs c))

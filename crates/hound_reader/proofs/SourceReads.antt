@@ -7,7 +7,7 @@ use Rattle.hound_medium.specs.{MediumState, Gets}
 use Rattle.hound_medium.proofs.Reading.{get_consumes}
 use Rattle.hound_reader.specs.Grammar.{Head, Refused}
 use Rattle.hound_reader.specs.Walking.{Refuses, CountsFailed}
-use Rattle.hound_reader.specs.Sources.{Untouched, unread, account_of, FindsData}
+use Rattle.hound_reader.specs.Sources.{AnswersBytes, Untouched, unread, account_of, faults_after_walk, FindsData}
 use Rattle.hound_reader.specs.declared.chunks.FileHead.{FileHead}
 use Rattle.hound_reader.specs.declared.cause.HeadError.{HeadError}
 use Rattle.hound_reader.specs.declared.cause.HeadError.TheVariants as variants
@@ -54,47 +54,31 @@ pub counts_told : {E : Type 0} (tells : Bool) (buf : List ℕ) (result : Result 
 counts_told true buf result old new gets = account_counts buf result old new (gets refl)
 counts_told false buf result old new gets = none_counted result
 
+finds_as : (result : Result FileHead HeadError) (old new : MediumState)
+    → AnswersBytes result (unread old) (unread new)
+    → account_of new ≡ record (account_of old) { failures = faults_after_walk result old.faults }
+    → FindsData result old new
+finds_as result old new answer counts =
+    let kept = ap (λ (a : Account Untouched). a.kept) counts in
+    record {
+      answer = answer;
+      faults = ap (λ (a : Account Untouched). a.failures) counts;
+      contents = ap (λ (k : Untouched). k.contents) kept;
+      start = ap (λ (k : Untouched). k.start) kept;
+      past = ap (λ (k : Untouched). k.past) kept;
+      flushed = ap (λ (k : Untouched). k.flushed) kept;
+    }
+
 finds : (result : Result FileHead HeadError) (old new : MediumState)
     → CountsFailed (Some (account_of old)) (Some (account_of new)) result
     → IfOk result (λ r. Head (unread old) r.spec_ex r.data_length r.data_start
     × (unread new ≡ drop r.data_start (unread old)))
     → IfErr result (λ e. Refuses e (λ c. Refused (unread old) c)) → FindsData result old new
-finds (Ok r) old new counts found refused =
-    record {
-      answer = found;
-      faults = ap (λ (a : Account Untouched). a.failures) counts;
-      contents = ap (λ (a : Account Untouched). a.kept.contents) counts;
-      start =
-          ap (λ (a : Account Untouched). a.kept.start) counts;
-      past =
-          ap (λ (a : Account Untouched). a.kept.past) counts;
-      flushed =
-          ap (λ (a : Account Untouched). a.kept.flushed) counts;
-    }
+finds (Ok r) old new counts found refused = finds_as (Ok r) old new found counts
 finds (Err (variants.Failed e)) old new counts found refused =
-    record {
-      answer = tt;
-      faults = ap (λ (a : Account Untouched). a.failures) counts;
-      contents = ap (λ (a : Account Untouched). a.kept.contents) counts;
-      start =
-          ap (λ (a : Account Untouched). a.kept.start) counts;
-      past =
-          ap (λ (a : Account Untouched). a.kept.past) counts;
-      flushed =
-          ap (λ (a : Account Untouched). a.kept.flushed) counts;
-    }
+    finds_as (Err (variants.Failed e)) old new tt counts
 finds (Err (variants.Refused c)) old new counts found refused =
-    record {
-      answer = refused;
-      faults = ap (λ (a : Account Untouched). a.failures) counts;
-      contents = ap (λ (a : Account Untouched). a.kept.contents) counts;
-      start =
-          ap (λ (a : Account Untouched). a.kept.start) counts;
-      past =
-          ap (λ (a : Account Untouched). a.kept.past) counts;
-      flushed =
-          ap (λ (a : Account Untouched). a.kept.flushed) counts;
-    }
+    finds_as (Err (variants.Refused c)) old new refused counts
 
 -- the walk over a source whose bytes are known
 pub finds_told : (tells : Bool) (result : Result FileHead HeadError) (old new : MediumState)

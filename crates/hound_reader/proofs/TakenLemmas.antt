@@ -5,9 +5,9 @@ use Rattle.std.proofs.Math.Seq.{drop-length}
 use Rattle.std.specs.Io.KnownBytes.{Consumes}
 use Rattle.hound_number.specs.{WhereKnown, number}
 use Rattle.hound_number.proofs.KnownSteps.{known_both, known_from, known_then, known_weaker}
-use Rattle.hound_reader.specs.Walking.{Refuses, MeetsFaultAfter, RefusedAfter, UnreadableAfter, TakesAll, TakesFor, chunk_taken, content_taken, Walked}
+use Rattle.hound_reader.specs.Walking.{Refuses, RefusedAfter, UnreadableAfter, TakesAll, TakesFor, chunk_taken, content_taken, Walked}
 use Rattle.hound_reader.specs.Reader.{AreTaken}
-use Rattle.hound_reader.specs.Grammar.{Head, chunk_fault, data_fault, joined, last_spec}
+use Rattle.hound_reader.specs.Grammar.{Head, Refused as Refused', chunk_fault, data_fault, joined, last_spec}
 use Rattle.hound_spec.specs.{data_tag, riff_tag, wave_tag, FmtFields, Extension, fmt_fields, greatest_u16, greatest_u32, subformat}
 use Rattle.std.specs.Prelude.{IfErr, ⊤}
 use Rattle.std.specs.Str.{bytes_eq}
@@ -147,50 +147,42 @@ known_and (Some xs) (Some ys) P Q p q = (p, q)
 pub walk_takes : (o m n : Option (List ℕ)) (found : Option WavSpecEx) (taken : ℕ) (e : HeadError)
     → WhereKnown o m (λ xs ys. Walked xs ys found taken)
     → Refuses e (λ c. WhereKnown m n (λ xs ys. chunk_fault taken found xs ≡ Some c))
-    → TakesFor m n (chunk_taken taken) e → TakesAll MeetsFaultAfter o n e
+    → TakesFor m n (chunk_taken taken) e → TakesAll RefusedAfter o n e
 walk_takes o m n found taken (Failed e) walked fault t = tt
 walk_takes o m n found taken (Refused c) walked fault t =
     known_both o m n (λ xs ys. Walked xs ys found taken)
     (λ ys zs. (chunk_fault taken found ys ≡ Some c) × AreTaken (chunk_taken taken c ys) ys zs)
-    (λ xs zs. (k : ℕ) × MeetsFaultAfter xs c k × AreTaken k xs zs) walked
-    (known_and m n _ _ fault t) (λ xs ys zs w p. (
-      taken + chunk_taken taken c ys,
-      (ys, found, taken, w, p.0, refl),
-      subst (λ bytes. AreTaken (taken + chunk_taken taken c ys) bytes zs) (sym w.whole)
-          (subst (λ k. AreTaken (k + chunk_taken taken c ys) (joined w.chunks ++ ys) zs)
-          (sym w.taken_is) (taken_then (joined w.chunks) ys zs (chunk_taken taken c ys) p.1)),
-    ))
-
--- the first twelve bytes, and then what the walk takes
-pub head_takes : (o m n : Option (List ℕ)) (len : ℕ) (e : HeadError)
-    → WhereKnown o m (λ xs ys. (size : List ℕ) × (length size ≡ 4)
-    × (xs ≡ riff_tag ++ (size ++ (wave_tag ++ ys))) × (len ≡ number size))
-    → TakesAll MeetsFaultAfter m n e → TakesAll RefusedAfter o n e
-head_takes o m n len (Failed e) front t = tt
-head_takes o m n len (Refused c) front t =
-    known_both o m n _ (λ ys zs. (k : ℕ) × MeetsFaultAfter ys c k × AreTaken k ys zs)
-    (λ xs zs. (k : ℕ) × RefusedAfter xs c k × AreTaken k xs zs) front t
-    (λ xs ys zs (size, four, whole, is) (k, (rest, found, taken, w, fault, count), are). (
-      12 + k,
+    (λ xs zs. (k : ℕ) × RefusedAfter xs c k × AreTaken k xs zs) walked
+    (known_and m n _ _ fault t) (λ xs ys zs w p.
+    let body = joined w.chunks in
+    let front = riff_tag ++ (w.walk.size ++ (wave_tag ++ body)) in
+    let k = chunk_taken taken c ys in
+    let parted : riff_tag ++ (w.walk.size ++ (wave_tag ++ (body ++ ys))) ≡ front ++ ys =
+    simp append_assoc in (
+      12 + taken + k,
       inr (
         w.chunks,
-        rest,
-        record {
-          size = size;
-          four = four;
-          whole = whole ∙ ap (λ t. riff_tag ++ (size ++ (wave_tag ++ t))) w.whole;
-          each = w.each;
-        },
-        subst (λ i. chunk_fault i (last_spec None w.chunks) rest ≡ Some c) w.taken_is
-            (subst (λ f. chunk_fault taken f rest ≡ Some c) w.found_is fault),
-        omega (arith, count, w.taken_is, ap (λ i. chunk_taken i c rest) w.taken_is),
+        ys,
+        w.walk,
+        subst (λ i. chunk_fault i (last_spec None w.chunks) ys ≡ Some c) w.taken_is
+            (subst (λ f. chunk_fault taken f ys ≡ Some c) w.found_is p.0),
+        ap (λ i. 12 + i + chunk_taken i c ys) w.taken_is,
       ),
-      subst (λ bytes. AreTaken (12 + k) bytes zs)
-          (simp append_assoc (sym whole))
-          (let front = riff_tag ++ (size ++ wave_tag) in
-          subst (λ i. AreTaken (i + k) (front ++ ys) zs)
-          (omega (arith, four, length-append size wave_tag)) (taken_then front ys zs k are)),
+      subst (λ bytes. AreTaken (12 + taken + k) bytes zs) (sym (w.walk.whole ∙ parted))
+          (subst (λ i. AreTaken (i + k) (front ++ ys) zs)
+          (omega (arith, w.walk.four, w.taken_is, length-append w.walk.size (wave_tag ++ body)))
+          (taken_then front ys zs k p.1)),
     ))
+
+-- what is taken of bytes without a head shows why they have none
+pub refused_for : (o n : Option (List ℕ)) (e : HeadError) → TakesAll RefusedAfter o n e
+    → Refuses e (λ c. WhereKnown o n (λ xs ys. Refused' xs c))
+refused_for o n (Failed e) t = tt
+refused_for o n (Refused c) t =
+    known_weaker o n _ _ t (λ xs ys (k, after, are). elim after [
+      | inl front ↦ inl front.0
+      | inr (chunks, rest, walk, fault, count) ↦ inr (chunks, rest, walk, fault)
+    ])
 
 -- a head is complete
 pub head_is_there : (bytes : List ℕ) (spec : WavSpecEx) (len h : ℕ) → Head bytes spec len h

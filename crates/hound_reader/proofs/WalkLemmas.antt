@@ -11,7 +11,7 @@ use Rattle.hound_reader.specs.declared.chunks.ChunkRead.TheVariants.{Data, Other
 use Rattle.hound_number.specs.{number}
 use Rattle.hound_reader.specs.Grammar.{Chunk, IsChunk, chunk_bytes, Chunks, joined, last_spec, Head, spec_after, front_fault}
 use Rattle.hound_spec.specs.{greatest_u32, padded, riff_tag, wave_tag, data_tag}
-use Rattle.hound_reader.specs.Walking.{ReadsChunk, ReadsContent, Walked, ReachesData}
+use Rattle.hound_reader.specs.Walking.{ReadsChunk, ReadsContent, Walked}
 
 -- what a test of the code shows
 pub tag_test : (r b : Bool) (tag now lit : List ℕ) → r ≡ bytes_eq tag now → now ≡ lit → r ≡ b
@@ -108,45 +108,51 @@ pub walked_more : (xs ys zs : List ℕ) (c taken : ℕ) (found next : Option Wav
     → Walked xs ys found c → ReadsChunk c found (Other next taken) ys zs → Walked xs zs next taken
 walked_more xs ys zs c taken found next w (p, is, limit, f, k, e) = record {
   chunks = w.chunks ++ p ∷ [];
-  each = Chunks-more 0 w.chunks p w.each is (omega (arith, w.taken_is));
-  whole = w.whole ∙ ap (λ t. joined w.chunks ++ t) e ∙ sym (joined-more w.chunks p zs);
+  walk = record {
+    size = w.walk.size;
+    four = w.walk.four;
+    whole = w.walk.whole ∙ ap (λ t. riff_tag ++ (w.walk.size ++ (wave_tag ++ t)))
+        (ap (λ t. joined w.chunks ++ t) e ∙ sym (joined-more w.chunks p zs));
+    each = Chunks-more 0 w.chunks p w.walk.each is (omega (arith, w.taken_is));
+  };
   found_is = f ∙ ap (λ g. spec_after g p.tag (number p.size) p.content) w.found_is
       ∙ sym (last_spec-more None w.chunks p);
   taken_is = k ∙ ap (λ i. i + length (chunk_bytes p)) w.taken_is
       ∙ sym (length-joined-more w.chunks p);
 }
 
--- the first twelve bytes, chunks, and the header of the data
-pub head_from : (xs ys zs size : List ℕ) (spec : WavSpecEx) (len : ℕ) → length size ≡ 4
-    → xs ≡ riff_tag ++ (size ++ (wave_tag ++ ys)) → (taken : ℕ) → ReachesData ys zs spec len taken
-    → (h : ℕ) → h ≡ 12 + taken + 8 → Head xs spec len h × (zs ≡ drop h xs)
-head_from xs ys zs size spec len four e taken r h at =
-    let w = r.walked in
+-- whole chunks, and the header of the data
+pub head_from : (xs ys zs : List ℕ) (found : Option WavSpecEx) (taken : ℕ) (spec : WavSpecEx)
+    (len h : ℕ) → Walked xs ys found taken → ReadsChunk taken found (Data spec len) ys zs
+    → h ≡ 12 + taken + 8 → Head xs spec len h × (zs ≡ drop h xs)
+head_from xs ys zs found taken spec len h w (is, limit, size, four, n, e) at =
     let body = joined w.chunks in
-    let all : xs ≡ riff_tag ++ (size ++ (wave_tag ++ (body ++ (data_tag ++ (r.size ++ zs))))) = e
-    ∙ ap (λ t. riff_tag ++ (size ++ (wave_tag ++ t))) w.whole in
-    let front = riff_tag ++ (size ++ (wave_tag ++ (body ++ (data_tag ++ r.size)))) in
-    let parted : riff_tag ++ (size ++ (wave_tag ++ (body ++ (data_tag ++ (r.size ++ zs))))) ≡ front
+    let start = w.walk.size in
+    let all : xs ≡ riff_tag ++ (start ++ (wave_tag ++ (body ++ (data_tag ++ (size ++ zs))))) =
+    w.walk.whole ∙ ap (λ t. riff_tag ++ (start ++ (wave_tag ++ (body ++ t)))) e in
+    let front = riff_tag ++ (start ++ (wave_tag ++ (body ++ (data_tag ++ size)))) in
+    let parted : riff_tag ++ (start ++ (wave_tag ++ (body ++ (data_tag ++ (size ++ zs))))) ≡ front
     ++ zs = simp append_assoc in
-    let n : length front ≡ 12 + length body + 8 =
+    let place : h ≡ 12 + length body + 8 = omega (arith, at, w.taken_is) in
+    let long : length front ≡ h =
     omega (
       arith,
+      w.walk.four,
       four,
-      r.four,
-      length-append size (wave_tag ++ (body ++ (data_tag ++ r.size))),
-      length-append body (data_tag ++ r.size),
-    ) in let place : h ≡ 12 + length body + 8 = omega
-    (arith, at, w.taken_is) in (
+      place,
+      length-append start (wave_tag ++ (body ++ (data_tag ++ size))),
+      length-append body (data_tag ++ size),
+    ) in (
       record {
         chunks = w.chunks;
-        size = r.size;
+        size = size;
         rest = zs;
-        walk = record { size = size; four = four; whole = all; each = w.each };
-        four = r.four;
-        data_len = r.data_len;
-        limit = omega (arith, r.limit, w.taken_is);
-        spec_is = sym w.found_is;
+        walk = record { size = start; four = w.walk.four; whole = all; each = w.walk.each };
+        four = four;
+        data_len = n;
+        limit = omega (arith, limit, w.taken_is);
+        spec_is = sym w.found_is ∙ is;
         place = place;
       },
-      sym (ap (drop h) (all ∙ parted) ∙ drop_at front zs h (n ∙ sym place)),
+      sym (ap (drop h) (all ∙ parted) ∙ drop_at front zs h long),
     )

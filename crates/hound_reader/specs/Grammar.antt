@@ -1,6 +1,6 @@
 -- A file as chunks (RIFF): what is before the data, what is wrong if it can't be read, and that it is one
 -- of these. The containers of the data.
-use Rattle.std.specs.Prelude.{◌≡◌, ℕ, ◌+◌, ◌≤◌, ◌/◌, ◌%◌, ◌==◌, ◌⊎◌, false, not, List, [], ◌∷◌, ◌++◌, length, take, drop, slice_range, Option, Some, None, is_none, Result, Ok, Err, nat_lt, if◌then◌else◌, ◌*◌, ⊤}
+use Rattle.std.specs.Prelude.{◌≡◌, ℕ, ◌+◌, ◌≤◌, ◌/◌, ◌%◌, ◌==◌, ◌⊎◌, false, not, List, [], ◌∷◌, ◌++◌, length, take, drop, slice_range, Option, Some, None, is_none, Result, Ok, Err, nat_lt, if◌then◌else◌, ◌*◌}
 use Rattle.std.specs.Str.{bytes_eq}
 use Rattle.std.specs.List.{flat_map, AllByRecursion}
 use Rattle.hound_number.specs.{number}
@@ -10,9 +10,6 @@ use Rattle.hound_spec.specs.declared.spec.WavSpecEx.{WavSpecEx}
 use Rattle.hound_reader.specs.declared.cause.Cause.{Cause}
 use Rattle.hound_reader.specs.declared.cause.Cause.TheVariants.{Ended, Format}
 use Rattle.hound_reader.specs.declared.cause.Reason.TheVariants.{NoRiffTag, NoWaveTag, NoDataChunk, NoFmtChunk, DataLength, FrameLength}
-use Rattle.hound_reader.specs.declared.chunks.FileHead.{FileHead}
-use Rattle.hound_reader.specs.declared.cause.HeadError.{HeadError}
-use Rattle.hound_reader.specs.declared.cause.HeadError.TheVariants.{Failed, Refused as Refuses}
 
 -- A chunk of the file: the tag, the length as four bytes, and the content with its
 -- pad byte, if it has one (RIFF, "Chunks").
@@ -180,12 +177,3 @@ AnswersFile bytes (unreadable cause) = Unreadable bytes cause
 abbrev pub HasOneFileAnswer : List ℕ → Type 0
 HasOneFileAnswer bytes =
     (a : Answer) × AnswersFile bytes a × ((b : Answer) → AnswersFile bytes b → b ≡ a)
-
--- What was returned, and the bytes that are left, are this answer, unless a read failed.
-abbrev pub ReportsAnswer : Result FileHead HeadError → List ℕ → List ℕ → Answer → Type 0
-ReportsAnswer (Ok r) bytes rest (readable spec len h) = (r.spec_ex ≡ spec) × (r.data_length ≡ len)
-    × (r.data_start ≡ h) × (rest ≡ drop h bytes)
-ReportsAnswer (Ok r) bytes rest (unreadable cause) = ⊥
-ReportsAnswer (Err (Failed e)) bytes rest a = ⊤
-ReportsAnswer (Err (Refuses c)) bytes rest (readable spec len h) = ⊥
-ReportsAnswer (Err (Refuses c)) bytes rest (unreadable cause) = c ≡ cause

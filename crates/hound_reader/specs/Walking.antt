@@ -1,13 +1,13 @@
 -- The walk over chunks, step by step: what each call returns, and how many bytes are taken of a file
 -- that is rejected.
-use Rattle.std.specs.Prelude.{◌≡◌, ℕ, ◌≤◌, List, length, drop, ⊤, Option, Result, Ok, Err, ◌+◌, ◌++◌, Some, None, true, false, ◌<◌, ◌==◌, ◌⊎◌, slice_range, nat_lt, if◌then◌else◌}
+use Rattle.std.specs.Prelude.{◌≡◌, ℕ, ◌≤◌, List, length, take, drop, ⊤, Option, IfOk, IfErr, ◌-◌, Result, Ok, Err, ◌+◌, ◌++◌, Some, None, true, false, ◌<◌, ◌==◌, ◌⊎◌, slice_range, nat_lt, if◌then◌else◌}
 use Rattle.hound_number.specs.{Account, WhereKnown, NoneFailed, OneFailed, number}
 use Rattle.hound_reader.specs.declared.cause.HeadError.{HeadError}
 use Rattle.hound_reader.specs.declared.cause.HeadError.TheVariants.{Failed, Refused}
 use Rattle.hound_reader.specs.declared.cause.Cause.{Cause}
-use Rattle.hound_spec.specs.{greatest_u32, extensible, padded, data_tag}
-use Rattle.hound_reader.specs.Grammar.{Chunks, joined, last_spec, chunk_fault, Chunk, IsChunk, chunk_bytes, spec_after, fmt_fault, front_fault, Head, Walk, data_fault}
-use Rattle.hound_reader.specs.Fmt.{fmt_of, IsSoundSpec}
+use Rattle.hound_spec.specs.{greatest_u32, extensible, fmt_fields, padded, data_tag}
+use Rattle.hound_reader.specs.Grammar.{joined, last_spec, chunk_fault, Chunk, IsChunk, chunk_bytes, spec_after, fmt_fault, front_fault, Head, Walk, data_fault}
+use Rattle.hound_reader.specs.Fmt.{fmt_len, IsSoundSpec}
 use Rattle.std.specs.Str.{bytes_eq}
 use Rattle.hound_spec.specs.declared.spec.WavSpecEx.{WavSpecEx}
 use Rattle.hound_reader.specs.declared.chunks.ChunkRead.{ChunkRead}
@@ -31,12 +31,6 @@ abbrev pub Gives : {A : Type 0} → Option (List ℕ) → Option (List ℕ) → 
 Gives old new n (Ok x) read =
     WhereKnown old new (λ xs ys. (read xs ≡ Ok x) × (n ≤ length xs) × (ys ≡ drop n xs))
 Gives old new n (Err e) read = Refuses e (λ c. WhereKnown old new (λ xs ys. read xs ≡ Err c))
-
--- P, unless a read failed
-abbrev pub UnlessReadFailed : {A : Type 0} → Result A HeadError → Type 0 → Type 0
-UnlessReadFailed (Ok x) P = P
-UnlessReadFailed (Err (Failed e)) P = ⊤
-UnlessReadFailed (Err (Refused c)) P = P
 
 -- a failed read is counted, and nothing else is
 abbrev pub CountsFailed : {Kept A : Type 0} → Option (Account Kept) → Option (Account Kept)
@@ -66,49 +60,24 @@ ReadsContent c found tag len (Other next taken) xs ys = (content : List ℕ)
     × (next ≡ spec_after found tag len content) × (taken ≡ c + 8 + length content)
     × (xs ≡ content ++ ys)
 
--- What was taken of xs, of which ys are left, if the content of a fmt chunk was read.
-abbrev pub ReadsFmt : ℕ → WavSpecEx → List ℕ → List ℕ → Type 0
-ReadsFmt len found xs ys = (content : List ℕ) × (length content ≡ padded len)
-    × (fmt_of len content ≡ Ok found) × (xs ≡ content ++ ys)
-
--- A chunk before the data takes at least its header's eight bytes, and stays within the limit.
-abbrev pub Advances : ℕ → ChunkRead → Type 0
-Advances c (Data spec len) = ⊤
-Advances c (Other next taken) = (c + 8 ≤ taken) × (taken ≤ greatest_u32)
-
--- Chunks from the WAVE tag on, and then ys: the spec so far, and how many bytes they take.
+-- The first twelve bytes of xs and whole chunks, and then ys: the spec so far, and how many bytes the
+-- chunks take.
 pub record Walked (xs ys : List ℕ) (found : Option WavSpecEx) (taken : ℕ) : Type 0 where
   pub chunks : List Chunk
-  pub each : Chunks 0 chunks
-  pub whole : xs ≡ joined chunks ++ ys
+  pub walk : Walk xs chunks ys
   pub found_is : found ≡ last_spec None chunks
   pub taken_is : taken ≡ length (joined chunks)
 
--- Chunks, and then the header of a data chunk.
-pub record ReachesData (xs ys : List ℕ) (spec : WavSpecEx) (len taken : ℕ) : Type 0 where
-  pub size : List ℕ
-  pub walked : Walked xs (data_tag ++ (size ++ ys)) (Some spec) taken
-  pub four : length size ≡ 4
-  pub data_len : number size ≡ len
-  pub limit : taken + 8 ≤ greatest_u32
-
--- Chunks, and then a fault.
-pub record MeetsFault (xs : List ℕ) (cause : Cause) : Type 0 where
-  pub rest : List ℕ
-  pub found : Option WavSpecEx
-  pub taken : ℕ
-  pub walked : Walked xs rest found taken
-  pub fault : chunk_fault taken found rest ≡ Some cause
-
 -- the spec so far, if there is one, can be divided by
-abbrev pub IsSoundChunk : ChunkRead → Type 0
-IsSoundChunk (Data spec len) = IsSoundSpec spec
-IsSoundChunk (Other None taken) = ⊤
-IsSoundChunk (Other (Some spec) taken) = IsSoundSpec spec
-
 abbrev pub IsSoundOption : Option WavSpecEx → Type 0
 IsSoundOption None = ⊤
 IsSoundOption (Some spec) = IsSoundSpec spec
+
+-- A chunk before the data takes at least its header's eight bytes, and stays within the limit.
+abbrev pub IsSoundChunk : ℕ → ChunkRead → Type 0
+IsSoundChunk c (Data spec len) = IsSoundSpec spec
+IsSoundChunk c (Other next taken) =
+    IsSoundOption next × (c + 8 ≤ taken) × (taken ≤ greatest_u32)
 
 -- how many of these bytes are taken for a fault of the first twelve: those up to the end of a wrong
 -- tag, or all at an early end
@@ -154,6 +123,10 @@ content_taken tag len (Format BitsNot32) n = len
 content_taken tag len Unsupported n = if tag == extensible then 40 else 16
 content_taken tag len _ n = 16
 
+-- the same of the content of a chunk of this length, which is a fmt chunk if its bytes are read
+abbrev pub content_takes : ℕ → Cause → List ℕ → ℕ
+content_takes len cause bytes = content_taken (fmt_fields bytes).tag len cause (length bytes)
+
 -- How many of these bytes are taken for the fault of a chunk that begins c bytes after the WAVE
 -- tag: its header too, if the limit leaves room for one.
 abbrev pub chunk_taken : ℕ → Cause → List ℕ → ℕ
@@ -162,13 +135,6 @@ chunk_taken c cause bytes =
     else if nat_lt (length bytes) 8 then length bytes
     else 8 + content_taken (number (slice_range bytes 8 10)) (number (slice_range bytes 4 8)) cause
     (length (drop 8 bytes))
-
--- After whole chunks a fault comes, and this many bytes after the WAVE tag are taken until it is
--- found.
-abbrev pub MeetsFaultAfter : List ℕ → Cause → ℕ → Type 0
-MeetsFaultAfter bytes cause n = (rest : List ℕ) × (found : Option WavSpecEx) × (taken : ℕ)
-    × Walked bytes rest found taken × (chunk_fault taken found rest ≡ Some cause)
-    × (n ≡ taken + chunk_taken taken cause rest)
 
 -- The bytes have no head for this cause, and this many of them are taken until it is found.
 abbrev pub RefusedAfter : List ℕ → Cause → ℕ → Type 0
@@ -192,3 +158,30 @@ abbrev pub TakesAll : (List ℕ → Cause → ℕ → Type 0) → Option (List �
     → Type 0
 TakesAll P old new e = Refuses e (λ c. WhereKnown old new (λ xs ys.
     (n : ℕ) × P xs c n × AreTaken n xs ys))
+
+-- What a call does with the content of a fmt chunk of this length, after its first sixteen bytes: it
+-- returns `read` of what follows, unless a read failed, and takes as many bytes for a cause as the
+-- format tag says.
+pub record ReadsFormat {R Kept : Type 0} (account : R → Option (Account Kept))
+    (left : R → Option (List ℕ)) (tag len : ℕ) (read : List ℕ → Result WavSpecEx Cause)
+    (old new : R) (result : Result WavSpecEx HeadError) : Type 0 where
+  pub sound : IfOk result IsSoundSpec
+  pub failures : CountsFailed (account old) (account new) result
+  pub gives : Gives (left old) (left new) (fmt_len len - 16) result
+      (λ xs. read (take (fmt_len len - 16) xs))
+  pub taken : IfErr result (TakesFor (left old) (left new)
+      (λ c xs. content_taken tag len c (16 + length xs) - 16))
+  pub late : IfErr result (λ e. Refuses e (λ c. (n : ℕ) → 16 ≤ content_taken tag len c (16 + n)))
+
+-- What a part of the walk does: an Ok is sound, and P relates the bytes before and after it; a cause is
+-- the fault of the bytes, and n says how many of them it takes; a failed read is counted.
+pub record Walks {R Kept A : Type 0} (account : R → Option (Account Kept))
+    (left : R → Option (List ℕ)) (IsSound : A → Type 0) (P : A → List ℕ → List ℕ → Type 0)
+    (fault : List ℕ → Option Cause) (n : Cause → List ℕ → ℕ) (old new : R)
+    (result : Result A HeadError) : Type 0 where
+  pub sound : IfOk result IsSound
+  pub failures : CountsFailed (account old) (account new) result
+  pub ok : IfOk result (λ found. WhereKnown (left old) (left new) (P found))
+  pub err : IfErr result (λ e. Refuses e (λ c.
+      WhereKnown (left old) (left new) (λ xs ys. fault xs ≡ Some c)))
+  pub taken : IfErr result (TakesFor (left old) (left new) n)

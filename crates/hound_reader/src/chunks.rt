@@ -4,9 +4,9 @@ ghost use Rattle.std.specs.Prelude.{◌≡◌, ℕ, ◌+◌, ◌++◌, ◌<◌, 
 ghost use Rattle.std.specs.Io.KnownBytes.{Consumes};
 ghost use Rattle.hound_number.specs.{WhereKnown, number};
 ghost use Rattle.hound_spec.specs.{fmt_fields, greatest_u32, padded, riff_tag, wave_tag};
-ghost use Rattle.hound_reader.specs.Walking.{CountsFailed, Refuses, UnlessReadFailed, TakesFront, MeetsFaultAfter, RefusedAfter, TakesAll, TakesFor, chunk_taken, content_taken, ReadsChunk, ReadsContent, ReadsFmt, Advances, ReachesData, MeetsFault, IsSoundOption, IsSoundChunk};
-ghost use Rattle.hound_reader.specs.Fmt.{fmt_of, IsSoundSpec};
-ghost use Rattle.hound_reader.specs.Grammar.{Head, IsDataPlace, Refused, fault_of, first_fault, cut_fault, front_fault, content_fault, chunk_fault, Answer, Answers, ReportsAnswer};
+ghost use Rattle.hound_reader.specs.Walking.{CountsFailed, Refuses, Walks, TakesFront, RefusedAfter, TakesAll, chunk_taken, content_takes, ReadsChunk, ReadsContent, IsSoundOption, IsSoundChunk};
+ghost use Rattle.hound_reader.specs.Fmt.{IsSoundSpec};
+ghost use Rattle.hound_reader.specs.Grammar.{Head, IsDataPlace, Refused, front_fault, content_fault, chunk_fault};
 ghost use Rattle.hound_reader.specs.Sources.{FindsData, unread};
 
 use crate::cause::{Cause, HeadError, Reason};
@@ -15,14 +15,6 @@ use crate::input::{Counted, fill};
 use hound_medium::Source;
 use hound_number::{Input, u32_at};
 use hound_spec::WavSpecEx;
-
-const RIFF: [u8; 4] = *b"RIFF";
-
-const WAVE: [u8; 4] = *b"WAVE";
-
-const FMT: [u8; 4] = *b"fmt ";
-
-const DATA: [u8; 4] = *b"data";
 
 /// What one chunk was (RIFF, "Chunks").
 #[derive(Drop)]
@@ -47,6 +39,7 @@ pub struct FileHead {
 }
 
 // Takes bytes and drops them.
+#[inline(never)]
 fn skip_bytes<R: Input>(reader: &mut R, count: u32) -> Result<(), HeadError>
     ensures failures { CountsFailed (R.account reader.old) (R.account reader.new) result }
     ensures ok { OnOk result ((bytes : List ℕ)
@@ -55,25 +48,9 @@ fn skip_bytes<R: Input>(reader: &mut R, count: u32) -> Result<(), HeadError>
         × WhereKnown (R.left reader.old) (R.left reader.new)
         (λ xs ys. (length xs < count) × (ys ≡ [])))) }
 {
-    if count == 0 {
-        return Ok(());
-    }
-    skip_some(reader, count)
-}
-
-// The same for at least one byte: if there is none to skip, no buffer is made.
-#[inline(never)]
-fn skip_some<R: Input>(reader: &mut R, count: u32) -> Result<(), HeadError>
-    ensures failures { CountsFailed (R.account reader.old) (R.account reader.new) result }
-    ensures ok { OnOk result ((bytes : List ℕ)
-        × Consumes (R.left reader.old) (R.left reader.new) bytes × (length bytes ≡ count)) }
-    ensures err { IfErr result (λ e. Refuses e (λ c. (c ≡ Cause.Ended)
-        × WhereKnown (R.left reader.old) (R.left reader.new)
-        (λ xs ys. (length xs < count) × (ys ≡ [])))) }
-{
-    let mut buf = [0; 512];
     let mut left = count;
     while left > 0 {
+        let mut buf = [0; 512];
         let now = left.min(512);
         fill(reader, &mut buf[..now as usize])?;
         left -= now;
@@ -94,45 +71,15 @@ pub(crate) fn read_riff_header<R: Input>(reader: &mut R) -> Result<u32, HeadErro
 {
     let mut tag = [0; 4];
     fill(reader, &mut tag)?;
-    if tag.as_slice() != RIFF.as_slice() {
+    if tag.as_slice() != b"RIFF".as_slice() {
         return Err(HeadError::Refused(Cause::Format(Reason::NoRiffTag)));
     }
     let mut rest = [0; 8];
     fill(reader, &mut rest)?;
-    if &rest[4..8] != WAVE.as_slice() {
+    if &rest[4..8] != b"WAVE".as_slice() {
         return Err(HeadError::Refused(Cause::Format(Reason::NoWaveTag)));
     }
     Ok(u32_at(&rest, 0))
-}
-
-// How many bytes a content of this length takes, with its pad byte.
-fn with_pad_byte(chunk_len: u32) -> u64
-    ensures { result ≡ padded chunk_len }
-{
-    chunk_len as u64 + chunk_len as u64 % 2
-}
-
-// Takes the content of a fmt chunk of this length, this many bytes: the used part, and the
-// rest.
-fn read_fmt_content<R: Input>(
-    reader: &mut R,
-    chunk_len: u32,
-    content: u32,
-) -> Result<WavSpecEx, HeadError>
-    requires { content ≡ padded chunk_len }
-    ensures sound { IfOk result IsSoundSpec }
-    ensures failures { CountsFailed (R.account reader.old) (R.account reader.new) result }
-    ensures ok { IfOk result (λ found. WhereKnown (R.left reader.old) (R.left reader.new)
-        (ReadsFmt chunk_len found)) }
-    ensures err { IfErr result (λ e. Refuses e (λ c.
-        WhereKnown (R.left reader.old) (R.left reader.new) (λ xs ys.
-        first_fault (fault_of (fmt_of chunk_len (take content xs))) (cut_fault content xs) ≡ Some c))) }
-    ensures taken { IfErr result (TakesFor (R.left reader.old) (R.left reader.new)
-        (λ c xs. content_taken (fmt_fields xs).tag chunk_len c (length xs))) }
-{
-    let spec_ex = read_fmt_chunk(reader, chunk_len)?;
-    skip_bytes(reader, content - chunk_len.min(40))?;
-    Ok(spec_ex)
 }
 
 // Takes the content of a chunk, after the eight bytes of its header.
@@ -146,30 +93,28 @@ fn read_content<R: Input>(
 ) -> Result<ChunkRead, HeadError>
     requires taken { taken + 8 ≤ greatest_u32 }
     requires sound { IsSoundOption found }
-    ensures sound { IfOk result IsSoundChunk }
-    ensures failures { CountsFailed (R.account reader.old) (R.account reader.new) result }
-    ensures goes { IfOk result (Advances taken) }
-    ensures ok { IfOk result (λ chunk. WhereKnown (R.left reader.old) (R.left reader.new)
-        (ReadsContent taken found tag.now chunk_len chunk)) }
-    ensures err { IfErr result (λ e. Refuses e (λ c.
-        WhereKnown (R.left reader.old) (R.left reader.new) (λ xs ys.
-        content_fault taken found tag.now chunk_len xs ≡ Some c))) }
-    ensures taken { IfErr result (TakesFor (R.left reader.old) (R.left reader.new)
-        (λ c xs. content_taken (fmt_fields xs).tag chunk_len c (length xs))) }
+    ensures { Walks R.account R.left (IsSoundChunk taken) (ReadsContent taken found tag.now chunk_len)
+        (content_fault taken found tag.now chunk_len) (content_takes chunk_len) reader.old
+        reader.new result }
 {
-    if tag == DATA.as_slice() {
+    if tag == b"data".as_slice() {
         return match found {
             None => Err(HeadError::Refused(Cause::Format(Reason::NoFmtChunk))),
             Some(spec_ex) => Ok(ChunkRead::Data(spec_ex, chunk_len)),
         };
     }
-    let content = with_pad_byte(chunk_len);
+    // With the pad byte after an odd length.
+    let content = chunk_len as u64 + chunk_len as u64 % 2;
     if content > 4_294_967_287 - taken as u64 {
         return Err(HeadError::Refused(Cause::Format(Reason::NoDataChunk)));
     }
     let content = content as u32;
-    if tag == FMT.as_slice() {
-        let spec_ex = read_fmt_content(reader, chunk_len, content)?;
+    if tag == b"fmt ".as_slice() {
+        let spec_ex = read_fmt_chunk(reader, chunk_len)?;
+        let rest = content - chunk_len.min(40);
+        if rest > 0 {
+            skip_bytes(reader, rest)?;
+        }
         return Ok(ChunkRead::Other(Some(spec_ex), taken + 8 + content));
     }
     skip_bytes(reader, content)?;
@@ -184,16 +129,8 @@ fn read_next_chunk<R: Input>(
     taken: u32,
 ) -> Result<ChunkRead, HeadError>
     requires { IsSoundOption found }
-    ensures sound { IfOk result IsSoundChunk }
-    ensures failures { CountsFailed (R.account reader.old) (R.account reader.new) result }
-    ensures goes { IfOk result (Advances taken) }
-    ensures ok { IfOk result (λ chunk. WhereKnown (R.left reader.old) (R.left reader.new)
-        (ReadsChunk taken found chunk)) }
-    ensures err { IfErr result (λ e. Refuses e (λ c.
-        WhereKnown (R.left reader.old) (R.left reader.new) (λ xs ys.
-        chunk_fault taken found xs ≡ Some c))) }
-    ensures taken { IfErr result (TakesFor (R.left reader.old) (R.left reader.new)
-        (chunk_taken taken)) }
+    ensures { Walks R.account R.left (IsSoundChunk taken) (ReadsChunk taken found)
+        (chunk_fault taken found) (chunk_taken taken) reader.old reader.new result }
 {
     if taken > 4_294_967_287 {
         return Err(HeadError::Refused(Cause::Format(Reason::NoDataChunk)));
@@ -204,17 +141,22 @@ fn read_next_chunk<R: Input>(
     read_content(reader, &head[..4], chunk_len, found, taken)
 }
 
-// Takes chunks from the WAVE tag on, up to the data.
-fn read_chunks<R: Input>(reader: &mut R) -> Result<FileHead, HeadError>
+/// Takes exactly what is before the data, however the reads are cut: the walk that reading and
+/// appending share.
+///
+/// The length of the data isn't checked. An error that the bytes don't decide is that of a read,
+/// and the only one that counts as failed.
+pub fn read_until_data<R: Input>(reader: &mut R) -> Result<FileHead, HeadError>
     ensures sound { IfOk result (λ r. IsSoundSpec r.spec_ex) }
     ensures start { IfOk result (λ r. IsDataPlace r.data_start) }
     ensures failures { CountsFailed (R.account reader.old) (R.account reader.new) result }
-    ensures ok { IfOk result (λ r. WhereKnown (R.left reader.old) (R.left reader.new) (λ xs ys.
-        (taken : ℕ) × ReachesData xs ys r.spec_ex r.data_length taken × (r.data_start ≡ 12 + taken + 8))) }
-    ensures err { IfErr result (λ e. Refuses e (λ c.
-        WhereKnown (R.left reader.old) (R.left reader.new) (λ xs ys. MeetsFault xs c))) }
-    ensures taken { IfErr result (TakesAll MeetsFaultAfter (R.left reader.old) (R.left reader.new)) }
+    ensures found { IfOk result (λ r. WhereKnown (R.left reader.old) (R.left reader.new) (λ xs ys.
+        Head xs r.spec_ex r.data_length r.data_start × (ys ≡ drop r.data_start xs))) }
+    ensures refused { IfErr result (λ e. Refuses e (λ c.
+        WhereKnown (R.left reader.old) (R.left reader.new) (λ xs ys. Refused xs c))) }
+    ensures taken { IfErr result (TakesAll RefusedAfter (R.left reader.old) (R.left reader.new)) }
 {
+    let _size = read_riff_header(reader)?;
     let mut found = None;
     let mut taken = 0;
     'chunks: loop {
@@ -232,41 +174,6 @@ fn read_chunks<R: Input>(reader: &mut R) -> Result<FileHead, HeadError>
             }
         }
     }
-}
-
-// Takes all before the data.
-fn read_head<R: Input>(reader: &mut R) -> Result<FileHead, HeadError>
-    ensures sound { IfOk result (λ r. IsSoundSpec r.spec_ex) }
-    ensures start { IfOk result (λ r. IsDataPlace r.data_start) }
-    ensures failures { CountsFailed (R.account reader.old) (R.account reader.new) result }
-    ensures ok { IfOk result (λ r. WhereKnown (R.left reader.old) (R.left reader.new) (λ xs ys.
-        Head xs r.spec_ex r.data_length r.data_start × (ys ≡ drop r.data_start xs))) }
-    ensures err { IfErr result (λ e. Refuses e (λ c.
-        WhereKnown (R.left reader.old) (R.left reader.new) (λ xs ys. Refused xs c))) }
-    ensures taken { IfErr result (TakesAll RefusedAfter (R.left reader.old) (R.left reader.new)) }
-{
-    let _size = read_riff_header(reader)?;
-    read_chunks(reader)
-}
-
-/// Takes exactly what is before the data, however the reads are cut: the walk that reading and
-/// appending share.
-///
-/// The length of the data isn't checked. An error that the bytes don't decide is that of a read,
-/// and the only one that counts as failed.
-pub fn read_until_data<R: Input>(reader: &mut R) -> Result<FileHead, HeadError>
-    ensures sound { IfOk result (λ r. IsSoundSpec r.spec_ex) }
-    ensures start { IfOk result (λ r. IsDataPlace r.data_start) }
-    ensures failures { CountsFailed (R.account reader.old) (R.account reader.new) result }
-    ensures found { IfOk result (λ r. WhereKnown (R.left reader.old) (R.left reader.new) (λ xs ys.
-        Head xs r.spec_ex r.data_length r.data_start × (ys ≡ drop r.data_start xs))) }
-    ensures refused { IfErr result (λ e. Refuses e (λ c.
-        WhereKnown (R.left reader.old) (R.left reader.new) (λ xs ys. Refused xs c))) }
-    ensures taken { IfErr result (TakesAll RefusedAfter (R.left reader.old) (R.left reader.new)) }
-    ensures only { UnlessReadFailed result (WhereKnown (R.left reader.old) (R.left reader.new) (λ xs ys.
-        (a : Answer) → Answers xs a → ReportsAnswer result xs ys a)) }
-{
-    read_head(reader)
 }
 
 /// The same over a source, which is returned, so that its failed reads are counted.

@@ -1,7 +1,7 @@
 // The content of a fmt chunk.
 ghost use Rattle.std.specs.Prelude.{◌≡◌, ℕ, ◌+◌, ◌-◌, ◌≤◌, length, take, IfOk, IfErr};
 ghost use Rattle.hound_spec.specs.{fmt_fields, extension, pcm, ieee_float, extensible};
-ghost use Rattle.hound_reader.specs.Walking.{Gives, CountsFailed, Refuses, TakesFor, content_taken};
+ghost use Rattle.hound_reader.specs.Walking.{Gives, CountsFailed, ReadsFormat, TakesFor, content_takes};
 ghost use Rattle.hound_reader.specs.Fmt.{wave_format, wave_format_pcm, wave_format_ieee_float, wave_format_extensible, by_subformat, by_tag, fmt_len, fmt_of, IsSoundSpec};
 
 use crate::cause::{Cause, HeadError, Reason};
@@ -69,15 +69,8 @@ fn read_wave_format_pcm<R: Input>(
 ) -> Result<WavSpecEx, HeadError>
     requires chunk_len { 16 ≤ chunk_len }
     requires sound { IsSoundSpec found }
-    ensures sound { IfOk result IsSoundSpec }
-    ensures failures { CountsFailed (R.account reader.old) (R.account reader.new) result }
-    ensures gives { Gives (R.left reader.old) (R.left reader.new)
-        (fmt_len chunk_len - 16) result
-        (λ xs. wave_format_pcm chunk_len found (take (fmt_len chunk_len - 16) xs)) }
-    ensures taken { IfErr result (TakesFor (R.left reader.old) (R.left reader.new)
-        (λ c xs. content_taken pcm chunk_len c (16 + length xs) - 16)) }
-    ensures late { IfErr result (λ e. Refuses e (λ c. (n : ℕ) →
-        16 ≤ content_taken pcm chunk_len c (16 + n))) }
+    ensures { ReadsFormat R.account R.left pcm chunk_len (wave_format_pcm chunk_len found) reader.old
+        reader.new result }
 {
     if chunk_len == PCMWAVEFORMAT_LENGTH {
         return Ok(found);
@@ -108,15 +101,8 @@ fn read_wave_format_ieee_float<R: Input>(
 ) -> Result<WavSpecEx, HeadError>
     requires chunk_len { 16 ≤ chunk_len }
     requires sound { IsSoundSpec found }
-    ensures sound { IfOk result IsSoundSpec }
-    ensures failures { CountsFailed (R.account reader.old) (R.account reader.new) result }
-    ensures gives { Gives (R.left reader.old) (R.left reader.new)
-        (fmt_len chunk_len - 16) result
-        (λ xs. wave_format_ieee_float chunk_len found (take (fmt_len chunk_len - 16) xs)) }
-    ensures taken { IfErr result (TakesFor (R.left reader.old) (R.left reader.new)
-        (λ c xs. content_taken ieee_float chunk_len c (16 + length xs) - 16)) }
-    ensures late { IfErr result (λ e. Refuses e (λ c. (n : ℕ) →
-        16 ≤ content_taken ieee_float chunk_len c (16 + n))) }
+    ensures { ReadsFormat R.account R.left ieee_float chunk_len (wave_format_ieee_float chunk_len found) reader.old
+        reader.new result }
 {
     // A float has no extension that could follow here.
     if chunk_len != PCMWAVEFORMAT_LENGTH && chunk_len != WAVEFORMATEX_LENGTH {
@@ -181,15 +167,8 @@ fn read_wave_format_extensible<R: Input>(
 ) -> Result<WavSpecEx, HeadError>
     requires chunk_len { 16 ≤ chunk_len }
     requires sound { IsSoundSpec found }
-    ensures sound { IfOk result IsSoundSpec }
-    ensures failures { CountsFailed (R.account reader.old) (R.account reader.new) result }
-    ensures gives { Gives (R.left reader.old) (R.left reader.new)
-        (fmt_len chunk_len - 16) result
-        (λ xs. wave_format_extensible chunk_len found (take (fmt_len chunk_len - 16) xs)) }
-    ensures taken { IfErr result (TakesFor (R.left reader.old) (R.left reader.new)
-        (λ c xs. content_taken extensible chunk_len c (16 + length xs) - 16)) }
-    ensures late { IfErr result (λ e. Refuses e (λ c. (n : ℕ) →
-        16 ≤ content_taken extensible chunk_len c (16 + n))) }
+    ensures { ReadsFormat R.account R.left extensible chunk_len (wave_format_extensible chunk_len found) reader.old
+        reader.new result }
 {
     // Its size and the extension follow the first sixteen bytes.
     if chunk_len < WAVEFORMATEXTENSIBLE_LENGTH {
@@ -203,8 +182,7 @@ fn read_wave_format_extensible<R: Input>(
     }
     let mut rest = [0; EXTENSION_LENGTH as usize];
     fill(reader, &mut rest)?;
-    let found = choose_subformat(found, &rest)?;
-    Ok(found)
+    Ok(choose_subformat(found, &rest)?)
 }
 
 #[tactic(auto, unfolding(crate::specs::Fmt::by_tag))]
@@ -216,15 +194,8 @@ fn read_by_tag<R: Input>(
 ) -> Result<WavSpecEx, HeadError>
     requires chunk_len { 16 ≤ chunk_len }
     requires sound { IsSoundSpec found }
-    ensures sound { IfOk result IsSoundSpec }
-    ensures failures { CountsFailed (R.account reader.old) (R.account reader.new) result }
-    ensures gives { Gives (R.left reader.old) (R.left reader.new)
-        (fmt_len chunk_len - 16) result
-        (λ xs. by_tag tag chunk_len found (take (fmt_len chunk_len - 16) xs)) }
-    ensures taken { IfErr result (TakesFor (R.left reader.old) (R.left reader.new)
-        (λ c xs. content_taken tag chunk_len c (16 + length xs) - 16)) }
-    ensures late { IfErr result (λ e. Refuses e (λ c. (n : ℕ) →
-        16 ≤ content_taken tag chunk_len c (16 + n))) }
+    ensures { ReadsFormat R.account R.left tag chunk_len (by_tag tag chunk_len found) reader.old
+        reader.new result }
 {
     match tag {
         WAVE_FORMAT_PCM => read_wave_format_pcm(reader, chunk_len, found),
@@ -246,7 +217,7 @@ pub(crate) fn read_fmt_chunk<R: Input>(
     ensures gives { Gives (R.left reader.old) (R.left reader.new)
         (fmt_len chunk_len) result (fmt_of chunk_len) }
     ensures taken { IfErr result (TakesFor (R.left reader.old) (R.left reader.new)
-        (λ c xs. content_taken (fmt_fields xs).tag chunk_len c (length xs))) }
+        (content_takes chunk_len)) }
 {
     // Fourteen bytes would say all but the bits; no program is known to write so short a chunk.
     if chunk_len < PCMWAVEFORMAT_LENGTH {

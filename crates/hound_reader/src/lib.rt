@@ -22,5 +22,5 @@ pub use laws::{
     an_iterator_gives_what_it_hints, items_are_of_the_file, one_answer, written_is_head,
     written_is_read,
 };
-pub use reader::{WavReader, read_wave_header};
+pub use reader::{WavReader, read_until_samples, read_wave_header};
 pub use samples::{WavIntoSamples, WavSamples};

@@ -5,7 +5,7 @@ ghost use Rattle.hound_spec.specs.{riff_tag, wave_tag};
 ghost use Rattle.hound_spec.specs.declared.spec.WavSpecEx.{WavSpecEx};
 ghost use Rattle.hound_reader.specs.Walking.{CountsFailed, Refuses, ReportsFront, TakesAll, UnreadableAfter};
 ghost use Rattle.hound_reader.specs.Fmt.{IsSoundSpec};
-ghost use Rattle.hound_reader.specs.Grammar.{Readable, Unreadable};
+ghost use Rattle.hound_reader.specs.Grammar.{IsDataPlace, Readable, Unreadable};
 ghost use Rattle.hound_reader.specs.declared.cause.Cause.{Cause};
 ghost use Rattle.hound_reader.specs.Refusals.{IsRefusal, OpensAs, FailsAs};
 ghost use Rattle.hound_medium.specs.{Shifts, WhereTells};
@@ -14,7 +14,7 @@ ghost use Rattle.hound_reader.specs.Seeking.{Recounts, way_to};
 ghost use Rattle.hound_reader.specs.Samples.{lent_reader, lender, taken_reader};
 
 use crate::cause::{Cause, HeadError, Reason, error_of};
-use crate::chunks::{read_riff_header, read_until_data};
+use crate::chunks::{FileHead, read_riff_header, read_until_data};
 use crate::item::{KeepingReader, error_of_item, read_item_since, read_many_since, taken_without};
 use crate::samples::{WavIntoSamples, WavSamples};
 use hound_medium::{Placed, Source};
@@ -22,32 +22,32 @@ use hound_number::Input;
 use hound_sample::{ItemError, Sample};
 use hound_spec::{Error, Result, WavSpec, WavSpecEx};
 use std::io::ErrorKind;
-use std::marker::{Brand, Model};
+use std::marker::{Brand, Model, PhantomData};
 use std::{io, result};
 
-// Takes what is before the data, which must be whole frames: the spec, and how many samples
-// follow.
-fn read_until_samples<R: Input>(reader: &mut R) -> result::Result<(WavSpecEx, u32), HeadError>
-    ensures sound { IfOk result (λ r. IsSoundSpec r.0) }
+/// Takes exactly what is before the data, which must be whole frames: the head, and how many samples
+/// follow it. The walk over a file that reading in memory shares.
+pub fn read_until_samples<R: Input>(reader: &mut R) -> result::Result<(FileHead, u32), HeadError>
+    ensures sound { IfOk result (λ r. IsSoundSpec r.0.spec_ex) }
+    ensures start { IfOk result (λ r. IsDataPlace r.0.data_start) }
     ensures failures { CountsFailed (R.account reader.old) (R.account reader.new) result }
     ensures found { IfOk result (λ r. WhereKnown (R.left reader.old) (R.left reader.new) (λ xs ys.
-        (h : ℕ) × Readable xs r.0 r.1 h × (ys ≡ drop h xs))) }
+        Readable xs r.0.spec_ex r.1 r.0.data_start × (ys ≡ drop r.0.data_start xs))) }
     ensures refused { IfErr result (λ e. Refuses e
         (λ c. WhereKnown (R.left reader.old) (R.left reader.new) (λ xs ys. Unreadable xs c))) }
     ensures taken { IfErr result (TakesAll UnreadableAfter (R.left reader.old) (R.left reader.new)) }
-    ensures frames { IfOk result (λ r. r.1 % r.0.spec.channels ≡ 0) }
+    ensures frames { IfOk result (λ r. r.1 % r.0.spec_ex.spec.channels ≡ 0) }
 {
     let head = read_until_data(reader)?;
-    let spec_ex = head.spec_ex;
-    let width = spec_ex.bytes_per_sample as u32;
+    let width = head.spec_ex.bytes_per_sample as u32;
     if head.data_length % width != 0 {
         return Err(HeadError::Refused(Cause::Format(Reason::DataLength)));
     }
     let num_samples = head.data_length / width;
-    if num_samples % spec_ex.spec.channels as u32 != 0 {
+    if num_samples % head.spec_ex.spec.channels as u32 != 0 {
         return Err(HeadError::Refused(Cause::Format(Reason::FrameLength)));
     }
-    Ok((spec_ex, num_samples))
+    Ok((head, num_samples))
 }
 
 /// Takes the first twelve bytes of a file, and returns the size of the whole file in bytes by
@@ -123,7 +123,7 @@ impl<R: io::Read + Drop> WavReader<R> {
     /// frames. `IoError` is a fault of the reader, or an early end, of kind `Other`. Chunks that
     /// would take more than 4294967295 bytes after the WAVE tag are a `FormatError`, so the call
     /// returns for an endless reader too.
-    pub fn new(reader: R) -> Result<WavReader<R>>
+    pub fn new(mut reader: R) -> Result<WavReader<R>>
         ensures found { IfOk result (λ r. WhereKnown (R.remaining reader) (R.remaining r.reader)
             (λ xs ys.
             (h : ℕ) × Readable xs r.spec_ex r.num_samples h × (ys ≡ drop h xs))) }
@@ -141,11 +141,10 @@ impl<R: io::Read + Drop> WavReader<R> {
     {
         // No item returns this one: an `IoError` comes after a read that failed or ended.
         let fault = io::Error::from(ErrorKind::Other);
-        let mut reader = reader;
         match read_until_samples(&mut reader) {
-            Ok((spec_ex, num_samples)) => Ok(WavReader {
+            Ok((head, num_samples)) => Ok(WavReader {
                 reader: KeepingReader { reader, fault },
-                spec_ex,
+                spec_ex: head.spec_ex,
                 num_samples,
                 samples_read: 0,
                 bytes_read: 0,
@@ -203,8 +202,11 @@ impl<R: io::Read + Drop> WavReader<R> {
         ensures reader { lent_reader result ≡ self.old }
         ensures lender { lender result ≡ self.entry.ghost_name }
     {
-        let spec_ex = self.spec_ex;
-        WavSamples::new(self, spec_ex)
+        WavSamples {
+            spec_ex: self.spec_ex,
+            reader: self,
+            phantom_sample: PhantomData,
+        }
     }
 
     /// The same iterator, which owns the reader. To use the reader afterwards, call
@@ -212,8 +214,11 @@ impl<R: io::Read + Drop> WavReader<R> {
     pub fn into_samples<S: Sample>(self) -> WavIntoSamples<R, S>
         ensures { taken_reader result ≡ self }
     {
-        let spec_ex = self.spec_ex;
-        WavIntoSamples::new(self, spec_ex)
+        WavIntoSamples {
+            spec_ex: self.spec_ex,
+            reader: self,
+            phantom_sample: PhantomData,
+        }
     }
 
     /// Reads the next samples into the front of a slice, channels in turn. Returns how many came, and
@@ -294,15 +299,6 @@ impl<R: io::Read + Drop> WavReader<R> {
         ensures { result ≡ self.reader }
     {
         self.reader.reader
-    }
-
-    /// As many items as samples are left, and no more.
-    pub(crate) fn size_hint(&self) -> (usize, Option<usize>)
-        ensures exact { (result.0 ≡ samples_left self.now)
-            × (result.1 ≡ Some (samples_left self.now)) }
-    {
-        let left = self.samples_left() as usize;
-        (left, Some(left))
     }
 
     /// The next item, while a sample is left, by the iterator's copy of the spec. An `Error` is

@@ -19,30 +19,14 @@ use std::marker::PhantomData;
 /// item comes None, on every call.
 #[derive(Drop)]
 pub struct WavSamples<'wr, R, S> {
-    reader: &'wr mut WavReader<R>,
+    pub(crate) reader: &'wr mut WavReader<R>,
 
     // A copy of the reader's, which a loop over the items can keep in registers.
-    spec_ex: WavSpecEx,
+    pub(crate) spec_ex: WavSpecEx,
 
-    phantom_sample: PhantomData<S>,
+    pub(crate) phantom_sample: PhantomData<S>,
 
     ghost same: { spec_ex ≡ reader.now.spec_ex },
-}
-
-impl<'wr, R, S> WavSamples<'wr, R, S> {
-    ghost use Rattle.hound_reader.specs.Samples.{lent_reader, lender};
-
-    pub(crate) fn new(reader: &'wr mut WavReader<R>, spec_ex: WavSpecEx) -> WavSamples<'wr, R, S>
-        requires { spec_ex ≡ reader.now.spec_ex }
-        ensures reader { lent_reader result ≡ reader.old }
-        ensures lender { lender result ≡ reader.entry.ghost_name }
-    {
-        WavSamples {
-            reader,
-            spec_ex,
-            phantom_sample: PhantomData,
-        }
-    }
 }
 
 impl<R: io::Read + Drop, S: Sample> Iterator for WavSamples<'_, R, S> {
@@ -69,7 +53,8 @@ impl<R: io::Read + Drop, S: Sample> Iterator for WavSamples<'_, R, S> {
         ensures exact { (result.0 ≡ samples_left (lent_reader self.now))
             × (result.1 ≡ Some (samples_left (lent_reader self.now))) }
     {
-        self.reader.size_hint()
+        let left = self.len();
+        (left, Some(left))
     }
 }
 
@@ -82,25 +67,10 @@ impl<R: io::Read + Drop, S: Sample> ExactSizeIterator for WavSamples<'_, R, S> {
 /// The same iterator as [`WavSamples`], which owns its reader.
 #[derive(Drop)]
 pub struct WavIntoSamples<R, S> {
-    reader: WavReader<R>,
-    spec_ex: WavSpecEx,
-    phantom_sample: PhantomData<S>,
+    pub(crate) reader: WavReader<R>,
+    pub(crate) spec_ex: WavSpecEx,
+    pub(crate) phantom_sample: PhantomData<S>,
     ghost same: { spec_ex ≡ reader.spec_ex },
-}
-
-impl<R, S> WavIntoSamples<R, S> {
-    ghost use Rattle.hound_reader.specs.Samples.{taken_reader};
-
-    pub(crate) fn new(reader: WavReader<R>, spec_ex: WavSpecEx) -> WavIntoSamples<R, S>
-        requires { spec_ex ≡ reader.spec_ex }
-        ensures { taken_reader result ≡ reader }
-    {
-        WavIntoSamples {
-            reader,
-            spec_ex,
-            phantom_sample: PhantomData,
-        }
-    }
 }
 
 impl<R: io::Read + Drop, S: Sample> Iterator for WavIntoSamples<R, S> {
@@ -122,12 +92,10 @@ impl<R: io::Read + Drop, S: Sample> Iterator for WavIntoSamples<R, S> {
     }
 
     fn size_hint(&self) -> (usize, Option<usize>)
-        ensures lower { IsWithinCount result.0 (at_most (samples_left (taken_reader self.now))) }
-        ensures upper { IfSome result.1 (UpTo (at_most (samples_left (taken_reader self.now)))) }
         ensures exact { (result.0 ≡ samples_left (taken_reader self.now))
             × (result.1 ≡ Some (samples_left (taken_reader self.now))) }
     {
-        self.reader.size_hint()
+        (self.len(), Some(self.len()))
     }
 }
 

@@ -11,14 +11,14 @@ use Rattle.hound_c.proofs.appending.append_block.Goals as goal
 
 pub returns-clause-appends : goal.returns-clause-appends
 returns-clause-appends g c =
-    let found = c.in-Ok.found in
-    let s = found.spec_ex in
+    let head = c.in_ok-head.head in
+    let s = head.spec_ex in
     let w = s.bytes_per_sample in
     let values = c.args.samples.now in
-    let samples = found.samples in
+    let samples = c.in_ok-head.stored in
     let file = c.args.file.now in
     let used = c.args.used in
-    let h = found.data_start in
+    let h = head.data_start in
     let dl = c.in_ok-data_length.data_length in
     let n = c.in_ok-data_length.size in
     let container = λ (v : g.row.S.Denot). g.S.Sample.container v s.spec.bits_per_sample w in
@@ -37,12 +37,12 @@ returns-clause-appends g c =
     let within : h + samples * w ≤ used = omega (arith, c.if-end-used.false) in
     let inside : used ≤ length file = omega (arith, c.if-used-file.false) in
     let room : n ≤ length file = omega (arith, c.if-size-file.false) in
-    let front = c.in-Ok.ensures.start.0 in
+    let front = c.in_ok-head.ensures.start.0 in
     let data_is = ap (λ l. l ++ padding dl) j.bytes in
     let new = two s samples h used n k (n - 8) list file added (padding dl) data_is size front within inside n_is room small in
     let all : c.set_sizes.new.bytes ≡ new =
     c.set_sizes.ensures ∙ (λ i. with_sizes (h - 4) (n - 8) (dl_is i) (c.write_data_at.ensures i)) in
-    let r = c.in-Ok.ensures.readable in
+    let r = c.in_ok-head.ensures.readable in
     subst (AppendsSamples c.args.format g.S.Sample.container values used n file) (sym all) (record {
       spec_ex = s;
       samples = samples;
@@ -52,7 +52,7 @@ returns-clause-appends g c =
       format_is = search rules;
       is = list_is;
       reads = reads s samples h used n k (n - 8) list file added (padding dl) data_is size front within inside n_is room small
-          r.len r.head c.in-Ok.ensures.sound.1
+          r.len r.head c.in_ok-head.ensures.sound.1
           (ap (λ m. m % s.spec.channels) (sym total) ∙ c.in_ok-data_length.ensures.frames) j.back;
       front = sizes_only s samples h used n k (n - 8) list file added (padding dl) data_is size front within inside n_is room small;
       rest = rest s samples h used n k (n - 8) list file added (padding dl) data_is size front within inside n_is room small;

@@ -10,8 +10,8 @@ use Rattle.hound_c.proofs.reading.read_block.Goals as goal
 
 pub slice_bounds-decode_front-end : goal.slice_bounds-decode_front-end
 slice_bounds-decode_front-end g c =
-    let w = c.in-Ok.found.spec_ex.bytes_per_sample in
-    let long = length c.args.file.now - c.in-Ok.found.data_start in
+    let w = c.in_ok-head.head.spec_ex.bytes_per_sample in
+    let long = length c.args.file.now - c.in_ok-head.head.data_start in
     let count = c.min-stored.result - c.args.first in
     let few : c.args.first + count ≤ long / w = search rules in
     let there : (c.args.first + count) * w ≤ long =
@@ -20,11 +20,11 @@ slice_bounds-decode_front-end g c =
 
 pub returns : goal.returns
 returns g c =
-    let found = c.in-Ok.found in
-    let s = found.spec_ex in
+    let head = c.in_ok-head.head in
+    let s = head.spec_ex in
     let w = s.bytes_per_sample in
     let file = c.args.file.now in
-    let start = found.data_start in
+    let start = head.data_start in
     let first = c.args.first in
     let count = c.min-stored.result - first in
     let n = c.decode_front.result in
@@ -37,9 +37,9 @@ returns g c =
     ∙ ap (min (length c.args.out.now)) (mul-div_left count some) in
     record {
       spec_ex = s;
-      samples = found.samples;
+      samples = c.in_ok-head.samples;
       start = start;
-      readable = c.in-Ok.ensures.readable;
+      readable = c.in_ok-head.ensures.readable;
       taken = c.decode_front.ensures.taken;
       count = count_is ∙ search rules;
       end = λ none room. search rules;

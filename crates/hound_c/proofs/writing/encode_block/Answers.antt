@@ -1,3 +1,4 @@
+use Rattle.std.proofs.lemmas.Result.{err_from_is_err_and}
 use Rattle.std.proofs.Common.{◌≡◌, ◌*◌, ◌++◌, Ok, length, drop, refl, ◌∙◌, ap, subst, arith, rules, inr}
 use Rattle.std.proofs.lemmas.List.{drop_at, take_at}
 use Rattle.hound_writer.specs.{containers_in}
@@ -6,14 +7,18 @@ use Rattle.hound_c.specs.Writing.{Encodes, IsEncodeFault}
 use Rattle.hound_c.proofs.Checks.{failed, passed}
 use Rattle.hound_c.proofs.writing.encode_block.Goals as goal
 
-pub returns-in-Err-clause-encodes : goal.returns-in-Err-clause-encodes
-returns-in-Err-clause-encodes g c = (
-  refl,
-  subst (λ s. IsEncodeFault c.args.format g.S.Sample.container s c.args.samples.now (length c.args.out.now) c.in-Err.fault)
-      c.spec_of-spec_ex.ensures
-      (failed (IsEncodeFault c.args.format g.S.Sample.container c.spec_of-spec_ex.result c.args.samples.now (length c.args.out.now))
-      _ c.in-Err.fault c.in-Err.ensures (λ wide. wide) inr),
-)
+pub returns-in_err-check_samples-clause-encodes : goal.returns-in_err-check_samples-clause-encodes
+returns-in_err-check_samples-clause-encodes g c =
+    let p = err_from_is_err_and c.from_residual.result
+    c.from_residual.ensures.1 in
+    let fault = c.in_err-check_samples.field-0.0 in
+    rw (p.1, p.2) (
+      refl,
+      subst (λ s. IsEncodeFault c.args.format g.S.Sample.container s c.args.samples.now (length c.args.out.now) fault)
+          c.spec_of-spec_ex.ensures
+          (failed (IsEncodeFault c.args.format g.S.Sample.container c.spec_of-spec_ex.result c.args.samples.now (length c.args.out.now))
+          _ fault c.in_err-check_samples.ensures (λ wide. wide) inr),
+    )
 
 pub returns-clause-encodes : goal.returns-clause-encodes
 returns-clause-encodes g c =

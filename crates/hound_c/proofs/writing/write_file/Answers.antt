@@ -1,3 +1,4 @@
+use Rattle.std.proofs.lemmas.Result.{err_from_is_err_and}
 use Rattle.std.proofs.Common.{◌≡◌, ◌+◌, ◌-◌, ◌*◌, ◌%◌, ◌≤◌, ◌++◌, Ok, length, take, drop, refl, sym, ◌∙◌, ap, subst, arith, rules, inr, length-append, length-drop}
 use Rattle.std.proofs.lemmas.List.{length-take-le, take_at}
 use Rattle.std.proofs.lemmas.Slice.{drop-append-drop}
@@ -12,14 +13,18 @@ use Rattle.hound_c.specs.Writing.{Writes, IsWriteFault}
 use Rattle.hound_c.proofs.Checks.{failed, passed}
 use Rattle.hound_c.proofs.writing.write_file.Goals as goal
 
-pub returns-in-Err-clause-writes : goal.returns-in-Err-clause-writes
-returns-in-Err-clause-writes g c = (
-  refl,
-  subst (λ s. IsWriteFault c.args.format g.S.Sample.container s c.args.samples.now (length c.args.out.now) c.in-Err.fault)
-      c.spec_of-spec_ex.ensures
-      (failed (IsWriteFault c.args.format g.S.Sample.container c.spec_of-spec_ex.result c.args.samples.now (length c.args.out.now))
-      _ c.in-Err.fault c.in-Err.ensures (λ wide. wide) inr),
-)
+pub returns-in_err-check_samples-clause-writes : goal.returns-in_err-check_samples-clause-writes
+returns-in_err-check_samples-clause-writes g c =
+    let p = err_from_is_err_and c.from_residual.result
+    c.from_residual.ensures.1 in
+    let fault = c.in_err-check_samples.field-0.0 in
+    rw (p.1, p.2) (
+      refl,
+      subst (λ s. IsWriteFault c.args.format g.S.Sample.container s c.args.samples.now (length c.args.out.now) fault)
+          c.spec_of-spec_ex.ensures
+          (failed (IsWriteFault c.args.format g.S.Sample.container c.spec_of-spec_ex.result c.args.samples.now (length c.args.out.now))
+          _ fault c.in_err-check_samples.ensures (λ wide. wide) inr),
+    )
 
 pub copy_from_slice-requires : goal.copy_from_slice-requires
 copy_from_slice-requires g c =

@@ -1,53 +1,103 @@
-use Rattle.std.proofs.Common.{◌+◌, Some, true, false, refl, ◌∙◌, arith}
+use Rattle.std.proofs.Common.{◌≡◌, ◌+◌, ◌≤◌, ℕ, List, [], ◌++◌, Some, Ok, true, false, take, drop, length, refl, sym, ap, ◌∙◌, arith, rules, append_assoc, length-append, length-take-le}
+use Rattle.std.proofs.lemmas.List.{take-append-drop}
+use Rattle.std.specs.Io.KnownBytes.{Consumes}
+use Rattle.std.proofs.KnownBytes.{Consumes-nil}
+use Rattle.hound_spec.specs.declared.spec.WavSpecEx.{WavSpecEx}
+use Rattle.hound_number.specs.{NoneFailed}
+use Rattle.hound_number.proofs.Counting.{NoneFailed-trans}
+use Rattle.hound_reader.specs.Fmt.{fmt_len, fmt_of}
+use Rattle.hound_reader.proofs.FmtLemmas.{fmt_and_rest}
 use Rattle.hound_reader.specs.Grammar.{spec_after}
-use Rattle.hound_spec.specs.{fmt_tag, data_tag}
+use Rattle.hound_spec.specs.{fmt_tag, data_tag, padded}
 use Rattle.hound_reader.specs.Walking.{ReadsContent}
 use Rattle.hound_reader.specs.declared.chunks.ChunkRead.TheVariants.{Other}
-use Rattle.hound_number.proofs.KnownSteps.{known_from, known_weaker}
+use Rattle.hound_number.proofs.KnownSteps.{known_both, known_from}
 use Rattle.hound_reader.proofs.WalkLemmas.{tag_test}
 use Rattle.hound_reader.proofs.chunks.read_content.Goals as goal
+use Rattle.hound_reader.proofs.chunks.read_content.Goals.{then-rest-gt0+in_ok-skip_bytes, else-rest-gt0}
 
-pub returns-then-eq-2-clause-ok : goal.returns-then-eq-2-clause-ok
+-- the used part of a fmt chunk, and the rest
+fmt_whole : (len : ℕ) (found : WavSpecEx) (rest xs ys zs : List ℕ)
+    → (fmt_of len xs ≡ Ok found) × (fmt_len len ≤ length xs) × (ys ≡ drop (fmt_len len) xs)
+    → ys ≡ rest ++ zs → length rest + fmt_len len ≡ padded len → (content : List ℕ)
+    × (length content ≡ padded len) × (fmt_of len content ≡ Ok found) × (xs ≡ content ++ zs)
+fmt_whole len found rest xs ys zs p e whole =
+    let n = fmt_len len in (
+      take n xs ++ rest,
+      omega (arith, length-append (take n xs) rest, length-take-le n xs p.1, whole),
+      fmt_and_rest len xs rest p.1 ∙ p.0,
+      sym (take-append-drop n xs) ∙ ap (λ t. take n xs ++ t) (sym p.2 ∙ e)
+          ∙ sym (append_assoc (take n xs) rest zs),
+    )
+
+pub returns-then-eq-2 : goal.returns-then-eq-2
 unfolding spec_after
-returns-then-eq-2-clause-ok g c =
+returns-then-eq-2 g c =
     let tag = c.args.tag.now in
     let len = c.args.chunk_len in
     let is_fmt = tag_test _ true tag _ fmt_tag c.eq-2.ensures c.as_slice-2.ensures c.if-eq-2.true in
     let other = tag_test _ false tag _ data_tag c.eq.ensures c.as_slice.ensures c.if-eq.false in
-    known_weaker _ _ _
-    (ReadsContent c.args.taken c.args.found tag len
-    (Other (Some c.in_ok-spec_ex.spec_ex) (c.args.taken + 8 + c.with_pad_byte-content.result)))
-    c.in_ok-spec_ex.ensures.ok (λ xs ys (content, n, read, e). (
-      content,
-      n,
-      other,
-      rw (is_fmt, read) refl,
-      omega (arith, c.with_pad_byte-content.ensures),
-      rw (is_fmt, read) refl,
-      omega (arith, n, c.with_pad_byte-content.ensures),
-      e,
-    ))
+    let found = c.in_ok-spec_ex.spec_ex in
+    let mid = c.read_fmt_chunk.new.reader in
+    let end = c.if-rest-gt0.reader in
+    let skipped : (rest : List ℕ) × Consumes (g.R.Input.left mid) (g.R.Input.left end) rest
+    × (length rest + fmt_len len ≡ padded len)
+    × NoneFailed (g.R.Input.account mid) (g.R.Input.account end) =
+    elim c.if-rest-gt0.branch [
+      | then-rest-gt0+in_ok-skip_bytes w ↦
+          let (rest, taken, l) = w.in_ok-skip_bytes.ensures.ok in
+          rw w.reader-is (rest, taken, omega (arith, l), w.in_ok-skip_bytes.ensures.failures)
+      | else-rest-gt0 w ↦
+          rw w.reader-is ([], Consumes-nil (g.R.Input.left mid), omega (arith, w.if-rest-gt0.false), search rules)
+    ] in
+    let (rest, taken, l, counted) = skipped in
+    record {
+      sound = search rules;
+      failures = NoneFailed-trans _ _ _ c.in_ok-spec_ex.ensures.failures counted;
+      ok = known_both _ _ _ _ (λ ys zs. ys ≡ rest ++ zs)
+          (ReadsContent c.args.taken c.args.found tag len
+          (Other (Some found) (c.args.taken + 8 + padded len))) c.in_ok-spec_ex.ensures.gives
+          (known_from rest _ _ (λ ys zs. ys ≡ rest ++ zs) taken (λ ys. refl))
+          (λ xs ys zs p e.
+          let (content, n, read, is) = fmt_whole len found rest xs ys zs p e l in (
+            content,
+            n,
+            other,
+            rw (is_fmt, read) refl,
+            omega arith,
+            rw (is_fmt, read) refl,
+            omega (arith, n),
+            is,
+          ));
+      err = tt;
+      taken = tt;
+    }
 
-pub returns-clause-ok : goal.returns-clause-ok
+pub returns : goal.returns
 unfolding spec_after
-returns-clause-ok g c =
+returns g c =
     let tag = c.args.tag.now in
     let len = c.args.chunk_len in
     let not_fmt =
     tag_test _ false tag _ fmt_tag c.eq-2.ensures c.as_slice-2.ensures c.if-eq-2.false in
     let other = tag_test _ false tag _ data_tag c.eq.ensures c.as_slice.ensures c.if-eq.false in
-    let bytes = c.in_ok-skip_bytes.ensures.ok.0 in
-    let n = c.in_ok-skip_bytes.ensures.ok.2 in
-    known_from bytes _ _
-    (ReadsContent c.args.taken c.args.found tag len
-    (Other c.args.found (c.args.taken + 8 + c.with_pad_byte-content.result)))
-    c.in_ok-skip_bytes.ensures.ok.1 (λ ys. (
-      bytes,
-      n ∙ c.with_pad_byte-content.ensures,
-      other,
-      rw not_fmt refl,
-      omega (arith, c.with_pad_byte-content.ensures),
-      rw not_fmt refl,
-      omega (arith, n),
-      refl,
-    ))
+    let (bytes, taken, n) = c.in_ok-skip_bytes-2.ensures.ok in
+    record {
+      sound = search rules;
+      failures = c.in_ok-skip_bytes-2.ensures.failures;
+      ok = known_from bytes _ _
+          (ReadsContent c.args.taken c.args.found tag len
+          (Other c.args.found (c.args.taken + 8 + padded len)))
+          taken (λ ys. (
+            bytes,
+            n,
+            other,
+            rw not_fmt refl,
+            omega arith,
+            rw not_fmt refl,
+            omega (arith, n),
+            refl,
+          ));
+      err = tt;
+      taken = tt;
+    }

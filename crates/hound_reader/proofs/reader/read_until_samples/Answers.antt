@@ -13,8 +13,8 @@ returns-then-head-width-ne0-clause-taken g c =
     length_takes _ _ head.spec_ex head.data_length head.data_start (Format DataLength)
     (rw torn refl) c.in_ok-head.ensures.found
 
-pub returns-then-num_samples-spec_ex-ne0-clause-taken : goal.returns-then-num_samples-spec_ex-ne0-clause-taken
-returns-then-num_samples-spec_ex-ne0-clause-taken g c =
+pub returns-then-num_samples-head-ne0-clause-taken : goal.returns-then-num_samples-head-ne0-clause-taken
+returns-then-num_samples-head-ne0-clause-taken g c =
     let head = c.in_ok-head.head in
     let width = head.spec_ex.bytes_per_sample in
     let whole : (head.data_length % width == 0) ≡ true = grind (arith, nat_tests) in

@@ -1,13 +1,19 @@
-use Rattle.hound_reader.specs.Grammar.{Unreadable}
+use Rattle.std.proofs.Common.{◌≡◌, ℕ, drop}
+use Rattle.hound_number.proofs.KnownSteps.{known_weaker}
+use Rattle.hound_reader.specs.Grammar.{Readable, Unreadable}
 use Rattle.hound_reader.proofs.ReaderLemmas.{opens_ok, refusal_told, opens_told, no_fault_ok, fails_told, is_told}
 use Rattle.hound_reader.proofs.reader.WavReader.new.Goals as goal
 
 pub returns-in-Ok-clause-found : goal.returns-in-Ok-clause-found
-returns-in-Ok-clause-found g c = c.in-Ok.ensures.found
+returns-in-Ok-clause-found g c =
+    let head = c.in-Ok.head in
+    known_weaker _ _ _
+    (λ xs ys. (h : ℕ) × Readable xs head.spec_ex c.in-Ok.num_samples h × (ys ≡ drop h xs))
+    c.in-Ok.ensures.found (λ xs ys p. (head.data_start, p.0, p.1))
 
 pub returns-in-Ok-clause-readable : goal.returns-in-Ok-clause-readable
 returns-in-Ok-clause-readable g c =
-    opens_ok _ _ c.in-Ok.spec_ex c.in-Ok.num_samples c.in-Ok.ensures.found
+    opens_ok _ _ c.in-Ok.head.spec_ex c.in-Ok.num_samples c.in-Ok.head.data_start c.in-Ok.ensures.found
 
 pub returns-in-Err-clause-refused : goal.returns-in-Err-clause-refused
 returns-in-Err-clause-refused g c =
@@ -20,7 +26,7 @@ returns-in-Err-clause-readable g c =
 
 pub returns-in-Ok-clause-unreadable : goal.returns-in-Ok-clause-unreadable
 returns-in-Ok-clause-unreadable g c =
-    no_fault_ok _ _ c.in-Ok.spec_ex c.in-Ok.num_samples c.in-Ok.ensures.found
+    no_fault_ok _ _ c.in-Ok.head.spec_ex c.in-Ok.num_samples c.in-Ok.head.data_start c.in-Ok.ensures.found
 
 pub returns-in-Err-clause-unreadable : goal.returns-in-Err-clause-unreadable
 returns-in-Err-clause-unreadable g c =

@@ -1,12 +1,11 @@
 use Rattle.std.proofs.Common.{◌≡◌, ◌+◌, ℕ, List, length}
 use Rattle.std.specs.Io.KnownBytes.{Consumes}
 use Rattle.hound_number.specs.{NoneFailed}
-use Rattle.hound_reader.proofs.chunks.skip_some.Given as goal
+use Rattle.hound_reader.proofs.chunks.skip_bytes.Given as goal
 
 abbrev pub invariant-loop-left : goal.invariant-loop-left
 invariant-loop-left g l =
-    (length l.buf ≡ 512)
-    × NoneFailed (g.R.Input.account l.initial.reader) (g.R.Input.account l.reader)
+    NoneFailed (g.R.Input.account l.initial.reader) (g.R.Input.account l.reader)
     × ((bytes : List ℕ) × Consumes (g.R.Input.left l.initial.reader) (g.R.Input.left l.reader) bytes
     × (length bytes + l.left ≡ l.count))
 
