@@ -54,7 +54,7 @@ impl SampleWords {
 struct MediumWords;
 
 impl MediumWords {
-    ghost use Rattle.hound.specs.{FailsAt, Flushes, Gets, Goes, IsNumbered, MediumState, Puts, PutsAll, Shifts, Span, Stays, WhereKeeps, WhereTells, calls, faults_after, greatest_count, moment, one_more, overlay, placed, unknown};
+    ghost use Rattle.hound.specs.{FailsAt, Flushes, Gets, Goes, IsNumbered, MediumState, Puts, PutsAll, Shifts, Stays, WhereKeeps, WhereTells, calls, faults_after, greatest_count, moment, one_more, overlay, placed, unknown};
 
     fn read() -> bool
         ensures { result ≡ result }
@@ -90,7 +90,7 @@ impl ReaderWords {
 struct WriterWords;
 
 impl WriterWords {
-    ghost use Rattle.hound.specs.{Accepts, AcceptsEach, Appends, AreFrames, AreKnown, AreShort, Asked, Begins, Begun, Call, Checkpoints, Counts, Ends, Extends, FailsCheck, Finishes, GoesOut, HasBegun, HasOneAppendAnswer, HasRoom, HasSize, IsConsistent, IsCounted, IsIoError, IsKnown, IsLimit, IsNotAppended, IsNotBegun, IsPadded, IsPatched, IsPublishResult, IsSameFile, IsSixteen, IsSound, IsStanding, IsStored, IsWhole, KeepsCalls, Known, Lead, Left, Patches, PatchesAtEach, PublishesTo, PutsAt, Recorded, WriterState, accepted_samples, all_out, appended, asked_by_all, batch_bytes, batch_lender, batch_writer, block_length, bytes_kept, containers_in, data_end, data_length, field, found_in, head_fault, made, mark_of, marked, new_file, of_fields, one, or_fault, outcome_of, padded_end, place_after, publish, remaining, result_of, sample_bytes, sample_count, short_bytes, start_of, with_sizes, write};
+    ghost use Rattle.hound.specs.{Accepts, AcceptsBytes, AcceptsEach, Appends, AreFrames, AreKnown, AreShort, Asked, Begins, Begun, Call, Checkpoints, Counts, Ends, Extends, FailsCheck, Finishes, GoesOut, HasBegun, HasOneAppendAnswer, HasRoom, IsConsistent, IsIoError, IsKnown, IsLimit, IsNotAppended, IsNotBegun, IsPadded, IsPublishResult, IsSameFile, IsSixteen, IsSound, IsStanding, IsStored, IsValid, IsWhole, KeepsCalls, Known, Lead, Left, Patches, PatchesAtEach, PublishesTo, PutsAt, Recorded, WriterState, accepted_samples, all_out, appended, asked_by_all, batch_bytes, batch_lender, batch_writer, block_length, bytes_kept, containers_in, data_end, data_length, field, found_in, head_fault, made, mark_of, marked, new_file, of_fields, one, or_fault, outcome_of, padded_end, place_after, publish, remaining, result_of, sample_bytes, sample_count, short_bytes, start_of, whole_containers, with_sizes, write};
 
     fn read() -> bool
         ensures { result ≡ result }

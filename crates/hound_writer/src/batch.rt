@@ -5,7 +5,7 @@ ghost use Rattle.hound_number.specs.{signed_bytes_of};
 ghost use Rattle.hound_spec.specs.declared.error.Error.TheVariants.{OutOfMemory, TooLong};
 ghost use Rattle.hound_sample.specs.{containers};
 ghost use Rattle.hound_writer.specs.contracts.write.WavWriter.{the_row};
-ghost use Rattle.hound_writer.specs.Accepting.{Accepts, mark_of, AreShort, short_bytes};
+ghost use Rattle.hound_writer.specs.Accepting.{Accepts, AcceptsBytes, AreShort, mark_of, short_bytes, whole_containers};
 ghost use Rattle.hound_writer.specs.Calls.{Extends, KeepsCalls, made, marked, write};
 ghost use Rattle.hound_writer.specs.Parts.{bytes_kept};
 ghost use Rattle.hound_writer.specs.Writer.{IsSixteen, HasRoom};
@@ -54,14 +54,13 @@ impl<W: Medium, B: BatchMemory> SampleWriter16<'_, W, B> {
     pub fn flush(self) -> Result<()>
         requires { remaining self ≡ 0 }
         ensures accepts { let old = batch_writer self.entry in Accepts W.tells W.keeps W.state false
-            (Ok (containers old.spec_ex.bytes_per_sample (length (batch_bytes self.entry) / old.spec_ex.bytes_per_sample) (batch_bytes self.entry)))
-            result old self.exit.0.now }
+            (whole_containers old.spec_ex (batch_bytes self.entry)) result old self.exit.0.now }
         ensures buffer { self.exit.0.now.buffer ≡ (batch_writer self.entry).buffer }
         ensures recorded { Extends W.tells W.keeps W.state
-            (λ s. made (write (Ok (containers s.bytes_per_sample (length (batch_bytes self.entry) / s.bytes_per_sample) (batch_bytes self.entry)))))
+            (λ s. made (write (whole_containers s (batch_bytes self.entry))))
             (batch_writer self.entry) self.exit.0.now }
         ensures marked { Extends W.tells W.keeps W.state
-            (λ s. marked (write (Ok (containers s.bytes_per_sample (length (batch_bytes self.entry) / s.bytes_per_sample) (batch_bytes self.entry)))) (mark_of result))
+            (λ s. marked (write (whole_containers s (batch_bytes self.entry))) (mark_of result))
             (batch_writer self.entry) self.exit.0.now }
     {
         let SampleWriter16 {
@@ -91,33 +90,6 @@ impl<W: Medium, B: BatchMemory> Drop for SampleWriter16<'_, W, B> {
     }
 }
 
-// The memory that is kept for batches, or an empty one.
-fn memory_in(kept: Option<Vec<i16>>, alloc: Global) -> Vec<i16>
-    ensures { short_bytes result.items ≡ bytes_kept (λ memory. memory.items) kept }
-{
-    match kept {
-        Some(memory) => memory,
-        None => Vec::new(alloc),
-    }
-}
-
-// Fills up with zeros, if memory is shorter.
-fn grow(memory: &mut Vec<i16>, num_samples: usize) -> Result<()>
-    ensures long { OnOk result (num_samples ≤ length memory.new.items) }
-    ensures kept { OnOk result (length (short_bytes memory.new.items)
-        ≡ max (length (short_bytes memory.old.items)) (2 * num_samples)) }
-    ensures refused { IfErr result (λ e. (e ≡ OutOfMemory) × (memory.new.items ≡ memory.old.items)
-        × (length (short_bytes memory.old.items) < 2 * num_samples)) }
-{
-    if memory.len() >= num_samples {
-        return Ok(());
-    }
-    match memory.resize(num_samples, 0) {
-        Ok(()) => Ok(()),
-        Err(_) => Err(Error::OutOfMemory),
-    }
-}
-
 impl<W: Medium> Output<W> {
     // Lends the memory for batches, with at least this many samples.
     fn lend_memory(&mut self, alloc: Global, num_samples: usize) -> Result<Vec<i16>>
@@ -129,12 +101,15 @@ impl<W: Medium> Output<W> {
         ensures refused { IfErr result (λ e. (e ≡ OutOfMemory) × (self.new ≡ self.old)
             × (length self.old.buffer < 2 * num_samples)) }
     {
-        let mut memory = memory_in(self.buffer.take(), alloc);
-        match grow(&mut memory, num_samples) {
+        let mut memory = self.buffer.take().unwrap_or(Vec::new(alloc));
+        if memory.len() >= num_samples {
+            return Ok(memory);
+        }
+        match memory.resize(num_samples, 0) {
             Ok(()) => Ok(memory),
             Err(error) => {
                 self.buffer = Some(memory);
-                Err(error)
+                Err(Error::from(error))
             }
         }
     }
@@ -157,11 +132,8 @@ impl<W: Medium> WavWriter<W> {
         requires bits { self.old.spec_ex.spec.bits_per_sample ≡ 16 }
         requires width { self.old.spec_ex.bytes_per_sample ≡ 2 }
         requires long { count ≤ length memory.items }
-        ensures accepts { let bytes = short_bytes (take count memory.items) in
-            let old = record self.old { buffer = short_bytes memory.items } in
-            Accepts W.tells W.keeps W.state false
-            (Ok (containers old.spec_ex.bytes_per_sample (length bytes / old.spec_ex.bytes_per_sample) bytes))
-            result old self.new }
+        ensures accepts { AcceptsBytes W.tells W.keeps W.state (short_bytes (take count memory.items))
+            result (record self.old { buffer = short_bytes memory.items }) self.new }
         ensures buffer { self.new.buffer ≡ short_bytes memory.items }
     {
         let accepted = self.write_samples(&memory[..count]);

@@ -71,7 +71,7 @@ returns-then-not-accept_encoded-clause-accepts g c =
     c.self.view_is c.in-Accepted.ensures) in
     many_asked g.S.Sample.container g.met.S.Sample.in_width c.args.samples.now W.tells W.keeps
     W.state (Err (IoError c.accept_encoded.new.fault)) w c.accept_encoded.new.self
-    c.has_room.ensures.sound.width have c.if-not-accept_encoded.ensures.accepts
+    c.has_room.ensures.valid.sound.width have c.if-not-accept_encoded.ensures.accepts
 
 pub returns-clause-accepts : goal.returns-clause-accepts
 returns-clause-accepts g c =
@@ -83,4 +83,4 @@ returns-clause-accepts g c =
     c.self.view_is c.in-Accepted.ensures) in
     many_asked g.S.Sample.container g.met.S.Sample.in_width c.args.samples.now W.tells W.keeps
     W.state (Ok tt) w c.accept_encoded.new.self
-    c.has_room.ensures.sound.width have c.if-not-accept_encoded.ensures.accepts
+    c.has_room.ensures.valid.sound.width have c.if-not-accept_encoded.ensures.accepts
