@@ -86,7 +86,7 @@ impl<W: Medium, B: BatchMemory> Drop for SampleWriter16<'_, W, B> {
             written: _,
             left: _,
         } = self;
-        parent.output.take_back_memory(memory.into_vec());
+        parent.output.buffer = Some(memory.into_vec());
     }
 }
 
@@ -113,13 +113,6 @@ impl<W: Medium> Output<W> {
             }
         }
     }
-
-    // Takes memory back for later batches.
-    fn take_back_memory(&mut self, memory: Vec<i16>)
-        ensures { self.new ≡ record self.old { buffer = short_bytes memory.items } }
-    {
-        self.buffer = Some(memory);
-    }
 }
 
 impl<W: Medium> WavWriter<W> {
@@ -137,7 +130,7 @@ impl<W: Medium> WavWriter<W> {
         ensures buffer { self.new.buffer ≡ short_bytes memory.items }
     {
         let accepted = self.write_samples(&memory[..count]);
-        self.output.take_back_memory(memory);
+        self.output.buffer = Some(memory);
         accepted
     }
 
@@ -193,7 +186,7 @@ impl<W: Medium> WavWriter<W> {
 }
 
 impl<'parent, W: Medium, B: BatchMemory> SampleWriter16<'parent, W, B> {
-    ghost use Rattle.hound_writer.specs.Batch.{IsSameFile, batch_bytes, batch_lender, batch_writer, remaining};
+    ghost use Rattle.hound_writer.specs.Batch.{WritesToBatch, remaining};
 
     /// Writes a sample to the batch: its lowest sixteen bits, as a signed number.
     ///
@@ -202,19 +195,10 @@ impl<'parent, W: Medium, B: BatchMemory> SampleWriter16<'parent, W, B> {
     /// `can_cast` says: each `i8`, `i16` and `i32` has. Higher bits of an `i32` are lost without an
     /// error.
     #[inline]
-    #[tactic(auto, using(crate::proofs::Recording::recorded_same))]
     pub fn write_sample<S: Sample>(&mut self, sample: S)
         requires room { 1 ≤ remaining self.old }
         requires short { S.can_cast sample }
-        ensures lender { batch_lender self.new ≡ batch_lender self.old }
-        ensures written { batch_bytes self.new ≡ batch_bytes self.old
-            ++ signed_bytes_of 2 (S.as_short sample) }
-        ensures left { remaining self.new + 1 ≡ remaining self.old }
-        ensures stays { IsSameFile (batch_writer self.old) (batch_writer self.new) }
-        ensures kept { length (batch_writer self.new).buffer
-            ≡ length (batch_writer self.old).buffer }
-        ensures recorded { KeepsCalls W.tells W.keeps W.state (batch_writer self.old)
-            (batch_writer self.new) }
+        ensures { WritesToBatch (signed_bytes_of 2 (S.as_short sample)) self.old self.new }
     {
         let index = self.written;
         self.written = index + 1;
@@ -228,15 +212,7 @@ impl<'parent, W: Medium, B: BatchMemory> SampleWriter16<'parent, W, B> {
     pub fn write_sample_unchecked<S: Sample>(&mut self, sample: S)
         requires room { 1 ≤ remaining self.old }
         requires short { S.can_cast sample }
-        ensures lender { batch_lender self.new ≡ batch_lender self.old }
-        ensures written { batch_bytes self.new ≡ batch_bytes self.old
-            ++ signed_bytes_of 2 (S.as_short sample) }
-        ensures left { remaining self.new + 1 ≡ remaining self.old }
-        ensures stays { IsSameFile (batch_writer self.old) (batch_writer self.new) }
-        ensures kept { length (batch_writer self.new).buffer
-            ≡ length (batch_writer self.old).buffer }
-        ensures recorded { KeepsCalls W.tells W.keeps W.state (batch_writer self.old)
-            (batch_writer self.new) }
+        ensures { WritesToBatch (signed_bytes_of 2 (S.as_short sample)) self.old self.new }
     {
         self.write_sample(sample);
     }

@@ -15,8 +15,8 @@ returns-clause-accepts g c =
     subst (Accepts W.tells W.keeps W.state false
     (Ok (containers w.spec_ex.bytes_per_sample (length bytes / w.spec_ex.bytes_per_sample) bytes))
     write.result (record w { buffer = short_bytes items }))
-    (ap (λ (w : WriterState _). record w { buffer = short_bytes items }) (sym c.self.view_is)
-    ∙ sym c.take_back_memory.ensures)
+    (ap (λ (w : WriterState _). record w { buffer = short_bytes items })
+    (sym c.self.view_is ∙ sym (λ j. (c.self-inside.view_is j).output)))
     (batch_accepted W.tells W.keeps W.state write.result w write.new.self
     (take c.args.count items) (short_bytes items) c.requires.short c.requires.bits
     c.requires.width
