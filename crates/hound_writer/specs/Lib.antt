@@ -3,7 +3,7 @@ pub use Rattle.hound_writer.specs.Accepting.{AcceptAnswer, Accepts, AcceptsBytes
 pub use Rattle.hound_writer.specs.Appending.{AnswersAppend, AppendAnswer, AppendFault, Appends, FailsCheck, FollowsData, HasOneAppendAnswer, IsAppendFault, IsNotAppended, NamesFault, PutsNothing, appendable, by_bytes, faulty, too_long}
 unfoldable pub use Rattle.hound_writer.specs.Appending.{head_fault}
 pub use Rattle.hound_writer.specs.Batch.{IsSameFile, WritesToBatch, batch_bytes, batch_lender, batch_writer, remaining}
-pub use Rattle.hound_writer.specs.Beginning.{Begins, HasBegun, IsNotBegun, PutsHeader}
+pub use Rattle.hound_writer.specs.Beginning.{Begins, BeginsFile, HasBegun, IsNotBegun, PutsHeader}
 pub use Rattle.hound_writer.specs.Parts.{GoesAtEach, GoesOut, GoesToFile, HasSize, IsConsistent, IsLimit, IsPatched, IsPublishResult, IsStanding, Patches, PatchesAtEach, PutsAt, StaysAround, after_out, all_out, block_length, bytes_kept, of_fields, or_fault, result_of}
 pub use Rattle.hound_writer.specs.Calls.{AreKnown, Asked, Begun, Call, Does, Ends, Extends, HadData, IsKnown, KeepsCalls, Known, Lead, LeavesWriter, LeftBy, OnBatched, Opens, RecordedBy, appended, asked_by_all, batch, found_in, made, marked, new_file, publish, put, size_of, start_of, with_memory, write}
 unfoldable pub use Rattle.hound_writer.specs.Calls.{Left, Recorded}

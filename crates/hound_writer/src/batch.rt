@@ -5,7 +5,7 @@ ghost use Rattle.hound_number.specs.{signed_bytes_of};
 ghost use Rattle.hound_spec.specs.declared.error.Error.TheVariants.{OutOfMemory, TooLong};
 ghost use Rattle.hound_sample.specs.{containers};
 ghost use Rattle.hound_writer.specs.contracts.write.WavWriter.{the_row};
-ghost use Rattle.hound_writer.specs.Accepting.{Accepts, AcceptsBytes, AreShort, mark_of, short_bytes, whole_containers};
+ghost use Rattle.hound_writer.specs.Accepting.{Accepts, AreShort, mark_of, short_bytes, whole_containers};
 ghost use Rattle.hound_writer.specs.Calls.{Extends, KeepsCalls, made, marked, write};
 ghost use Rattle.hound_writer.specs.Parts.{bytes_kept};
 ghost use Rattle.hound_writer.specs.Writer.{IsSixteen, HasRoom};
@@ -69,7 +69,10 @@ impl<W: Medium, B: BatchMemory> SampleWriter16<'_, W, B> {
             written,
             left: _,
         } = self;
-        parent.accept_batch(memory.into_vec(), written)
+        let memory = memory.into_vec();
+        let accepted = parent.write_samples(&memory[..written]);
+        parent.output.buffer = Some(memory);
+        accepted
     }
 }
 
@@ -117,22 +120,6 @@ impl<W: Medium> Output<W> {
 
 impl<W: Medium> WavWriter<W> {
     ghost use Rattle.hound_writer.specs.Batch.{IsSameFile, batch_bytes, batch_lender, batch_writer, remaining};
-
-    // Accepts the first samples in the memory of a batch, or none of them, and takes the memory
-    // back.
-    fn accept_batch(&mut self, memory: Vec<i16>, count: usize) -> Result<()>
-        requires short { AreShort (take count memory.items) }
-        requires bits { self.old.spec_ex.spec.bits_per_sample ≡ 16 }
-        requires width { self.old.spec_ex.bytes_per_sample ≡ 2 }
-        requires long { count ≤ length memory.items }
-        ensures accepts { AcceptsBytes W.tells W.keeps W.state (short_bytes (take count memory.items))
-            result (record self.old { buffer = short_bytes memory.items }) self.new }
-        ensures buffer { self.new.buffer ≡ short_bytes memory.items }
-    {
-        let accepted = self.write_samples(&memory[..count]);
-        self.output.buffer = Some(memory);
-        accepted
-    }
 
     /// A batch of this many samples of sixteen bits, which are accepted by one call. They are
     /// samples, not frames: the channels of a frame follow one another. There may be 0.

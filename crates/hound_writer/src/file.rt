@@ -1,10 +1,10 @@
 // Writers of files on disk.
-ghost use Rattle.std.specs.Prelude.{◌≡◌, ◌⊎◌, IfOk, IfErr, MatchResult};
-ghost use Rattle.hound_spec.specs.declared.error.Error.TheVariants.{OutOfMemory, Unsupported};
-ghost use Rattle.hound_spec.specs.{IsWritable, with_default_width};
+ghost use Rattle.std.specs.Prelude.{◌≡◌, ◌⊎◌, IfOk, IfErr};
+ghost use Rattle.hound_spec.specs.declared.error.Error.TheVariants.{OutOfMemory};
+ghost use Rattle.hound_spec.specs.{with_default_width};
 ghost use Rattle.hound_reader.specs.{IsDataPlace, IsSoundSpec};
 ghost use Rattle.hound_writer.specs.Accepting.{IsIoError};
-ghost use Rattle.hound_writer.specs.Beginning.{HasBegun};
+ghost use Rattle.hound_writer.specs.Beginning.{BeginsFile};
 ghost use Rattle.hound_writer.specs.Writer.{IsSound};
 
 use crate::WavWriter;
@@ -90,8 +90,7 @@ impl WavWriter<io::BufWriter<fs::File>> {
         path: Path<'_>,
         spec: WavSpec,
     ) -> Result<WavWriter<io::BufWriter<fs::File>>>
-        ensures { MatchResult result (HasBegun (with_default_width spec))
-            (λ e. (IsIoError e ⊎ (e ≡ OutOfMemory)) ⊎ ((e ≡ Unsupported) × (IsWritable (with_default_width spec) → ⊥))) }
+        ensures { BeginsFile (with_default_width spec) result }
     {
         WavWriter::create_with_spec_ex(rt, alloc, path, WavSpecEx::from(spec))
     }
@@ -104,8 +103,7 @@ impl WavWriter<io::BufWriter<fs::File>> {
         path: Path<'_>,
         spec_ex: WavSpecEx,
     ) -> Result<WavWriter<io::BufWriter<fs::File>>>
-        ensures { MatchResult result (HasBegun spec_ex)
-            (λ e. (IsIoError e ⊎ (e ≡ OutOfMemory)) ⊎ ((e ≡ Unsupported) × (IsWritable spec_ex → ⊥))) }
+        ensures { BeginsFile spec_ex result }
     {
         let file = fs::create(rt, path)?;
         let writer = io::BufWriter::with_capacity(alloc, FILE_BUFFER_SIZE, file)?;
@@ -155,8 +153,7 @@ impl WavWriter<Durable<SyncedFile>> {
         path: Path<'_>,
         spec: WavSpec,
     ) -> Result<WavWriter<Durable<SyncedFile>>>
-        ensures { MatchResult result (HasBegun (with_default_width spec))
-            (λ e. (IsIoError e ⊎ (e ≡ OutOfMemory)) ⊎ ((e ≡ Unsupported) × (IsWritable (with_default_width spec) → ⊥))) }
+        ensures { BeginsFile (with_default_width spec) result }
     {
         WavWriter::create_durable_with_spec_ex(rt, alloc, path, WavSpecEx::from(spec))
     }
@@ -169,8 +166,7 @@ impl WavWriter<Durable<SyncedFile>> {
         path: Path<'_>,
         spec_ex: WavSpecEx,
     ) -> Result<WavWriter<Durable<SyncedFile>>>
-        ensures { MatchResult result (HasBegun spec_ex)
-            (λ e. (IsIoError e ⊎ (e ≡ OutOfMemory)) ⊎ ((e ≡ Unsupported) × (IsWritable spec_ex → ⊥))) }
+        ensures { BeginsFile spec_ex result }
     {
         let file = fs::create(rt, path)?;
         WavWriter::new_with_spec_ex(synced(rt, alloc, path, file)?, spec_ex)

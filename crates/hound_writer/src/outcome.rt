@@ -1,8 +1,9 @@
 // The outcome of a sample.
-ghost use Rattle.std.specs.Prelude.{◌≡◌};
+ghost use Rattle.std.specs.Prelude.{◌≡◌, Err};
 ghost use Rattle.hound_writer.specs.Parts.{result_of};
+ghost use Rattle.hound_writer.specs.declared.outcome.Outcome.TheVariants.{Accepted};
 
-use hound_spec::{Error, Result};
+use hound_spec::Error;
 use std::io;
 
 /// The outcome of a sample: it is accepted, or rejected for one of these reasons.
@@ -27,16 +28,23 @@ pub(crate) enum Outcome {
     Failed,
 }
 
-/// The result for a sample with this outcome, with this saved fault.
+/// The error of a sample that was rejected, with this saved fault.
+///
+/// It begins as the fault and is changed in its place: so the one copy that is made of the fault
+/// goes to where the caller needs the error.
 #[inline(always)]
-pub(crate) fn result_of(outcome: Outcome, fault: &io::Error) -> Result<()>
-    ensures { result ≡ result_of outcome fault.now }
+pub(crate) fn error_of_outcome(outcome: Outcome, fault: &io::Error) -> Error
+    ensures { (outcome ≡ Accepted → ⊥) → result_of outcome fault.now ≡ Err result }
 {
-    match outcome {
-        Outcome::Accepted => Ok(()),
-        Outcome::OutOfRange => Err(Error::TooWide),
-        Outcome::WrongPair => Err(Error::Unsupported),
-        Outcome::NoRoom => Err(Error::TooLong),
-        Outcome::Failed => Err(Error::IoError(*fault)),
+    let mut error = Error::IoError(*fault);
+    if let Outcome::OutOfRange = outcome {
+        error = Error::TooWide;
     }
+    if let Outcome::WrongPair = outcome {
+        error = Error::Unsupported;
+    }
+    if let Outcome::NoRoom = outcome {
+        error = Error::TooLong;
+    }
+    error
 }

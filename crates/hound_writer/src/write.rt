@@ -1,5 +1,5 @@
 // The writer of samples.
-use crate::outcome::result_of;
+use crate::outcome::{Outcome, error_of_outcome};
 use crate::output::Output;
 use hound_medium::{Medium, put_all};
 use hound_sample::Sample;
@@ -145,7 +145,10 @@ impl<W: Medium> WavWriter<W> {
             (λ s. marked (write (one (S.container sample s.spec.bits_per_sample s.bytes_per_sample))) (mark_of result)) self.old self.new }
     {
         let outcome = self.output.accept_sample(sample, &mut self.fault);
-        result_of(outcome, &self.fault)
+        if let Outcome::Accepted = outcome {
+            return Ok(());
+        }
+        Err(error_of_outcome(outcome, &self.fault))
     }
 
     /// Writes samples, all of them or none; the channels of a frame follow one another, and a frame
@@ -169,7 +172,10 @@ impl<W: Medium> WavWriter<W> {
             (λ s. marked (write (containers_in S.container s samples.now)) (mark_of result)) self.old self.new }
     {
         let outcome = self.output.accept_samples(samples, &mut self.fault);
-        result_of(outcome, &self.fault)
+        if let Outcome::Accepted = outcome {
+            return Ok(());
+        }
+        Err(error_of_outcome(outcome, &self.fault))
     }
 
     /// Publishes the accepted samples: writes the buffered ones, the pad byte after an odd number
