@@ -9,19 +9,16 @@ use crate::block::{BLOCK_LENGTH, Block};
 use crate::outcome::Outcome;
 use crate::patch::put_at_end;
 use hound_medium::{Medium, put_all};
-use hound_sample::{Sample, check_containers, have_containers};
+use hound_sample::{Sample, check_containers};
 use hound_spec::{Error, WavSpecEx};
 use std::io;
 
-/// The outcome of samples, only by their containers with these bits and bytes: by the first that has
-/// none, if there is one.
-#[inline(always)]
-pub(crate) fn look_at<S: Sample + Copy>(samples: &[S], bits: u16, width: u16) -> Outcome
+/// The outcome of samples by the first one that has no container, if there is one.
+#[cold]
+#[inline(never)]
+pub(crate) fn first_outcome<S: Sample + Copy>(samples: &[S], bits: u16, width: u16) -> Outcome
     ensures { result ≡ outcome_of (all_containers (λ s. S.container s bits width) samples.now) }
 {
-    if have_containers(samples, bits, width) {
-        return Outcome::Accepted;
-    }
     match check_containers(samples, bits, width) {
         Ok(()) => Outcome::Accepted,
         Err(Error::TooWide) => Outcome::OutOfRange,

@@ -4,11 +4,11 @@ ghost use Rattle.hound_spec.specs.{riff_size};
 ghost use Rattle.hound_writer.specs.Parts.{IsLimit, IsPublishResult};
 
 use crate::block::{BLOCK_LENGTH, Block};
-use crate::many::{look_at, put_samples_at_end};
+use crate::many::{first_outcome, put_samples_at_end};
 use crate::outcome::Outcome;
 use crate::patch::{patch, put_at_end};
 use hound_medium::Medium;
-use hound_sample::Sample;
+use hound_sample::{Sample, have_containers};
 use hound_spec::{Error, Result, WavSpecEx};
 use std::io;
 use std::marker::Model;
@@ -329,11 +329,11 @@ impl<W: Medium> Output<W> {
             (containers_in S.container self.old.spec_ex samples.now) (result_of result fault.new) self.old self.new }
         ensures buffer { self.new.buffer ≡ self.old.buffer }
     {
+        let bits = self.spec_ex.spec.bits_per_sample;
         let width = self.spec_ex.bytes_per_sample;
-        let outcome = look_at(samples, self.spec_ex.spec.bits_per_sample, width);
-        let Outcome::Accepted = outcome else {
-            return outcome;
-        };
+        if !have_containers(samples, bits, width) {
+            return first_outcome(samples, bits, width);
+        }
         if samples.len() > u32::MAX as usize {
             return Outcome::NoRoom;
         }
