@@ -11,7 +11,7 @@ use Rattle.hound_spec.specs.declared.error.Error.{Error}
 use Rattle.hound_spec.specs.declared.error.Error.TheVariants.{IoError, OutOfMemory}
 use Rattle.hound_spec.specs.{riff_size, greatest_u32}
 use Rattle.hound_sample.specs.{Refusal, containers, IsEncoded}
-use Rattle.hound_writer.specs.Accepting.{Accepts, AddsAtEach, AcceptAnswer, FitAnswer, IsIoError, OnRefused, faults_told, if_marked, mark_of}
+use Rattle.hound_writer.specs.Accepting.{AcceptsBytes, Accepts, AddsAtEach, AcceptAnswer, FitAnswer, IsIoError, OnRefused, faults_told, if_marked, mark_of}
 use Rattle.hound_writer.specs.Parts.{all_out, PutsAt, IsStanding}
 use Rattle.hound_writer.specs.Writer.{Counts, WriterState, HasRoom, IsCounted, IsSound, IsWhole, accepted_samples, data_length}
 use Rattle.hound_writer.proofs.Answers.{accept_as, on_refused, refused_then, unless_failed}
@@ -286,10 +286,7 @@ module _ {W : Type 0} (tells keeps : Bool) (state : W → MediumState) (w : Writ
         (PutsAt keeps (w.data_start + w.out) bytes (all_out false) (state w.medium) (state m))
         → WhereKeeps tells keeps
         ((state w.medium).contents ≡ overlay (state w.medium).start (state w.medium).past)
-        → Accepts tells keeps state false
-        (Ok (containers w.spec_ex.bytes_per_sample
-        (length bytes / w.spec_ex.bytes_per_sample) bytes)) (Err (IoError e)) w
-        (after_put m w.out)
+        → AcceptsBytes tells keeps state bytes (Err (IoError e)) w (after_put m w.out)
     accepts_none e puts replays = record {
       adds = record {
         answers =
@@ -339,10 +336,7 @@ module _ {W : Type 0} (tells keeps : Bool) (state : W → MediumState) (w : Writ
         (PutsAt keeps (w.data_start + w.out) bytes (all_out true) (state w.medium) (state m))
         → WhereKeeps tells keeps
         ((state w.medium).contents ≡ overlay (state w.medium).start (state w.medium).past)
-        → Accepts tells keeps state false
-        (Ok (containers w.spec_ex.bytes_per_sample
-        (length bytes / w.spec_ex.bytes_per_sample) bytes)) (Ok tt) w
-        (after_put m (w.out + length bytes))
+        → AcceptsBytes tells keeps state bytes (Ok tt) w (after_put m (w.out + length bytes))
     accepts_all puts replays = record {
       adds = record {
         answers =
@@ -412,65 +406,17 @@ encoded (Err refusal) array e = cc
 -- a call for bytes, for a writer as contracts see it
 pub accepts_seen : {W : Type 0} (tells keeps : Bool) (state : W → MediumState) (bytes : List ℕ)
     (answer : Result (Unit {0}) Error) (a b new seen : WriterState W) → a ≡ b → seen ≡ new
-    → Accepts tells keeps state false
-    (Ok (containers a.spec_ex.bytes_per_sample
-    (length bytes / a.spec_ex.bytes_per_sample) bytes)) answer a new
-    → Accepts tells keeps state false
-    (Ok (containers b.spec_ex.bytes_per_sample
-    (length bytes / b.spec_ex.bytes_per_sample) bytes)) answer b seen
+    → AcceptsBytes tells keeps state bytes answer a new
+    → AcceptsBytes tells keeps state bytes answer b seen
 accepts_seen tells keeps state bytes answer a b new seen same is accepts =
-    subst (λ w. Accepts tells keeps state false
-    (Ok (containers w.spec_ex.bytes_per_sample
-    (length bytes / w.spec_ex.bytes_per_sample) bytes)) answer w seen) same
-    (subst (λ w. Accepts tells keeps state false
-    (Ok (containers a.spec_ex.bytes_per_sample
-    (length bytes / a.spec_ex.bytes_per_sample) bytes)) answer a w) (sym is) accepts)
+    subst (λ w. AcceptsBytes tells keeps state bytes answer w seen) same
+    (subst (λ w. AcceptsBytes tells keeps state bytes answer a w) (sym is) accepts)
 
 pub not_refused : {T : Type 0} (P : Type 0) (answer : Result T Error) → IfErr answer IsIoError
     → OnRefused answer P
 not_refused P (Ok x) failed = tt
 not_refused P (Err (IoError e)) failed = tt
 not_refused P (Err e) failed = absurd failed
-
--- the same for writers that differ only in the memory that they hold
-pub accepts_swapped : {W : Type 0} (tells keeps : Bool) (state : W → MediumState) (memory : Bool)
-    (asked : WriterState W → Result (List (List ℕ)) Refusal) (answer : Result (Unit {0}) Error)
-    (a b c d : WriterState W) (before after : List ℕ) → IfErr answer IsIoError
-    → length b.buffer ≤ length after
-    → asked (record b { buffer = before }) ≡ asked b → a ≡ record b { buffer = before } → c ≡ d
-    → Accepts tells keeps state false (asked a) answer a d
-    → Accepts tells keeps state memory (asked b) answer b (record c { buffer = after })
-accepts_swapped tells keeps state memory asked answer a b c d before after failed grown same_asked
-    same_old same_new accepts =
-    let old = record b { buffer = before } in
-    let inner : Accepts tells keeps state false (asked b) answer old c =
-    subst (λ r. Accepts tells keeps state false r answer old c) same_asked
-    (subst (λ w. Accepts tells keeps state false (asked w) answer w c) same_old
-    (subst (λ w. Accepts tells keeps state false (asked a) answer a w) (sym same_new) accepts))
-    in
-    record {
-      adds = record {
-        answers = accept_as false memory (asked b) answer old b
-            (λ wants. absurd (false≢true wants)) refl refl inner.adds.answers;
-        refused = not_refused _ answer failed;
-        spec_ex = inner.adds.spec_ex;
-        data_start = inner.adds.data_start;
-        data_length = inner.adds.data_length;
-        kept = grown;
-      };
-      file = λ told. let f = inner.file told in
-          record {
-            faults = f.faults;
-            front = f.front;
-            rest = f.rest;
-            reach = f.reach;
-            whole = f.whole;
-            accepted = f.accepted;
-            counts = f.counts;
-          };
-      moments = λ told kept. let at_each = inner.moments told kept in
-          record { counts = at_each.counts; front = at_each.front; stored = at_each.stored };
-    }
 
 -- the same for writers that hold other memory, which the call leaves as it is
 pub accepts_beside : {W : Type 0} (tells keeps : Bool) (state : W → MediumState)

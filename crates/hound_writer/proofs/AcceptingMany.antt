@@ -10,7 +10,7 @@ use Rattle.hound_spec.specs.declared.error.Error.{Error}
 use Rattle.hound_spec.specs.declared.error.Error.TheVariants.{TooLong, TooWide, Unsupported}
 use Rattle.hound_spec.specs.declared.spec.WavSpecEx.{WavSpecEx}
 use Rattle.hound_spec.specs.{greatest_u32}
-use Rattle.hound_writer.specs.Accepting.{Accepts, IsIoError, containers_in, outcome_of, sample_bytes}
+use Rattle.hound_writer.specs.Accepting.{AcceptsBytes, whole_containers, Accepts, IsIoError, containers_in, outcome_of, sample_bytes}
 use Rattle.hound_writer.specs.Parts.{GoesOut, result_of, IsConsistent}
 use Rattle.hound_writer.specs.Writer.{WriterState, HasRoom, IsCounted, IsWhole, data_end}
 use Rattle.hound_writer.specs.declared.outcome.Outcome.{Outcome}
@@ -51,47 +51,38 @@ module _ {V : Type 0} (container : V → ℕ → ℕ → Result (List ℕ) Refus
       })
 
   -- a call for their bytes, for a writer as contracts see it
-  abbrev pub AcceptsBytes : {W : Type 0} → Bool → Bool → (W → MediumState) →
+  abbrev pub AcceptsAll : {W : Type 0} → Bool → Bool → (W → MediumState) →
       Result (Unit {0}) Error → WriterState W → WriterState W → Type 0
-  AcceptsBytes tells keeps state answer w new =
-      Accepts tells keeps state false
-      (Ok (containers w.spec_ex.bytes_per_sample
-      (length (sample_bytes container w.spec_ex values) / w.spec_ex.bytes_per_sample)
-      (sample_bytes container w.spec_ex values))) answer w new
+  AcceptsAll tells keeps state answer w new =
+      AcceptsBytes tells keeps state (sample_bytes container w.spec_ex values) answer w new
 
   pub many_seen : {W : Type 0} (tells keeps : Bool) (state : W → MediumState)
       (answer : Result (Unit {0}) Error) (a b new seen : WriterState W) → a ≡ b → seen ≡ new
-      → AcceptsBytes tells keeps state answer a new → AcceptsBytes tells keeps state answer b seen
+      → AcceptsAll tells keeps state answer a new → AcceptsAll tells keeps state answer b seen
   many_seen tells keeps state answer a b new seen same is accepts =
-      subst (λ w. AcceptsBytes tells keeps state answer w seen) same
-      (subst (λ w. AcceptsBytes tells keeps state answer a w) (sym is) accepts)
+      subst (λ w. AcceptsAll tells keeps state answer w seen) same
+      (subst (λ w. AcceptsAll tells keeps state answer a w) (sym is) accepts)
 
   -- once the buffered samples are written
   pub many_later : {W : Type 0} (tells keeps : Bool) (state : W → MediumState)
       (a b c : WriterState W) (answer : Result (Unit {0}) Error)
       → GoesOut tells keeps state (data_end a) true a b → IfErr answer IsIoError
-      → AcceptsBytes tells keeps state answer b c → AcceptsBytes tells keeps state answer a c
+      → AcceptsAll tells keeps state answer b c → AcceptsAll tells keeps state answer a c
   many_later tells keeps state a b c answer out failed accepts =
       accepts_later tells keeps state a b c (sample_bytes container a.spec_ex values) answer out
       failed
-      (subst (λ (s : WavSpecEx). Accepts tells keeps state false
-      (Ok (containers b.spec_ex.bytes_per_sample
-      (length (sample_bytes container s values) / b.spec_ex.bytes_per_sample)
-      (sample_bytes container s values))) answer b c) (ap (λ w. w.spec_ex) out.value) accepts)
+      (subst (λ (s : WavSpecEx). AcceptsBytes tells keeps state (sample_bytes container s values)
+      answer b c) (ap (λ w. w.spec_ex) out.value) accepts)
 
   -- these containers are those of the samples
   pub asked_is : (s : WavSpecEx) → 1 ≤ s.bytes_per_sample → IsOk (containers_in container s values)
-      → Ok (containers s.bytes_per_sample
-      (length (sample_bytes container s values) / s.bytes_per_sample)
-      (sample_bytes container s values)) ≡ containers_in container s values
+      → whole_containers s (sample_bytes container s values) ≡ containers_in container s values
   asked_is s some have =
       go (containers_in container s values) refl have
     where
       go : (all : Result (List (List ℕ)) Refusal) → containers_in container s values ≡ all
           → IsOk all
-          → Ok (containers s.bytes_per_sample
-          (length (sample_bytes container s values) / s.bytes_per_sample)
-          (sample_bytes container s values)) ≡ containers_in container s values
+          → whole_containers s (sample_bytes container s values) ≡ containers_in container s values
       go (Err refusal) is none = cc
       go (Ok list) is one =
           let all =
@@ -109,7 +100,7 @@ module _ {V : Type 0} (container : V → ℕ → ℕ → Result (List ℕ) Refus
   pub many_asked : {W : Type 0} (tells keeps : Bool) (state : W → MediumState)
       (answer : Result (Unit {0}) Error) (w new : WriterState W) → 1 ≤ w.spec_ex.bytes_per_sample
       → IsOk (containers_in container w.spec_ex values)
-      → AcceptsBytes tells keeps state answer w new
+      → AcceptsAll tells keeps state answer w new
       → Accepts tells keeps state false (containers_in container w.spec_ex values) answer w new
   many_asked tells keeps state answer w new some have =
       subst (λ asked. Accepts tells keeps state false asked answer w new)

@@ -1,11 +1,12 @@
 -- Batches of samples of sixteen bits.
-use Rattle.std.proofs.Common.{◌≡◌, ℕ, ℤ, pos, negsuc, ◌*◌, ◌/◌, ◌^◌, ◌&&◌, ◌≤◌, Bool, cond, false, List, [], ◌∷◌, ◌++◌, length, Result, Ok, Err, IsOk, is_ok, FitsSigned, w16, refl, sym, ◌∙◌, ap, subst, arith, length-append, lt-ltb}
+use Rattle.std.proofs.Common.{◌≡◌, ℕ, ℤ, pos, negsuc, ◌*◌, ◌^◌, ◌&&◌, ◌≤◌, Bool, cond, false, List, [], ◌∷◌, ◌++◌, length, Option, None, Some, unwrap_or, Result, Ok, Err, IsOk, is_ok, FitsSigned, w16, refl, sym, ◌∙◌, ap, subst, arith, length-append, lt-ltb}
 use Rattle.std.proofs.lemmas.List.{append-nil}
 use Rattle.hound_number.specs.{signed_bytes_of}
 use Rattle.hound_spec.specs.declared.error.Error.{Error}
 use Rattle.hound_medium.specs.{MediumState}
-use Rattle.hound_sample.specs.{Refusal, containers, int_bytes, int_container, too_wide, all_containers, bytes_in, joined_containers, contained, int_container-in_width}
-use Rattle.hound_writer.specs.Accepting.{Accepts, AreShort, containers_in, sample_bytes, short_bytes}
+use Rattle.hound_sample.specs.{Refusal, int_bytes, int_container, too_wide, all_containers, bytes_in, joined_containers, contained, int_container-in_width}
+use Rattle.hound_writer.specs.Accepting.{AcceptsBytes, Accepts, AreShort, containers_in, sample_bytes, short_bytes}
+use Rattle.hound_writer.specs.Parts.{bytes_kept}
 use Rattle.hound_writer.specs.Writer.{WriterState}
 use Rattle.hound_writer.proofs.Accepting.{accepts_beside}
 use Rattle.hound_writer.proofs.AcceptingMany.{asked_is}
@@ -55,10 +56,8 @@ pub batch_accepted : {W : Type 0} (tells keeps : Bool) (state : W → MediumStat
     (answer : Result (Unit {0}) Error) (a b : WriterState W) (values : List ℤ) (memory : List ℕ)
     → AreShort values → a.spec_ex.spec.bits_per_sample ≡ 16 → a.spec_ex.bytes_per_sample ≡ 2
     → Accepts tells keeps state false (containers_in int_container a.spec_ex values) answer a b
-    → Accepts tells keeps state false
-    (Ok (containers a.spec_ex.bytes_per_sample
-    (length (short_bytes values) / a.spec_ex.bytes_per_sample) (short_bytes values))) answer
-    (record a { buffer = memory }) (record b { buffer = memory })
+    → AcceptsBytes tells keeps state (short_bytes values) answer (record a { buffer = memory })
+    (record b { buffer = memory })
 batch_accepted tells keeps state answer a b values memory short bits width accepts =
     let s = a.spec_ex in
     let have : IsOk (containers_in int_container s values) =
@@ -69,7 +68,15 @@ batch_accepted tells keeps state answer a b values memory short bits width accep
     ∙ joined_short values short in
     let some : 1 ≤ s.bytes_per_sample = omega (arith, width) in
     accepts_beside tells keeps state _ answer a b memory
-    (subst (λ bytes. Accepts tells keeps state false
-    (Ok (containers s.bytes_per_sample (length bytes / s.bytes_per_sample) bytes)) answer a b) bytes
+    (subst (λ bytes. AcceptsBytes tells keeps state bytes answer a b) bytes
     (subst (λ asked. Accepts tells keeps state false asked answer a b)
     (sym (asked_is int_container int_container-in_width values s some have)) accepts))
+
+-- the memory that is kept for batches, or a new one
+pub kept_or_new : {V : Type 0} (items : V → List ℤ) (kept taken : Option V) (new memory : V)
+    → taken ≡ kept → memory ≡ unwrap_or taken new → items new ≡ []
+    → short_bytes (items memory) ≡ bytes_kept items kept
+kept_or_new items kept None new memory same is empty =
+    ap (λ m. short_bytes (items m)) is ∙ ap short_bytes empty ∙ ap (bytes_kept items) same
+kept_or_new items kept (Some one) new memory same is empty =
+    ap (λ m. short_bytes (items m)) is ∙ ap (bytes_kept items) same

@@ -6,7 +6,7 @@ use Rattle.std.specs.List.{concat}
 use Rattle.hound_medium.specs.{overlay, MediumState, WhereTells, WhereKeeps}
 use Rattle.hound_medium.proofs.Spans.{span_still, span_weaker}
 use Rattle.hound_sample.specs.{containers}
-use Rattle.hound_writer.specs.Accepting.{Accepts, AddsAtEach, FitAnswer, KeepsStored}
+use Rattle.hound_writer.specs.Accepting.{AcceptsBytes, AddsAtEach, FitAnswer, KeepsStored}
 use Rattle.hound_writer.specs.Parts.{GoesAtEach, GoesOut, IsLimit, StaysAround, after_out, all_out, block_length, IsConsistent, IsStanding, PutsAt}
 use Rattle.hound_writer.specs.Writer.{Counts, WriterState, HasRoom, IsSound, IsWhole, accepted_samples, data_length, data_end}
 use Rattle.hound_writer.proofs.Accepting.{accepts_all, adds_nothing, at_each, data_stays, front, front_at_each, front_stays, grows, reach, rest, room_fits, sound_more, still}
@@ -59,10 +59,7 @@ module _ {W : Type 0} (tells keeps : Bool) (state : W → MediumState) (w : Writ
   -- samples join the buffered ones
   pub accepts_waiting : WhereKeeps tells keeps
       ((state w.medium).contents ≡ overlay (state w.medium).start (state w.medium).past)
-      → Accepts tells keeps state false
-      (Ok (containers w.spec_ex.bytes_per_sample
-      (length bytes / w.spec_ex.bytes_per_sample) bytes)) (Ok tt) w
-      (record w { waiting = w.waiting ++ bytes })
+      → AcceptsBytes tells keeps state bytes (Ok tt) w (record w { waiting = w.waiting ++ bytes })
   accepts_waiting replays =
       let old = state w.medium in
       record {

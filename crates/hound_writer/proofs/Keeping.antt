@@ -1,5 +1,5 @@
 -- What a writer keeps true between its calls.
-use Rattle.std.proofs.Common.{◌≡◌, ℕ, ◌+◌, ◌%◌, ◌≤◌, Bool, true, List, length, subst}
+use Rattle.std.proofs.Common.{◌≡◌, ℕ, ◌+◌, ◌%◌, ◌≤◌, Bool, true, false, List, length, subst, sym}
 use Rattle.std.proofs.lemmas.Bool.{true≢false}
 use Rattle.hound_spec.specs.{greatest_u32, riff_size}
 use Rattle.hound_medium.specs.{MediumState, WhereTells}
@@ -42,4 +42,22 @@ consistent_moved tells state w m moved limit known stands =
       room = known.room;
       stands = stands;
       place = λ told is. absurd (true≢false is);
+    }
+
+-- over a medium with the same contents, which is where the next bytes go unless it may have moved
+pub consistent_gone : {W : Type 0} (tells : Bool) (state : W → MediumState) (w : WriterState W)
+    (m : W) (moved moved_now : Bool) (limit : ℕ) → IsConsistent tells state w moved limit
+    → WhereTells tells ((state m).contents ≡ (state w.medium).contents)
+    → WhereTells tells (moved_now ≡ false → (state m).place ≡ w.data_start + w.out)
+    → IsConsistent tells state (record w { medium = m }) moved_now limit
+consistent_gone tells state w m moved moved_now limit known same place =
+    record {
+      sound = sound_with w m w.out w.waiting known.sound known.sound.whole known.sound.fits;
+      whole_out = known.whole_out;
+      whole_waiting = known.whole_waiting;
+      block = known.block;
+      room = known.room;
+      stands = λ told. subst (IsStanding w.spec_ex w.data_start w.out) (sym (same told))
+          (known.stands told);
+      place = place;
     }

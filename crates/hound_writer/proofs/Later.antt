@@ -1,5 +1,5 @@
 -- A call that continues once the buffered samples are written.
-use Rattle.std.proofs.Common.{◌≡◌, ℕ, ◌+◌, ◌-◌, ◌≤◌, ◌%◌, ◌/◌, Bool, true, false, IsTrue, Result, Ok, Err, IfErr, List, ◌++◌, length, take, drop, refl, sym, ◌∙◌, ap, subst, arith}
+use Rattle.std.proofs.Common.{◌≡◌, ℕ, ◌+◌, ◌-◌, ◌≤◌, ◌%◌, Bool, true, false, IsTrue, Result, Err, IfErr, List, ◌++◌, length, take, drop, refl, sym, ◌∙◌, ap, subst, arith}
 use Rattle.std.proofs.lemmas.List.{drop-drop, append-nil}
 use Rattle.std.specs.List.{concat}
 use Rattle.std.specs.declared.io.Error.{Error as IoFault}
@@ -7,8 +7,8 @@ use Rattle.hound_medium.specs.{MediumState}
 use Rattle.hound_medium.proofs.Spans.{join, span_weaker}
 use Rattle.hound_spec.specs.declared.error.Error.{Error}
 use Rattle.hound_spec.specs.declared.error.Error.TheVariants.{IoError}
-use Rattle.hound_sample.specs.{Refusal, containers}
-use Rattle.hound_writer.specs.Accepting.{Accepts, AddsAtEach, FitAnswer, IsIoError, faults_told, if_marked, mark_of, KeepsStored}
+use Rattle.hound_sample.specs.{Refusal}
+use Rattle.hound_writer.specs.Accepting.{AcceptsBytes, whole_containers, Accepts, AddsAtEach, FitAnswer, IsIoError, faults_told, if_marked, mark_of, KeepsStored}
 use Rattle.hound_writer.specs.Parts.{GoesOut, after_out, or_fault}
 use Rattle.hound_writer.specs.Writer.{Counts, WriterState, HasRoom, IsWhole, accepted_samples, data_length, data_end}
 use Rattle.hound_writer.proofs.Accepting.{not_refused, room_fits}
@@ -133,28 +133,18 @@ module _ {W : Type 0} (tells keeps : Bool) (state : W → MediumState) (far : �
 pub accepts_later : {W : Type 0} (tells keeps : Bool) (state : W → MediumState)
     (a b c : WriterState W) (bytes : List ℕ) (answer : Result (Unit {0}) Error)
     → GoesOut tells keeps state (data_end a) true a b → IfErr answer IsIoError
-    → Accepts tells keeps state false
-    (Ok (containers b.spec_ex.bytes_per_sample
-    (length bytes / b.spec_ex.bytes_per_sample) bytes)) answer b c
-    → Accepts tells keeps state false
-    (Ok (containers a.spec_ex.bytes_per_sample
-    (length bytes / a.spec_ex.bytes_per_sample) bytes)) answer a c
+    → AcceptsBytes tells keeps state bytes answer b c → AcceptsBytes tells keeps state bytes answer a c
 accepts_later tells keeps state a b c bytes answer out failed accepts =
     accepts_after tells keeps state (data_end a) a b.medium
     (subst (GoesOut tells keeps state (data_end a) true a) out.value out) (omega arith) false
-    (Ok (containers a.spec_ex.bytes_per_sample
-    (length bytes / a.spec_ex.bytes_per_sample) bytes)) answer c failed
-    (subst (λ v. Accepts tells keeps state false
-    (Ok (containers v.spec_ex.bytes_per_sample
-    (length bytes / v.spec_ex.bytes_per_sample) bytes)) answer v c) out.value accepts)
+    (whole_containers a.spec_ex bytes) answer c failed
+    (subst (λ v. AcceptsBytes tells keeps state bytes answer v c) out.value accepts)
 
 -- containers that aren't, since those weren't written
 pub accepts_cut : {W : Type 0} (tells keeps : Bool) (state : W → MediumState) (far : ℕ)
     (a b : WriterState W) (bytes : List ℕ) (e : IoFault) → GoesOut tells keeps state far false a b
     → HasRoom a (length bytes) → length bytes % a.spec_ex.bytes_per_sample ≡ 0
-    → Accepts tells keeps state false
-    (Ok (containers a.spec_ex.bytes_per_sample
-    (length bytes / a.spec_ex.bytes_per_sample) bytes)) (Err (IoError e)) a b
+    → AcceptsBytes tells keeps state bytes (Err (IoError e)) a b
 accepts_cut tells keeps state far a b bytes e out room whole = record {
   adds = record {
     answers =

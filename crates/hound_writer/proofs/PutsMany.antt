@@ -1,5 +1,6 @@
 -- The bytes of samples that are written by several calls.
-use Rattle.std.proofs.Common.{◌≡◌, ℕ, ◌+◌, ◌*◌, ◌≤◌, Bool, List, ◌++◌, length, take, drop, Result, Ok, Err, IsOk, sym, subst, ◌∙◌, ap, arith, length-drop}
+use Rattle.std.proofs.Common.{◌≡◌, ℕ, ◌+◌, ◌*◌, ◌≤◌, Bool, List, ◌++◌, length, take, drop, Result, Ok, Err, IsErr, IsOk, sym, subst, ◌∙◌, ap, arith, length-drop}
+use Rattle.std.proofs.lemmas.Bool.{false≢true}
 use Rattle.std.proofs.lemmas.List.{length-take-le, take-append-drop, take-append-le}
 use Rattle.std.proofs.Math.Nat.{mul-le-mul_left}
 use Rattle.std.proofs.lemmas.Grind.{flat_map-append}
@@ -70,9 +71,11 @@ module _ {V : Type 0} (container : V → Result (List ℕ) Refusal) (width : ℕ
       (arith, puts.whole, size_piece) in e) (more puts.count puts.within puts.takes)
 
   -- or a part of them, if the medium failed
-  pub piece_cut : {T E : Type 0} (e : E) → mid.faults ≡ old.faults
-      → PutsAll {T = T} {E = E} keeps piece (Err e) mid new → PutsAll {T = T} {E = E} keeps all (Err e) old new
-  piece_cut e none puts = record {
+  pub piece_cut : {T E T' E' : Type 0} (e : E) (told : Result T' E') → IsErr told
+      → mid.faults ≡ old.faults → PutsAll {T = T} {E = E} keeps piece (Err e) mid new
+      → PutsAll keeps all told old new
+  piece_cut e (Ok x) failed none puts = absurd (false≢true failed)
+  piece_cut e (Err told) failed none puts = record {
     count = width * done + puts.count;
     within = omega (arith, within, puts.within, size_piece, size_all);
     whole = tt;

@@ -7,7 +7,7 @@ use Rattle.hound_spec.specs.declared.error.Error.{Error}
 use Rattle.hound_spec.specs.declared.error.Error.TheVariants.{TooLong, TooWide, Unsupported}
 use Rattle.hound_spec.specs.{riff_size, greatest_u32}
 use Rattle.hound_sample.specs.{Refusal, too_wide, unsupported, containers, IsEncoded}
-use Rattle.hound_writer.specs.Accepting.{Accepts, FitAnswer, one}
+use Rattle.hound_writer.specs.Accepting.{AcceptsBytes, Accepts, FitAnswer, one}
 use Rattle.hound_writer.specs.Parts.{IsConsistent}
 use Rattle.hound_writer.specs.Writer.{WriterState, HasRoom, IsCounted, IsWhole, data_length}
 use Rattle.hound_writer.proofs.Accepting.{accepts_refused}
@@ -29,9 +29,7 @@ pub bytes_too_long : {W : Type 0} (tells keeps : Bool) (state : W → MediumStat
     → WhereKeeps tells keeps
     ((state w.medium).contents ≡ overlay (state w.medium).start (state w.medium).past)
     → length bytes % w.spec_ex.bytes_per_sample ≡ 0 → (HasRoom w (length bytes) → ⊥)
-    → Accepts tells keeps state false
-    (Ok (containers w.spec_ex.bytes_per_sample
-    (length bytes / w.spec_ex.bytes_per_sample) bytes)) (Err TooLong) w w
+    → AcceptsBytes tells keeps state bytes (Err TooLong) w w
 bytes_too_long tells keeps state w bytes counts replays whole none =
     let width = w.spec_ex.bytes_per_sample in
     let list = containers width (length bytes / width) bytes in
@@ -96,9 +94,7 @@ module _ {W : Type 0} (tells keeps : Bool) (state : W → MediumState)
   pub sample_accepts : (c bytes : List ℕ) (answer : Result (Unit {0}) Error) (new : WriterState W)
       → container w.spec_ex.spec.bits_per_sample w.spec_ex.bytes_per_sample ≡ Ok c → bytes ≡ c
       → length c ≡ w.spec_ex.bytes_per_sample
-      → Accepts tells keeps state false
-      (Ok (containers w.spec_ex.bytes_per_sample
-      (length bytes / w.spec_ex.bytes_per_sample) bytes)) answer w new
+      → AcceptsBytes tells keeps state bytes answer w new
       → Accepts tells keeps state false
       (one (container w.spec_ex.spec.bits_per_sample w.spec_ex.bytes_per_sample)) answer w new
   sample_accepts c bytes answer new is cut size accepts =

@@ -1,10 +1,10 @@
 -- What a call for samples returns and leaves, whether it accepts them or not, for one or many.
-use Rattle.std.specs.Prelude.{◌≡◌, ℕ, ◌+◌, ⊤, nat_le, Bool, true, false, IsTrue, List, [], ◌∷◌, length, Result, Ok, Err, ◌≤◌, take, drop, max, ◌++◌, ℤ, IsOk}
+use Rattle.std.specs.Prelude.{◌≡◌, ℕ, ◌+◌, ◌/◌, ⊤, nat_le, Bool, true, false, IsTrue, List, [], ◌∷◌, length, Result, Ok, Err, ◌≤◌, take, drop, max, ◌++◌, ℤ, IsOk}
 use Rattle.std.specs.List.{concat, flat_map}
 use Rattle.hound_spec.specs.declared.error.Error.{Error}
 use Rattle.hound_spec.specs.declared.error.Error.TheVariants.{IoError, UnfinishedSample, TooLong, OutOfMemory}
 use Rattle.hound_spec.specs.{riff_size, greatest_u32}
-use Rattle.hound_sample.specs.{Refusal, error_of, int_container, too_wide, unsupported, all_containers, joined_containers}
+use Rattle.hound_sample.specs.{Refusal, containers, error_of, int_container, too_wide, unsupported, all_containers, joined_containers}
 use Rattle.hound_medium.specs.{one_more, moment, MediumState, WhereTells, WhereKeeps, Span}
 use Rattle.hound_writer.specs.Writer.{WriterState, AreFrames, data_length, Counts, IsWhole, IsCounted, accepted_samples, data_end}
 use Rattle.hound_number.specs.{signed_bytes_of}
@@ -155,6 +155,17 @@ pub record Accepts {W : Type 0} (tells keeps : Bool) (state : W → MediumState)
   pub adds : Adds memory asked answer old new
   pub file : WhereTells tells (AddsToFile state asked answer old new)
   pub moments : WhereKeeps tells keeps (AddsAtEach state old (state new.medium))
+
+-- the containers in these bytes, in a file of this spec
+abbrev pub whole_containers : WavSpecEx → List ℕ → Result (List (List ℕ)) Refusal
+whole_containers s bytes =
+    Ok (containers s.bytes_per_sample (length bytes / s.bytes_per_sample) bytes)
+
+-- what a call with the containers in these bytes does, by its result
+abbrev pub AcceptsBytes : {W : Type 0} → Bool → Bool → (W → MediumState) → List ℕ →
+    Result (Unit {0}) Error → WriterState W → WriterState W → Type 0
+AcceptsBytes tells keeps state bytes answer old new =
+    Accepts tells keeps state false (whole_containers old.spec_ex bytes) answer old new
 
 -- the outcome of samples by their containers only
 abbrev pub outcome_of : {T : Type 0} → Result T Refusal → Outcome

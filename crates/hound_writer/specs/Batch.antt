@@ -1,9 +1,10 @@
 -- What contracts see of a batch of samples of sixteen bits.
-use Rattle.std.specs.Prelude.{◌≡◌, ℕ, List, take}
+use Rattle.std.specs.Prelude.{◌≡◌, ◌+◌, ◌++◌, ℕ, List, length, take}
 use Rattle.std.specs.Borrow.{GName}
 use Rattle.hound_medium.specs.declared.medium.Placed.{Ghosts}
 use Rattle.hound_writer.specs.declared.memory.BatchMemory.{Ghosts as MemoryGhosts}
 use Rattle.hound_writer.specs.Accepting.{short_bytes}
+use Rattle.hound_writer.specs.Calls.{KeepsCalls}
 use Rattle.hound_writer.specs.Writer.{WriterState}
 use Rattle.hound_writer.specs.declared.batch.SampleWriter16.{SampleWriter16}
 
@@ -33,3 +34,15 @@ module _ {W B : Type 0} {medium : Ghosts W} {memory : MemoryGhosts B} where
   -- how many samples are still to be written
   abbrev pub remaining : SampleWriter16 W B medium memory → ℕ
   remaining batch = batch.left
+
+  -- A sample with these bytes is written to a batch: one less is still to be written, and its writer
+  -- stays as it is, with as much memory.
+  pub record WritesToBatch (bytes : List ℕ) (old new : SampleWriter16 W B medium memory) : Type 0
+    where
+      pub lender : batch_lender new ≡ batch_lender old
+      pub written : batch_bytes new ≡ batch_bytes old ++ bytes
+      pub left : remaining new + 1 ≡ remaining old
+      pub stays : IsSameFile (batch_writer old) (batch_writer new)
+      pub kept : length (batch_writer new).buffer ≡ length (batch_writer old).buffer
+      pub recorded : KeepsCalls medium.tells medium.keeps medium.state (batch_writer old)
+          (batch_writer new)

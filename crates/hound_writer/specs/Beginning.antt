@@ -1,7 +1,7 @@
 -- How a new file begins.
-use Rattle.std.specs.Prelude.{◌≡◌, ◌⊎◌, Bool, [], length, Err}
+use Rattle.std.specs.Prelude.{◌≡◌, ◌⊎◌, Bool, [], length, Result, Err, MatchResult}
 use Rattle.hound_spec.specs.declared.error.Error.{Error}
-use Rattle.hound_spec.specs.declared.error.Error.TheVariants.{Unsupported}
+use Rattle.hound_spec.specs.declared.error.Error.TheVariants.{OutOfMemory, Unsupported}
 use Rattle.hound_spec.specs.declared.spec.WavSpecEx.{WavSpecEx}
 use Rattle.hound_spec.specs.{header, data_start, IsWritable}
 use Rattle.hound_medium.specs.{MediumState, PutsFirst, PutsAll, WhereTells}
@@ -28,6 +28,12 @@ pub record HasBegun {W : Type 0} (spec_ex : WavSpecEx) (w : WriterState W) : Typ
   pub none_out : w.out ≡ 0
   pub none_waits : w.waiting ≡ []
   pub buffer : w.buffer ≡ []
+
+-- the result of creating a file on disk: it has begun, or why it hasn't
+abbrev pub BeginsFile : {W : Type 0} → WavSpecEx → Result (WriterState W) Error → Type 0
+BeginsFile spec_ex result =
+    MatchResult result (HasBegun spec_ex)
+    (λ e. (IsIoError e ⊎ (e ≡ OutOfMemory)) ⊎ ((e ≡ Unsupported) × (IsWritable spec_ex → ⊥)))
 
 -- how it began: only its header was written
 pub record Begins {W : Type 0} (tells keeps : Bool) (state : W → MediumState) (spec_ex : WavSpecEx)

@@ -1,5 +1,5 @@
 -- What contracts see of a writer: its value, the two sizes of its file, and what the data length counts.
-use Rattle.std.specs.Prelude.{◌≡◌, ℕ, ◌+◌, ◌-◌, List, ◌++◌, length, take, drop, ◌*◌, ◌/◌, ◌≤◌, Option, None, Some, ◌%◌}
+use Rattle.std.specs.Prelude.{◌≡◌, Bool, ℕ, ◌+◌, ◌-◌, List, ◌++◌, length, take, drop, ◌*◌, ◌/◌, ◌≤◌, Option, None, Some, ◌%◌}
 use Rattle.hound_number.specs.{bytes_of, number}
 use Rattle.std.specs.List.{concat}
 use Rattle.hound_spec.specs.declared.spec.WavSpecEx.{WavSpecEx}
@@ -8,7 +8,7 @@ use Rattle.hound_reader.specs.declared.cause.Cause.{Cause}
 use Rattle.hound_reader.specs.{Readable, Unreadable, data_fault}
 use Rattle.std.specs.Io.{StartsWith}
 use Rattle.hound_spec.specs.{header, data_start, riff_size, padded, padding, IsPair, greatest_u32}
-use Rattle.hound_medium.specs.{MediumState}
+use Rattle.hound_medium.specs.{MediumState, WhereTells}
 use Rattle.hound_spec.specs.declared.spec.SampleFormat.TheVariants.{Int}
 
 -- the number in the four bytes at a place
@@ -124,6 +124,13 @@ IsWhole state w = w.data_start + w.out ≤ length (state w.medium).contents
 abbrev pub IsCounted : {W : Type 0} → (W → MediumState) → WriterState W → Type 0
 IsCounted state w =
     Counts w.spec_ex w.data_start (accepted_samples state w) (state w.medium).contents
+
+-- What holds of every writer: it is sound, and its data length counts accepted samples if the medium
+-- has all their bytes.
+pub record IsValid {W : Type 0} (tells : Bool) (state : W → MediumState)
+    (w : WriterState W) : Type 0 where
+  pub sound : IsSound w
+  pub counts : WhereTells tells (IsWhole state w → IsCounted state w)
 
 -- the contents begin with the header of this spec, with any two sizes
 abbrev pub HasHeader : WavSpecEx → List ℕ → Type 0

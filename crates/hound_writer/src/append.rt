@@ -7,7 +7,7 @@ ghost use Rattle.hound_writer.specs.Writer.{IsWhole, accepted_samples};
 ghost use Rattle.hound_writer.specs.Appending.{Appends, IsNotAppended, FailsCheck, head_fault};
 
 use crate::WavWriter;
-use crate::output::riff_size;
+use crate::output::{Output, riff_size};
 use hound_medium::{Medium, Source};
 use hound_reader::{Cause, FileHead, HeadError, Reason, error_of, find_data};
 use hound_spec::{Error, Result, is_pair};
@@ -63,7 +63,7 @@ pub(crate) fn append_at<W: Medium>(
     if let Err(error) = writer.go(head.data_start + head.data_length as u64) {
         return Err((writer, Error::IoError(error)));
     }
-    Ok(WavWriter::at_end(writer, head.spec_ex, head.data_start, head.data_length))
+    Ok(WavWriter::over(Output::at_end(writer, head.spec_ex, head.data_start, head.data_length)))
 }
 
 impl<W: Source + Medium> WavWriter<W> {
@@ -83,10 +83,7 @@ impl<W: Source + Medium> WavWriter<W> {
         ensures recorded { MatchResult result (λ w. WhereTells W.tells (IsWhole W.state w) →
             Recorded W.tells W.keeps W.state w.spec_ex (appended w.data_start (accepted_samples W.state w)) [] w) (λ _. ⊤) }
     {
-        match WavWriter::try_append(writer) {
-            Ok(writer) => Ok(writer),
-            Err((_, error)) => Err(error),
-        }
+        WavWriter::try_append(writer).map_err(|(_, error)| error)
     }
 
     /// Appends to the file in a medium that is at its beginning, and returns the medium at an

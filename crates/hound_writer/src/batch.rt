@@ -5,7 +5,7 @@ ghost use Rattle.hound_number.specs.{signed_bytes_of};
 ghost use Rattle.hound_spec.specs.declared.error.Error.TheVariants.{OutOfMemory, TooLong};
 ghost use Rattle.hound_sample.specs.{containers};
 ghost use Rattle.hound_writer.specs.contracts.write.WavWriter.{the_row};
-ghost use Rattle.hound_writer.specs.Accepting.{Accepts, mark_of, AreShort, short_bytes};
+ghost use Rattle.hound_writer.specs.Accepting.{Accepts, AreShort, mark_of, short_bytes, whole_containers};
 ghost use Rattle.hound_writer.specs.Calls.{Extends, KeepsCalls, made, marked, write};
 ghost use Rattle.hound_writer.specs.Parts.{bytes_kept};
 ghost use Rattle.hound_writer.specs.Writer.{IsSixteen, HasRoom};
@@ -54,14 +54,13 @@ impl<W: Medium, B: BatchMemory> SampleWriter16<'_, W, B> {
     pub fn flush(self) -> Result<()>
         requires { remaining self ≡ 0 }
         ensures accepts { let old = batch_writer self.entry in Accepts W.tells W.keeps W.state false
-            (Ok (containers old.spec_ex.bytes_per_sample (length (batch_bytes self.entry) / old.spec_ex.bytes_per_sample) (batch_bytes self.entry)))
-            result old self.exit.0.now }
+            (whole_containers old.spec_ex (batch_bytes self.entry)) result old self.exit.0.now }
         ensures buffer { self.exit.0.now.buffer ≡ (batch_writer self.entry).buffer }
         ensures recorded { Extends W.tells W.keeps W.state
-            (λ s. made (write (Ok (containers s.bytes_per_sample (length (batch_bytes self.entry) / s.bytes_per_sample) (batch_bytes self.entry)))))
+            (λ s. made (write (whole_containers s (batch_bytes self.entry))))
             (batch_writer self.entry) self.exit.0.now }
         ensures marked { Extends W.tells W.keeps W.state
-            (λ s. marked (write (Ok (containers s.bytes_per_sample (length (batch_bytes self.entry) / s.bytes_per_sample) (batch_bytes self.entry)))) (mark_of result))
+            (λ s. marked (write (whole_containers s (batch_bytes self.entry))) (mark_of result))
             (batch_writer self.entry) self.exit.0.now }
     {
         let SampleWriter16 {
@@ -70,7 +69,10 @@ impl<W: Medium, B: BatchMemory> SampleWriter16<'_, W, B> {
             written,
             left: _,
         } = self;
-        parent.accept_batch(memory.into_vec(), written)
+        let memory = memory.into_vec();
+        let accepted = parent.write_samples(&memory[..written]);
+        parent.output.buffer = Some(memory);
+        accepted
     }
 }
 
@@ -87,34 +89,7 @@ impl<W: Medium, B: BatchMemory> Drop for SampleWriter16<'_, W, B> {
             written: _,
             left: _,
         } = self;
-        parent.output.take_back_memory(memory.into_vec());
-    }
-}
-
-// The memory that is kept for batches, or an empty one.
-fn memory_in(kept: Option<Vec<i16>>, alloc: Global) -> Vec<i16>
-    ensures { short_bytes result.items ≡ bytes_kept (λ memory. memory.items) kept }
-{
-    match kept {
-        Some(memory) => memory,
-        None => Vec::new(alloc),
-    }
-}
-
-// Fills up with zeros, if memory is shorter.
-fn grow(memory: &mut Vec<i16>, num_samples: usize) -> Result<()>
-    ensures long { OnOk result (num_samples ≤ length memory.new.items) }
-    ensures kept { OnOk result (length (short_bytes memory.new.items)
-        ≡ max (length (short_bytes memory.old.items)) (2 * num_samples)) }
-    ensures refused { IfErr result (λ e. (e ≡ OutOfMemory) × (memory.new.items ≡ memory.old.items)
-        × (length (short_bytes memory.old.items) < 2 * num_samples)) }
-{
-    if memory.len() >= num_samples {
-        return Ok(());
-    }
-    match memory.resize(num_samples, 0) {
-        Ok(()) => Ok(()),
-        Err(_) => Err(Error::OutOfMemory),
+        parent.output.buffer = Some(memory.into_vec());
     }
 }
 
@@ -129,45 +104,22 @@ impl<W: Medium> Output<W> {
         ensures refused { IfErr result (λ e. (e ≡ OutOfMemory) × (self.new ≡ self.old)
             × (length self.old.buffer < 2 * num_samples)) }
     {
-        let mut memory = memory_in(self.buffer.take(), alloc);
-        match grow(&mut memory, num_samples) {
+        let mut memory = self.buffer.take().unwrap_or(Vec::new(alloc));
+        if memory.len() >= num_samples {
+            return Ok(memory);
+        }
+        match memory.resize(num_samples, 0) {
             Ok(()) => Ok(memory),
             Err(error) => {
                 self.buffer = Some(memory);
-                Err(error)
+                Err(Error::from(error))
             }
         }
-    }
-
-    // Takes memory back for later batches.
-    fn take_back_memory(&mut self, memory: Vec<i16>)
-        ensures { self.new ≡ record self.old { buffer = short_bytes memory.items } }
-    {
-        self.buffer = Some(memory);
     }
 }
 
 impl<W: Medium> WavWriter<W> {
     ghost use Rattle.hound_writer.specs.Batch.{IsSameFile, batch_bytes, batch_lender, batch_writer, remaining};
-
-    // Accepts the first samples in the memory of a batch, or none of them, and takes the memory
-    // back.
-    fn accept_batch(&mut self, memory: Vec<i16>, count: usize) -> Result<()>
-        requires short { AreShort (take count memory.items) }
-        requires bits { self.old.spec_ex.spec.bits_per_sample ≡ 16 }
-        requires width { self.old.spec_ex.bytes_per_sample ≡ 2 }
-        requires long { count ≤ length memory.items }
-        ensures accepts { let bytes = short_bytes (take count memory.items) in
-            let old = record self.old { buffer = short_bytes memory.items } in
-            Accepts W.tells W.keeps W.state false
-            (Ok (containers old.spec_ex.bytes_per_sample (length bytes / old.spec_ex.bytes_per_sample) bytes))
-            result old self.new }
-        ensures buffer { self.new.buffer ≡ short_bytes memory.items }
-    {
-        let accepted = self.write_samples(&memory[..count]);
-        self.output.take_back_memory(memory);
-        accepted
-    }
 
     /// A batch of this many samples of sixteen bits, which are accepted by one call. They are
     /// samples, not frames: the channels of a frame follow one another. There may be 0.
@@ -221,7 +173,7 @@ impl<W: Medium> WavWriter<W> {
 }
 
 impl<'parent, W: Medium, B: BatchMemory> SampleWriter16<'parent, W, B> {
-    ghost use Rattle.hound_writer.specs.Batch.{IsSameFile, batch_bytes, batch_lender, batch_writer, remaining};
+    ghost use Rattle.hound_writer.specs.Batch.{WritesToBatch, remaining};
 
     /// Writes a sample to the batch: its lowest sixteen bits, as a signed number.
     ///
@@ -230,19 +182,10 @@ impl<'parent, W: Medium, B: BatchMemory> SampleWriter16<'parent, W, B> {
     /// `can_cast` says: each `i8`, `i16` and `i32` has. Higher bits of an `i32` are lost without an
     /// error.
     #[inline]
-    #[tactic(auto, using(crate::proofs::Recording::recorded_same))]
     pub fn write_sample<S: Sample>(&mut self, sample: S)
         requires room { 1 ≤ remaining self.old }
         requires short { S.can_cast sample }
-        ensures lender { batch_lender self.new ≡ batch_lender self.old }
-        ensures written { batch_bytes self.new ≡ batch_bytes self.old
-            ++ signed_bytes_of 2 (S.as_short sample) }
-        ensures left { remaining self.new + 1 ≡ remaining self.old }
-        ensures stays { IsSameFile (batch_writer self.old) (batch_writer self.new) }
-        ensures kept { length (batch_writer self.new).buffer
-            ≡ length (batch_writer self.old).buffer }
-        ensures recorded { KeepsCalls W.tells W.keeps W.state (batch_writer self.old)
-            (batch_writer self.new) }
+        ensures { WritesToBatch (signed_bytes_of 2 (S.as_short sample)) self.old self.new }
     {
         let index = self.written;
         self.written = index + 1;
@@ -256,15 +199,7 @@ impl<'parent, W: Medium, B: BatchMemory> SampleWriter16<'parent, W, B> {
     pub fn write_sample_unchecked<S: Sample>(&mut self, sample: S)
         requires room { 1 ≤ remaining self.old }
         requires short { S.can_cast sample }
-        ensures lender { batch_lender self.new ≡ batch_lender self.old }
-        ensures written { batch_bytes self.new ≡ batch_bytes self.old
-            ++ signed_bytes_of 2 (S.as_short sample) }
-        ensures left { remaining self.new + 1 ≡ remaining self.old }
-        ensures stays { IsSameFile (batch_writer self.old) (batch_writer self.new) }
-        ensures kept { length (batch_writer self.new).buffer
-            ≡ length (batch_writer self.old).buffer }
-        ensures recorded { KeepsCalls W.tells W.keeps W.state (batch_writer self.old)
-            (batch_writer self.new) }
+        ensures { WritesToBatch (signed_bytes_of 2 (S.as_short sample)) self.old self.new }
     {
         self.write_sample(sample);
     }

@@ -1,17 +1,17 @@
 // Writers of files on disk.
-ghost use Rattle.std.specs.Prelude.{◌≡◌, ◌⊎◌, IfOk, IfErr, MatchResult};
-ghost use Rattle.hound_spec.specs.declared.error.Error.TheVariants.{OutOfMemory, Unsupported};
-ghost use Rattle.hound_spec.specs.{IsWritable, with_default_width};
+ghost use Rattle.std.specs.Prelude.{◌≡◌, ◌⊎◌, IfOk, IfErr};
+ghost use Rattle.hound_spec.specs.declared.error.Error.TheVariants.{OutOfMemory};
+ghost use Rattle.hound_spec.specs.{with_default_width};
 ghost use Rattle.hound_reader.specs.{IsDataPlace, IsSoundSpec};
 ghost use Rattle.hound_writer.specs.Accepting.{IsIoError};
-ghost use Rattle.hound_writer.specs.Beginning.{HasBegun};
+ghost use Rattle.hound_writer.specs.Beginning.{BeginsFile};
 ghost use Rattle.hound_writer.specs.Writer.{IsSound};
 
 use crate::WavWriter;
 use crate::append::append_at;
 use hound_durable::{Durable, SyncedFile};
 use hound_reader::{FileHead, error_of, read_until_data};
-use hound_spec::{Error, Result, WavSpec, WavSpecEx};
+use hound_spec::{Result, WavSpec, WavSpecEx};
 use std::alloc::Global;
 use std::io::Seek;
 use std::path::Path;
@@ -20,16 +20,6 @@ use std::{fs, io};
 
 // How many bytes a writer to a file buffers.
 const FILE_BUFFER_SIZE: usize = 65536;
-
-// A writer to a file, which buffers bytes until there are many.
-fn buffered(alloc: Global, file: fs::File) -> Result<io::BufWriter<fs::File>>
-    ensures { IfErr result (λ e. e ≡ OutOfMemory) }
-{
-    match io::BufWriter::with_capacity(alloc, FILE_BUFFER_SIZE, file) {
-        Ok(writer) => Ok(writer),
-        Err(_) => Err(Error::OutOfMemory),
-    }
-}
 
 // Returns once the disk has the name of this file. Where the path is a link, it is the folder of the
 // file itself that has this name.
@@ -72,13 +62,9 @@ fn open_until_data(
 
     // A pipe or a terminal has no place, and a read of it may block.
     file.stream_position()?;
-    let Ok(mut reader) = io::BufReader::new(alloc, file) else {
-        return Err(Error::OutOfMemory);
-    };
-    match read_until_data(&mut reader) {
-        Ok(head) => Ok((reader.into_inner(), head)),
-        Err(error) => Err(error_of(error)),
-    }
+    let mut reader = io::BufReader::new(alloc, file)?;
+    let head = read_until_data(&mut reader).map_err(|error| error_of(error))?;
+    Ok((reader.into_inner(), head))
 }
 
 impl WavWriter<io::BufWriter<fs::File>> {
@@ -104,8 +90,7 @@ impl WavWriter<io::BufWriter<fs::File>> {
         path: Path<'_>,
         spec: WavSpec,
     ) -> Result<WavWriter<io::BufWriter<fs::File>>>
-        ensures { MatchResult result (HasBegun (with_default_width spec))
-            (λ e. (IsIoError e ⊎ (e ≡ OutOfMemory)) ⊎ ((e ≡ Unsupported) × (IsWritable (with_default_width spec) → ⊥))) }
+        ensures { BeginsFile (with_default_width spec) result }
     {
         WavWriter::create_with_spec_ex(rt, alloc, path, WavSpecEx::from(spec))
     }
@@ -118,11 +103,10 @@ impl WavWriter<io::BufWriter<fs::File>> {
         path: Path<'_>,
         spec_ex: WavSpecEx,
     ) -> Result<WavWriter<io::BufWriter<fs::File>>>
-        ensures { MatchResult result (HasBegun spec_ex)
-            (λ e. (IsIoError e ⊎ (e ≡ OutOfMemory)) ⊎ ((e ≡ Unsupported) × (IsWritable spec_ex → ⊥))) }
+        ensures { BeginsFile spec_ex result }
     {
         let file = fs::create(rt, path)?;
-        let writer = buffered(alloc, file)?;
+        let writer = io::BufWriter::with_capacity(alloc, FILE_BUFFER_SIZE, file)?;
         WavWriter::new_with_spec_ex(writer, spec_ex)
     }
 
@@ -144,11 +128,8 @@ impl WavWriter<io::BufWriter<fs::File>> {
         ensures sound { IfOk result (λ w. IsSound w) }
     {
         let (file, head) = open_until_data(rt, alloc, path)?;
-        let writer = buffered(alloc, file)?;
-        match append_at(writer, head) {
-            Ok(writer) => Ok(writer),
-            Err((_, error)) => Err(error),
-        }
+        let writer = io::BufWriter::with_capacity(alloc, FILE_BUFFER_SIZE, file)?;
+        append_at(writer, head).map_err(|(_, error)| error)
     }
 }
 
@@ -172,8 +153,7 @@ impl WavWriter<Durable<SyncedFile>> {
         path: Path<'_>,
         spec: WavSpec,
     ) -> Result<WavWriter<Durable<SyncedFile>>>
-        ensures { MatchResult result (HasBegun (with_default_width spec))
-            (λ e. (IsIoError e ⊎ (e ≡ OutOfMemory)) ⊎ ((e ≡ Unsupported) × (IsWritable (with_default_width spec) → ⊥))) }
+        ensures { BeginsFile (with_default_width spec) result }
     {
         WavWriter::create_durable_with_spec_ex(rt, alloc, path, WavSpecEx::from(spec))
     }
@@ -186,8 +166,7 @@ impl WavWriter<Durable<SyncedFile>> {
         path: Path<'_>,
         spec_ex: WavSpecEx,
     ) -> Result<WavWriter<Durable<SyncedFile>>>
-        ensures { MatchResult result (HasBegun spec_ex)
-            (λ e. (IsIoError e ⊎ (e ≡ OutOfMemory)) ⊎ ((e ≡ Unsupported) × (IsWritable spec_ex → ⊥))) }
+        ensures { BeginsFile spec_ex result }
     {
         let file = fs::create(rt, path)?;
         WavWriter::new_with_spec_ex(synced(rt, alloc, path, file)?, spec_ex)
@@ -208,9 +187,6 @@ impl WavWriter<Durable<SyncedFile>> {
     {
         let (file, head) = open_until_data(rt, alloc, path)?;
         let writer = synced(rt, alloc, path, file)?;
-        match append_at(writer, head) {
-            Ok(writer) => Ok(writer),
-            Err((_, error)) => Err(error),
-        }
+        append_at(writer, head).map_err(|(_, error)| error)
     }
 }

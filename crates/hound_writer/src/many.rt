@@ -9,14 +9,14 @@ use crate::block::{BLOCK_LENGTH, Block};
 use crate::outcome::Outcome;
 use crate::patch::put_at_end;
 use hound_medium::{Medium, put_all};
-use hound_sample::{Sample, check_containers, have_containers};
+use hound_sample::{Sample, check_containers};
 use hound_spec::{Error, WavSpecEx};
 use std::io;
 
-// The outcome of samples by the first one that has no container, if there is one.
+/// The outcome of samples by the first one that has no container, if there is one.
 #[cold]
 #[inline(never)]
-fn first_outcome<S: Sample + Copy>(samples: &[S], bits: u16, width: u16) -> Outcome
+pub(crate) fn first_outcome<S: Sample + Copy>(samples: &[S], bits: u16, width: u16) -> Outcome
     ensures { result ≡ outcome_of (all_containers (λ s. S.container s bits width) samples.now) }
 {
     match check_containers(samples, bits, width) {
@@ -24,17 +24,6 @@ fn first_outcome<S: Sample + Copy>(samples: &[S], bits: u16, width: u16) -> Outc
         Err(Error::TooWide) => Outcome::OutOfRange,
         Err(_) => Outcome::WrongPair,
     }
-}
-
-/// The outcome of samples, only by their containers with these bits and bytes.
-#[inline(always)]
-pub(crate) fn look_at<S: Sample + Copy>(samples: &[S], bits: u16, width: u16) -> Outcome
-    ensures { result ≡ outcome_of (all_containers (λ s. S.container s bits width) samples.now) }
-{
-    if have_containers(samples, bits, width) {
-        return Outcome::Accepted;
-    }
-    first_outcome(samples, bits, width)
 }
 
 // Writes the containers of samples, a block at a time, or stops at the first `put` that fails.
@@ -58,10 +47,8 @@ fn put_samples<M: Medium, S: Sample + Copy>(
         let count = most.min(samples.len() - done);
         block.clear();
         block.extend_by(&samples[done..done + count], bits, width);
-        match put_all(medium, block.as_slice()) {
-            Ok(()) => done += count,
-            Err(error) => return Err(error),
-        }
+        put_all(medium, block.as_slice())?;
+        done += count;
     }
     Ok(())
 }

@@ -4,12 +4,12 @@ ghost use Rattle.hound_spec.specs.{riff_size};
 ghost use Rattle.hound_writer.specs.Parts.{IsLimit, IsPublishResult};
 
 use crate::block::{BLOCK_LENGTH, Block};
-use crate::many::{look_at, put_samples_at_end};
+use crate::many::{first_outcome, put_samples_at_end};
 use crate::outcome::Outcome;
 use crate::patch::{patch, put_at_end};
 use hound_medium::Medium;
-use hound_sample::Sample;
-use hound_spec::{Error, Result, WavSpec, WavSpecEx};
+use hound_sample::{Sample, have_containers};
+use hound_spec::{Error, Result, WavSpecEx};
 use std::io;
 use std::marker::Model;
 
@@ -96,10 +96,10 @@ impl<W: Medium> Output<W> {
     ghost use Rattle.hound_spec.specs.{riff_size};
     ghost use Rattle.hound_sample.specs.{containers};
     ghost use Rattle.hound_medium.specs.{Goes, WhereTells, WhereKeeps};
-    ghost use Rattle.hound_writer.specs.Accepting.{Accepts, IsIoError, one, containers_in, sample_bytes};
+    ghost use Rattle.hound_writer.specs.Accepting.{Accepts, AcceptsBytes, IsIoError, one, containers_in, sample_bytes};
     ghost use Rattle.hound_writer.specs.Parts.{GoesOut, result_of, block_length, or_fault, of_fields, IsStanding, Patches, PatchesAtEach};
     ghost use Rattle.hound_writer.specs.Publishing.{PublishesTo, place_after};
-    ghost use Rattle.hound_writer.specs.Writer.{AreFrames, HasRoom, IsPadded, IsSound, IsWhole, IsCounted, data_end, data_length, padded_end, sample_count};
+    ghost use Rattle.hound_writer.specs.Writer.{AreFrames, HasRoom, IsPadded, IsSound, IsValid, data_end, data_length, padded_end, sample_count};
 
     /// A file whose data begin at this place and have this length, with its medium after them.
     pub(crate) fn at_end(
@@ -131,9 +131,7 @@ impl<W: Medium> Output<W> {
     pub(crate) fn has_room(&self, more: u64) -> bool
         requires { more ≤ 2 ^ 34 }
         ensures room { IsTrue result ↔ HasRoom self.now more }
-        ensures sound { IsSound self.now }
-        ensures counts { WhereTells W.tells (IsWhole W.state self.now
-            → IsCounted W.state self.now) }
+        ensures valid { IsValid W.tells W.state self.now }
     {
         riff_size(self.data_start, self.data_length() as u64 + more) <= u32::MAX as u64
     }
@@ -194,50 +192,33 @@ impl<W: Medium> Output<W> {
         requires room { HasRoom self.old (length bytes.now) }
         requires whole { length bytes.now % self.old.spec_ex.bytes_per_sample ≡ 0 }
         requires few { length self.old.waiting + length bytes.now ≤ block_length }
-        ensures accepts { Accepts W.tells W.keeps W.state false
-            (Ok (containers self.old.spec_ex.bytes_per_sample (length bytes.now / self.old.spec_ex.bytes_per_sample) bytes.now)) (Ok tt) self.old self.new }
+        ensures accepts { AcceptsBytes W.tells W.keeps W.state bytes.now (Ok tt) self.old self.new }
         ensures buffer { self.new.buffer ≡ self.old.buffer }
     {
         self.block.extend(bytes);
     }
 
-    // Accepts a container in the block, which is written first if it has no room for it. A fault is
-    // saved, and the container isn't accepted.
-    fn accept(&mut self, bytes: &[u8], fault: &mut io::Error) -> bool
-        requires room { HasRoom self.old (length bytes.now) }
-        requires whole { length bytes.now % self.old.spec_ex.bytes_per_sample ≡ 0 }
-        requires few { length bytes.now ≤ block_length }
-        ensures accepts { Accepts W.tells W.keeps W.state false
-            (Ok (containers self.old.spec_ex.bytes_per_sample (length bytes.now / self.old.spec_ex.bytes_per_sample) bytes.now)) (or_fault result fault.new) self.old self.new }
-        ensures buffer { self.new.buffer ≡ self.old.buffer }
-    {
-        if bytes.len() <= BLOCK_LENGTH - self.block.len() {
-            self.accept_in_block(bytes);
-            return true;
-        }
-        if !self.put_block(fault) {
-            return false;
-        }
-        self.accept_in_block(bytes);
-        true
-    }
-
-    // Accepts a container if the block, or the file, may have no room for it.
+    // Accepts a container if the block, or the file, may have no room for it: the block is written
+    // first if it has none. A fault is saved, and the container isn't accepted.
     #[cold]
     #[inline(never)]
     fn accept_slowly(&mut self, container: [u8; 4], fault: &mut io::Error) -> Outcome
-        ensures accepts { let bytes = take self.old.spec_ex.bytes_per_sample container in
-            Accepts W.tells W.keeps W.state false
-            (Ok (containers self.old.spec_ex.bytes_per_sample (length bytes / self.old.spec_ex.bytes_per_sample) bytes)) (result_of result fault.new) self.old self.new }
+        ensures accepts { AcceptsBytes W.tells W.keeps W.state
+            (take self.old.spec_ex.bytes_per_sample container) (result_of result fault.new) self.old self.new }
         ensures buffer { self.new.buffer ≡ self.old.buffer }
     {
-        let width = self.spec_ex.bytes_per_sample;
+        let width = self.spec_ex.bytes_per_sample as usize;
         if !self.has_room(width as u64) {
             return Outcome::NoRoom;
         }
-        if !self.accept(&container[..width as usize], fault) {
+        if width <= BLOCK_LENGTH - self.block.len() {
+            self.accept_in_block(&container[..width]);
+            return Outcome::Accepted;
+        }
+        if !self.put_block(fault) {
             return Outcome::Failed;
         }
+        self.accept_in_block(&container[..width]);
         Outcome::Accepted
     }
 
@@ -271,9 +252,8 @@ impl<W: Medium> Output<W> {
             (self.old.spec_ex.bytes_per_sample * length samples.now) }
         requires few { length self.old.waiting
             + self.old.spec_ex.bytes_per_sample * length samples.now ≤ block_length }
-        ensures accepts { let bytes = sample_bytes S.container self.old.spec_ex samples.now in
-            Accepts W.tells W.keeps W.state false
-            (Ok (containers self.old.spec_ex.bytes_per_sample (length bytes / self.old.spec_ex.bytes_per_sample) bytes)) (Ok tt) self.old self.new }
+        ensures accepts { AcceptsBytes W.tells W.keeps W.state
+            (sample_bytes S.container self.old.spec_ex samples.now) (Ok tt) self.old self.new }
         ensures buffer { self.new.buffer ≡ self.old.buffer }
     {
         let spec = self.spec_ex.spec;
@@ -291,9 +271,8 @@ impl<W: Medium> Output<W> {
         requires room { HasRoom self.old
             (self.old.spec_ex.bytes_per_sample * length samples.now) }
         requires none_waits { self.old.waiting ≡ [] }
-        ensures accepts { let bytes = sample_bytes S.container self.old.spec_ex samples.now in
-            Accepts W.tells W.keeps W.state false
-            (Ok (containers self.old.spec_ex.bytes_per_sample (length bytes / self.old.spec_ex.bytes_per_sample) bytes)) (or_fault result fault.new) self.old self.new }
+        ensures accepts { AcceptsBytes W.tells W.keeps W.state
+            (sample_bytes S.container self.old.spec_ex samples.now) (or_fault result fault.new) self.old self.new }
         ensures buffer { self.new.buffer ≡ self.old.buffer }
     {
         let end = self.data_start + self.data_bytes_written as u64;
@@ -321,9 +300,8 @@ impl<W: Medium> Output<W> {
         requires have { IsOk (containers_in S.container self.old.spec_ex samples.now) }
         requires room { HasRoom self.old
             (self.old.spec_ex.bytes_per_sample * length samples.now) }
-        ensures accepts { let bytes = sample_bytes S.container self.old.spec_ex samples.now in
-            Accepts W.tells W.keeps W.state false
-            (Ok (containers self.old.spec_ex.bytes_per_sample (length bytes / self.old.spec_ex.bytes_per_sample) bytes)) (or_fault result fault.new) self.old self.new }
+        ensures accepts { AcceptsBytes W.tells W.keeps W.state
+            (sample_bytes S.container self.old.spec_ex samples.now) (or_fault result fault.new) self.old self.new }
         ensures buffer { self.new.buffer ≡ self.old.buffer }
     {
         let num_bytes = samples.len() * self.spec_ex.bytes_per_sample as usize;
@@ -351,11 +329,11 @@ impl<W: Medium> Output<W> {
             (containers_in S.container self.old.spec_ex samples.now) (result_of result fault.new) self.old self.new }
         ensures buffer { self.new.buffer ≡ self.old.buffer }
     {
+        let bits = self.spec_ex.spec.bits_per_sample;
         let width = self.spec_ex.bytes_per_sample;
-        let outcome = look_at(samples, self.spec_ex.spec.bits_per_sample, width);
-        let Outcome::Accepted = outcome else {
-            return outcome;
-        };
+        if !have_containers(samples, bits, width) {
+            return first_outcome(samples, bits, width);
+        }
         if samples.len() > u32::MAX as usize {
             return Outcome::NoRoom;
         }
@@ -375,49 +353,9 @@ impl<W: Medium> Output<W> {
         self.len() % self.spec_ex.spec.channels as u32 == 0
     }
 
-    // Writes both sizes, once nothing is buffered, and flushes the medium, which is then where the
-    // data begin.
-    fn publish(&mut self) -> io::Result<()>
-        requires { self.old.waiting ≡ [] }
-        ensures stays { self.new ≡ record self.old { medium = self.new.medium } }
-        ensures sound { IsSound self.old }
-        ensures stands { WhereTells W.tells
-            (IsStanding self.old.spec_ex self.old.data_start self.old.out
-            (W.state self.old.medium).contents) }
-        ensures patches { WhereTells W.tells (Patches (self.old.data_start - 4)
-            (riff_size self.old.data_start self.old.out) self.old.out result
-            (W.state self.old.medium) (W.state self.new.medium)) }
-        ensures place { WhereTells W.tells (OnOk result ((W.state self.new.medium).place
-            ≡ self.old.data_start)) }
-        ensures moments { WhereKeeps W.tells W.keeps
-            (PatchesAtEach (self.old.data_start - 4)
-            (riff_size self.old.data_start self.old.out) self.old.out result
-            (W.state self.old.medium) (W.state self.new.medium)) }
-    {
-        self.may_have_moved = true;
-        let riff_size = riff_size(self.data_start, self.data_bytes_written as u64) as u32;
-        patch(
-            &mut self.writer,
-            self.data_start - 4,
-            riff_size,
-            self.data_bytes_written,
-        )
-    }
-
-    // Goes to the end of the accepted samples that are written.
-    fn go_to_end(&mut self) -> io::Result<()>
-        ensures stays { self.new ≡ record self.old { medium = self.new.medium } }
-        ensures goes { WhereTells W.tells (Goes (self.old.data_start + self.old.out) result
-            (W.state self.old.medium) (W.state self.new.medium)) }
-    {
-        self.writer
-            .go(self.data_start + self.data_bytes_written as u64)?;
-        self.may_have_moved = false;
-        Ok(())
-    }
-
-    // Publishes, and goes back to the end of the accepted samples if the writer continues.
-    fn publish_and_go(&mut self, continues: bool) -> io::Result<()>
+    // Writes both sizes, once nothing is buffered, and flushes the medium. It is then at the end of
+    // the accepted samples if the writer continues, or else where the data begin.
+    fn publish(&mut self, continues: bool) -> io::Result<()>
         requires { self.old.waiting ≡ [] }
         ensures stays { self.new ≡ record self.old { medium = self.new.medium } }
         ensures sound { IsSound self.old }
@@ -434,10 +372,20 @@ impl<W: Medium> Output<W> {
             (riff_size self.old.data_start self.old.out) self.old.out result
             (W.state self.old.medium) (W.state self.new.medium)) }
     {
-        self.publish()?;
-        if continues {
-            return self.go_to_end();
+        self.may_have_moved = true;
+        let riff_size = riff_size(self.data_start, self.data_bytes_written as u64) as u32;
+        patch(
+            &mut self.writer,
+            self.data_start - 4,
+            riff_size,
+            self.data_bytes_written,
+        )?;
+        if !continues {
+            return Ok(());
         }
+        self.writer
+            .go(self.data_start + self.data_bytes_written as u64)?;
+        self.may_have_moved = false;
         Ok(())
     }
 
@@ -453,7 +401,7 @@ impl<W: Medium> Output<W> {
         if !self.put_pad(fault) {
             return Err(Error::IoError(*fault));
         }
-        let published = self.publish_and_go(continues);
+        let published = self.publish(continues);
         publish_result(published, self.are_frames())
     }
 
@@ -461,42 +409,22 @@ impl<W: Medium> Output<W> {
     pub(crate) fn into_medium(self) -> W
         ensures { result ≡ self.medium }
     {
-        let Output {
-            spec_ex: _,
-            writer,
-            data_start: _,
-            data_bytes_written: _,
-            may_have_moved: _,
-            block: _,
-            fast_path_limit: _,
-            buffer: _,
-        } = self;
+        let Output { writer, .. } = self;
         writer
     }
 
     /// The spec that the file was begun with, with the bytes that a sample takes.
     pub(crate) fn spec_ex(&self) -> WavSpecEx
-        ensures { result ≡ self.now.spec_ex }
+        ensures spec { result ≡ self.now.spec_ex }
+        ensures valid { IsValid W.tells W.state self.now }
     {
         self.spec_ex
-    }
-
-    /// The spec that the file was begun with.
-    pub(crate) fn spec(&self) -> WavSpec
-        ensures spec { result ≡ self.now.spec_ex.spec }
-        ensures sound { IsSound self.now }
-        ensures counts { WhereTells W.tells (IsWhole W.state self.now
-            → IsCounted W.state self.now) }
-    {
-        self.spec_ex.spec
     }
 
     /// How many samples were accepted.
     pub(crate) fn len(&self) -> u32
         ensures samples { result ≡ sample_count self.now }
-        ensures sound { IsSound self.now }
-        ensures counts { WhereTells W.tells (IsWhole W.state self.now
-            → IsCounted W.state self.now) }
+        ensures valid { IsValid W.tells W.state self.now }
     {
         self.data_length() / self.spec_ex.bytes_per_sample as u32
     }

@@ -1,9 +1,8 @@
 // The parts of a writer's calls.
-ghost use Rattle.hound_medium.specs.{WhereKeeps, WhereTells, Span};
+ghost use Rattle.hound_medium.specs.{WhereKeeps, WhereTells};
 ghost use Rattle.std.specs.Prelude.{◌≡◌, ◌+◌, ◌≤◌, ◌^◌, ◌<◌, ℕ, List, length, false, IsTrue, OnOk, not};
 ghost use Rattle.hound_number.specs.{bytes_of};
-ghost use Rattle.hound_writer.specs.Parts.{HasSize, IsPatched, PatchesAtEach, PutsAt, Patches, all_out};
-ghost use Rattle.hound_writer.specs.Writer.{field};
+ghost use Rattle.hound_writer.specs.Parts.{PatchesAtEach, PutsAt, Patches, all_out};
 
 use hound_medium::{Medium, put_all};
 use hound_number::le_u32;
@@ -63,31 +62,6 @@ fn put_size<M: Medium>(medium: &mut M, at: u64, size: u32) -> io::Result<()>
     put_all(medium, &bytes)
 }
 
-// Writes the RIFF size.
-fn put_riff_size<M: Medium>(medium: &mut M, riff_size: u32) -> io::Result<()>
-    ensures puts { WhereTells M.tells (PutsAt M.keeps 4 (bytes_of 4 riff_size) result
-        (M.state medium.old) (M.state medium.new)) }
-    ensures moments { WhereKeeps M.tells M.keeps ((p data_length : ℕ) →
-        HasSize p (M.state medium.old).contents →
-        Span (IsPatched p riff_size (M.state medium.old).contents data_length)
-        (length (M.state medium.new).past) (M.state medium.old) (M.state medium.new)) }
-{
-    put_size(medium, 4, riff_size)
-}
-
-// Writes the data length.
-fn put_data_length<M: Medium>(medium: &mut M, at: u64, data_length: u32) -> io::Result<()>
-    ensures puts { WhereTells M.tells (PutsAt M.keeps at (bytes_of 4 data_length) result
-        (M.state medium.old) (M.state medium.new)) }
-    ensures moments { WhereKeeps M.tells M.keeps ((size : ℕ) (base : List ℕ) →
-        HasSize at base → IsPatched at size base data_length 0 (M.state medium.old).contents →
-        field 4 (M.state medium.old).contents ≡ size →
-        Span (IsPatched at size base data_length) (length (M.state medium.old).past)
-        (M.state medium.old) (M.state medium.new)) }
-{
-    put_size(medium, at, data_length)
-}
-
 /// Writes both sizes, the RIFF size first, and flushes the medium, which is then after the data
 /// length. It ends at the first fault.
 pub fn patch<M: Medium>(
@@ -107,7 +81,7 @@ pub fn patch<M: Medium>(
         (PatchesAtEach data_len_offset riff_size data_length result (M.state medium.old)
         (M.state medium.new)) }
 {
-    put_riff_size(medium, riff_size)?;
-    put_data_length(medium, data_len_offset, data_length)?;
+    put_size(medium, 4, riff_size)?;
+    put_size(medium, data_len_offset, data_length)?;
     medium.flush()
 }

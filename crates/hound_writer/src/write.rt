@@ -55,7 +55,7 @@ impl<W: Medium> WavWriter<W> {
     ghost use Rattle.hound_spec.specs.declared.spec.WavSpecEx.{WavSpecEx};
     ghost use Rattle.hound_writer.specs.Parts.{of_fields, IsStanding};
     ghost use Rattle.hound_writer.specs.Publishing.{Checkpoints, Finishes};
-    ghost use Rattle.hound_writer.specs.Writer.{AreFrames, HasRoom, IsSound, IsWhole, IsCounted, data_length, sample_count};
+    ghost use Rattle.hound_writer.specs.Writer.{AreFrames, HasRoom, IsValid, data_length, sample_count};
 
     /// Begins a file of this spec in a medium that is at 0, as each new one is. A sample
     /// takes the bytes that its bits need: `(bits_per_sample + 7) / 8`, rounded down.
@@ -112,27 +112,17 @@ impl<W: Medium> WavWriter<W> {
         let bytes = header.as_slice();
         let data_start = bytes.len() as u64;
         match put_all(&mut writer, bytes) {
-            Ok(()) => Ok(WavWriter::at_end(writer, spec_ex, data_start, 0)),
+            Ok(()) => Ok(WavWriter::over(Output::at_end(writer, spec_ex, data_start, 0))),
             Err(error) => Err((writer, Error::IoError(error))),
         }
     }
 
-    // A writer of a file whose data begin at this place and have this length, with its medium after
-    // them.
-    pub(crate) fn at_end(
-        writer: W,
-        spec_ex: WavSpecEx,
-        data_start: u64,
-        data_length: u32,
-    ) -> WavWriter<W>
-        requires sound { IsSound (of_fields writer spec_ex data_start data_length [] []) }
-        requires stands { WhereTells W.tells (IsStanding spec_ex data_start data_length
-            (W.state writer).contents) }
-        requires place { WhereTells W.tells ((W.state writer).place ≡ data_start + data_length) }
-        ensures { result ≡ of_fields writer spec_ex data_start data_length [] [] }
+    // A writer of this file, whose medium had no fault yet.
+    pub(crate) fn over(output: Output<W>) -> WavWriter<W>
+        ensures { result ≡ output }
     {
         WavWriter {
-            output: Output::at_end(writer, spec_ex, data_start, data_length),
+            output,
             fault: io::Error::from(io::ErrorKind::Other),
         }
     }
@@ -207,21 +197,6 @@ impl<W: Medium> WavWriter<W> {
         self.output.publish_all(true, &mut self.fault)
     }
 
-    // Publishes for the last time.
-    fn finish(&mut self) -> Result<()>
-        ensures { Finishes W.tells W.keeps W.state self.old result self.new.medium }
-    {
-        self.output.publish_all(false, &mut self.fault)
-    }
-
-    // The medium, once the writer is done with it.
-    fn into_medium(self) -> W
-        ensures { result ≡ self.medium }
-    {
-        let WavWriter { output, fault: _ } = self;
-        output.into_medium()
-    }
-
     /// Publishes the accepted samples and closes the file. After a [`WavWriter::flush`] with
     /// nothing accepted since then it leaves the same bytes.
     ///
@@ -254,9 +229,12 @@ impl<W: Medium> WavWriter<W> {
         ensures left { Ends W.tells W.keeps W.state (made publish) self result.0 }
         ensures marked { Ends W.tells W.keeps W.state (marked publish (mark_of result.1)) self result.0 }
     {
-        let mut last = self;
-        let result = last.finish();
-        (last.into_medium(), result)
+        let WavWriter {
+            mut output,
+            mut fault,
+        } = self;
+        let result = output.publish_all(false, &mut fault);
+        (output.into_medium(), result)
     }
 
     /// Does what a drop does, and returns the medium: it publishes the accepted samples as
@@ -273,7 +251,8 @@ impl<W: Medium> WavWriter<W> {
     /// The spec that the file was begun with, or that was found in the file that is appended to,
     /// with the bytes that a sample takes.
     pub fn spec_ex(&self) -> WavSpecEx
-        ensures { result ≡ self.now.spec_ex }
+        ensures spec { result ≡ self.now.spec_ex }
+        ensures valid { IsValid W.tells W.state self.now }
     {
         self.output.spec_ex()
     }
@@ -282,20 +261,16 @@ impl<W: Medium> WavWriter<W> {
     /// It shows whether batches can be written: integers of 16 bits.
     pub fn spec(&self) -> WavSpec
         ensures spec { result ≡ self.now.spec_ex.spec }
-        ensures sound { IsSound self.now }
-        ensures counts { WhereTells W.tells (IsWhole W.state self.now
-            → IsCounted W.state self.now) }
+        ensures valid { IsValid W.tells W.state self.now }
     {
-        self.output.spec()
+        self.spec_ex().spec
     }
 
     /// The number of frames in the file so far, with the buffered ones, rounded down: samples for
     /// each channel. Divided by the sample rate it is the time in seconds.
     pub fn duration(&self) -> u32
         ensures frames { result ≡ sample_count self.now / self.now.spec_ex.spec.channels }
-        ensures sound { IsSound self.now }
-        ensures counts { WhereTells W.tells (IsWhole W.state self.now
-            → IsCounted W.state self.now) }
+        ensures valid { IsValid W.tells W.state self.now }
     {
         self.len() / self.spec().channels as u32
     }
@@ -304,9 +279,7 @@ impl<W: Medium> WavWriter<W> {
     /// accepted, whether buffered or written, and those that a file had before it was appended to.
     pub fn len(&self) -> u32
         ensures samples { result ≡ sample_count self.now }
-        ensures sound { IsSound self.now }
-        ensures counts { WhereTells W.tells (IsWhole W.state self.now
-            → IsCounted W.state self.now) }
+        ensures valid { IsValid W.tells W.state self.now }
     {
         self.output.len()
     }

@@ -15,7 +15,7 @@ returns-then-not-is_sixteen g c =
     (if b then containers_in int_container old.spec_ex c.args.values.now else Err unsupported)
     (Err Unsupported) old old) (sym other)
     (accepts_refused W.tells W.keeps W.state old false (Err unsupported) Unsupported
-    c.spec.ensures.counts (g.met.M.Medium.replays old.medium) refl (λ _. refl) refl)
+    c.spec.ensures.valid.counts (g.met.M.Medium.replays old.medium) refl (λ _. refl) refl)
 
 pub returns : goal.returns
 returns g c =

@@ -1,4 +1,4 @@
-use Rattle.std.proofs.Common.{subst, sym, rules}
+use Rattle.std.proofs.Common.{subst, sym, rules, ◌∙◌}
 use Rattle.hound_writer.specs.Appending.{Appends}
 use Rattle.hound_writer.proofs.Appending.{sound_head, stands_on, follows}
 use Rattle.hound_writer.proofs.append.append_at.Goals as goal
@@ -20,7 +20,7 @@ pub returns : goal.returns
 returns g c =
     let head = c.args.head in
     subst (Appends g.W.Placed.tells g.W.Placed.state (g.W.Placed.state c.args.writer))
-    (sym c.at_end.ensures)
+    (sym (c.over.ensures ∙ c.at_end.ensures))
     record {
       sound = sound_head _ head.spec_ex head.data_length head.data_start c.requires.sound
           c.requires.start.0 c.in_default.ensures;

@@ -33,12 +33,12 @@ loop-done-preserved g c =
           (λ _ b e. (g.met.S.Sample.in_width _ _ _ b e).0) W.keeps a.samples.now
           c.requires.have done count inside _ _ _ (loop.invariant.takes t) tt
           (subst (λ l. PutsAll W.keeps l (Ok tt) (W.state loop.medium)
-          (W.state c.put_all.new.medium)) bytes_is (c.in-Ok.ensures t));
-      faults = λ t. let put = c.in-Ok.ensures t in put.faults ∙ loop.invariant.faults t;
+          (W.state c.put_all.new.medium)) bytes_is (c.in_ok-put_all.ensures t));
+      faults = λ t. let put = c.in_ok-put_all.ensures t in put.faults ∙ loop.invariant.faults t;
     }
 
-pub returns-in-Err : goal.returns-in-Err
-returns-in-Err g c t =
+pub returns-in_err-put_all : goal.returns-in_err-put_all
+returns-in_err-put_all g c t =
     let W = g.M.Placed in
     let a = c.args in
     let loop = c.loop-done in
@@ -56,10 +56,10 @@ returns-in-Err g c t =
     piece_cut
     (λ (s : g.row.S.Denot). g.S.Sample.container s a.bits a.width) a.width
     (λ _ b e. (g.met.S.Sample.in_width _ _ _ b e).0) W.keeps a.samples.now
-    c.requires.have done count inside _ _ _ (loop.invariant.takes t) c.in-Err.error
-    (loop.invariant.faults t)
-    (subst (λ l. PutsAll W.keeps l (Err c.in-Err.error) (W.state loop.medium)
-    (W.state c.put_all.new.medium)) bytes_is (c.in-Err.ensures t))
+    c.requires.have done count inside _ _ _ (loop.invariant.takes t) _
+    c.from_residual.result c.from_residual.ensures.0 (loop.invariant.faults t)
+    (subst (λ l. PutsAll W.keeps l (Err c.in_err-put_all.field-0.0) (W.state loop.medium)
+    (W.state c.put_all.new.medium)) bytes_is (c.in_err-put_all.ensures t))
 
 pub returns : goal.returns
 returns g c t =

@@ -4,76 +4,81 @@ use Rattle.hound_medium.proofs.Outcomes.{on_ok, on_ok_self}
 use Rattle.hound_medium.proofs.Spans.{span_end_zero, flushed_since}
 use Rattle.hound_writer.specs.Parts.{IsPatched}
 use Rattle.hound_writer.proofs.Patching.{cut_first, cut_second, has_size, patched, riff_put}
-use Rattle.hound_writer.proofs.PatchMoments.{patches_none, patches_both, patches_still}
+use Rattle.hound_writer.proofs.PatchMoments.{field_span, patches_none, patches_both, patches_still, riff_span}
 use Rattle.hound_writer.proofs.patch.patch.Goals as goal
 
-pub returns-in_err-put_riff_size-clause-patches : goal.returns-in_err-put_riff_size-clause-patches
-returns-in_err-put_riff_size-clause-patches g c tells =
-    let first = c.in_err-put_riff_size.ensures.puts tells in
+pub returns-in_err-put_size-clause-patches : goal.returns-in_err-put_size-clause-patches
+returns-in_err-put_size-clause-patches g c tells =
+    let first = c.in_err-put_size.ensures tells in
     let has = has_size c.args.data_len_offset _ c.requires.behind (c.requires.inside tells)
     (g.met.M.Placed.bytes c.args.medium.now tells) in
     cut_first g.M.Placed.keeps c.args.data_len_offset c.args.riff_size c.args.data_length _
     c.from_residual.result _ _ c.from_residual.ensures.0 has first first.faults
 
-pub returns-in_err-put_data_length-clause-patches :
-    goal.returns-in_err-put_data_length-clause-patches
-returns-in_err-put_data_length-clause-patches g c tells =
-    let first = c.in_ok-put_riff_size.ensures.puts tells in
-    let second = c.in_err-put_data_length.ensures.puts tells in
+pub returns-in_err-put_size-2-clause-patches :
+    goal.returns-in_err-put_size-2-clause-patches
+returns-in_err-put_size-2-clause-patches g c tells =
+    let first = c.in_ok-put_size.ensures tells in
+    let second = c.in_err-put_size-2.ensures tells in
     let has = has_size c.args.data_len_offset _ c.requires.behind (c.requires.inside tells)
     (g.met.M.Placed.bytes c.args.medium.now tells) in
     let fits : c.args.riff_size < 2 ^ 32 = search rules in
     cut_second g.M.Placed.keeps c.args.data_len_offset c.args.riff_size c.args.data_length _ _
-    c.from_residual-in_err-put_data_length.result _ _ _
-    c.from_residual-in_err-put_data_length.ensures.0 has
-    (g.met.M.Placed.bytes c.put_riff_size.new.medium tells) first first.whole fits second
+    c.from_residual-in_err-put_size-2.result _ _ _
+    c.from_residual-in_err-put_size-2.ensures.0 has
+    (g.met.M.Placed.bytes c.put_size.new.medium tells) first first.whole fits second
     (second.faults ∙ ap one_more first.faults)
 
 pub returns-clause-patches : goal.returns-clause-patches
 returns-clause-patches g c tells =
-    let first = c.in_ok-put_riff_size.ensures.puts tells in
-    let second = c.in_ok-put_data_length.ensures.puts tells in
+    let first = c.in_ok-put_size.ensures tells in
+    let second = c.in_ok-put_size-2.ensures tells in
     let has = has_size c.args.data_len_offset _ c.requires.behind (c.requires.inside tells)
     (g.met.M.Placed.bytes c.args.medium.now tells) in
     let fits : c.args.riff_size < 2 ^ 32 = search rules in
     patched g.M.Placed.keeps c.args.data_len_offset c.args.riff_size c.args.data_length _ _
-    c.flush.result _ _ _ _ has (g.met.M.Placed.bytes c.put_riff_size.new.medium tells)
+    c.flush.result _ _ _ _ has (g.met.M.Placed.bytes c.put_size.new.medium tells)
     first second first.whole second.whole fits (second.faults ∙ first.faults)
     (c.flush.ensures tells)
 
-pub returns-in_err-put_riff_size-clause-moments : goal.returns-in_err-put_riff_size-clause-moments
-returns-in_err-put_riff_size-clause-moments g c tells keeps =
+pub returns-in_err-put_size-clause-moments : goal.returns-in_err-put_size-clause-moments
+returns-in_err-put_size-clause-moments g c tells keeps =
     let p = c.args.data_len_offset in
     let old = g.M.Placed.state c.args.medium.now in
     let has = has_size p old.contents c.requires.behind (c.requires.inside tells)
     (g.met.M.Placed.bytes c.args.medium.now tells) in
     patches_none p c.args.riff_size c.args.data_length c.from_residual.result old
-    (g.M.Placed.state c.put_riff_size.new.medium)
-    (c.put_riff_size.ensures.moments tells keeps p c.args.data_length has) (search rules)
+    (g.M.Placed.state c.put_size.new.medium)
+    (riff_span g.M.Placed.keeps p c.args.riff_size c.args.data_length c.put_size.result _ _ keeps
+    (g.met.M.Medium.replays c.args.medium.now tells keeps) has (c.put_size.ensures tells)) (search rules)
 
-pub returns-in_err-put_data_length-clause-moments :
-    goal.returns-in_err-put_data_length-clause-moments
-returns-in_err-put_data_length-clause-moments g c tells keeps =
+pub returns-in_err-put_size-2-clause-moments :
+    goal.returns-in_err-put_size-2-clause-moments
+returns-in_err-put_size-2-clause-moments g c tells keeps =
     let p = c.args.data_len_offset in
     let size = c.args.riff_size in
     let n = c.args.data_length in
     let old = g.M.Placed.state c.args.medium.now in
-    let mid = g.M.Placed.state c.put_riff_size.new.medium in
+    let mid = g.M.Placed.state c.put_size.new.medium in
     let has = has_size p old.contents c.requires.behind (c.requires.inside tells)
     (g.met.M.Placed.bytes c.args.medium.now tells) in
     let fits : c.args.riff_size < 2 ^ 32 = search rules in
-    let puts = c.in_ok-put_riff_size.ensures.puts tells in
-    let first = c.put_riff_size.ensures.moments tells keeps p n has in
+    let puts = c.in_ok-put_size.ensures tells in
+    let first =
+    riff_span g.M.Placed.keeps p size n c.put_size.result old mid keeps
+    (g.met.M.Medium.replays c.args.medium.now tells keeps) has (c.put_size.ensures tells) in
     let so_far =
     span_end_zero (IsPatched p size old.contents n) old mid
-    (g.met.M.Medium.replays c.put_riff_size.new.medium tells keeps) first in
+    (g.met.M.Medium.replays c.put_size.new.medium tells keeps) first in
     let second =
-    c.put_data_length.ensures.moments tells keeps size old.contents has so_far
-    (riff_put g.M.Placed.keeps p size n _ old mid has puts puts.whole fits) in
-    patches_both g.M.Placed.keeps p size n c.put_data_length.result
-    c.from_residual-in_err-put_data_length.result old mid
-    (g.M.Placed.state c.put_data_length.new.medium) keeps first second
-    (c.put_data_length.ensures.puts tells) (search rules)
+    field_span g.M.Placed.keeps p size n c.put_size-2.result _ _ keeps
+    (g.met.M.Medium.replays c.put_size.new.medium tells keeps) old.contents has
+    (g.met.M.Placed.bytes c.put_size.new.medium tells) so_far
+    (riff_put g.M.Placed.keeps p size n _ old mid has puts puts.whole fits) (c.put_size-2.ensures tells) in
+    patches_both g.M.Placed.keeps p size n c.put_size-2.result
+    c.from_residual-in_err-put_size-2.result old mid
+    (g.M.Placed.state c.put_size-2.new.medium) keeps first second
+    (c.put_size-2.ensures tells) (search rules)
 
 pub returns-clause-moments : goal.returns-clause-moments
 returns-clause-moments g c tells keeps =
@@ -81,25 +86,29 @@ returns-clause-moments g c tells keeps =
     let size = c.args.riff_size in
     let n = c.args.data_length in
     let old = g.M.Placed.state c.args.medium.now in
-    let mid = g.M.Placed.state c.put_riff_size.new.medium in
-    let done = g.M.Placed.state c.put_data_length.new.medium in
+    let mid = g.M.Placed.state c.put_size.new.medium in
+    let done = g.M.Placed.state c.put_size-2.new.medium in
     let has = has_size p old.contents c.requires.behind (c.requires.inside tells)
     (g.met.M.Placed.bytes c.args.medium.now tells) in
     let fits : c.args.riff_size < 2 ^ 32 = search rules in
-    let puts_first = c.in_ok-put_riff_size.ensures.puts tells in
-    let first = c.put_riff_size.ensures.moments tells keeps p n has in
+    let puts_first = c.in_ok-put_size.ensures tells in
+    let first =
+    riff_span g.M.Placed.keeps p size n c.put_size.result old mid keeps
+    (g.met.M.Medium.replays c.args.medium.now tells keeps) has (c.put_size.ensures tells) in
     let so_far =
     span_end_zero (IsPatched p size old.contents n) old mid
-    (g.met.M.Medium.replays c.put_riff_size.new.medium tells keeps) first in
+    (g.met.M.Medium.replays c.put_size.new.medium tells keeps) first in
     let second =
-    c.in_ok-put_data_length.ensures.moments tells keeps size old.contents has so_far
-    (riff_put g.M.Placed.keeps p size n _ old mid has puts_first puts_first.whole fits) in
-    let puts = c.in_ok-put_data_length.ensures.puts tells in
+    field_span g.M.Placed.keeps p size n c.put_size-2.result _ _ keeps
+    (g.met.M.Medium.replays c.put_size.new.medium tells keeps) old.contents has
+    (g.met.M.Placed.bytes c.put_size.new.medium tells) so_far
+    (riff_put g.M.Placed.keeps p size n _ old mid has puts_first puts_first.whole fits) (c.put_size-2.ensures tells) in
+    let puts = c.in_ok-put_size-2.ensures tells in
     let sizes =
     patches_both g.M.Placed.keeps p size n _ c.flush.result old mid done keeps first second puts
     (on_ok c.flush.result refl) in
     let flush = c.flush.ensures tells in
     patches_still p size n c.flush.result c.flush.result old done _
-    (g.met.M.Medium.replays c.put_data_length.new.medium tells keeps) flush.stays
+    (g.met.M.Medium.replays c.put_size-2.new.medium tells keeps) flush.stays
     (flushed_since c.flush.result done _ flush)
     (on_ok_self c.flush.result) sizes

@@ -1,25 +1,46 @@
-use Rattle.std.proofs.Common.{Ok, length, refl, rules, ◌/◌}
-use Rattle.hound_sample.specs.{containers}
-use Rattle.hound_writer.specs.Accepting.{mark_of}
+use Rattle.std.proofs.Common.{◌∙◌, ap, false, refl, subst, sym, take}
+use Rattle.hound_sample.specs.{int_container}
+use Rattle.hound_writer.specs.Accepting.{Accepts, containers_in, mark_of, short_bytes, whole_containers}
 use Rattle.hound_writer.specs.Batch.{batch_bytes, batch_writer}
 use Rattle.hound_writer.specs.Calls.{made, marked}
+use Rattle.hound_writer.specs.Writer.{WriterState}
+use Rattle.hound_writer.proofs.Batches.{batch_accepted}
 use Rattle.hound_writer.proofs.Recording.{recorded_write}
 use Rattle.hound_writer.proofs.batch.SampleWriter16.flush.Goals as goal
+
+pub returns-clause-accepts : goal.returns-clause-accepts
+returns-clause-accepts g c =
+    let W = g.W.Placed in
+    let batch = c.args.self in
+    let w = batch.parent.now in
+    let items = g.B.BatchMemory.samples batch.memory in
+    let write = c.write_samples-accepted in
+    let same = c.deref.ensures.value ∙ c.into_vec-memory.ensures in
+    subst (Accepts W.tells W.keeps W.state false (whole_containers w.spec_ex (batch_bytes batch))
+    write.result (batch_writer batch))
+    ((λ j. record write.new.self { buffer = short_bytes (sym c.into_vec-memory.ensures j) })
+    ∙ ap (λ (w : WriterState _). record w { buffer = short_bytes c.into_vec-memory.result.items })
+    (sym c.parent.view_is ∙ sym (λ j. (c.parent-inside.view_is j).output)))
+    (batch_accepted W.tells W.keeps W.state write.result w write.new.self
+    (take batch.written items) (short_bytes items) batch.short batch.bits batch.width
+    (subst (λ values. Accepts W.tells W.keeps W.state false
+    (containers_in int_container w.spec_ex (take batch.written values)) write.result w
+    write.new.self) same write.ensures.accepts))
 
 pub returns-clause-recorded : goal.returns-clause-recorded
 returns-clause-recorded g c s file known so_far =
     let W = g.W.Placed in
-    let bytes = batch_bytes c.args.self in
-    recorded_write W.tells W.keeps W.state made
-    (λ x. Ok (containers x.bytes_per_sample (length bytes / x.bytes_per_sample) bytes))
-    c.accept_batch.result s file known (batch_writer c.args.self) c.accept_batch.new.self
-    (λ _. (refl, tt)) so_far (search rules)
+    let batch = c.args.self in
+    recorded_write W.tells W.keeps W.state made (λ x. whole_containers x (batch_bytes batch))
+    c.write_samples-accepted.result s file known (batch_writer batch) _ (λ _. (refl, tt)) so_far
+    (returns-clause-accepts g c)
 
 pub returns-clause-marked : goal.returns-clause-marked
 returns-clause-marked g c s file known so_far =
     let W = g.W.Placed in
-    let bytes = batch_bytes c.args.self in
-    recorded_write W.tells W.keeps W.state (λ asked. marked asked (mark_of c.accept_batch.result))
-    (λ x. Ok (containers x.bytes_per_sample (length bytes / x.bytes_per_sample) bytes))
-    c.accept_batch.result s file known (batch_writer c.args.self) c.accept_batch.new.self
-    (λ _. (refl, refl)) so_far (search rules)
+    let batch = c.args.self in
+    recorded_write W.tells W.keeps W.state
+    (λ asked. marked asked (mark_of c.write_samples-accepted.result))
+    (λ x. whole_containers x (batch_bytes batch))
+    c.write_samples-accepted.result s file known (batch_writer batch) _ (λ _. (refl, refl)) so_far
+    (returns-clause-accepts g c)

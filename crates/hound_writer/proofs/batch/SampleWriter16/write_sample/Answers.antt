@@ -1,6 +1,8 @@
 use Rattle.std.proofs.Common.{◌*◌, ◌∙◌, FitsSigned, w16, ap, arith, rules, subst, sym, to_z-of_z}
+use Rattle.std.proofs.lemmas.Grind.{common_steps}
 use Rattle.hound_writer.specs.Accepting.{AreShort}
 use Rattle.hound_writer.proofs.Batches.{length-short_bytes, short_more}
+use Rattle.hound_writer.proofs.Recording.{recorded_same}
 use Rattle.hound_writer.proofs.batch.SampleWriter16.write_sample.Goals as goal
 
 pub invariant_of-self : goal.invariant_of-self
@@ -16,6 +18,16 @@ invariant_of-self g c =
       width = batch.width;
     }
 
-pub returns-clause-kept : goal.returns-clause-kept
-returns-clause-kept g c =
-    length-short_bytes _ ∙ ap (λ n. 2 * n) c.store.ensures.kept ∙ sym (length-short_bytes _)
+pub returns : goal.returns
+returns g c =
+    let W = g.W.Placed in
+    record {
+      lender = search rules;
+      written = grind (arith, common_steps);
+      left = search rules;
+      stays = search rules;
+      kept = length-short_bytes _ ∙ ap (λ n. 2 * n) c.store.ensures.kept
+          ∙ sym (length-short_bytes _);
+      recorded = λ s file known. recorded_same W.tells W.keeps W.state s file known _ _
+          (search rules);
+    }

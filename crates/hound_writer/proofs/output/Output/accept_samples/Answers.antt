@@ -1,37 +1,33 @@
-use Rattle.std.proofs.Common.{◌≡◌, ◌*◌, ◌∙◌, Ok, Err, IsOk, length, subst, sym, arith, ap, refl}
+use Rattle.std.proofs.Common.{◌≡◌, ◌*◌, ◌∙◌, Ok, Err, IsOk, length, subst, sym, arith, ap}
 use Rattle.std.proofs.lemmas.Bool.{false≢true}
 use Rattle.hound_spec.specs.declared.error.Error.TheVariants.{IoError}
 use Rattle.hound_writer.specs.Accepting.{containers_in, outcome_of}
-use Rattle.hound_writer.specs.declared.outcome.Outcome.TheVariants.{Accepted}
 use Rattle.hound_writer.specs.Writer.{HasRoom}
 use Rattle.hound_writer.proofs.AcceptingMany.{looked_at, many_asked, many_refused, many_too_long, too_many}
 use Rattle.hound_writer.proofs.output.Output.accept_samples.Goals as goal
 
-pub returns-in_default : goal.returns-in_default
-returns-in_default g c =
+pub returns-then-not-have_containers-clause-accepts :
+    goal.returns-then-not-have_containers-clause-accepts
+returns-then-not-have_containers-clause-accepts g c =
     let W = g.W.Placed in
     let w = c.args.self.now in
-    record {
-      accepts =
-          many_refused g.S.Sample.container g.met.S.Sample.in_width c.args.samples.now W.tells
-          W.keeps W.state _ _ _ w c.self.view_is c.self.invariant
-          (λ tells keeps. g.met.W.Medium.replays w.medium tells keeps)
-          c.look_at-outcome.result c.args.fault.now
-          (subst (λ v. c.look_at-outcome.result
-          ≡ outcome_of (containers_in g.S.Sample.container v.spec_ex c.args.samples.now))
-          c.self.view_is c.look_at-outcome.ensures)
-          c.in_default.not-Accepted;
-      buffer = refl;
-    }
+    let outcome = c.first_outcome in
+    many_refused g.S.Sample.container g.met.S.Sample.in_width c.args.samples.now W.tells
+    W.keeps W.state _ _ _ w c.self.view_is c.self.invariant
+    (λ tells keeps. g.met.W.Medium.replays w.medium tells keeps) outcome.result c.args.fault.now
+    (subst (λ v. outcome.result
+    ≡ outcome_of (containers_in g.S.Sample.container v.spec_ex c.args.samples.now))
+    c.self.view_is outcome.ensures)
+    (λ is. false≢true (sym c.if-not-have_containers.true ∙ c.have_containers.ensures
+    ∙ looked_at _ (sym is ∙ outcome.ensures)))
 
 pub returns-then-samples-clause-accepts : goal.returns-then-samples-clause-accepts
 returns-then-samples-clause-accepts g c =
     let W = g.W.Placed in
     let w = c.args.self.now in
     let have : IsOk (containers_in g.S.Sample.container w.spec_ex c.args.samples.now) =
-    looked_at _ (subst (λ v. Accepted
-    ≡ outcome_of (containers_in g.S.Sample.container v.spec_ex c.args.samples.now))
-    c.self.view_is c.in-Accepted.ensures) in
+    subst (λ v. IsOk (containers_in g.S.Sample.container v.spec_ex c.args.samples.now)) c.self.view_is
+    (sym c.have_containers.ensures ∙ c.if-not-have_containers.false) in
     many_too_long g.S.Sample.container g.met.S.Sample.in_width c.args.samples.now W.tells
     W.keeps W.state _ _ _ w c.self.view_is c.self.invariant
     (λ tells keeps. g.met.W.Medium.replays w.medium tells keeps) have
@@ -45,9 +41,8 @@ returns-then-not-has_room-clause-accepts g c =
     let w = c.args.self.now in
     let values = c.args.samples.now in
     let have : IsOk (containers_in g.S.Sample.container w.spec_ex values) =
-    looked_at _ (subst (λ v. Accepted
-    ≡ outcome_of (containers_in g.S.Sample.container v.spec_ex values))
-    c.self.view_is c.in-Accepted.ensures) in
+    subst (λ v. IsOk (containers_in g.S.Sample.container v.spec_ex values)) c.self.view_is
+    (sym c.have_containers.ensures ∙ c.if-not-have_containers.false) in
     let width : w.spec_ex.bytes_per_sample ≡ c.self.inside.spec_ex.bytes_per_sample =
     ap (λ v. v.spec_ex.bytes_per_sample) (sym c.self.view_is) in
     many_too_long g.S.Sample.container g.met.S.Sample.in_width values W.tells
@@ -66,21 +61,19 @@ returns-then-not-accept_encoded-clause-accepts g c =
     let W = g.W.Placed in
     let w = c.args.self.now in
     let have : IsOk (containers_in g.S.Sample.container w.spec_ex c.args.samples.now) =
-    looked_at _ (subst (λ v. Accepted
-    ≡ outcome_of (containers_in g.S.Sample.container v.spec_ex c.args.samples.now))
-    c.self.view_is c.in-Accepted.ensures) in
+    subst (λ v. IsOk (containers_in g.S.Sample.container v.spec_ex c.args.samples.now)) c.self.view_is
+    (sym c.have_containers.ensures ∙ c.if-not-have_containers.false) in
     many_asked g.S.Sample.container g.met.S.Sample.in_width c.args.samples.now W.tells W.keeps
     W.state (Err (IoError c.accept_encoded.new.fault)) w c.accept_encoded.new.self
-    c.has_room.ensures.sound.width have c.if-not-accept_encoded.ensures.accepts
+    c.has_room.ensures.valid.sound.width have c.if-not-accept_encoded.ensures.accepts
 
 pub returns-clause-accepts : goal.returns-clause-accepts
 returns-clause-accepts g c =
     let W = g.W.Placed in
     let w = c.args.self.now in
     let have : IsOk (containers_in g.S.Sample.container w.spec_ex c.args.samples.now) =
-    looked_at _ (subst (λ v. Accepted
-    ≡ outcome_of (containers_in g.S.Sample.container v.spec_ex c.args.samples.now))
-    c.self.view_is c.in-Accepted.ensures) in
+    subst (λ v. IsOk (containers_in g.S.Sample.container v.spec_ex c.args.samples.now)) c.self.view_is
+    (sym c.have_containers.ensures ∙ c.if-not-have_containers.false) in
     many_asked g.S.Sample.container g.met.S.Sample.in_width c.args.samples.now W.tells W.keeps
     W.state (Ok tt) w c.accept_encoded.new.self
-    c.has_room.ensures.sound.width have c.if-not-accept_encoded.ensures.accepts
+    c.has_room.ensures.valid.sound.width have c.if-not-accept_encoded.ensures.accepts

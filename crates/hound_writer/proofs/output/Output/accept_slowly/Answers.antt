@@ -1,6 +1,8 @@
-use Rattle.std.proofs.Common.{◌≡◌, ap, arith, rules, sym, ◌∙◌, length, take}
+use Rattle.std.proofs.Common.{◌≡◌, Ok, ap, arith, rules, subst, sym, ◌∙◌, length, take}
 use Rattle.std.proofs.lemmas.Bool.{false≢true}
+use Rattle.hound_writer.specs.Accepting.{AcceptsBytes}
 use Rattle.hound_writer.proofs.Containers.{one_whole}
+use Rattle.hound_writer.proofs.Later.{accepts_later}
 use Rattle.hound_writer.proofs.Writing.{bytes_too_long}
 use Rattle.hound_writer.proofs.output.Output.accept_slowly.Goals as goal
 
@@ -12,8 +14,18 @@ returns-then-not-has_room-clause-accepts g c =
     let same : wide ≡ c.self.inside.spec_ex.bytes_per_sample =
     ap (λ w. w.spec_ex.bytes_per_sample) (sym c.self.view_is) in
     let size : length (take wide c.args.container) ≡ wide = search rules in
-    bytes_too_long W.tells W.keeps W.state w (take wide c.args.container) c.has_room.ensures.counts
+    bytes_too_long W.tells W.keeps W.state w (take wide c.args.container) c.has_room.ensures.valid.counts
     (λ tells keeps. g.met.W.Medium.replays w.medium tells keeps) (one_whole _ _ size)
     (λ room.
     absurd (false≢true (sym c.if-not-has_room.true
     ∙ c.has_room.ensures.room.1 (omega (arith, room, size, same)))))
+
+pub returns-clause-accepts : goal.returns-clause-accepts
+returns-clause-accepts g c =
+    let W = g.W.Placed in
+    let w = c.args.self.now in
+    accepts_later W.tells W.keeps W.state w _ _ (take w.spec_ex.bytes_per_sample c.args.container)
+    (Ok tt) c.if-not-put_block.ensures tt
+    (subst (λ n. AcceptsBytes W.tells W.keeps W.state (take n c.args.container) (Ok tt)
+    c.put_block.new.self c.accept_in_block-2.new.self)
+    (ap (λ w. w.spec_ex.bytes_per_sample) c.self.view_is) c.accept_in_block-2.ensures.accepts)

@@ -33,7 +33,7 @@ returns g c =
     let pad = c.if-not-put_pad.ensures in
     let padded = c.put_pad.new.self in
     let none = ap (λ w. w.waiting) pad.goes.value in
-    let publish = c.publish_and_go-published in
+    let publish = c.publish-published in
     let e = publish.ensures in
     let at = place_after c.args.continues publish.new.self in
     published_later W.tells W.keeps W.state

@@ -1,25 +1,27 @@
-use Rattle.std.proofs.Common.{refl, subst, sym}
+use Rattle.std.proofs.Common.{refl, rules, subst, sym}
 use Rattle.hound_writer.specs.Accepting.{mark_of}
 use Rattle.hound_writer.specs.Calls.{made, marked, publish}
 use Rattle.hound_writer.specs.Publishing.{Finishes}
+use Rattle.hound_writer.proofs.PublishLater.{finishes_of}
 use Rattle.hound_writer.proofs.Recording.{left_by}
 use Rattle.hound_writer.proofs.write.WavWriter.finalize_into.Goals as goal
 
 pub returns-clause-finishes : goal.returns-clause-finishes
 returns-clause-finishes g c =
     let W = g.W.Placed in
-    subst (Finishes W.tells W.keeps W.state c.args.self c.finish-result.result) (sym c.into_medium.ensures)
-    c.finish-result.ensures
+    let publish = c.publish_all-result in
+    subst (Finishes W.tells W.keeps W.state c.args.self publish.result) (sym c.into_medium.ensures)
+    (finishes_of W.tells W.keeps W.state publish.result c.args.self publish.new.self (search rules))
 
 pub returns-clause-left : goal.returns-clause-left
 returns-clause-left g c s file known so_far =
     let W = g.W.Placed in
-    left_by W.tells W.keeps W.state (made publish) c.finish-result.result s file known c.args.self
+    left_by W.tells W.keeps W.state (made publish) c.publish_all-result.result s file known c.args.self
     c.into_medium.result (refl, tt) (returns-clause-finishes g c) so_far
 
 pub returns-clause-marked : goal.returns-clause-marked
 returns-clause-marked g c s file known so_far =
     let W = g.W.Placed in
-    left_by W.tells W.keeps W.state (marked publish (mark_of c.finish-result.result))
-    c.finish-result.result s file known c.args.self c.into_medium.result (refl, refl)
+    left_by W.tells W.keeps W.state (marked publish (mark_of c.publish_all-result.result))
+    c.publish_all-result.result s file known c.args.self c.into_medium.result (refl, refl)
     (returns-clause-finishes g c) so_far

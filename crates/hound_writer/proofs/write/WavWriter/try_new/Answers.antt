@@ -28,7 +28,7 @@ returns-in-Ok-clause-begins g c =
     let is = c.as_slice-bytes.ensures ∙ c.header_of-header.ensures in
     let writable : IsWritable s = search rules in
     subst (Begins g.W.Placed.tells g.W.Placed.keeps g.W.Placed.state s
-    (g.W.Placed.state c.args.writer)) (sym c.at_end.ensures)
+    (g.W.Placed.state c.args.writer)) (sym (c.over.ensures ∙ c.at_end.ensures))
     record {
       begun = record {
         writable = writable;
@@ -48,7 +48,7 @@ returns-in-Ok-clause-begins g c =
 pub returns-in-Ok-clause-recorded : goal.returns-in-Ok-clause-recorded
 returns-in-Ok-clause-recorded g c =
     let W = g.W.Placed in
-    recorded_new W.tells W.keeps W.state c.args.spec_ex (W.state c.args.writer) c.at_end.result
+    recorded_new W.tells W.keeps W.state c.args.spec_ex (W.state c.args.writer) c.over.result
     (returns-in-Ok-clause-begins g c)
 
 pub returns-in-Err-clause-begins : goal.returns-in-Err-clause-begins
