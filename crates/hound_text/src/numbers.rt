@@ -1,18 +1,14 @@
 // Numbers as text.
 ghost use Rattle.std.specs.Prelude.{◌≡◌, ℤ, ◌≤◌, Bool, List, IfErr, IfOk, IfSome, OnOk, SomeIff, [], ◌∷◌, Some, None, length};
 ghost use Rattle.std.specs.Io.KnownBytes.{IsAtEnd};
-ghost use Rattle.std.specs.Option.{ok_or};
 ghost use Rattle.std.specs.Str.Parse.{IsNumeral, digits_value};
-ghost use Rattle.hound_text.specs.Reading.{IsRefused, IsTextRefusal, Breaks, Leads, before, ended, longer_magnitude};
+ghost use Rattle.hound_text.specs.Reading.{IsRefused, IsTextRefusal, Breaks, Leads, before, ended};
 ghost use Rattle.hound_text.specs.Text.{SaysNumbers};
 ghost use Rattle.hound_text.specs.declared.numbers.Place.TheVariants.{Between, Inside};
-ghost use Rattle.hound_text.specs.declared.numbers.Refusal.TheVariants.{BadNumber, InputOrOutput, OutOfMemory};
+ghost use Rattle.hound_text.specs.declared.numbers.Refusal.TheVariants.{BadNumber};
 
 use std::alloc::Global;
 use std::io;
-
-/// The bytes of input that are read at most, where numbers are read.
-const MOST_BYTES: u64 = 4_294_967_295;
 
 /// Why a text isn't read. It has one byte, where an error that holds an `io::Error` has a hundred,
 /// and it is part of the result for each number.
@@ -36,20 +32,9 @@ pub enum Refusal {
 enum Place {
     Between,
     AfterMinus,
-    // Within the digits of a number, with whether it is negative and the magnitude so far.
+    // Within the digits of a number, with whether it is negative and its magnitude so far, at most
+    // 2 ^ 31, which only a negative number may have.
     Inside(bool, u32),
-}
-
-// The magnitude with one digit more, at most 2 ^ 31, which only a negative number may have.
-#[inline(always)]
-fn with_digit(magnitude: u32, digit: u8) -> Result<u32, Refusal>
-    ensures { result ≡ ok_or (longer_magnitude magnitude digit) BadNumber }
-{
-    let longer = magnitude as u64 * 10 + digit as u64;
-    if longer > 2_147_483_648 {
-        return Err(Refusal::BadNumber);
-    }
-    Ok(longer as u32)
 }
 
 // Takes one byte of the text, and appends the number that it ends.
@@ -61,8 +46,11 @@ fn take_byte(place: Place, byte: u8, numbers: &mut Vec<i32>) -> Result<Place, Re
 {
     match (place, byte) {
         (Place::Inside(is_negative, magnitude), b'0'..=b'9') => {
-            let magnitude = with_digit(magnitude, byte - b'0')?;
-            Ok(Place::Inside(is_negative, magnitude))
+            let longer = magnitude as u64 * 10 + (byte - b'0') as u64;
+            if longer > 2_147_483_648 {
+                return Err(Refusal::BadNumber);
+            }
+            Ok(Place::Inside(is_negative, longer as u32))
         }
         (Place::Between, b'0'..=b'9') => Ok(Place::Inside(false, (byte - b'0') as u32)),
         (Place::AfterMinus, b'0'..=b'9') => Ok(Place::Inside(true, (byte - b'0') as u32)),
@@ -91,16 +79,14 @@ fn end_of_word(place: Place, numbers: &mut Vec<i32>) -> Result<(), Refusal>
 }
 
 // Takes bytes of the text, in order.
-fn take_bytes(place: Place, bytes: &[u8], numbers: &mut Vec<i32>) -> Result<Place, Refusal>
+fn take_bytes(mut place: Place, mut bytes: &[u8], numbers: &mut Vec<i32>) -> Result<Place, Refusal>
     ensures taken { IfOk result (λ later.
         Leads place bytes.now numbers.old.items later [] numbers.new.items) }
     ensures refused { IfErr result (λ refusal. IsTextRefusal refusal (Breaks place bytes.now)) }
 {
-    let mut place = place;
-    let mut rest = bytes;
-    while let Some((byte, others)) = rest.split_first() {
+    while let Some((byte, rest)) = bytes.split_first() {
         place = take_byte(place, *byte, numbers)?;
-        rest = others;
+        bytes = rest;
     }
     Ok(place)
 }
@@ -120,7 +106,7 @@ pub fn read_numbers<R: io::Read>(alloc: Global, input: &mut R) -> Result<Vec<i32
     let mut numbers = Vec::new(alloc);
     let mut place = Place::Between;
     let mut buffer = [0; 16384];
-    let mut room = MOST_BYTES;
+    let mut room: usize = 4_294_967_295;
     loop {
         let Ok(count) = input.read(&mut buffer) else {
             return Err(Refusal::InputOrOutput);
@@ -129,12 +115,12 @@ pub fn read_numbers<R: io::Read>(alloc: Global, input: &mut R) -> Result<Vec<i32
             end_of_word(place, &mut numbers)?;
             return Ok(numbers);
         }
-        if count as u64 > room {
-            take_bytes(place, &buffer[..room as usize], &mut numbers)?;
+        let taken = count.min(room);
+        place = take_bytes(place, &buffer[..taken], &mut numbers)?;
+        if taken < count {
             return Err(Refusal::TooLong);
         }
-        place = take_bytes(place, &buffer[..count], &mut numbers)?;
-        room -= count as u64;
+        room -= taken;
     }
 }
 
