@@ -6,7 +6,7 @@ ghost use Rattle.std.specs.Io.KnownBytes.{ReadConsumes};
 ghost use Rattle.hound_medium.specs.{Goes, Shifts, Gets, Puts, Flushes, Stays, WhereTells, WhereKeeps, one_more, faults_after};
 ghost use Rattle.hound_durable.specs.Losses.{Ascends, IsBelow, IsItsFault, IsLastBefore, LeadsBack, OnlySyncs, own, left_of, replays_own, left_own};
 
-use hound_medium::{Medium, Placed, Source};
+use hound_medium::{Medium, Placed, Source, count_fault};
 use std::io;
 use std::io::ErrorKind;
 
@@ -77,13 +77,6 @@ impl<M: Medium> Durable<M> {
         inner
     }
 
-    // Whether a place is before the end of what isn't flushed.
-    fn leads_back(&self, to: u64) -> bool
-        ensures { result ≡ nat_lt to self.now.end }
-    {
-        to < self.end
-    }
-
     // Flushes the medium within.
     fn sync(&mut self) -> io::Result<()>
         ensures stays { WhereTells M.tells (Stays (within self.old) (within self.new)) }
@@ -98,16 +91,9 @@ impl<M: Medium> Durable<M> {
         ensures fault { WhereTells M.tells
             ((within self.new).faults ≡ faults_after result (within self.old).faults) }
     {
-        match Medium::flush(&mut self.inner) {
-            Ok(()) => {
-                self.end = 0;
-                Ok(())
-            }
-            Err(e) => {
-                self.faults = self.faults.saturating_add(1);
-                Err(e)
-            }
-        }
+        count_fault(Medium::flush(&mut self.inner), &mut self.faults)?;
+        self.end = 0;
+        Ok(())
     }
 }
 
@@ -134,19 +120,12 @@ impl<M: Medium> Placed for Durable<M> {
         ensures only_syncs { WhereKeeps M.tells M.keeps (OnlySyncs (within self.old) (within self.new)) }
         ensures fault { WhereTells M.tells (IsItsFault result (within self.old) (within self.new)) }
     {
-        if self.leads_back(to) {
+        if to < self.end {
             self.sync()?;
         }
-        match self.inner.go(to) {
-            Ok(()) => {
-                self.place = to;
-                Ok(())
-            }
-            Err(e) => {
-                self.faults = self.faults.saturating_add(1);
-                Err(e)
-            }
-        }
+        count_fault(self.inner.go(to), &mut self.faults)?;
+        self.place = to;
+        Ok(())
     }
 
     fn shift(&mut self, by: i64) -> io::Result<()>
@@ -163,13 +142,12 @@ impl<M: Medium> Placed for Durable<M> {
             (FitsUnsigned w64 (pos (within self.old).place +ℤ by)
             → IsItsFault result (within self.old) (within self.new)) }
     {
-        match self.place.checked_add_signed(by) {
-            Some(to) => self.go(to),
-            None => {
-                self.faults = self.faults.saturating_add(1);
-                Err(io::Error::from(ErrorKind::InvalidInput))
-            }
-        }
+        let to = self
+            .place
+            .checked_add_signed(by)
+            .ok_or(ErrorKind::InvalidInput);
+        let to = count_fault(to, &mut self.faults)?;
+        self.go(to)
     }
 }
 
@@ -194,21 +172,16 @@ impl<M: Medium> Medium for Durable<M> {
     {
         let room = (u64::MAX - self.place).min(u64::MAX - self.taken);
         if room < bytes.len() as u64 {
-            self.faults = self.faults.saturating_add(1);
-            return Err(io::Error::from(ErrorKind::OutOfMemory));
+            return count_fault(
+                Err(io::Error::from(ErrorKind::OutOfMemory)),
+                &mut self.faults,
+            );
         }
-        match self.inner.put(bytes) {
-            Ok(n) => {
-                self.place += n as u64;
-                self.taken += n as u64;
-                self.end = self.place;
-                Ok(n)
-            }
-            Err(e) => {
-                self.faults = self.faults.saturating_add(1);
-                Err(e)
-            }
-        }
+        let n = count_fault(self.inner.put(bytes), &mut self.faults)?;
+        self.place += n as u64;
+        self.taken += n as u64;
+        self.end = self.place;
+        Ok(n)
     }
 
     fn flush(&mut self) -> io::Result<()>
@@ -260,18 +233,13 @@ impl<M: Medium + Source> Source for Durable<M> {
             → IsItsFault result (within self.old) (within self.new)) }
     {
         if u64::MAX - self.place < buf.len() as u64 {
-            self.faults = self.faults.saturating_add(1);
-            return Err(io::Error::from(ErrorKind::InvalidInput));
+            return count_fault(
+                Err(io::Error::from(ErrorKind::InvalidInput)),
+                &mut self.faults,
+            );
         }
-        match Source::get(&mut self.inner, buf) {
-            Ok(n) => {
-                self.place += n as u64;
-                Ok(n)
-            }
-            Err(e) => {
-                self.faults = self.faults.saturating_add(1);
-                Err(e)
-            }
-        }
+        let n = count_fault(Source::get(&mut self.inner, buf), &mut self.faults)?;
+        self.place += n as u64;
+        Ok(n)
     }
 }

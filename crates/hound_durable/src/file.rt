@@ -36,14 +36,12 @@ impl SyncedFile {
     pub fn new(alloc: Global, file: fs::File) -> Result<SyncedFile>
         ensures { IfErr result (λ e. e ≡ Error.OutOfMemory) }
     {
-        match BufWriter::with_capacity(alloc, FILE_BUFFER_SIZE, file) {
-            Ok(writer) => Ok(SyncedFile {
-                writer,
-                has_synced: false,
-                has_failed: false,
-            }),
-            Err(_) => Err(Error::OutOfMemory),
-        }
+        let writer = BufWriter::with_capacity(alloc, FILE_BUFFER_SIZE, file);
+        Ok(SyncedFile {
+            writer: writer.or(Err(Error::OutOfMemory))?,
+            has_synced: false,
+            has_failed: false,
+        })
     }
 
     // Returns once the disk has what the system was given.

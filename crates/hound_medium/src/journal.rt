@@ -9,7 +9,7 @@ ghost use Rattle.hound_medium.specs.State.{overlay, moment, Goes, Shifts, Gets, 
 
 use crate::bytes::copy_from;
 use crate::past::{put_and_keep, replay};
-use crate::{Medium, Placed, Source};
+use crate::{Medium, Placed, Source, count_fault};
 use hound_spec::{Error, Result};
 use std::alloc::Global;
 use std::io;
@@ -66,11 +66,8 @@ impl Journal {
         ensures no_limit { IfOk result (λ j. greatest_count j ≡ 2 ^ 64 - 1) }
         ensures err { IfErr result (λ e. e ≡ Error.OutOfMemory) }
     {
-        let Ok(start) = bytes.to_vec(alloc) else {
-            return Err(Error::OutOfMemory);
-        };
         Ok(Journal {
-            start,
+            start: bytes.to_vec(alloc)?,
             past: Vec::new(alloc),
             bytes,
             place: 0,
@@ -136,13 +133,9 @@ impl Journal {
             IfOk result (λ bytes. bytes.items ≡ moment state.start state.past k) }
         ensures err { IfErr result (λ e. e ≡ Error.OutOfMemory) }
     {
-        let Ok(mut bytes) = self.start.to_vec(alloc) else {
-            return Err(Error::OutOfMemory);
-        };
-        match replay(&mut bytes, &self.past[..k]) {
-            Ok(()) => Ok(bytes),
-            Err(_) => Err(Error::OutOfMemory),
-        }
+        let mut bytes = self.start.to_vec(alloc)?;
+        replay(&mut bytes, &self.past[..k])?;
+        Ok(bytes)
     }
 
     // Numbers a call, and fails it on request.
@@ -156,8 +149,7 @@ impl Journal {
     {
         self.calls = self.calls.saturating_add(1);
         if self.fail_from <= self.calls && self.calls <= self.fail_to {
-            self.faults = self.faults.saturating_add(1);
-            return Err(io::Error::from(ErrorKind::Other));
+            return count_fault(Err(io::Error::from(ErrorKind::Other)), &mut self.faults);
         }
         Ok(())
     }
@@ -201,16 +193,12 @@ impl Placed for Journal {
         ensures numbered { IsNumbered self.old self.new }
     {
         self.call()?;
-        match self.place.checked_add_signed(by) {
-            Some(place) => {
-                self.place = place;
-                Ok(())
-            }
-            None => {
-                self.faults = self.faults.saturating_add(1);
-                Err(io::Error::from(ErrorKind::InvalidInput))
-            }
-        }
+        let place = self
+            .place
+            .checked_add_signed(by)
+            .ok_or(ErrorKind::InvalidInput);
+        self.place = count_fault(place, &mut self.faults)?;
+        Ok(())
     }
 }
 
@@ -233,16 +221,10 @@ impl Medium for Journal {
     {
         self.call()?;
         let n = bytes.len().min(self.most);
-        match put_and_keep(&mut self.bytes, &mut self.past, self.place, &bytes[..n]) {
-            Ok(()) => {
-                self.place += n as u64;
-                Ok(n)
-            }
-            Err(e) => {
-                self.faults = self.faults.saturating_add(1);
-                Err(io::Error::from(e))
-            }
-        }
+        let outcome = put_and_keep(&mut self.bytes, &mut self.past, self.place, &bytes[..n]);
+        count_fault(outcome, &mut self.faults)?;
+        self.place += n as u64;
+        Ok(n)
     }
 
     fn flush(&mut self) -> io::Result<()>

@@ -2,7 +2,7 @@
 // `put`.
 ghost use Rattle.std.specs.Prelude.{◌≡◌, ◌+◌, ◌<◌, ◌≤◌, Bool, IsTrue, false, length, drop, Some, IfOk};
 ghost use Rattle.hound_number.specs.{AreBytes};
-ghost use Rattle.hound_medium.specs.State.{overlay, MediumState, Goes, Shifts, Gets, Puts, Flushes, WhereTells, WhereKeeps, PutsAll};
+ghost use Rattle.hound_medium.specs.State.{overlay, MediumState, Goes, Shifts, Gets, Puts, Flushes, WhereTells, WhereKeeps, PutsAll, faults_after};
 
 use std::io;
 
@@ -138,4 +138,16 @@ pub fn put_all<M: Medium>(medium: &mut M, bytes: &[u8]) -> io::Result<()>
         }
     }
     Ok(())
+}
+
+/// The same result, where an `Err` has counted a fault; the count stays at `u64::MAX` once there.
+#[inline(always)]
+pub fn count_fault<T, E>(outcome: Result<T, E>, faults: &mut u64) -> Result<T, E>
+    ensures same { outcome ≡ result }
+    ensures faults { faults.new ≡ faults_after result faults.old }
+{
+    if outcome.is_err() {
+        *faults = faults.saturating_add(1);
+    }
+    outcome
 }

@@ -137,13 +137,9 @@ fn write_pcmwaveformat(header: &mut Header, spec_ex: WavSpecEx)
     requires room { length header.old + 20 ≤ 68 }
     ensures { header.new ≡ header.old ++ bytes_of 4 16 ++ short_fmt spec_ex }
 {
+    let bits = spec_ex.spec.bits_per_sample;
     header.write_le_u32(PCMWAVEFORMAT_LENGTH);
-    write_waveformat(
-        header,
-        WAVE_FORMAT_PCM,
-        spec_ex.spec.bits_per_sample,
-        spec_ex,
-    );
+    write_waveformat(header, WAVE_FORMAT_PCM, bits, spec_ex);
 }
 
 // The fmt chunk's length, and a WAVEFORMATEXTENSIBLE.
@@ -153,13 +149,9 @@ fn write_waveformatextensible(header: &mut Header, spec_ex: WavSpecEx)
     ensures { header.new ≡ header.old ++ bytes_of 4 40 ++ long_fmt spec_ex }
 {
     let spec = spec_ex.spec;
+    let container_bits = 8 * spec_ex.bytes_per_sample;
     header.write_le_u32(WAVEFORMATEXTENSIBLE_LENGTH);
-    write_waveformat(
-        header,
-        WAVE_FORMAT_EXTENSIBLE,
-        8 * spec_ex.bytes_per_sample,
-        spec_ex,
-    );
+    write_waveformat(header, WAVE_FORMAT_EXTENSIBLE, container_bits, spec_ex);
     header.write_le_u16(EXTENSION_LENGTH);
     header.write_le_u16(spec.bits_per_sample);
     header.write_le_u32(channel_mask(spec.channels));
@@ -240,9 +232,6 @@ impl WavSpec {
             return Err(Error::Unsupported);
         }
         let header = header_of(spec_ex, u32::MAX, u32::MAX);
-        match header.as_slice().to_vec(alloc) {
-            Ok(bytes) => Ok(bytes),
-            Err(_) => Err(Error::OutOfMemory),
-        }
+        header.as_slice().to_vec(alloc).or(Err(Error::OutOfMemory))
     }
 }

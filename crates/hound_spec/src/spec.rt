@@ -78,12 +78,10 @@ impl WavSpecEx {
         ensures { IsTrue result ↔ IsWritable self.now }
     {
         let spec = self.spec;
-        let block_align = spec.channels as u32 * self.bytes_per_sample as u32;
-        is_pair(
-            spec.sample_format,
-            spec.bits_per_sample,
-            self.bytes_per_sample,
-        ) && spec.channels >= 1
+        let bytes = self.bytes_per_sample;
+        let block_align = spec.channels as u32 * bytes as u32;
+        is_pair(spec.sample_format, spec.bits_per_sample, bytes)
+            && spec.channels >= 1
             && spec.sample_rate >= 1
             && block_align <= 65535
             && block_align as u64 * spec.sample_rate as u64 <= 4_294_967_295

@@ -1,9 +1,8 @@
 -- The digits of a number, the last one by itself.
-use Rattle.std.proofs.Common.{rules, ◌≡◌, ℕ, ℤ, pos, negsuc, nat_abs, zero, suc, ◌+◌, ◌*◌, ◌/◌, ◌%◌, ◌^◌, ◌<◌, ◌≤◌, cond, nat_lt, List, [], ◌∷◌, ◌++◌, length, refl, ap, sym, ◌∙◌, arith}
+use Rattle.std.proofs.Common.{rules, ◌≡◌, ℕ, zero, suc, ◌+◌, ◌*◌, ◌/◌, ◌%◌, ◌^◌, ◌<◌, ◌≤◌, cond, nat_lt, List, [], ◌∷◌, ◌++◌, length, refl, ap, sym, ◌∙◌, arith}
 use Rattle.std.proofs.lemmas.Fmt.{AppendsLastDigit, decimal_from_appends}
 use Rattle.std.proofs.lemmas.Nat.{pow-add}
-use Rattle.std.specs.Fmt.{decimal, signed_decimal}
-use Rattle.hound_text.specs.Text.{sign}
+use Rattle.std.specs.Fmt.{decimal}
 
 -- the text of at most so many digits
 abbrev text_of : ℕ → ℕ → List ℕ
@@ -26,15 +25,6 @@ decimal_more n many small =
     ∙ appends.more k n many
     ∙ ap (λ l. l ++ (48 + n % 10) ∷ [])
     (decimal_from_appends text_of appends k (n / 10) (omega (arith, small)) (omega arith))
-
--- the minus of a negative number, and the digits of its magnitude
-pub signed : (z : ℤ) → sign z ++ decimal (nat_abs z) ≡ signed_decimal z
-signed (pos n) = refl
-signed (negsuc n) = refl
-
-pub length-sign : (z : ℤ) → length (sign z) ≤ 1
-length-sign (pos n) = omega arith
-length-sign (negsuc n) = omega arith
 
 -- four bits are a digit in base 16
 pub sixteen-pow : (k : ℕ) → 2 ^ (4 * k) ≡ 16 ^ k

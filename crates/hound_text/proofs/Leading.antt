@@ -1,67 +1,14 @@
 -- How reading leads from place to place.
-use Rattle.std.proofs.Common.{◌≡◌, ℕ, ℤ, ◌≤◌, List, [], ◌∷◌, ◌++◌, take, drop, Option, Some, None, true, IfSome, refl, ap, sym, ◌∙◌, append_assoc, arith, take-append-drop, IfErr, Result, Ok, Err, subst}
+use Rattle.std.proofs.Common.{◌≡◌, ℕ, ℤ, ◌≤◌, List, [], ◌++◌, take, drop, Option, Some, None, IfSome, ap, sym, ◌∙◌, append_assoc, arith, take-append-drop, IfErr, Result, Ok, Err, subst}
 use Rattle.std.proofs.lemmas.Grind.{common_steps}
 use Rattle.std.specs.Io.KnownBytes.{Consumes, IsAtEnd}
-use Rattle.hound_text.specs.Reading.{Breaks, Follows, Leads, before, ended, numbers_from, IsRefused, IsTextRefusal}
-use Rattle.hound_text.specs.Text.{SaysNoNumbers, SaysNumbers, is_separator}
+use Rattle.hound_text.specs.Reading.{Breaks, Follows, before, ended, numbers_from, IsRefused, IsTextRefusal}
+use Rattle.hound_text.specs.Text.{SaysNoNumbers, SaysNumbers}
 use Rattle.hound_text.specs.declared.numbers.Place.{Place}
-use Rattle.hound_text.specs.declared.numbers.Place.TheVariants.{Between}
 use Rattle.std.specs.Result.{IsErrAnd}
 use Rattle.hound_text.specs.declared.numbers.Refusal.{Refusal}
 use Rattle.hound_text.specs.declared.numbers.Refusal.TheVariants.{BadNumber, InputOrOutput, TooLong, OutOfMemory}
 use Rattle.hound_text.proofs.Saying.{said, unsaid}
-
-pub before_nil : (o : Option (List ℤ)) → before [] o ≡ o
-before_nil None = refl
-before_nil (Some more) = refl
-
-before-append : (ns ms : List ℤ) (o : Option (List ℤ)) → before ns (before ms o) ≡ before (ns ++ ms) o
-before-append ns ms None = refl
-before-append ns ms (Some more) = ap Some (sym (append_assoc ns ms more))
-
-before_none : (ns : List ℤ) (o : Option (List ℤ)) → before ns o ≡ None → o ≡ None
-before_none ns None e = refl
-before_none ns (Some more) e = cc
-
--- one way after another
-pub leads_then : (p q r : Place) (xs ys zs : List ℕ) (ns ms ks : List ℤ)
-    → Leads p xs ns q ys ms → Leads q ys ms r zs ks → Leads p xs ns r zs ks
-leads_then p q r xs ys zs ns ms ks first second = λ tail. first tail ∙ second tail
-
--- the same, where the second way is that of the front of what is left
-pub leads_front : (p q r : Place) (bytes rest xs ys : List ℕ) (ns ms ks : List ℤ)
-    → Leads p bytes ns q rest ms → rest ≡ xs ++ ys → Leads q xs ms r [] ks → Leads p bytes ns r ys ks
-leads_front p q r bytes rest xs ys ns ms ks first split second = λ tail.
-    first tail ∙ (ap (λ t. before ms (numbers_from q (t ++ tail))) split
-    ∙ (ap (λ t. before ms (numbers_from q t)) (append_assoc xs ys tail) ∙ second (ys ++ tail)))
-
--- what breaks later breaks
-pub leads_breaks : (p q : Place) (bytes rest xs ys : List ℕ) (ns ms : List ℤ)
-    → Leads p bytes ns q rest ms → rest ≡ xs ++ ys → Breaks q xs → Breaks p bytes
-leads_breaks p q bytes rest xs ys ns ms first split breaks = λ tail.
-    before_none ns _ (first tail ∙ (ap (λ t. before ms (numbers_from q (t ++ tail))) split
-    ∙ (ap (λ t. before ms (numbers_from q t)) (append_assoc xs ys tail) ∙ ap (before ms) (breaks (ys ++ tail)))))
-
--- numbers so far come before those that are read
-pub leads_after : (p q : Place) (xs ys : List ℕ) (ns ms : List ℤ)
-    → Leads p xs [] q ys ms → Leads p xs ns q ys (ns ++ ms)
-leads_after p q xs ys ns ms way = λ tail.
-    ap (before ns) (sym (before_nil _) ∙ way tail) ∙ before-append ns ms _
-
--- a separator between numbers says nothing
-pub leads_separator : (b : ℕ) (bytes : List ℕ) → is_separator b ≡ true → (ns : List ℤ)
-    → Leads Between (b ∷ bytes) ns Between bytes ns
-leads_separator b bytes separator ns = λ tail.
-    rw separator (ap (before ns) (before_nil (numbers_from Between (bytes ++ tail))))
-
--- bytes of the input are read
-pub follows_read : (old left later : Option (List ℕ)) (p q : Place) (ns ms : List ℤ) (bytes : List ℕ)
-    → Follows old left p ns → Consumes left later bytes → Leads p bytes ns q [] ms → Follows old later q ms
-follows_read None left later p q ns ms bytes follows read way = tt
-follows_read (Some text) None later p q ns ms bytes follows read way = absurd follows
-follows_read (Some text) (Some xs) None p q ns ms bytes follows read way = absurd read
-follows_read (Some text) (Some xs) (Some ys) p q ns ms bytes follows read way =
-    follows ∙ (ap (λ t. before ns (numbers_from p t)) read ∙ way ys)
 
 -- at the end of the input its numbers are those so far, and that of the word that ends there
 pub says_at_end : (old left later : Option (List ℕ)) (p : Place) (ns ms : List ℤ) (bytes : List ℕ)

@@ -10,7 +10,6 @@ use Rattle.std.specs.Int.{w32}
 use Rattle.std.specs.List.{filter, onto_first, slice_split}
 use Rattle.std.specs.Option.{option_and_then, option_map}
 use Rattle.std.specs.Str.Parse.{AllDigits, IsNumeral, digits_value, digits_value_after, starts_with_minus}
-use Rattle.hound_text.proofs.Growing.{value_after-append, value_after_grows}
 use Rattle.hound_text.specs.Reading.{before, ended, is_digit, longer_magnitude, next_place, numbers_from}
 use Rattle.hound_text.specs.Text.{SayNumbers, SaysNoNumbers, SaysNumber, SaysNumbers, is_filled, is_separator, signed_value, without_minus, words}
 use Rattle.hound_text.specs.declared.numbers.Place.{Place}
@@ -143,6 +142,18 @@ fits_most true m fits = fits_within true m fits
 fits_most false m fits = let h = fits_within false m fits in omega arith
 
 -- ---- a byte more
+
+-- digits that follow a number don't make it smaller
+value_after_grows : (n : ℕ) (ds : List ℕ) → n ≤ digits_value_after 10 n ds
+value_after_grows n [] = omega arith
+value_after_grows n (d ∷ ds) =
+    let more : n * 10 + digit_value d ≤ digits_value_after 10 (n * 10 + digit_value d) ds = value_after_grows (n * 10 + digit_value d) ds in
+    omega arith
+
+-- digits one after the other
+value_after-append : (n : ℕ) (xs ys : List ℕ) → digits_value_after 10 n (xs ++ ys) ≡ digits_value_after 10 (digits_value_after 10 n xs) ys
+value_after-append n [] ys = refl
+value_after-append n (x ∷ xs) ys = value_after-append (n * 10 + digit_value x) xs ys
 
 begun_some : (word : List ℕ) (negative : Bool) (magnitude : ℕ) → IsBegun word negative magnitude → word ≡ [] → ⊥
 begun_some word negative magnitude begun none =

@@ -1,7 +1,7 @@
 // Lines of numbers, buffered for the output.
 ghost use Rattle.std.specs.Prelude.{◌≡◌, ◌+◌, ◌<◌, ◌≤◌, ◌↔◌, ℕ, false, IsTrue, [], ◌∷◌, ◌++◌, decimal, length};
 ghost use Rattle.std.specs.Fmt.{digit_glyph};
-ghost use Rattle.hound_text.specs.Text.{integer_line, pattern_line, sign};
+ghost use Rattle.hound_text.specs.Text.{integer_line, pattern_line};
 ghost use Rattle.hound_number.specs.{Writes};
 
 use crate::output::write_text;
@@ -52,7 +52,9 @@ impl Lines {
         requires { length self.old + 24 ≤ 16384 }
         ensures { self.new ≡ self.old ++ integer_line number }
     {
-        self.push_sign(number);
+        if number < 0 {
+            self.push(b'-');
+        }
         self.push_decimal(number.unsigned_abs());
         self.push(b'\n');
     }
@@ -66,20 +68,10 @@ impl Lines {
         let mut place: u32 = 8;
         while place > 0 {
             place -= 1;
-            self.push(glyph((pattern >> (4 * place)) % 16));
+            let digit = (pattern >> (4 * place)) % 16;
+            self.push(char::from_digit(digit, 16).unwrap() as u8);
         }
         self.push(b'\n');
-    }
-
-    // Appends the minus of a negative number.
-    #[inline(always)]
-    fn push_sign(&mut self, number: i32)
-        requires { length self.old < 16384 }
-        ensures { self.new ≡ self.old ++ sign number }
-    {
-        if number < 0 {
-            self.push(b'-');
-        }
     }
 
     #[inline(always)]
@@ -93,19 +85,18 @@ impl Lines {
 
     // Appends the digits of a number in base 10, which are made from the last one on.
     #[inline(always)]
-    fn push_decimal(&mut self, number: u32)
+    fn push_decimal(&mut self, mut number: u32)
         requires { length self.old + 10 ≤ 16384 }
         ensures { self.new ≡ self.old ++ decimal number }
     {
         let mut text = [0; 10];
         let mut start = 9;
-        let mut rest = number;
-        while rest >= 10 {
-            text[start] = b'0' + (rest % 10) as u8;
-            rest /= 10;
+        while number >= 10 {
+            text[start] = b'0' + (number % 10) as u8;
+            number /= 10;
             start -= 1;
         }
-        text[start] = b'0' + rest as u8;
+        text[start] = b'0' + number as u8;
         self.append(&text[start..]);
     }
 
@@ -155,18 +146,5 @@ impl io::Write for Lines {
         ensures unchanged { self.new ≡ self.old }
     {
         Ok(())
-    }
-}
-
-// The text of a digit in base 16.
-#[inline(always)]
-fn glyph(digit: u32) -> u8
-    requires { digit < 16 }
-    ensures { result ≡ digit_glyph false digit }
-{
-    if digit < 10 {
-        b'0' + digit as u8
-    } else {
-        b'a' + (digit - 10) as u8
     }
 }

@@ -13,12 +13,8 @@ fn write_some<O: io::Write>(output: &mut O, bytes: &[u8]) -> io::Result<usize>
 {
     for _ in 0..u64::MAX {
         match output.write(bytes) {
-            Ok(count) => return Ok(count),
-            Err(error) => {
-                if error.kind() != ErrorKind::Interrupted {
-                    return Err(error);
-                }
-            }
+            Err(error) if error.kind() == ErrorKind::Interrupted => {}
+            result => return result,
         }
     }
     Err(io::Error::from(ErrorKind::Interrupted))

@@ -1,12 +1,12 @@
 use Rattle.hound_text.specs.Reading.{Follows, MayRead}
 use Rattle.hound_text.proofs.numbers.read_numbers.Given as goal
 
-abbrev pub invariant-loop-numbers : goal.invariant-loop-numbers
-invariant-loop-numbers g l = record {
+abbrev pub invariant-loop-count : goal.invariant-loop-count
+invariant-loop-count g l = record {
   room : MayRead (g.R.Read.remaining l.initial.input) (g.R.Read.remaining l.input) l.room;
   follows : Follows (g.R.Read.remaining l.initial.input) (g.R.Read.remaining l.input) l.place l.numbers.items;
 }
 
 -- what may still be read
-abbrev pub decreases-loop-numbers : goal.decreases-loop-numbers
-decreases-loop-numbers g l = l.room
+abbrev pub decreases-loop-count : goal.decreases-loop-count
+decreases-loop-count g l = l.room

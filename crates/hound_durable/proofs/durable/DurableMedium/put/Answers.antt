@@ -4,31 +4,31 @@ use Rattle.hound_durable.specs.Losses.{Ascends, place_of, IsBelow}
 use Rattle.hound_durable.proofs.Ascending.{length_put, below_more, ascends_more, place_after}
 use Rattle.hound_durable.proofs.durable.DurableMedium.put.Goals as goal
 
-pub invariant_of-self-in-Ok-clause-counts : goal.invariant_of-self-in-Ok-clause-counts
-invariant_of-self-in-Ok-clause-counts g c tells keeps =
+pub invariant_of-self-2-clause-counts : goal.invariant_of-self-2-clause-counts
+invariant_of-self-2-clause-counts g c tells keeps =
     let d = c.args.self.now in
     let old = g.M.Placed.state d.inner in
-    let bytes = take c.in-Ok.n c.args.bytes.now in
+    let bytes = take c.in_ok-n.n c.args.bytes.now in
     omega (
       arith,
-      ap length ((c.in-Ok.ensures.puts tells).takes.past keeps),
+      ap length (((rw c.in_ok-n.ensures.same at c.put.ensures.puts) tells).takes.past keeps),
       length_put old.past old.place bytes,
-      length-take-le c.in-Ok.n c.args.bytes.now c.in-Ok.ensures.bound.1,
+      length-take-le c.in_ok-n.n c.args.bytes.now (rw c.in_ok-n.ensures.same at c.put.ensures.bound).1,
       d.counts tells keeps,
     )
 
-pub invariant_of-self-in-Ok-clause-covered : goal.invariant_of-self-in-Ok-clause-covered
-invariant_of-self-in-Ok-clause-covered g c tells keeps =
+pub invariant_of-self-2-clause-covered : goal.invariant_of-self-2-clause-covered
+invariant_of-self-2-clause-covered g c tells keeps =
     let d = c.args.self.now in
     let old = g.M.Placed.state d.inner in
     let new = g.M.Placed.state c.put.new.self in
-    let puts = c.in-Ok.ensures.puts tells in
-    let bytes = take c.in-Ok.n c.args.bytes.now in
-    let end : old.place + length bytes ≡ d.place + c.in-Ok.n =
+    let puts = (rw c.in_ok-n.ensures.same at c.put.ensures.puts) tells in
+    let bytes = take c.in_ok-n.n c.args.bytes.now in
+    let end : old.place + length bytes ≡ d.place + c.in_ok-n.n =
     omega (
       arith,
       d.is_there tells,
-      length-take-le c.in-Ok.n c.args.bytes.now c.in-Ok.ensures.bound.1,
+      length-take-le c.in_ok-n.n c.args.bytes.now (rw c.in_ok-n.ensures.same at c.put.ensures.bound).1,
     ) in
     subst (λ e. IsBelow e new.past new.flushed) end
     (subst (λ past. IsBelow (old.place + length bytes) past new.flushed)
@@ -38,15 +38,15 @@ invariant_of-self-in-Ok-clause-covered g c tells keeps =
     (below_more old.past old.place d.end old.flushed bytes (d.covered tells keeps)
     (omega (arith, d.after, d.is_there tells)))))
 
-pub invariant_of-self-in-Ok-clause-last : goal.invariant_of-self-in-Ok-clause-last
-invariant_of-self-in-Ok-clause-last g c tells keeps before =
+pub invariant_of-self-2-clause-last : goal.invariant_of-self-2-clause-last
+invariant_of-self-2-clause-last g c tells keeps before =
     let d = c.args.self.now in
     let old = g.M.Placed.state d.inner in
-    let puts = c.in-Ok.ensures.puts tells in
-    let bytes = take c.in-Ok.n c.args.bytes.now in
-    let size = length-take-le c.in-Ok.n c.args.bytes.now c.in-Ok.ensures.bound.1 in
-    let some = c.in-Ok.ensures.bound.0 in
-    let i = length old.past + c.in-Ok.n - 1 in
+    let puts = (rw c.in_ok-n.ensures.same at c.put.ensures.puts) tells in
+    let bytes = take c.in_ok-n.n c.args.bytes.now in
+    let size = length-take-le c.in_ok-n.n c.args.bytes.now (rw c.in_ok-n.ensures.same at c.put.ensures.bound).1 in
+    let some = (rw c.in_ok-n.ensures.same at c.put.ensures.bound).0 in
+    let i = length old.past + c.in_ok-n.n - 1 in
     let long = ap length (puts.takes.past keeps) ∙ length_put old.past old.place bytes in (
       omega (arith, puts.takes.flushed, d.known tells keeps, some, long, size),
       omega (
@@ -59,13 +59,13 @@ invariant_of-self-in-Ok-clause-last g c tells keeps before =
       ),
     )
 
-pub invariant_of-self-in-Ok-clause-ascends : goal.invariant_of-self-in-Ok-clause-ascends
-invariant_of-self-in-Ok-clause-ascends g c tells keeps =
+pub invariant_of-self-2-clause-ascends : goal.invariant_of-self-2-clause-ascends
+invariant_of-self-2-clause-ascends g c tells keeps =
     let d = c.args.self.now in
     let old = g.M.Placed.state d.inner in
     let new = g.M.Placed.state c.put.new.self in
-    let puts = c.in-Ok.ensures.puts tells in
-    let bytes = take c.in-Ok.n c.args.bytes.now in
+    let puts = (rw c.in_ok-n.ensures.same at c.put.ensures.puts) tells in
+    let bytes = take c.in_ok-n.n c.args.bytes.now in
     subst (λ past. Ascends past new.flushed (length past)) (sym (puts.takes.past keeps))
     (subst (λ f. let past = old.past ++ placed old.place bytes in Ascends past f (length past))
     (sym puts.takes.flushed)

@@ -5,27 +5,27 @@ use Rattle.std.proofs.lemmas.Nat.{pow-add}
 use Rattle.hound_text.proofs.Decimals.{decimal_more}
 use Rattle.hound_text.proofs.lines.Lines.push_decimal.Goals as goal
 
-pub loop-rest-preserved : goal.loop-rest-preserved
-loop-rest-preserved c =
-    let loop = c.loop-rest in
+pub loop-number-preserved : goal.loop-number-preserved
+loop-number-preserved c =
+    let loop = c.loop-number in
     let kept = loop.invariant in
-    let many = c.loop-rest-test.true in
-    let digit = 48 + loop.rest % 10 in
+    let many = c.loop-number-test.true in
+    let digit = 48 + loop.number % 10 in
     let tail = drop (loop.start + 1) loop.text in
     let power = pow-add 10 loop.start 1 in
-    let some : 1 ≤ loop.start = some_left loop.start loop.rest many kept.small in
+    let some : 1 ≤ loop.start = some_left loop.start loop.number many kept.small in
     let back : loop.start - 1 + 1 ≡ loop.start = omega (arith, some) in
     record {
       long = length-set loop.text loop.start digit ∙ kept.long;
       within = omega (arith, kept.within);
-      small = subst (λ n. loop.rest / 10 < 10 ^ n) (sym back) (omega (arith, kept.small, power));
+      small = subst (λ n. loop.number / 10 < 10 ^ n) (sym back) (omega (arith, kept.small, power));
       fits = omega (arith, kept.fits);
-      digits = ap (λ n. decimal (loop.rest / 10) ++ drop n (set loop.text loop.start digit)) back
-          ∙ ap (λ l. decimal (loop.rest / 10) ++ l)
+      digits = ap (λ n. decimal (loop.number / 10) ++ drop n (set loop.text loop.start digit)) back
+          ∙ ap (λ l. decimal (loop.number / 10) ++ l)
           (drop-set loop.text loop.start digit (omega (arith, kept.within, kept.long)))
-          ∙ sym (append_assoc (decimal (loop.rest / 10)) (digit ∷ []) tail)
+          ∙ sym (append_assoc (decimal (loop.number / 10)) (digit ∷ []) tail)
           ∙ ap (λ l. l ++ tail)
-          (sym (decimal_more loop.rest many (omega (arith, kept.fits, c.ranges.number.fits))))
+          (sym (decimal_more loop.number many (omega (arith, kept.fits, c.ranges.number.fits))))
           ∙ kept.digits;
     }
   where
@@ -35,9 +35,9 @@ loop-rest-preserved c =
 
 pub returns : goal.returns
 returns c =
-    let loop = c.loop-rest in
+    let loop = c.loop-number in
     let kept = loop.invariant in
-    let digit = 48 + loop.rest in
+    let digit = 48 + loop.number in
     let text = set loop.text loop.start digit in
     let long : length (drop loop.start text) ≡ 10 - loop.start =
     omega (
@@ -51,5 +51,5 @@ returns c =
     (take_all (10 - loop.start) (drop loop.start text) (omega (arith, long))
     ∙ drop-set loop.text loop.start digit (omega (arith, kept.within, kept.long))
     ∙ ap (λ l. l ++ drop (loop.start + 1) loop.text)
-    (sym (decimal_digit loop.rest c.loop-rest-test.false))
+    (sym (decimal_digit loop.number c.loop-number-test.false))
     ∙ kept.digits)

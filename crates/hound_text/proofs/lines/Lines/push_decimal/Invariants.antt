@@ -2,14 +2,14 @@ use Rattle.std.proofs.Common.{◌≡◌, ◌+◌, ◌^◌, ◌<◌, ◌≤◌, �
 use Rattle.hound_text.proofs.lines.Lines.push_decimal.Given as goal
 
 -- the digits that are left, and those that were made
-abbrev pub invariant-loop-rest : goal.invariant-loop-rest
-invariant-loop-rest l = record {
+abbrev pub invariant-loop-number : goal.invariant-loop-number
+invariant-loop-number l = record {
   long : length l.text ≡ 10;
   within : l.start ≤ 9;
-  small : l.rest < 10 ^ (l.start + 1);
-  fits : l.rest ≤ l.number;
-  digits : decimal l.rest ++ drop (l.start + 1) l.text ≡ decimal l.number;
+  small : l.number < 10 ^ (l.start + 1);
+  fits : l.number ≤ l.fn.number;
+  digits : decimal l.number ++ drop (l.start + 1) l.text ≡ decimal l.fn.number;
 }
 
-abbrev pub decreases-loop-rest : goal.decreases-loop-rest
-decreases-loop-rest l = l.rest
+abbrev pub decreases-loop-number : goal.decreases-loop-number
+decreases-loop-number l = l.number

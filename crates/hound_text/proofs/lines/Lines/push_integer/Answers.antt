@@ -1,21 +1,16 @@
-use Rattle.std.proofs.Common.{ap, arith, decimal, length, length-append, of_z, to_z, w32}
+use Rattle.std.proofs.Common.{ℕ, ◌<◌, ◌≤◌, arith, ap, decimal, length, length-append}
 use Rattle.std.proofs.lemmas.Fmt.{length-decimal-le}
-use Rattle.hound_text.specs.Text.{sign}
-use Rattle.hound_text.proofs.Decimals.{length-sign}
 use Rattle.hound_text.proofs.lines.Lines.push_integer.Goals as goal
+use Rattle.hound_text.proofs.lines.Lines.push_integer.Goals.{then-number-lt0, else-number-lt0}
 
-pub push-requires : goal.push-requires
-push-requires c =
-    let z = to_z w32 (of_z w32 c.args.number) in
-    let small = c.unsigned_abs.type_inv in
-    omega (
-      arith,
-      c.requires,
-      ap length c.push_decimal.ensures,
-      length-append c.push_sign.new.self (decimal c.unsigned_abs.result),
-      ap length c.push_sign.ensures,
-      length-append c.args.self.now (sign z),
-      length-sign z,
-      length-decimal-le 10 c.unsigned_abs.result (omega arith) (omega (arith, small))
-          (omega (arith, small)),
-    )
+few_digits : (n : ℕ) → n < 4294967296 → length (decimal n) ≤ 10
+few_digits n small = length-decimal-le 10 n (omega arith) (omega (arith, small)) (omega (arith, small))
+
+pub push-requires-2 : goal.push-requires-2
+push-requires-2 c =
+    let few = few_digits c.unsigned_abs.result c.unsigned_abs.type_inv in
+    let longer = simp length-append at (ap length c.push_decimal.ensures) in
+    elim c.if-number-lt0.branch [
+      | then-number-lt0 w ↦ omega (arith, c.requires, few, longer, ap length w.self-is, simp length-append at (ap length w.push.ensures))
+      | else-number-lt0 w ↦ omega (arith, c.requires, few, longer, ap length w.self-is)
+    ]
