@@ -8,7 +8,7 @@ use hound_number::Input;
 use hound_reader::{FileHead, HeadError, read_until_data, read_until_samples};
 use std::io;
 
-/// Bytes that are read from the front.
+/// Bytes that are read from the front; no read of them fails.
 #[derive(Drop)]
 struct Window<'a> {
     rest: &'a [u8],
@@ -42,12 +42,11 @@ pub(crate) fn find_head(file: &[u8]) -> Result<FileHead, Fault>
     match read_until_data(&mut window) {
         Ok(head) => Ok(head),
         Err(HeadError::Refused(cause)) => Err(Fault::Head(cause)),
-        // No read of a window fails.
         Err(HeadError::Failed(_)) => unreachable!(),
     }
 }
 
-/// Walks over a file up to its data, and says how many samples follow: the data are whole frames.
+/// The same for data that must be whole frames: also how many samples they are.
 pub(crate) fn find_samples(file: &[u8]) -> Result<(FileHead, u32), Fault>
     ensures readable { IfOk result (λ r. Readable file.now r.0.spec_ex r.1 r.0.data_start) }
     ensures sound { IfOk result (λ r. IsSoundSpec r.0.spec_ex) }

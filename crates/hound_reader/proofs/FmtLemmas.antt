@@ -1,10 +1,10 @@
 -- The definitions of a fmt chunk at bytes in pieces.
-use Rattle.std.proofs.Common.{◌≡◌, ℕ, ◌-◌, ◌≤◌, true, ◌||◌, List, ◌++◌, length, take, refl, ap, ◌∙◌, arith, take_at, length-take-le, drop_at, length-append, le-ltb, Ok, ◌==◌}
+use Rattle.std.proofs.Common.{◌≡◌, ◌+◌, ℕ, ◌-◌, ◌≤◌, true, ◌||◌, List, ◌++◌, length, take, refl, ap, ◌∙◌, arith, take_at, length-take-le, drop_at, length-append, le-ltb, Ok, ◌==◌}
 use Rattle.hound_spec.specs.declared.spec.WavSpecEx.{WavSpecEx}
 use Rattle.hound_number.specs.{number}
 use Rattle.hound_spec.specs.{fmt_fields, extension}
 use Rattle.hound_reader.specs.Fmt.{◌>>=◌, wave_format, fmt_len, fmt_said, fmt_of, wave_format_pcm, wave_format_extensible, by_subformat, by_tag}
-use Rattle.hound_reader.proofs.Gives.{take_over}
+use Rattle.std.proofs.Math.Seq.{take-append-add}
 
 pub pcm_forty : (len : ℕ) (found : WavSpecEx) (after : List ℕ) → len ≡ 40 → length after ≡ 24
     → (found.spec.bits_per_sample == 8 || found.spec.bits_per_sample == 16 ||
@@ -37,11 +37,12 @@ pub fmt_head : (len : ℕ) (h zs : List ℕ) → 16 ≤ len → length h ≡ 16
 unfolding fmt_said
 fmt_head len h zs big l =
     let n = fmt_len len in
-    let cut : take n (h ++ zs) ≡ h ++ take (n - 16) zs = take_over n h zs (omega arith)
-    ∙ ap (λ i. h ++ take (n - i) zs) l in
+    let long : n ≡ length h + (n - 16) = omega (arith, big, l) in
+    let cut : take n (h ++ zs) ≡ h ++ take (n - 16) zs =
+    ap (λ i. take i (h ++ zs)) long ∙ take-append-add h zs (n - 16) in
     let rest = take (n - 16) zs in
-    let long = le-ltb len 16 big in
+    let big_enough = le-ltb len 16 big in
     let enough = le-ltb (length (h ++ rest)) 16 (omega (arith, length-append h rest)) in
     let front = take_at h rest 16 l in
     let back = drop_at h rest 16 l in
-    rw (cut, long, enough, front, back) refl
+    rw (cut, big_enough, enough, front, back) refl

@@ -1,5 +1,5 @@
 -- What reading gives, piece after piece.
-use Rattle.std.proofs.Common.{◌≡◌, ℕ, zero, suc, ◌+◌, ◌-◌, ◌≤◌, List, [], ◌∷◌, ◌++◌, length, take, drop, refl, sym, ap, ◌∙◌, arith, take_at, drop_at, length-append, Option, None, Some, Result, Ok, Err}
+use Rattle.std.proofs.Common.{◌≡◌, ℕ, ◌+◌, ◌≤◌, List, ◌++◌, length, take, drop, refl, sym, ap, ◌∙◌, arith, take_at, drop_at, length-append, Option, None, Some, Result, Ok, Err}
 use Rattle.std.proofs.lemmas.List.{drop-drop}
 use Rattle.std.specs.Io.KnownBytes.{Consumes}
 use Rattle.hound_reader.specs.declared.cause.Cause.{Cause}
@@ -47,14 +47,6 @@ gives_from k j h None m n (Err (Refused c)) f g t l q d = tt
 gives_from k j h (Some xs) None n (Err (Refused c)) f g t l q d = absurd t
 gives_from k j h (Some xs) (Some ys) None (Err (Refused c)) f g t l q d = d
 gives_from k j h (Some xs) (Some ys) (Some zs) (Err (Refused c)) f g t l q d = ap g t ∙ q ys ∙ d
-
--- the front of what begins with h
-pub take_over : (n : ℕ) (h zs : List ℕ) → length h ≤ n
-    → take n (h ++ zs) ≡ h ++ take (n - length h) zs
-take_over n [] zs l = ap (λ i. take i zs) (omega arith)
-take_over zero (x ∷ h) zs l = absurd (omega arith)
-take_over (suc n) (x ∷ h) zs l = let e : suc n - suc (length h) ≡ n - length h = omega arith in
-    rw e (ap (λ t. x ∷ t) (take_over n h zs (omega arith)))
 
 -- h was taken, and g of what begins with h is a fault
 pub known_err : {A : Type 0} (h : List ℕ) (o m : Option (List ℕ)) (g : List ℕ → Result A Cause)

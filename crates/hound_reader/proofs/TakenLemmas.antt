@@ -1,6 +1,6 @@
 -- How many bytes are taken if the bytes are rejected, piece after piece.
-use Rattle.std.proofs.Common.{◌≡◌, ℕ, zero, suc, ◌+◌, ◌*◌, ◌%◌, ◌<◌, ◌≤◌, Bool, true, false, not, ◌||◌, if◌then◌else◌, List, [], ◌∷◌, ◌++◌, length, take, drop, refl, sym, ap, ◌∙◌, subst, arith, inl, inr, slice_range, append_assoc, drop_at, le-ltb, length-append, length-drop, Option, None, Some, Result, Ok, Err, ◌==◌, nat_lt}
-use Rattle.std.proofs.lemmas.List.{drop-drop}
+use Rattle.std.proofs.Common.{◌≡◌, ℕ, ◌+◌, ◌*◌, ◌%◌, ◌<◌, ◌≤◌, Bool, true, false, not, ◌||◌, if◌then◌else◌, List, [], ◌++◌, length, take, drop, refl, sym, ap, ◌∙◌, subst, arith, inl, inr, slice_range, append_assoc, drop_at, le-ltb, length-append, length-drop, Option, None, Some, Result, Ok, Err, ◌==◌, nat_lt}
+use Rattle.std.proofs.lemmas.List.{drop-append-le, drop-drop, take-append-le}
 use Rattle.std.proofs.Math.Seq.{drop-length}
 use Rattle.std.specs.Io.KnownBytes.{Consumes}
 use Rattle.hound_number.specs.{WhereKnown, number}
@@ -19,18 +19,6 @@ use Rattle.hound_reader.specs.declared.cause.Cause.TheVariants.{Ended, Format, U
 use Rattle.hound_reader.specs.declared.cause.Reason.TheVariants.{ZeroChannels, BitsExceedWidth, Inconsistent, BitsNotWholeBytes, ZeroBits}
 use Rattle.hound_reader.specs.declared.cause.HeadError.{HeadError}
 use Rattle.hound_reader.specs.declared.cause.HeadError.TheVariants.{Failed, Refused}
-
--- the front of what begins with h
-pub take_within : (n : ℕ) (h ys : List ℕ) → n ≤ length h → take n (h ++ ys) ≡ take n h
-take_within zero h ys room = refl
-take_within (suc n) [] ys room = absurd (omega (arith, room))
-take_within (suc n) (x ∷ h) ys room = ap (λ t. x ∷ t) (take_within n h ys (omega (arith, room)))
-
--- what is left of the front of what begins with h
-pub drop_within : (n : ℕ) (h ys : List ℕ) → n ≤ length h → drop n (h ++ ys) ≡ drop n h ++ ys
-drop_within zero h ys room = refl
-drop_within (suc n) [] ys room = absurd (omega (arith, room))
-drop_within (suc n) (x ∷ h) ys room = drop_within n h ys (omega (arith, room))
 
 -- h was taken, and then n bytes
 pub taken_then : (h ys zs : List ℕ) (n : ℕ) → AreTaken n ys zs
@@ -132,8 +120,8 @@ chunk_takes c len h ys cause eight room is =
     let limit = le-ltb greatest_u32 (c + 8) room in
     let enough = le-ltb (length (h ++ ys)) 8 (omega (arith, eight, length-append h ys)) in
     let size : take 4 (drop 4 (h ++ ys)) ≡ take 4 (drop 4 h) =
-    ap (take 4) (drop_within 4 h ys (omega (arith, eight)))
-    ∙ take_within 4 (drop 4 h) ys (simp length-drop (omega (arith, eight))) in
+    ap (take 4) (drop-append-le 4 h ys (omega (arith, eight)))
+    ∙ take-append-le 4 (drop 4 h) ys (simp length-drop (omega (arith, eight))) in
     rw (limit, enough, drop_at h ys 8 eight, size, sym is, eight) refl
 
 -- P and Q for the same bytes

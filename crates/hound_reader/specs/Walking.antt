@@ -123,7 +123,7 @@ content_taken tag len (Format BitsNot32) n = len
 content_taken tag len Unsupported n = if tag == extensible then 40 else 16
 content_taken tag len _ n = 16
 
--- the same of the content of a chunk of this length, which is a fmt chunk if its bytes are read
+-- how many of these bytes, the content of a chunk of this length, are taken for a fault
 abbrev pub content_takes : ℕ → Cause → List ℕ → ℕ
 content_takes len cause bytes = content_taken (fmt_fields bytes).tag len cause (length bytes)
 

@@ -93,9 +93,9 @@ fn read_content<R: Input>(
 ) -> Result<ChunkRead, HeadError>
     requires taken { taken + 8 ≤ greatest_u32 }
     requires sound { IsSoundOption found }
-    ensures { Walks R.account R.left (IsSoundChunk taken) (ReadsContent taken found tag.now chunk_len)
-        (content_fault taken found tag.now chunk_len) (content_takes chunk_len) reader.old
-        reader.new result }
+    ensures { Walks R.account R.left (IsSoundChunk taken)
+        (ReadsContent taken found tag.now chunk_len) (content_fault taken found tag.now chunk_len)
+        (content_takes chunk_len) reader.old reader.new result }
 {
     if tag == b"data".as_slice() {
         return match found {

@@ -69,8 +69,8 @@ fn read_wave_format_pcm<R: Input>(
 ) -> Result<WavSpecEx, HeadError>
     requires chunk_len { 16 ≤ chunk_len }
     requires sound { IsSoundSpec found }
-    ensures { ReadsFormat R.account R.left pcm chunk_len (wave_format_pcm chunk_len found) reader.old
-        reader.new result }
+    ensures { ReadsFormat R.account R.left pcm chunk_len (wave_format_pcm chunk_len found)
+        reader.old reader.new result }
 {
     if chunk_len == PCMWAVEFORMAT_LENGTH {
         return Ok(found);
@@ -101,8 +101,8 @@ fn read_wave_format_ieee_float<R: Input>(
 ) -> Result<WavSpecEx, HeadError>
     requires chunk_len { 16 ≤ chunk_len }
     requires sound { IsSoundSpec found }
-    ensures { ReadsFormat R.account R.left ieee_float chunk_len (wave_format_ieee_float chunk_len found) reader.old
-        reader.new result }
+    ensures { ReadsFormat R.account R.left ieee_float chunk_len
+        (wave_format_ieee_float chunk_len found) reader.old reader.new result }
 {
     // A float has no extension that could follow here.
     if chunk_len != PCMWAVEFORMAT_LENGTH && chunk_len != WAVEFORMATEX_LENGTH {
@@ -167,8 +167,8 @@ fn read_wave_format_extensible<R: Input>(
 ) -> Result<WavSpecEx, HeadError>
     requires chunk_len { 16 ≤ chunk_len }
     requires sound { IsSoundSpec found }
-    ensures { ReadsFormat R.account R.left extensible chunk_len (wave_format_extensible chunk_len found) reader.old
-        reader.new result }
+    ensures { ReadsFormat R.account R.left extensible chunk_len
+        (wave_format_extensible chunk_len found) reader.old reader.new result }
 {
     // Its size and the extension follow the first sixteen bytes.
     if chunk_len < WAVEFORMATEXTENSIBLE_LENGTH {
@@ -194,8 +194,8 @@ fn read_by_tag<R: Input>(
 ) -> Result<WavSpecEx, HeadError>
     requires chunk_len { 16 ≤ chunk_len }
     requires sound { IsSoundSpec found }
-    ensures { ReadsFormat R.account R.left tag chunk_len (by_tag tag chunk_len found) reader.old
-        reader.new result }
+    ensures { ReadsFormat R.account R.left tag chunk_len (by_tag tag chunk_len found)
+        reader.old reader.new result }
 {
     match tag {
         WAVE_FORMAT_PCM => read_wave_format_pcm(reader, chunk_len, found),

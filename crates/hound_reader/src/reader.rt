@@ -25,8 +25,8 @@ use std::io::ErrorKind;
 use std::marker::{Brand, Model, PhantomData};
 use std::{io, result};
 
-/// Takes exactly what is before the data, which must be whole frames: the head, and how many samples
-/// follow it. The walk over a file that reading in memory shares.
+/// Takes exactly what is before the data, which must be whole frames, and returns the head and how
+/// many samples follow. `hound_c` reads by it too.
 pub fn read_until_samples<R: Input>(reader: &mut R) -> result::Result<(FileHead, u32), HeadError>
     ensures sound { IfOk result (λ r. IsSoundSpec r.0.spec_ex) }
     ensures start { IfOk result (λ r. IsDataPlace r.0.data_start) }

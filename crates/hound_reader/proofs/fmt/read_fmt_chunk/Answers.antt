@@ -1,3 +1,4 @@
+use Rattle.std.proofs.lemmas.List.{take-append-le}
 use Rattle.std.proofs.Common.{◌≡◌, ℕ, ◌+◌, ◌-◌, ◌≤◌, List, ◌++◌, length, take, slice_range, arith, sym, ap, ◌∙◌, length-append, Option, Result, Ok, Err}
 use Rattle.std.specs.Prelude.{IfErr}
 use Rattle.std.specs.Io.KnownBytes.{Consumes}
@@ -6,7 +7,7 @@ use Rattle.hound_spec.specs.{fmt_fields}
 use Rattle.hound_reader.specs.Fmt.{◌>>=◌, fmt_len, fmt_of, by_tag}
 use Rattle.hound_reader.proofs.Gives.{gives_from, known_err}
 use Rattle.hound_reader.proofs.FmtLemmas.{fmt_head}
-use Rattle.hound_reader.proofs.TakenLemmas.{take_within, takes_after, takes_these, wave_format_takes}
+use Rattle.hound_reader.proofs.TakenLemmas.{takes_after, takes_these, wave_format_takes}
 use Rattle.hound_reader.specs.Walking.{TakesFor, content_taken, Refuses}
 use Rattle.hound_number.specs.{number}
 use Rattle.hound_spec.specs.declared.spec.WavSpecEx.{WavSpecEx}
@@ -54,7 +55,7 @@ more_are_taken h tag len o m n (Err e) taken sixteen same t late =
     (λ d. (k : ℕ) → 16 ≤ content_taken tag len d (16 + k)) e taken late
     (λ d ys later.
     let is : (fmt_fields (h ++ ys)).tag ≡ tag =
-    ap number (take_within 2 h ys (omega (arith, sixteen))) ∙ sym same in
+    ap number (take-append-le 2 h ys (omega (arith, sixteen))) ∙ sym same in
     let more : length (h ++ ys) ≡ 16 + length ys = omega (arith, length-append h ys, sixteen) in
     rw (is, more) (omega (arith, sixteen, later (length ys)))) t
 
