@@ -1,6 +1,6 @@
 // The parts of a writer's calls.
 ghost use Rattle.hound_medium.specs.{WhereKeeps, WhereTells};
-ghost use Rattle.std.specs.Prelude.{◌≡◌, ◌+◌, ◌≤◌, ◌^◌, ◌<◌, ℕ, List, length, false, IsTrue, OnOk, not};
+ghost use Rattle.std.specs.Prelude.{◌≡◌, ◌+◌, ◌≤◌, ◌<◌, length, false, OnOk, not};
 ghost use Rattle.hound_number.specs.{bytes_of};
 ghost use Rattle.hound_writer.specs.Parts.{PatchesAtEach, PutsAt, Patches, all_out};
 
