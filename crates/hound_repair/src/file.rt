@@ -8,7 +8,7 @@ use crate::look::find_damage;
 use crate::mend::{repair, repair_to_end};
 use crate::sizes::Repair;
 use hound_medium::{Medium, Placed, Source};
-use hound_spec::{Error, Result};
+use hound_spec::Result;
 use std::alloc::Global;
 use std::io::{BufReader, Read, Seek, Write};
 use std::path::Path;
@@ -72,10 +72,7 @@ impl Medium for FileInPlace {
 fn buffered(alloc: Global, file: fs::File) -> Result<BufReader<fs::File>> {
     let mut file = file;
     file.stream_position()?;
-    match BufReader::new(alloc, file) {
-        Ok(reader) => Ok(reader),
-        Err(_) => Err(Error::OutOfMemory),
-    }
+    Ok(BufReader::new(alloc, file)?)
 }
 
 // A file on disk, opened for reading and writing.
@@ -104,10 +101,8 @@ pub fn repair_file(
 ) -> Result<Repair>
     ensures sound { IfOk result (λ found. IsSoundSpec found.spec_ex) }
 {
-    match repair(open_in_place(rt, alloc, path)?) {
-        Ok((_, found)) => Ok(found),
-        Err((_, error)) => Err(error),
-    }
+    let (_, found) = repair(open_in_place(rt, alloc, path)?).map_err(|(_, error)| error)?;
+    Ok(found)
 }
 
 /// Repairs a file on disk as [`repair_to_end`] does: for a recording whose samples look like chunks
@@ -121,10 +116,8 @@ pub fn repair_file_to_end(
 ) -> Result<Repair>
     ensures sound { IfOk result (λ found. IsSoundSpec found.spec_ex) }
 {
-    match repair_to_end(open_in_place(rt, alloc, path)?) {
-        Ok((_, found)) => Ok(found),
-        Err((_, error)) => Err(error),
-    }
+    let (_, found) = repair_to_end(open_in_place(rt, alloc, path)?).map_err(|(_, error)| error)?;
+    Ok(found)
 }
 
 /// Looks at a file on disk as [`find_damage`] does, and writes nothing.
@@ -138,8 +131,6 @@ pub fn find_damage_in_file(
     ensures sound { IfOk result (λ found. IsSoundSpec found.spec_ex) }
 {
     let reader = buffered(alloc, fs::open(rt, path)?)?;
-    match find_damage(reader) {
-        Ok((_, found)) => Ok(found),
-        Err((_, error)) => Err(error),
-    }
+    let (_, found) = find_damage(reader).map_err(|(_, error)| error)?;
+    Ok(found)
 }

@@ -1,13 +1,11 @@
 // Batches of samples of sixteen bits.
-ghost use Rattle.std.specs.Prelude.{◌≡◌, List, ◌∷◌, ◌+◌, ◌*◌, ◌^◌, ◌≤◌, ◌<◌, length, ◌/◌, ◌++◌, max, [], take, IfOk, IfErr, OnOk, Ok, Err, false};
+ghost use Rattle.std.specs.Prelude.{◌≡◌, ◌+◌, ◌*◌, ◌^◌, ◌≤◌, ◌<◌, length, max, [], take, IfOk, IfErr, OnOk, Ok, Err, false};
 ghost use Rattle.std.specs.Borrow.{sem, RestsIfErr};
 ghost use Rattle.hound_number.specs.{signed_bytes_of};
 ghost use Rattle.hound_spec.specs.declared.error.Error.TheVariants.{OutOfMemory, TooLong};
-ghost use Rattle.hound_sample.specs.{containers};
 ghost use Rattle.hound_writer.specs.contracts.write.WavWriter.{the_row};
 ghost use Rattle.hound_writer.specs.Accepting.{Accepts, AreShort, mark_of, short_bytes, whole_containers};
 ghost use Rattle.hound_writer.specs.Calls.{Extends, KeepsCalls, made, marked, write};
-ghost use Rattle.hound_writer.specs.Parts.{bytes_kept};
 ghost use Rattle.hound_writer.specs.Writer.{IsSixteen, HasRoom};
 
 use crate::WavWriter;

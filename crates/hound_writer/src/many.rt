@@ -77,12 +77,10 @@ pub(crate) fn put_samples_at_end<M: Medium, S: Sample + Copy>(
         return false;
     }
     let bits = spec_ex.spec.bits_per_sample;
-    match put_samples(medium, block, samples, bits, spec_ex.bytes_per_sample) {
-        Ok(()) => true,
-        Err(error) => {
-            *may_have_moved = true;
-            *fault = error;
-            false
-        }
+    if let Err(error) = put_samples(medium, block, samples, bits, spec_ex.bytes_per_sample) {
+        *may_have_moved = true;
+        *fault = error;
+        return false;
     }
+    true
 }

@@ -92,11 +92,10 @@ fn publish_result(patched: io::Result<()>, are_frames: bool) -> Result<()>
 }
 
 impl<W: Medium> Output<W> {
-    ghost use Rattle.std.specs.Prelude.{◌≡◌, ◌+◌, ◌*◌, ◌-◌, ◌/◌, ◌%◌, ◌≤◌, ◌^◌, ◌↔◌, [], false, IsTrue, IsOk, Ok, IfErr, OnOk, length, take};
+    ghost use Rattle.std.specs.Prelude.{◌≡◌, ◌+◌, ◌*◌, ◌-◌, ◌/◌, ◌%◌, ◌≤◌, ◌^◌, ◌↔◌, [], false, IsTrue, IsOk, Ok, OnOk, length, take};
     ghost use Rattle.hound_spec.specs.{riff_size};
-    ghost use Rattle.hound_sample.specs.{containers};
-    ghost use Rattle.hound_medium.specs.{Goes, WhereTells, WhereKeeps};
-    ghost use Rattle.hound_writer.specs.Accepting.{Accepts, AcceptsBytes, IsIoError, one, containers_in, sample_bytes};
+    ghost use Rattle.hound_medium.specs.{WhereTells, WhereKeeps};
+    ghost use Rattle.hound_writer.specs.Accepting.{Accepts, AcceptsBytes, one, containers_in, sample_bytes};
     ghost use Rattle.hound_writer.specs.Parts.{GoesOut, result_of, block_length, or_fault, of_fields, IsStanding, Patches, PatchesAtEach};
     ghost use Rattle.hound_writer.specs.Publishing.{PublishesTo, place_after};
     ghost use Rattle.hound_writer.specs.Writer.{AreFrames, HasRoom, IsPadded, IsSound, IsValid, data_end, data_length, padded_end, sample_count};

@@ -1,6 +1,6 @@
 // The parts of a writer's calls.
 ghost use Rattle.hound_medium.specs.{WhereKeeps, WhereTells};
-ghost use Rattle.std.specs.Prelude.{◌≡◌, ◌+◌, ◌≤◌, ◌^◌, ◌<◌, ℕ, List, length, false, IsTrue, OnOk, not};
+ghost use Rattle.std.specs.Prelude.{◌≡◌, ◌+◌, ◌≤◌, ◌<◌, length, false, OnOk, not};
 ghost use Rattle.hound_number.specs.{bytes_of};
 ghost use Rattle.hound_writer.specs.Parts.{PatchesAtEach, PutsAt, Patches, all_out};
 
@@ -22,17 +22,13 @@ pub(crate) fn put_at_end<M: Medium>(
         (M.state medium.old) (M.state medium.new)) }
     ensures moved { may_have_moved.new ≡ not result }
 {
-    match go_and_put(medium, *may_have_moved, end, bytes) {
-        Ok(()) => {
-            *may_have_moved = false;
-            true
-        }
-        Err(error) => {
-            *may_have_moved = true;
-            *fault = error;
-            false
-        }
+    if let Err(error) = go_and_put(medium, *may_have_moved, end, bytes) {
+        *may_have_moved = true;
+        *fault = error;
+        return false;
     }
+    *may_have_moved = false;
+    true
 }
 
 // Writes bytes at a place, where the medium may be already.

@@ -44,18 +44,16 @@ impl<W: Medium> Model for WavWriter<W> {
 }
 
 impl<W: Medium> WavWriter<W> {
-    ghost use Rattle.std.specs.Prelude.{◌≡◌, ◌+◌, ◌-◌, ◌/◌, ◌%◌, ◌≤◌, ◌^◌, ◌↔◌, ◌++◌, ⊤, List, ℕ, [], ◌∷◌, false, IsTrue, Ok, Err, Result, MatchResult, IfErr, OnOk, length, take};
+    ghost use Rattle.std.specs.Prelude.{◌≡◌, ◌+◌, ◌-◌, ◌/◌, ⊤, [], false, Ok, Err, Result, MatchResult};
     ghost use Rattle.hound_spec.specs.declared.error.Error.{Error};
-    ghost use Rattle.hound_spec.specs.{riff_size, with_default_width};
-    ghost use Rattle.hound_sample.specs.{containers};
-    ghost use Rattle.hound_medium.specs.{Goes, WhereTells, WhereKeeps};
-    ghost use Rattle.hound_writer.specs.Accepting.{Accepts, IsIoError, mark_of, one, containers_in};
+    ghost use Rattle.hound_spec.specs.{with_default_width};
+    ghost use Rattle.hound_medium.specs.{WhereTells};
+    ghost use Rattle.hound_writer.specs.Accepting.{Accepts, mark_of, one, containers_in};
     ghost use Rattle.hound_writer.specs.Beginning.{Begins, IsNotBegun};
     ghost use Rattle.hound_writer.specs.Calls.{Ends, Extends, Recorded, made, marked, new_file, publish, write};
     ghost use Rattle.hound_spec.specs.declared.spec.WavSpecEx.{WavSpecEx};
-    ghost use Rattle.hound_writer.specs.Parts.{of_fields, IsStanding};
     ghost use Rattle.hound_writer.specs.Publishing.{Checkpoints, Finishes};
-    ghost use Rattle.hound_writer.specs.Writer.{AreFrames, HasRoom, IsValid, data_length, sample_count};
+    ghost use Rattle.hound_writer.specs.Writer.{IsValid, sample_count};
 
     /// Begins a file of this spec in a medium that is at 0, as each new one is. A sample
     /// takes the bytes that its bits need: `(bits_per_sample + 7) / 8`, rounded down.
