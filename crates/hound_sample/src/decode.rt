@@ -57,8 +57,7 @@ pub(crate) fn check_type(
     ensures some { IsOk result → 1 ≤ bytes }
     ensures few { IsOk result → bytes ≤ 4 }
 {
-    // No pair has more than four bytes.
-    if fmt == format && (most >= 4 || bytes <= most) && is_pair(fmt, bits, bytes) {
+    if fmt == format && bytes <= most && is_pair(fmt, bits, bytes) {
         return Ok(());
     }
     if fmt != format {
