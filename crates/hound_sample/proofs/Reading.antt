@@ -1,9 +1,10 @@
 -- Containers that were read, by the bytes that were taken.
-use Rattle.std.proofs.Common.{◌≡◌, ℕ, ◌<◌, List, length, refl, sym, ap, ◌∙◌, arith, take_at, drop_at, length-append, Option}
+use Rattle.std.proofs.Common.{◌≡◌, ℕ, ◌<◌, List, length, refl, sym, ap, ◌∙◌, arith, take_at, drop_at, length-append, Option, Some, None, Result, Ok}
+use Rattle.hound_spec.specs.declared.error.Error.{Error}
 use Rattle.std.specs.Io.KnownBytes.{Consumes}
 use Rattle.hound_number.specs.{WhereKnown}
 use Rattle.hound_number.proofs.KnownSteps.{known_from}
-use Rattle.hound_sample.specs.Reading.{TakesContainer, TakesPart}
+use Rattle.hound_sample.specs.Reading.{ReadRefusal, Reads, ReadsContainer, TakesContainer, TakesPart, read_error}
 
 pub takes_container : {A : Type 0} (bytes : List ℕ) (old new : Option (List ℕ)) (width : ℕ)
     (meaning : List ℕ → A) (value : A) → Consumes old new bytes → length bytes ≡ width
@@ -25,3 +26,10 @@ takes_part bytes old new width taken few =
       omega (arith, length-append bytes ys),
       sym (drop_at bytes ys (length bytes) refl),
     ))
+
+-- a type that reads the samples has read a container
+pub reads_container : {A : Type 0} (refusal : Option ReadRefusal) (meaning : List ℕ → A) (width : ℕ)
+    (old new : Option (List ℕ)) (result : Result A Error) → Ok tt ≡ read_error refusal
+    → ReadsContainer meaning width old new result → Reads refusal meaning width old new result
+reads_container None meaning width old new result is reads = reads
+reads_container (Some refusal) meaning width old new result is reads = cc

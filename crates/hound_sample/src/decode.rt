@@ -1,14 +1,15 @@
 // Containers that are read and decoded: one, or many in few reads, which fill pieces of whole
 // containers.
-ghost use Rattle.std.specs.Prelude.{◌≡◌, ◌≤◌, ◌<◌, ◌*◌, ℕ, List, length, map, take, Option, None, Ok, Err, IsOk, OnErr, OnOk};
+ghost use Rattle.std.specs.Prelude.{◌≡◌, ◌≤◌, ◌<◌, ◌*◌, ℕ, List, length, map, take, Option, None, IsOk, IsSome, OnErr, OnOk};
 ghost use Rattle.std.specs.Io.KnownBytes.{Consumes};
 ghost use Rattle.hound_sample.specs.Container.{containers};
-ghost use Rattle.hound_sample.specs.Reading.{ReadsItem, FillsFront, ReadsEach, items_of, ReadRefusal, ReadsContainer, read_error};
+ghost use Rattle.hound_sample.specs.Reading.{ReadsItem, FillsFront, ReadsEach, items_of, ReadRefusal, Reads, float_refusal, int_refusal, read_error};
 ghost use Rattle.hound_spec.specs.declared.spec.SampleFormat.{SampleFormat};
+ghost use Rattle.hound_spec.specs.declared.spec.SampleFormat.TheVariants.{Float, Int};
 
-use crate::item::{ContainerReader, ItemError};
+use crate::item::{ContainerReader, ItemError, reason_of};
 use hound_number::{early_end, read_into};
-use hound_spec::{Error, Result, SampleFormat};
+use hound_spec::{Error, Result, SampleFormat, is_pair};
 use std::{io, result};
 
 // The bytes of a piece: enough that a read costs little for each sample.
@@ -32,7 +33,8 @@ pub trait Decode: Sized + Drop {
     /// errors of [`Sample::read`](crate::Sample::read).
     fn check(fmt: SampleFormat, bytes: u16, bits: u16) -> Result<()>
         ensures check { result ≡ read_error (decode_refusal fmt bytes bits) }
-        ensures some { IsOk result → 1 ≤ bytes };
+        ensures some { IsOk result → 1 ≤ bytes }
+        ensures few { IsOk result → bytes ≤ 4 };
 
     /// The value of a container of this many bytes.
     fn decode(container: &[u8], fmt: SampleFormat, bytes: u16, bits: u16) -> Self
@@ -41,8 +43,33 @@ pub trait Decode: Sized + Drop {
         ensures { result ≡ value fmt bytes bits container.now };
 }
 
-/// Reads a container and decodes it, as [`Sample::read`](crate::Sample::read) does if the type
-/// reads the samples.
+/// Whether a type of a format and of at most this many bytes reads samples, or why not.
+#[inline(always)]
+pub(crate) fn check_type(
+    format: SampleFormat,
+    most: u16,
+    fmt: SampleFormat,
+    bytes: u16,
+    bits: u16,
+) -> Result<()>
+    ensures int { format ≡ Int → result ≡ read_error (int_refusal most fmt bytes bits) }
+    ensures float { format ≡ Float → most ≡ 4 → result ≡ read_error (float_refusal fmt bytes bits) }
+    ensures some { IsOk result → 1 ≤ bytes }
+    ensures few { IsOk result → bytes ≤ 4 }
+{
+    if fmt == format && bytes <= most && is_pair(fmt, bits, bytes) {
+        return Ok(());
+    }
+    if fmt != format {
+        return Err(Error::InvalidSampleFormat);
+    }
+    if bytes > most {
+        return Err(Error::TooWide);
+    }
+    Err(Error::Unsupported)
+}
+
+/// Reads a container and decodes it, as [`Sample::read`](crate::Sample::read) does.
 #[inline(always)]
 pub(crate) fn read_container<S: Decode, R: io::Read>(
     reader: &mut R,
@@ -50,11 +77,11 @@ pub(crate) fn read_container<S: Decode, R: io::Read>(
     bytes: u16,
     bits: u16,
 ) -> Result<S>
-    requires decodes { S.decode_refusal fmt bytes bits ≡ None }
-    requires few { bytes ≤ 4 }
-    ensures { ReadsContainer (S.value fmt bytes bits) bytes (R.remaining reader.old)
-        (R.remaining reader.new) result }
+    ensures reads { Reads (S.decode_refusal fmt bytes bits) (S.value fmt bytes bits) bytes
+        (R.remaining reader.old) (R.remaining reader.new) result }
+    ensures untouched { IsSome (S.decode_refusal fmt bytes bits) → reader.new ≡ reader.old }
 {
+    S::check(fmt, bytes, bits)?;
     let mut container = [0; 4];
     let container = &mut container[..bytes as usize];
     match read_into(reader, container) {
@@ -63,8 +90,7 @@ pub(crate) fn read_container<S: Decode, R: io::Read>(
     }
 }
 
-/// Takes the next container and decodes it, as [`Sample::read_item`](crate::Sample::read_item) does
-/// if the type reads the samples.
+/// Takes the next container and decodes it, as [`Sample::read_item`](crate::Sample::read_item) does.
 #[inline(always)]
 pub(crate) fn decode_next<S: Decode, R: ContainerReader>(
     reader: &mut R,
@@ -72,12 +98,13 @@ pub(crate) fn decode_next<S: Decode, R: ContainerReader>(
     bytes: u16,
     bits: u16,
 ) -> result::Result<S, ItemError>
-    requires decodes { S.decode_refusal fmt bytes bits ≡ None }
-    requires some { 1 ≤ bytes }
-    requires few { bytes ≤ 4 }
-    ensures { ReadsItem None (S.value fmt bytes bits) bytes (R.remaining reader.old)
-        (R.remaining reader.new) result }
+    ensures item { ReadsItem (S.decode_refusal fmt bytes bits) (S.value fmt bytes bits) bytes
+        (R.remaining reader.old) (R.remaining reader.new) result }
+    ensures untouched { IsSome (S.decode_refusal fmt bytes bits) → reader.new ≡ reader.old }
 {
+    if let Err(error) = S::check(fmt, bytes, bits) {
+        return Err(reason_of(error));
+    }
     match reader.next_container(bytes) {
         Some(container) => Ok(S::decode(&container[..bytes as usize], fmt, bytes, bits)),
         None => Err(ItemError::Failed),
@@ -164,9 +191,9 @@ fn read_through<S: Decode, R: io::Read>(
     (done, Ok(()))
 }
 
-/// Reads samples by pieces, as [`Sample::read_many`] does, if the type reads them.
+// Reads samples by pieces of a size that depends on their number.
 #[inline(always)]
-pub(crate) fn read_pieces<S: Decode, R: io::Read>(
+fn read_pieces<S: Decode, R: io::Read>(
     reader: &mut R,
     samples: &mut [S],
     fmt: SampleFormat,
@@ -187,15 +214,34 @@ pub(crate) fn read_pieces<S: Decode, R: io::Read>(
     read_through(reader, samples, &mut [0; PIECE], fmt, bytes, bits)
 }
 
-/// What a type returns that doesn't read the samples: the error, unless no sample is requested.
+/// Reads samples as [`Sample::read_many`](crate::Sample::read_many) does, with constant widths for
+/// each pair.
 #[inline(always)]
-pub(crate) fn refuse_many<S>(samples: &[S], refusal: Error) -> (usize, Result<()>)
-    ensures none { result.0 ≡ 0 }
-    ensures empty { length samples.now ≡ 0 → result.1 ≡ Ok tt }
-    ensures refused { 0 < length samples.now → result.1 ≡ Err refusal }
+pub(crate) fn read_containers<S: Decode, R: io::Read>(
+    reader: &mut R,
+    samples: &mut [S],
+    fmt: SampleFormat,
+    bytes: u16,
+    bits: u16,
+) -> (usize, Result<()>)
+    ensures each { ReadsEach (S.decode_refusal fmt bytes bits) (S.value fmt bytes bits) bytes
+        (items_of (take result.0 samples.new) result.1)
+        (R.remaining reader.old) (R.remaining reader.new) }
+    ensures front { FillsFront result.0 result.1 samples.old samples.new }
+    ensures untouched { IsSome (S.decode_refusal fmt bytes bits) → reader.new ≡ reader.old }
 {
     if samples.is_empty() {
         return (0, Ok(()));
     }
-    (0, Err(refusal))
+    if let Err(error) = S::check(fmt, bytes, bits) {
+        return (0, Err(error));
+    }
+    match (bytes, bits) {
+        (1, 8) => read_pieces(reader, samples, fmt, 1, 8),
+        (2, 16) => read_pieces(reader, samples, fmt, 2, 16),
+        (3, 24) => read_pieces(reader, samples, fmt, 3, 24),
+        (4, 24) => read_pieces(reader, samples, fmt, 4, 24),
+        (4, 32) => read_pieces(reader, samples, fmt, 4, 32),
+        _ => read_pieces(reader, samples, fmt, bytes, bits),
+    }
 }

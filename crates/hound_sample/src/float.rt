@@ -9,8 +9,8 @@ ghost use Rattle.hound_spec.specs.declared.error.Error.TheVariants.{InvalidSampl
 ghost use Rattle.hound_spec.specs.declared.spec.SampleFormat.TheVariants.{Float, Int};
 
 use crate::Sample;
-use crate::decode::{Decode, decode_next, read_container, read_pieces, refuse_many};
-use crate::item::{ContainerReader, ItemError, reason_of};
+use crate::decode::{Decode, check_type, decode_next, read_container, read_containers};
+use crate::item::{ContainerReader, ItemError};
 use hound_number::{le_u32, u32_at};
 use hound_spec::{Error, Result, SampleFormat};
 use std::num::{f32_from_bits_with_nan, f32_to_bits_with_nan};
@@ -54,34 +54,14 @@ impl FloatBits {
     }
 }
 
-// Why a pattern isn't read from samples of another format or pair.
-#[inline(always)]
-fn pattern_refusal(fmt: SampleFormat, bytes: u16) -> Error
-    ensures format { fmt ≡ Int → result ≡ InvalidSampleFormat }
-    ensures wider { fmt ≡ Float → 4 < bytes → result ≡ TooWide }
-    ensures pair { fmt ≡ Float → bytes ≤ 4 → result ≡ Unsupported }
-{
-    match fmt {
-        SampleFormat::Int => Error::InvalidSampleFormat,
-        SampleFormat::Float => {
-            if bytes > 4 {
-                return Error::TooWide;
-            }
-            Error::Unsupported
-        }
-    }
-}
-
 impl Decode for FloatBits {
     ghost decode_refusal = { float_refusal };
 
     ghost value = { λ fmt bytes bits container. record { 0 = pattern container } };
 
+    #[inline(always)]
     fn check(fmt: SampleFormat, bytes: u16, bits: u16) -> Result<()> {
-        if matches!(fmt, SampleFormat::Float) && bytes == 4 && bits == 32 {
-            return Ok(());
-        }
-        Err(pattern_refusal(fmt, bytes))
+        check_type(SampleFormat::Float, 4, fmt, bytes, bits)
     }
 
     #[inline(always)]
@@ -110,10 +90,7 @@ impl Sample for FloatBits {
         bytes: u16,
         bits: u16,
     ) -> Result<FloatBits> {
-        if matches!(fmt, SampleFormat::Float) && bytes == 4 && bits == 32 {
-            return read_container(reader, fmt, 4, 32);
-        }
-        Err(pattern_refusal(fmt, bytes))
+        read_container(reader, fmt, bytes, bits)
     }
 
     #[inline(always)]
@@ -123,10 +100,7 @@ impl Sample for FloatBits {
         bytes: u16,
         bits: u16,
     ) -> result::Result<FloatBits, ItemError> {
-        if matches!(fmt, SampleFormat::Float) && bytes == 4 && bits == 32 {
-            return decode_next(reader, fmt, 4, 32);
-        }
-        Err(reason_of(pattern_refusal(fmt, bytes)))
+        decode_next(reader, fmt, bytes, bits)
     }
 
     #[inline(always)]
@@ -137,10 +111,7 @@ impl Sample for FloatBits {
         bytes: u16,
         bits: u16,
     ) -> (usize, Result<()>) {
-        if matches!(fmt, SampleFormat::Float) && bytes == 4 && bits == 32 {
-            return read_pieces(reader, samples, fmt, 4, 32);
-        }
-        refuse_many(samples, pattern_refusal(fmt, bytes))
+        read_containers(reader, samples, fmt, bytes, bits)
     }
 
     #[inline(always)]

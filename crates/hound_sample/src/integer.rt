@@ -7,48 +7,20 @@ ghost use Rattle.hound_spec.specs.{IsPair};
 ghost use Rattle.hound_spec.specs.declared.error.Error.TheVariants.{InvalidSampleFormat, TooWide, Unsupported};
 ghost use Rattle.hound_spec.specs.declared.spec.SampleFormat.TheVariants.{Float, Int};
 
-use crate::decode::Decode;
+use crate::decode::{Decode, check_type};
 use hound_number::{
     i16_from_le, i24_from_le, i32_from_le, le_i16, le_i32, signed_from_u8, u8_from_signed,
 };
-use hound_spec::{Error, Result, SampleFormat, is_pair};
-
-// The number in eight bits.
-fn narrow_to_i8(x: i32) -> Result<i8>
-    ensures { result ≡ (if fits 8 x then Ok x else Err TooWide) }
-{
-    if x < -128 || x > 127 {
-        return Err(Error::TooWide);
-    }
-    Ok(x as i8)
-}
-
-// The number in sixteen bits.
-fn narrow_to_i16(x: i32) -> Result<i16>
-    ensures { result ≡ (if fits 16 x then Ok x else Err TooWide) }
-{
-    if x < -32768 || x > 32767 {
-        return Err(Error::TooWide);
-    }
-    Ok(x as i16)
-}
-
-// The number, if it has at most 24 bits.
-fn narrow_to_i24(x: i32) -> Result<i32>
-    ensures { result ≡ (if fits 24 x then Ok x else Err TooWide) }
-{
-    if x < -8_388_608 || x > 8_388_607 {
-        return Err(Error::TooWide);
-    }
-    Ok(x)
-}
+use hound_spec::{Error, Result, SampleFormat};
 
 // One unsigned byte, which counts from -128.
 #[inline(always)]
 fn encode_8_bits(x: i32) -> Result<[u8; 4]>
     ensures { IsEncoded (if_fits 8 x (offset_byte x)) result }
 {
-    let narrow = narrow_to_i8(x)?;
+    let Ok(narrow) = i8::try_from(x) else {
+        return Err(Error::TooWide);
+    };
     Ok([u8_from_signed(narrow), 0, 0, 0])
 }
 
@@ -56,7 +28,9 @@ fn encode_8_bits(x: i32) -> Result<[u8; 4]>
 fn encode_16_bits(x: i32) -> Result<[u8; 4]>
     ensures { IsEncoded (if_fits 16 x (signed_bytes_of 2 x)) result }
 {
-    let narrow = narrow_to_i16(x)?;
+    let Ok(narrow) = i16::try_from(x) else {
+        return Err(Error::TooWide);
+    };
     let [low, high] = le_i16(narrow);
     Ok([low, high, 0, 0])
 }
@@ -67,8 +41,10 @@ fn encode_24_bits(x: i32) -> Result<[u8; 4]>
     ensures three { IsEncoded (if_fits 24 x (signed_bytes_of 3 x)) result }
     ensures four { IsEncoded (if_fits 24 x (signed_bytes_of 3 x ++ 0 ∷ [])) result }
 {
-    let narrow = narrow_to_i24(x)?;
-    let [low, middle, high, _] = le_i32(narrow);
+    if x < -8_388_608 || x > 8_388_607 {
+        return Err(Error::TooWide);
+    }
+    let [low, middle, high, _] = le_i32(x);
     Ok([low, middle, high, 0])
 }
 
@@ -102,42 +78,14 @@ pub(crate) fn lowest_16_bits(x: i32) -> i16
     i16_from_le([low, high])
 }
 
-/// Why an integer of at most this many bytes doesn't read samples of another format or pair.
-#[inline(always)]
-pub(crate) fn integer_refusal(fmt: SampleFormat, bytes: u16, most: u16) -> Error
-    ensures format { fmt ≡ Float → result ≡ InvalidSampleFormat }
-    ensures wider { fmt ≡ Int → most < bytes → result ≡ TooWide }
-    ensures pair { fmt ≡ Int → bytes ≤ most → result ≡ Unsupported }
-{
-    match fmt {
-        SampleFormat::Float => Error::InvalidSampleFormat,
-        SampleFormat::Int => {
-            if bytes > most {
-                return Error::TooWide;
-            }
-            Error::Unsupported
-        }
-    }
-}
-
-// Whether integers of at most this many bytes read samples, or why not.
-fn check_integer(fmt: SampleFormat, bytes: u16, bits: u16, most: u16) -> Result<()>
-    ensures check { result ≡ read_error (int_refusal most fmt bytes bits) }
-    ensures some { IsOk result → 1 ≤ bytes }
-{
-    if matches!(fmt, SampleFormat::Int) && bytes <= most && is_pair(fmt, bits, bytes) {
-        return Ok(());
-    }
-    Err(integer_refusal(fmt, bytes, most))
-}
-
 impl Decode for i8 {
     ghost decode_refusal = { int_refusal 1 };
 
     ghost value = { λ fmt. int_meaning };
 
+    #[inline(always)]
     fn check(fmt: SampleFormat, bytes: u16, bits: u16) -> Result<()> {
-        check_integer(fmt, bytes, bits, 1)
+        check_type(SampleFormat::Int, 1, fmt, bytes, bits)
     }
 
     #[inline(always)]
@@ -151,8 +99,9 @@ impl Decode for i16 {
 
     ghost value = { λ fmt. int_meaning };
 
+    #[inline(always)]
     fn check(fmt: SampleFormat, bytes: u16, bits: u16) -> Result<()> {
-        check_integer(fmt, bytes, bits, 2)
+        check_type(SampleFormat::Int, 2, fmt, bytes, bits)
     }
 
     #[inline(always)]
@@ -169,8 +118,9 @@ impl Decode for i32 {
 
     ghost value = { λ fmt. int_meaning };
 
+    #[inline(always)]
     fn check(fmt: SampleFormat, bytes: u16, bits: u16) -> Result<()> {
-        check_integer(fmt, bytes, bits, 4)
+        check_type(SampleFormat::Int, 4, fmt, bytes, bits)
     }
 
     #[inline(always)]

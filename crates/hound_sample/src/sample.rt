@@ -5,11 +5,11 @@ ghost use Rattle.hound_sample.specs.ContainerLaws.{int_container-in_width};
 ghost use Rattle.hound_sample.specs.Reading.{ReadRefusal, int_refusal, int_meaning, low_short, ReadsItem, FillsFront, ReadsEach, items_of, Reads};
 ghost use Rattle.hound_spec.specs.declared.spec.SampleFormat.{SampleFormat};
 
-use crate::decode::{decode_next, read_container, read_pieces, refuse_many};
-use crate::integer::{encode_integer, integer_refusal, lowest_16_bits};
+use crate::decode::{decode_next, read_container, read_containers};
+use crate::integer::{encode_integer, lowest_16_bits};
 use crate::item::{ContainerReader, ItemError, reason_of};
 use hound_number::write_bytes;
-use hound_spec::{Error, Result, SampleFormat, is_pair};
+use hound_spec::{Result, SampleFormat};
 use std::{io, result};
 
 /// A type whose samples are read and written.
@@ -159,10 +159,7 @@ impl Sample for i8 {
 
     #[inline(always)]
     fn read<R: io::Read>(reader: &mut R, fmt: SampleFormat, bytes: u16, bits: u16) -> Result<Self> {
-        if matches!(fmt, SampleFormat::Int) && bytes == 1 && bits == 8 {
-            return read_container(reader, fmt, 1, 8);
-        }
-        Err(integer_refusal(fmt, bytes, 1))
+        read_container(reader, fmt, bytes, bits)
     }
 
     #[inline(always)]
@@ -172,10 +169,7 @@ impl Sample for i8 {
         bytes: u16,
         bits: u16,
     ) -> result::Result<Self, ItemError> {
-        if matches!(fmt, SampleFormat::Int) && bytes == 1 && bits == 8 {
-            return decode_next(reader, fmt, 1, 8);
-        }
-        Err(reason_of(integer_refusal(fmt, bytes, 1)))
+        decode_next(reader, fmt, bytes, bits)
     }
 
     #[inline(always)]
@@ -186,10 +180,7 @@ impl Sample for i8 {
         bytes: u16,
         bits: u16,
     ) -> (usize, Result<()>) {
-        if matches!(fmt, SampleFormat::Int) && bytes == 1 && bits == 8 {
-            return read_pieces(reader, samples, fmt, 1, 8);
-        }
-        refuse_many(samples, integer_refusal(fmt, bytes, 1))
+        read_containers(reader, samples, fmt, bytes, bits)
     }
 
     #[inline(always)]
@@ -218,11 +209,7 @@ impl Sample for i16 {
 
     #[inline(always)]
     fn read<R: io::Read>(reader: &mut R, fmt: SampleFormat, bytes: u16, bits: u16) -> Result<Self> {
-        match (fmt, bytes, bits) {
-            (SampleFormat::Int, 2, 16) => read_container(reader, fmt, 2, 16),
-            (SampleFormat::Int, 1, 8) => read_container(reader, fmt, 1, 8),
-            _ => Err(integer_refusal(fmt, bytes, 2)),
-        }
+        read_container(reader, fmt, bytes, bits)
     }
 
     #[inline(always)]
@@ -232,12 +219,7 @@ impl Sample for i16 {
         bytes: u16,
         bits: u16,
     ) -> result::Result<Self, ItemError> {
-        if matches!(fmt, SampleFormat::Int)
-            && ((bytes == 2 && bits == 16) || (bytes == 1 && bits == 8))
-        {
-            return decode_next(reader, fmt, bytes, bits);
-        }
-        Err(reason_of(integer_refusal(fmt, bytes, 2)))
+        decode_next(reader, fmt, bytes, bits)
     }
 
     #[inline(always)]
@@ -248,11 +230,7 @@ impl Sample for i16 {
         bytes: u16,
         bits: u16,
     ) -> (usize, Result<()>) {
-        match (fmt, bytes, bits) {
-            (SampleFormat::Int, 2, 16) => read_pieces(reader, samples, fmt, 2, 16),
-            (SampleFormat::Int, 1, 8) => read_pieces(reader, samples, fmt, 1, 8),
-            _ => refuse_many(samples, integer_refusal(fmt, bytes, 2)),
-        }
+        read_containers(reader, samples, fmt, bytes, bits)
     }
 
     #[inline(always)]
@@ -281,10 +259,7 @@ impl Sample for i32 {
 
     #[inline(always)]
     fn read<R: io::Read>(reader: &mut R, fmt: SampleFormat, bytes: u16, bits: u16) -> Result<Self> {
-        if matches!(fmt, SampleFormat::Int) && is_pair(fmt, bits, bytes) {
-            return read_container(reader, fmt, bytes, bits);
-        }
-        Err(integer_refusal(fmt, bytes, 4))
+        read_container(reader, fmt, bytes, bits)
     }
 
     #[inline(always)]
@@ -294,10 +269,7 @@ impl Sample for i32 {
         bytes: u16,
         bits: u16,
     ) -> result::Result<Self, ItemError> {
-        if matches!(fmt, SampleFormat::Int) && is_pair(fmt, bits, bytes) {
-            return decode_next(reader, fmt, bytes, bits);
-        }
-        Err(reason_of(integer_refusal(fmt, bytes, 4)))
+        decode_next(reader, fmt, bytes, bits)
     }
 
     #[inline(always)]
@@ -308,16 +280,7 @@ impl Sample for i32 {
         bytes: u16,
         bits: u16,
     ) -> (usize, Result<()>) {
-        if matches!(fmt, SampleFormat::Int) && is_pair(fmt, bits, bytes) {
-            return match (bytes, bits) {
-                (2, _) => read_pieces(reader, samples, fmt, 2, 16),
-                (3, _) => read_pieces(reader, samples, fmt, 3, 24),
-                (4, 24) => read_pieces(reader, samples, fmt, 4, 24),
-                (4, _) => read_pieces(reader, samples, fmt, 4, 32),
-                _ => read_pieces(reader, samples, fmt, 1, 8),
-            };
-        }
-        refuse_many(samples, integer_refusal(fmt, bytes, 4))
+        read_containers(reader, samples, fmt, bytes, bits)
     }
 
     #[inline(always)]

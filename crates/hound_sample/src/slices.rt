@@ -26,22 +26,14 @@ fn all_have<S: Sample + Copy>(samples: &[S], bits: u16, width: u16) -> bool
 pub fn have_containers<S: Sample + Copy>(samples: &[S], bits: u16, width: u16) -> bool
     ensures { result ≡ is_ok (all_containers (λ s. S.container s bits width) samples.now) }
 {
-    if bits == 16 && width == 2 {
-        return all_have(samples, 16, 2);
+    match (bits, width) {
+        (16, 2) => all_have(samples, 16, 2),
+        (24, 3) => all_have(samples, 24, 3),
+        (24, 4) => all_have(samples, 24, 4),
+        (32, 4) => all_have(samples, 32, 4),
+        (8, 1) => all_have(samples, 8, 1),
+        _ => all_have(samples, bits, width),
     }
-    if bits == 24 && width == 3 {
-        return all_have(samples, 24, 3);
-    }
-    if bits == 24 && width == 4 {
-        return all_have(samples, 24, 4);
-    }
-    if bits == 32 && width == 4 {
-        return all_have(samples, 32, 4);
-    }
-    if bits == 8 && width == 1 {
-        return all_have(samples, 8, 1);
-    }
-    all_have(samples, bits, width)
 }
 
 /// The error of the first sample that has no container, if there is one.
@@ -112,18 +104,13 @@ pub fn store_containers<S: Sample + Copy>(bytes: &mut [u8], samples: &[S], bits:
     requires room { length bytes.old ≡ width * length samples.now }
     ensures { bytes.new ≡ joined_containers (λ s. S.container s bits width) samples.now }
 {
-    if bits == 16 && width == 2 {
-        store_each(bytes, samples, 16, 2);
-    } else if bits == 24 && width == 3 {
-        store_each(bytes, samples, 24, 3);
-    } else if bits == 24 && width == 4 {
-        store_each(bytes, samples, 24, 4);
-    } else if bits == 32 && width == 4 {
-        store_each(bytes, samples, 32, 4);
-    } else if bits == 8 && width == 1 {
-        store_each(bytes, samples, 8, 1);
-    } else {
-        store_each(bytes, samples, bits, width);
+    match (bits, width) {
+        (16, 2) => store_each(bytes, samples, 16, 2),
+        (24, 3) => store_each(bytes, samples, 24, 3),
+        (24, 4) => store_each(bytes, samples, 24, 4),
+        (32, 4) => store_each(bytes, samples, 32, 4),
+        (8, 1) => store_each(bytes, samples, 8, 1),
+        _ => store_each(bytes, samples, bits, width),
     }
 }
 
