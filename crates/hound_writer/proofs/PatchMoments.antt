@@ -242,6 +242,18 @@ publishes_at_each state w none sound stands padded small end patched are_frames 
           (span.each k from to).same.behind);
     }
 
+-- the intermediate states of a patch of a writer's fields, as contracts see them
+pub patches_at_each_seen : {W : Type 0} (state : W → MediumState) (a b : WriterState W)
+    (riff : ℕ) (result : Result (Unit {0}) IoFault) (end : MediumState) → a ≡ b
+    → riff ≡ riff_size a.data_start a.out
+    → PatchesAtEach (a.data_start - 4) riff a.out result (state a.medium) end
+    → PatchesAtEach (b.data_start - 4) (riff_size b.data_start b.out) b.out result
+    (state b.medium) end
+patches_at_each_seen state a b riff result end same is patches =
+    subst (λ w. PatchesAtEach (w.data_start - 4) (riff_size w.data_start w.out) w.out result
+    (state w.medium) end) same
+    (subst (λ n. PatchesAtEach (a.data_start - 4) n a.out result (state a.medium) end) is patches)
+
 -- a call of a writer that patches, and its result by the frames
 module _ {W : Type 0} (tells keeps : Bool) (state : W → MediumState) (w : WriterState W) (end : W)
     (none : w.waiting ≡ []) (sound : IsSound w)

@@ -116,7 +116,7 @@ module _ {T E : Type 0} (keeps : Bool) (p size new : ℕ) (r : Result T E) (a b 
         (riff_put all fits) second.count second.within)
 
 -- a patch that a fault ended
-cut : {V F : Type 0} (p size data_length k : ℕ) (answer : Result V F) (a d : MediumState)
+pub cut : {V F : Type 0} (p size data_length k : ℕ) (answer : Result V F) (a d : MediumState)
     → IsErr answer → k ≤ 4 → IsPatched p size a.contents data_length k d.contents
     → d.faults ≡ one_more a.faults → Patches p size data_length answer a d
 cut p size data_length k (Ok x) a d err le half faults = absurd (false≢true err)
