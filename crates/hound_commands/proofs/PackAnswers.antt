@@ -1,14 +1,13 @@
 -- What a writer's calls for numbers return, said of the numbers.
 use Rattle.std.proofs.Common.{◌≡◌, ℕ, ℤ, ◌+◌, ◌*◌, ◌/◌, ◌%◌, ◌≤◌, Bool, true, false, cond, nat_le, List, [], ◌∷◌, length, Result, Ok, Err, IsTrue, inl, inr, refl, sym, ◌∙◌, ap, subst, length-append, leb-true, leb-false, arith}
 use Rattle.std.proofs.Math.Nat.{mul-div_cancel}
-use Rattle.std.proofs.lemmas.Bool.Decides.{nat_tests}
 use Rattle.std.specs.List.{AllByRecursion, concat}
 use Rattle.hound_writer.specs.{Accepts, AcceptAnswer, FitAnswer, IsPublishing, Begins, HasBegun, IsNotBegun, Finishes, WriterState, AreFrames, data_length, sample_count}
 use Rattle.hound_sample.specs.{Refusal, too_wide, unsupported, fits, if_fits, int_bytes, int_container, and_more, int_container-in_width}
-use Rattle.hound_spec.specs.{greatest_u32, canonical, data_start, riff_size, IsPair, IsWritable}
+use Rattle.hound_spec.specs.{greatest_u32, data_start, riff_size, IsPair}
 use Rattle.hound_medium.specs.{MediumState}
 use Rattle.hound_spec.specs.declared.error.Error.{Error}
-use Rattle.hound_spec.specs.declared.error.Error.TheVariants.{IoError, OutOfMemory, TooLong, TooWide, UnfinishedSample, Unsupported}
+use Rattle.hound_spec.specs.declared.error.Error.TheVariants.{IoError, OutOfMemory, TooLong, TooWide, UnfinishedSample}
 use Rattle.hound_spec.specs.declared.spec.SampleFormat.TheVariants.{Int}
 use Rattle.hound_spec.specs.declared.spec.WavSpecEx.{WavSpecEx}
 use Rattle.hound_writer.proofs.Fresh.{fresh_file}

@@ -1,7 +1,6 @@
 -- What `show` writes of a file that `pack` made is packed again, and text is packed as one file.
 use Rattle.std.specs.Prelude.{FitsSigned}
-use Rattle.std.proofs.Common.{◌≡◌, ℕ, ℤ, ◌+◌, ◌%◌, ◌≤◌, ◌⊎◌, inl, inr, List, [], ◌∷◌, ◌++◌, length, drop, Result, Ok, Some, refl, sym, ◌∙◌, ap, subst, length-append, arith}
-use Rattle.std.proofs.lemmas.List.Folds.{concat-append}
+use Rattle.std.proofs.Common.{◌≡◌, ℕ, ℤ, ◌%◌, ◌≤◌, ◌⊎◌, inl, inr, List, [], ◌∷◌, ◌++◌, length, drop, Result, Ok, Some, refl, sym, ◌∙◌, ap, subst, arith}
 use Rattle.std.specs.Int.{w32}
 use Rattle.std.specs.List.{AllByRecursion, concat, flat_map}
 use Rattle.hound_reader.specs.{HasOneFileAnswer, readable, Readable, AreContainers}

@@ -6,7 +6,7 @@ use Rattle.hound_text.specs.declared.Refusal.{Refusal as TextRefusal}
 use Rattle.hound_text.specs.declared.Refusal.TheVariants.{BadNumber as TextBadNumber, InputOrOutput as TextInputOrOutput, TooLong as TextTooLong, OutOfMemory as TextOutOfMemory}
 use Rattle.hound_commands.specs.declared.failure.Failure.{Failure}
 use Rattle.hound_commands.specs.declared.failure.Failure.TheVariants.{BadNumber, InputOrOutput, Refused}
-use Rattle.std.specs.Prelude.{◌≡◌, ℕ, ℤ, ◌%◌, ◌≤◌, ⊤, List, [], ◌∷◌, ◌++◌, length, Result, Ok, Err, ◌⊎◌, IfSome, Option, codes}
+use Rattle.std.specs.Prelude.{◌≡◌, ℕ, ℤ, ◌%◌, ◌≤◌, ⊤, List, [], ◌∷◌, length, Result, Ok, Err, ◌⊎◌, IfSome, Option, codes}
 use Rattle.std.specs.List.{concat}
 use Rattle.hound_sample.specs.{Refusal, too_wide, int_container}
 use Rattle.hound_spec.specs.{greatest_u32, canonical, data_start, riff_size, IsWritable}

@@ -1,12 +1,10 @@
 // Why the program fails.
 ghost use Rattle.std.specs.Prelude.{◌≡◌};
-ghost use Rattle.hound_spec.specs.declared.error.Error.TheVariants.{OutOfMemory};
 ghost use Rattle.hound_commands.specs.Commands.{failure_of, refusal_of};
 ghost use Rattle.hound_commands.specs.declared.failure.Failure.TheVariants.{InputOrOutput, Refused};
 
 use hound_spec::Error;
 use hound_text::Refusal;
-use std::alloc::{AllocError, AllocFailed};
 use std::io;
 use thiserror::Error as DeriveError;
 
@@ -49,21 +47,5 @@ impl From<io::Error> for Failure {
 
     fn from(_: io::Error) -> Failure {
         Failure::InputOrOutput
-    }
-}
-
-impl From<AllocError> for Failure {
-    ghost from_gives = { λ _ failure. failure ≡ Refused OutOfMemory };
-
-    fn from(_: AllocError) -> Failure {
-        Failure::Refused(Error::OutOfMemory)
-    }
-}
-
-impl<T: Drop> From<AllocFailed<T>> for Failure {
-    ghost from_gives = { λ _ failure. failure ≡ Refused OutOfMemory };
-
-    fn from(_: AllocFailed<T>) -> Failure {
-        Failure::Refused(Error::OutOfMemory)
     }
 }

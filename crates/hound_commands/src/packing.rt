@@ -23,12 +23,8 @@ pub fn file_of(alloc: Global, spec: WavSpec, numbers: &[i32]) -> Result<Tape, Fa
         Ok(writer) => writer,
         Err((_, error)) => return Err(Failure::from(error)),
     };
-    if let Err(error) = writer.write_samples(numbers) {
-        return Err(Failure::from(error));
-    }
+    writer.write_samples(numbers)?;
     let (file, result) = writer.finalize_into();
-    match result {
-        Ok(()) => Ok(file),
-        Err(error) => Err(Failure::from(error)),
-    }
+    result?;
+    Ok(file)
 }
