@@ -125,7 +125,7 @@ fn the_definition_gives_the_files()
 {}
 
 // The definition of what follows data at these bytes, by computing.
-#[tactic(auto, unfolding(hound_repair::specs::Following::is_followed, hound_repair::specs::Following::are_chunks, hound_repair::specs::Following::are_at_most, hound_repair::specs::Following::chunk_content, hound_repair::specs::Following::has_known_tag, hound_repair::specs::Following::ends_with_id3))]
+#[tactic(auto, unfolding(hound_repair::specs::Held::is_followed, hound_repair::specs::Held::are_chunks, hound_repair::specs::Held::are_at_most, hound_repair::specs::Held::chunk_content, hound_repair::specs::Held::has_known_tag, hound_repair::specs::Held::ends_with_id3))]
 fn the_definition_finds_what_follows()
     ensures nothing { is_followed 2 (2 ∷ 0 ∷ []) ≡ false }
     ensures zeros { is_followed 0 (replicate 12 0) ≡ false }

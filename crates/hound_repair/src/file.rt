@@ -8,7 +8,7 @@ use crate::look::find_damage;
 use crate::mend::{repair, repair_to_end};
 use crate::sizes::Repair;
 use hound_medium::{Medium, Placed, Source};
-use hound_spec::Result;
+use hound_spec::{Error, Result};
 use std::alloc::Global;
 use std::io::{BufReader, Read, Seek, Write};
 use std::path::Path;
@@ -72,7 +72,7 @@ impl Medium for FileInPlace {
 fn buffered(alloc: Global, file: fs::File) -> Result<BufReader<fs::File>> {
     let mut file = file;
     file.stream_position()?;
-    Ok(BufReader::new(alloc, file)?)
+    BufReader::new(alloc, file).or(Err(Error::OutOfMemory))
 }
 
 // A file on disk, opened for reading and writing.

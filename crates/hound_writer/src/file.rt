@@ -11,7 +11,7 @@ use crate::WavWriter;
 use crate::append::append_at;
 use hound_durable::{Durable, SyncedFile};
 use hound_reader::{FileHead, error_of, read_until_data};
-use hound_spec::{Result, WavSpec, WavSpecEx};
+use hound_spec::{Error, Result, WavSpec, WavSpecEx};
 use std::alloc::Global;
 use std::io::Seek;
 use std::path::Path;
@@ -20,6 +20,13 @@ use std::{fs, io};
 
 // How many bytes a writer to a file buffers.
 const FILE_BUFFER_SIZE: usize = 65536;
+
+// A writer to a file, which buffers bytes until there are many.
+fn buffered(alloc: Global, file: fs::File) -> Result<io::BufWriter<fs::File>>
+    ensures { IfErr result (λ e. e ≡ OutOfMemory) }
+{
+    io::BufWriter::with_capacity(alloc, FILE_BUFFER_SIZE, file).or(Err(Error::OutOfMemory))
+}
 
 // Returns once the disk has the name of this file. Where the path is a link, it is the folder of the
 // file itself that has this name.
@@ -62,7 +69,7 @@ fn open_until_data(
 
     // A pipe or a terminal has no place, and a read of it may block.
     file.stream_position()?;
-    let mut reader = io::BufReader::new(alloc, file)?;
+    let mut reader = io::BufReader::new(alloc, file).or(Err(Error::OutOfMemory))?;
     let head = read_until_data(&mut reader).map_err(|error| error_of(error))?;
     Ok((reader.into_inner(), head))
 }
@@ -106,7 +113,7 @@ impl WavWriter<io::BufWriter<fs::File>> {
         ensures { BeginsFile spec_ex result }
     {
         let file = fs::create(rt, path)?;
-        let writer = io::BufWriter::with_capacity(alloc, FILE_BUFFER_SIZE, file)?;
+        let writer = buffered(alloc, file)?;
         WavWriter::new_with_spec_ex(writer, spec_ex)
     }
 
@@ -128,7 +135,7 @@ impl WavWriter<io::BufWriter<fs::File>> {
         ensures sound { IfOk result (λ w. IsSound w) }
     {
         let (file, head) = open_until_data(rt, alloc, path)?;
-        let writer = io::BufWriter::with_capacity(alloc, FILE_BUFFER_SIZE, file)?;
+        let writer = buffered(alloc, file)?;
         append_at(writer, head).map_err(|(_, error)| error)
     }
 }
