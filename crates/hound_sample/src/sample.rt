@@ -95,10 +95,7 @@ pub trait Sample: Sized + Drop {
             (R.remaining reader.old) (R.remaining reader.new) result }
         ensures untouched { IsSome (refusal fmt bytes bits) → reader.new ≡ reader.old }
     {
-        match Self::read(reader, fmt, bytes, bits) {
-            Ok(sample) => Ok(sample),
-            Err(error) => Err(reason_of(error)),
-        }
+        Self::read(reader, fmt, bytes, bits).map_err(reason_of)
     }
 
     /// Reads samples one after the other, until the slice is full or `read` returns an error (own).
