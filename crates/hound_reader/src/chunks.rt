@@ -14,7 +14,7 @@ use crate::fmt::read_fmt_chunk;
 use crate::input::{Counted, fill};
 use hound_medium::Source;
 use hound_number::{Input, u32_at};
-use hound_spec::WavSpecEx;
+use hound_spec::{WAVEFORMATEXTENSIBLE_LENGTH, WavSpecEx};
 
 /// What one chunk was (RIFF, "Chunks").
 #[derive(Drop)]
@@ -111,7 +111,7 @@ fn read_content<R: Input>(
     let content = content as u32;
     if tag == b"fmt ".as_slice() {
         let spec_ex = read_fmt_chunk(reader, chunk_len)?;
-        let rest = content - chunk_len.min(40);
+        let rest = content - chunk_len.min(WAVEFORMATEXTENSIBLE_LENGTH);
         if rest > 0 {
             skip_bytes(reader, rest)?;
         }
