@@ -43,10 +43,7 @@ fn put_sizes<M: Medium>(medium: &mut M, damage: Damage) -> io::Result<()>
 }
 
 // Repairs a file; `rest` says what follows its data.
-fn repair_with<M: Source + Medium>(
-    medium: M,
-    rest: Rest,
-) -> result::Result<(M, Repair), (M, Error)>
+fn repair_with<M: Source + Medium>(medium: M, rest: Rest) -> result::Result<(M, Repair), (M, Error)>
     requires { WhereTells M.tells ((M.state medium).place ≡ 0) }
     ensures sound { IfOk result (λ done. IsSoundSpec done.1.spec_ex) }
     ensures repaired { WhereTells M.tells (RepairsMedium (may_be_chunks rest) M.state medium result) }
