@@ -14,16 +14,24 @@ use std::marker::{Brand, PhantomData};
 use std::{io, result};
 
 /// The error of an item, with this saved fault.
+///
+/// It begins as the fault and is changed in its place: so the one copy that is made of the fault
+/// goes to where the caller needs the item.
 #[inline(always)]
 pub(crate) fn error_of_item(no_sample: ItemError, fault: &io::Error) -> Error
     ensures { result ≡ error_of_item no_sample fault.now }
 {
-    match no_sample {
-        ItemError::Failed => Error::IoError(*fault),
-        ItemError::OtherFormat => Error::InvalidSampleFormat,
-        ItemError::Wider => Error::TooWide,
-        ItemError::OtherPair => Error::Unsupported,
+    let mut error = Error::IoError(*fault);
+    if let ItemError::OtherFormat = no_sample {
+        error = Error::InvalidSampleFormat;
     }
+    if let ItemError::Wider = no_sample {
+        error = Error::TooWide;
+    }
+    if let ItemError::OtherPair = no_sample {
+        error = Error::Unsupported;
+    }
+    error
 }
 
 /// How many bytes an item without a sample took, of those given for it.
