@@ -1,6 +1,6 @@
 // Containers that are read and decoded: one, or many in few reads, which fill pieces of whole
 // containers.
-ghost use Rattle.std.specs.Prelude.{◌≡◌, ◌≤◌, ◌<◌, ◌*◌, ℕ, List, length, map, take, Option, None, IsOk, IsSome, OnErr, OnOk};
+ghost use Rattle.std.specs.Prelude.{◌≡◌, ◌≤◌, ◌<◌, ◌*◌, ◌⊎◌, ℕ, List, length, map, take, Option, None, IsOk, IsSome, OnErr, OnOk};
 ghost use Rattle.std.specs.Io.KnownBytes.{Consumes};
 ghost use Rattle.hound_sample.specs.Container.{containers};
 ghost use Rattle.hound_sample.specs.Reading.{ReadsItem, FillsFront, ReadsEach, items_of, ReadRefusal, Reads, float_refusal, int_refusal, read_error};
@@ -34,7 +34,11 @@ pub trait Decode: Sized + Drop {
     fn check(fmt: SampleFormat, bytes: u16, bits: u16) -> Result<()>
         ensures check { result ≡ read_error (decode_refusal fmt bytes bits) }
         ensures some { IsOk result → 1 ≤ bytes }
-        ensures few { IsOk result → bytes ≤ 4 };
+        ensures few { IsOk result → bytes ≤ 4 }
+        ensures one_byte { IsOk result → bytes ≡ 1 → bits ≡ 8 }
+        ensures two_bytes { IsOk result → bytes ≡ 2 → bits ≡ 16 }
+        ensures three_bytes { IsOk result → bytes ≡ 3 → bits ≡ 24 }
+        ensures four_bytes { IsOk result → bytes ≡ 4 → (bits ≡ 24) ⊎ (bits ≡ 32) };
 
     /// The value of a container of this many bytes.
     fn decode(container: &[u8], fmt: SampleFormat, bytes: u16, bits: u16) -> Self
@@ -56,6 +60,10 @@ pub(crate) fn check_type(
     ensures float { format ≡ Float → most ≡ 4 → result ≡ read_error (float_refusal fmt bytes bits) }
     ensures some { IsOk result → 1 ≤ bytes }
     ensures few { IsOk result → bytes ≤ 4 }
+    ensures one_byte { IsOk result → bytes ≡ 1 → bits ≡ 8 }
+    ensures two_bytes { IsOk result → bytes ≡ 2 → bits ≡ 16 }
+    ensures three_bytes { IsOk result → bytes ≡ 3 → bits ≡ 24 }
+    ensures four_bytes { IsOk result → bytes ≡ 4 → (bits ≡ 24) ⊎ (bits ≡ 32) }
 {
     if fmt == format && bytes <= most && is_pair(fmt, bits, bytes) {
         return Ok(());
@@ -237,11 +245,10 @@ pub(crate) fn read_containers<S: Decode, R: io::Read>(
         return (0, Err(error));
     }
     match (bytes, bits) {
-        (1, 8) => read_pieces(reader, samples, fmt, 1, 8),
-        (2, 16) => read_pieces(reader, samples, fmt, 2, 16),
-        (3, 24) => read_pieces(reader, samples, fmt, 3, 24),
+        (1, _) => read_pieces(reader, samples, fmt, 1, 8),
+        (2, _) => read_pieces(reader, samples, fmt, 2, 16),
+        (3, _) => read_pieces(reader, samples, fmt, 3, 24),
         (4, 24) => read_pieces(reader, samples, fmt, 4, 24),
-        (4, 32) => read_pieces(reader, samples, fmt, 4, 32),
-        _ => read_pieces(reader, samples, fmt, bytes, bits),
+        _ => read_pieces(reader, samples, fmt, 4, 32),
     }
 }
