@@ -19,6 +19,11 @@ MayRead (Some text) (Some left) room = length text + room ≡ length left + 4294
 abbrev pub is_digit : ℕ → Bool
 is_digit b = is_in_range 48 57 b
 
+-- the text begins with a digit
+abbrev pub begins_with_digit : List ℕ → Bool
+begins_with_digit [] = false
+begins_with_digit (b ∷ bytes) = is_digit b
+
 -- the number with this sign and magnitude, if it is an `i32`
 abbrev pub signed_within : Bool → ℕ → Option ℤ
 signed_within negative magnitude =

@@ -1,8 +1,8 @@
 // Numbers as text.
-ghost use Rattle.std.specs.Prelude.{◌≡◌, ℤ, ◌≤◌, Bool, List, IfErr, IfOk, IfSome, OnOk, SomeIff, [], ◌∷◌, Some, None, length};
+ghost use Rattle.std.specs.Prelude.{◌≡◌, ℕ, ℤ, ◌≤◌, ◌<◌, ◌++◌, Bool, true, false, List, IfErr, IfOk, IfSome, IsNone, OnOk, SomeIff, [], ◌∷◌, Some, None, length};
 ghost use Rattle.std.specs.Io.KnownBytes.{IsAtEnd};
 ghost use Rattle.std.specs.Str.Parse.{IsNumeral, digits_value};
-ghost use Rattle.hound_text.specs.Reading.{IsRefused, IsTextRefusal, Breaks, Leads, before, ended};
+ghost use Rattle.hound_text.specs.Reading.{IsRefused, IsTextRefusal, Breaks, Leads, before, begins_with_digit, ended, is_digit, numbers_from};
 ghost use Rattle.hound_text.specs.Text.{SaysNumbers};
 ghost use Rattle.hound_text.specs.declared.numbers.Place.TheVariants.{Between, Inside};
 ghost use Rattle.hound_text.specs.declared.numbers.Refusal.TheVariants.{BadNumber};
@@ -16,13 +16,10 @@ use std::io;
 pub enum Refusal {
     /// A byte that no number has at its place, or a number beyond `i32`.
     BadNumber,
-
     /// The input failed.
     InputOrOutput,
-
     /// The input has more than 4294967295 bytes.
     TooLong,
-
     /// There is no memory for the numbers.
     OutOfMemory,
 }
@@ -32,33 +29,46 @@ pub enum Refusal {
 enum Place {
     Between,
     AfterMinus,
-    // Within the digits of a number, with whether it is negative and its magnitude so far, at most
-    // 2 ^ 31, which only a negative number may have.
+    // Within digits: whether the number is negative, and its magnitude so far, at most 2 ^ 31.
     Inside(bool, u32),
 }
 
-// Takes one byte of the text, and appends the number that it ends.
+// Takes the digits that the text begins with, one at least.
+#[inline(always)]
+fn take_digits(place: Place, mut bytes: &[u8]) -> Option<(Place, &[u8])>
+    requires { begins_with_digit bytes.now ≡ true }
+    ensures taken { IfSome result (λ after. (tail : List ℕ) →
+        numbers_from place (bytes.now ++ tail) ≡ numbers_from after.0 (after.1.now ++ tail)) }
+    ensures shorter { IfSome result (λ after. length after.1.now < length bytes.now) }
+    ensures none { IsNone result → Breaks place bytes.now }
+{
+    let (is_negative, mut magnitude) = match place {
+        Place::Between => (false, 0),
+        Place::AfterMinus => (true, 0),
+        Place::Inside(is_negative, magnitude) => (is_negative, magnitude),
+    };
+    while let Some((byte @ b'0'..=b'9', rest)) = bytes.split_first() {
+        let longer = magnitude as u64 * 10 + (*byte - b'0') as u64;
+        if longer > 2_147_483_648 {
+            return None;
+        }
+        magnitude = longer as u32;
+        bytes = rest;
+    }
+    Some((Place::Inside(is_negative, magnitude), bytes))
+}
+
+// Takes a byte that is no digit, and appends the number that it ends.
 #[inline(always)]
 fn take_byte(place: Place, byte: u8, numbers: &mut Vec<i32>) -> Result<Place, Refusal>
+    requires { is_digit byte ≡ false }
     ensures taken { IfOk result (λ later.
         Leads place (byte ∷ []) numbers.old.items later [] numbers.new.items) }
     ensures refused { IfErr result (λ refusal. IsTextRefusal refusal (Breaks place (byte ∷ []))) }
 {
     match (place, byte) {
-        (Place::Inside(is_negative, magnitude), b'0'..=b'9') => {
-            let longer = magnitude as u64 * 10 + (byte - b'0') as u64;
-            if longer > 2_147_483_648 {
-                return Err(Refusal::BadNumber);
-            }
-            Ok(Place::Inside(is_negative, longer as u32))
-        }
-        (Place::Between, b'0'..=b'9') => Ok(Place::Inside(false, (byte - b'0') as u32)),
-        (Place::AfterMinus, b'0'..=b'9') => Ok(Place::Inside(true, (byte - b'0') as u32)),
         (Place::Between, b'-') => Ok(Place::AfterMinus),
-        (_, b' ' | b'\t' | b'\r' | b'\n') => {
-            end_of_word(place, numbers)?;
-            Ok(Place::Between)
-        }
+        (_, b' ' | b'\t' | b'\r' | b'\n') => end_of_word(place, numbers).and(Ok(Place::Between)),
         _ => Err(Refusal::BadNumber),
     }
 }
@@ -85,8 +95,12 @@ fn take_bytes(mut place: Place, mut bytes: &[u8], numbers: &mut Vec<i32>) -> Res
     ensures refused { IfErr result (λ refusal. IsTextRefusal refusal (Breaks place bytes.now)) }
 {
     while let Some((byte, rest)) = bytes.split_first() {
-        place = take_byte(place, *byte, numbers)?;
-        bytes = rest;
+        if let b'0'..=b'9' = *byte {
+            (place, bytes) = take_digits(place, bytes).ok_or(Refusal::BadNumber)?;
+        } else {
+            place = take_byte(place, *byte, numbers)?;
+            bytes = rest;
+        }
     }
     Ok(place)
 }

@@ -1,4 +1,4 @@
-use Rattle.std.proofs.Common.{length, take, ◌-◌, ◌≤◌}
+use Rattle.std.proofs.Common.{length, take, ◌+◌, ◌-◌, ◌≤◌}
 use Rattle.std.specs.Io.KnownBytes.{Appends}
 use Rattle.hound_text.proofs.output.write_text.Given as goal
 
@@ -9,5 +9,6 @@ invariant-loop-at g l = record {
       (take l.at l.bytes);
 }
 
+-- each turn writes a byte or uses up a try
 abbrev pub decreases-loop-at : goal.decreases-loop-at
-decreases-loop-at g l = length l.bytes - l.at
+decreases-loop-at g l = length l.bytes - l.at + l.tries
