@@ -85,6 +85,7 @@ impl Block {
     }
 
     /// Appends the containers of samples, each of which has one, if there is room.
+    #[inline(always)]
     pub(crate) fn extend_by<S: Sample + Copy>(&mut self, samples: &[S], bits: u16, width: u16)
         requires have { IsOk (all_containers (λ s. S.container s bits width) samples.now) }
         requires width { width ≤ 4 }

@@ -245,6 +245,7 @@ impl<W: Medium> Output<W> {
     }
 
     // Accepts samples, each of which has a container, that the block has room for.
+    #[inline(always)]
     fn accept_samples_in_block<S: Sample + Copy>(&mut self, samples: &[S])
         requires have { IsOk (containers_in S.container self.old.spec_ex samples.now) }
         requires room { HasRoom self.old
@@ -332,6 +333,13 @@ impl<W: Medium> Output<W> {
         let width = self.spec_ex.bytes_per_sample;
         if !have_containers(samples, bits, width) {
             return first_outcome(samples, bits, width);
+        }
+        // Few samples need no more than this, as one does.
+        if samples.len() < BLOCK_LENGTH
+            && self.block.len() + samples.len() * (width as usize) < self.fast_path_limit
+        {
+            self.accept_samples_in_block(samples);
+            return Outcome::Accepted;
         }
         if samples.len() > u32::MAX as usize {
             return Outcome::NoRoom;

@@ -160,6 +160,7 @@ impl<W: Medium> WavWriter<W> {
     /// failed. At each of them none of the samples is accepted, nor those before a rejected one
     /// or a fault, and writing can continue: the next sample goes where the first of these should
     /// have gone.
+    #[inline(always)]
     pub fn write_samples<S: Sample + Copy>(&mut self, samples: &[S]) -> Result<()>
         ensures accepts { Accepts W.tells W.keeps W.state false
             (containers_in S.container self.old.spec_ex samples.now) result self.old self.new }

@@ -1,4 +1,4 @@
-use Rattle.std.proofs.Common.{◌≡◌, ◌*◌, ◌∙◌, Ok, Err, IsOk, length, subst, sym, arith, ap}
+use Rattle.std.proofs.Common.{◌≡◌, ◌*◌, ◌≤◌, ◌∙◌, Ok, Err, IsOk, length, subst, sym, arith, ap}
 use Rattle.std.proofs.lemmas.Bool.{false≢true}
 use Rattle.hound_spec.specs.declared.error.Error.TheVariants.{IoError}
 use Rattle.hound_writer.specs.Accepting.{containers_in, outcome_of}
@@ -20,6 +20,18 @@ returns-then-not-have_containers-clause-accepts g c =
     c.self.view_is outcome.ensures)
     (λ is. false≢true (sym c.if-not-have_containers.true ∙ c.have_containers.ensures
     ∙ looked_at _ (sym is ∙ outcome.ensures)))
+
+pub returns-then-len-samples-clause-accepts : goal.returns-then-len-samples-clause-accepts
+returns-then-len-samples-clause-accepts g c =
+    let W = g.W.Placed in
+    let w = c.args.self.now in
+    let have : IsOk (containers_in g.S.Sample.container w.spec_ex c.args.samples.now) =
+    subst (λ v. IsOk (containers_in g.S.Sample.container v.spec_ex c.args.samples.now)) c.self.view_is
+    (sym c.have_containers.ensures ∙ c.if-not-have_containers.false) in
+    many_asked g.S.Sample.container g.met.S.Sample.in_width c.args.samples.now W.tells W.keeps
+    W.state (Ok tt) w c.accept_samples_in_block.new.self
+    (subst (λ v. 1 ≤ v.spec_ex.bytes_per_sample) c.self.view_is c.self.invariant.sound.width)
+    have c.accept_samples_in_block.ensures.accepts
 
 pub returns-then-samples-clause-accepts : goal.returns-then-samples-clause-accepts
 returns-then-samples-clause-accepts g c =
