@@ -1,5 +1,5 @@
 // The containers of integers.
-ghost use Rattle.std.specs.Prelude.{◌≡◌, ◌<◌, ◌≤◌, ◌++◌, ◌∷◌, [], take, None, Ok, Err, IsOk, if◌then◌else◌};
+ghost use Rattle.std.specs.Prelude.{◌≡◌, ◌<◌, ◌≤◌, ◌++◌, ◌∷◌, [], ℤ, take, None, Ok, Err, IsOk, if◌then◌else◌};
 ghost use Rattle.hound_number.specs.{signed_bytes_of};
 ghost use Rattle.hound_sample.specs.Container.{fits, if_fits, offset_byte, int_container, IsEncoded};
 ghost use Rattle.hound_sample.specs.Reading.{int_meaning, int_refusal, low_short, ReadsContainer, read_error};
@@ -131,5 +131,41 @@ impl Decode for i32 {
             8 => signed_from_u8(container[0]) as i32,
             _ => i32_from_le([container[0], container[1], container[2], container[3]]),
         }
+    }
+}
+
+/// A type of integers, which an `i32` has room for.
+pub(crate) trait Integer: Decode {
+    /// The number.
+    ghost number: { Self → ℤ };
+
+    fn to_i32(self) -> i32
+        ensures { result ≡ number self };
+}
+
+impl Integer for i8 {
+    ghost number = { λ v. v };
+
+    #[inline(always)]
+    fn to_i32(self) -> i32 {
+        self as i32
+    }
+}
+
+impl Integer for i16 {
+    ghost number = { λ v. v };
+
+    #[inline(always)]
+    fn to_i32(self) -> i32 {
+        self as i32
+    }
+}
+
+impl Integer for i32 {
+    ghost number = { λ v. v };
+
+    #[inline(always)]
+    fn to_i32(self) -> i32 {
+        self
     }
 }

@@ -6,7 +6,7 @@ ghost use Rattle.hound_sample.specs.Reading.{ReadRefusal, int_refusal, int_meani
 ghost use Rattle.hound_spec.specs.declared.spec.SampleFormat.{SampleFormat};
 
 use crate::decode::{decode_next, read_container, read_containers};
-use crate::integer::{encode_integer, lowest_16_bits};
+use crate::integer::{Integer, encode_integer, lowest_16_bits};
 use crate::item::{ContainerReader, ItemError, reason_of};
 use hound_number::write_bytes;
 use hound_spec::{Result, SampleFormat};
@@ -141,18 +141,18 @@ pub trait Sample: Sized + Drop {
         (length c ≡ width) × (1 ≤ width) × (width ≤ 4) };
 }
 
-impl Sample for i8 {
-    ghost container = { int_container };
+impl<T: Integer> Sample for T {
+    ghost container = { λ v. int_container (T.number v) };
 
-    ghost in_width = { int_container-in_width };
+    ghost in_width = { λ v. int_container-in_width (T.number v) };
 
-    ghost refusal = { int_refusal 1 };
+    ghost refusal = { T.decode_refusal };
 
-    ghost meaning = { λ format. int_meaning };
+    ghost meaning = { T.value };
 
     ghost can_cast = { λ _. ⊤ };
 
-    ghost as_short = { low_short };
+    ghost as_short = { λ v. low_short (T.number v) };
 
     #[inline(always)]
     fn read<R: io::Read>(reader: &mut R, fmt: SampleFormat, bytes: u16, bits: u16) -> Result<Self> {
@@ -182,111 +182,11 @@ impl Sample for i8 {
 
     #[inline(always)]
     fn as_i16(self) -> i16 {
-        self as i16
+        lowest_16_bits(self.to_i32())
     }
 
     #[inline(always)]
     fn encode(self, bits: u16, byte_width: u16) -> Result<[u8; 4]> {
-        encode_integer(self as i32, bits, byte_width)
-    }
-}
-
-impl Sample for i16 {
-    ghost container = { int_container };
-
-    ghost in_width = { int_container-in_width };
-
-    ghost refusal = { int_refusal 2 };
-
-    ghost meaning = { λ format. int_meaning };
-
-    ghost can_cast = { λ _. ⊤ };
-
-    ghost as_short = { low_short };
-
-    #[inline(always)]
-    fn read<R: io::Read>(reader: &mut R, fmt: SampleFormat, bytes: u16, bits: u16) -> Result<Self> {
-        read_container(reader, fmt, bytes, bits)
-    }
-
-    #[inline(always)]
-    fn read_item<R: ContainerReader>(
-        reader: &mut R,
-        fmt: SampleFormat,
-        bytes: u16,
-        bits: u16,
-    ) -> result::Result<Self, ItemError> {
-        decode_next(reader, fmt, bytes, bits)
-    }
-
-    #[inline(always)]
-    fn read_many<R: io::Read>(
-        reader: &mut R,
-        samples: &mut [Self],
-        fmt: SampleFormat,
-        bytes: u16,
-        bits: u16,
-    ) -> (usize, Result<()>) {
-        read_containers(reader, samples, fmt, bytes, bits)
-    }
-
-    #[inline(always)]
-    fn as_i16(self) -> i16 {
-        self
-    }
-
-    #[inline(always)]
-    fn encode(self, bits: u16, byte_width: u16) -> Result<[u8; 4]> {
-        encode_integer(self as i32, bits, byte_width)
-    }
-}
-
-impl Sample for i32 {
-    ghost container = { int_container };
-
-    ghost in_width = { int_container-in_width };
-
-    ghost refusal = { int_refusal 4 };
-
-    ghost meaning = { λ format. int_meaning };
-
-    ghost can_cast = { λ _. ⊤ };
-
-    ghost as_short = { low_short };
-
-    #[inline(always)]
-    fn read<R: io::Read>(reader: &mut R, fmt: SampleFormat, bytes: u16, bits: u16) -> Result<Self> {
-        read_container(reader, fmt, bytes, bits)
-    }
-
-    #[inline(always)]
-    fn read_item<R: ContainerReader>(
-        reader: &mut R,
-        fmt: SampleFormat,
-        bytes: u16,
-        bits: u16,
-    ) -> result::Result<Self, ItemError> {
-        decode_next(reader, fmt, bytes, bits)
-    }
-
-    #[inline(always)]
-    fn read_many<R: io::Read>(
-        reader: &mut R,
-        samples: &mut [Self],
-        fmt: SampleFormat,
-        bytes: u16,
-        bits: u16,
-    ) -> (usize, Result<()>) {
-        read_containers(reader, samples, fmt, bytes, bits)
-    }
-
-    #[inline(always)]
-    fn as_i16(self) -> i16 {
-        lowest_16_bits(self)
-    }
-
-    #[inline(always)]
-    fn encode(self, bits: u16, byte_width: u16) -> Result<[u8; 4]> {
-        encode_integer(self, bits, byte_width)
+        encode_integer(self.to_i32(), bits, byte_width)
     }
 }
