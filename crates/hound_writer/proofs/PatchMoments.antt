@@ -10,13 +10,12 @@ use Rattle.hound_number.specs.{bytes_of, mix, AreBytes}
 use Rattle.hound_number.proofs.Mixing.{mix_none, mix_all}
 use Rattle.hound_medium.specs.{placed, overlay, moment, MediumState, Stays, WhereTells, WhereKeeps, Span, FlushedSince}
 use Rattle.hound_spec.specs.{riff_size, padding}
-use Rattle.hound_sample.specs.{containers}
 use Rattle.hound_medium.proofs.Outcomes.{from_ok}
 use Rattle.hound_medium.proofs.Overlays.{length-placed}
 use Rattle.hound_medium.proofs.Spans.{span_puts, join, and_still}
 use Rattle.hound_medium.proofs.Torn.{number_at_small}
 use Rattle.hound_spec.specs.declared.error.Error.{Error}
-use Rattle.hound_writer.specs.Writer.{Counts, field, WriterState, AreFrames, IsPadded, IsSound, IsWhole, accepted_samples, data_length, data_end, sample_count}
+use Rattle.hound_writer.specs.Writer.{Counts, field, WriterState, AreFrames, IsPadded, IsSound, IsWhole, accepted_samples, data_length, data_end}
 use Rattle.hound_writer.specs.Parts.{HasSize, IsPatched, Patches, PatchesAtEach, PutsAt, IsStanding, IsPublishResult}
 use Rattle.hound_writer.specs.Accepting.{IsPublishing}
 use Rattle.hound_durable.specs.{place_of}
@@ -24,7 +23,7 @@ use Rattle.hound_writer.specs.Publishing.{PublishesTo, Publishes, IsHalfPublishe
 use Rattle.hound_writer.proofs.Answers.{published}
 use Rattle.hound_writer.proofs.Later.{drop_later}
 use Rattle.hound_writer.proofs.Patching.{has_size, patched_field, patched_riff}
-use Rattle.hound_writer.proofs.Publishing.{publishes}
+use Rattle.hound_writer.proofs.Publishing.{in_medium, publishes}
 use Rattle.hound_writer.proofs.Storing.{stored_same}
 use Rattle.hound_writer.proofs.Samples.{concat-samples, counts_at, length_out, whole_out}
 use Rattle.hound_writer.proofs.Standing.{inside, stands_patched}
@@ -300,15 +299,8 @@ module _ {W : Type 0} (tells keeps : Bool) (state : W → MediumState) (w : Writ
   -- all was published, and the medium left somewhere
   pub publishes_to : (at : ℕ) → WhereTells tells (OnOk patched ((state end).place ≡ at))
       → PublishesTo tells keeps state at told w new
-  publishes_to at place = subst (PublishesTo tells keeps state at told w) (sym same) record {
-    answers = answers;
-    samples = record { spec_ex = refl; data_start = refl; data_length = refl; buffer = refl };
-    publishes = published_all;
-    whole = λ known whole. omega (arith, whole, (published_all known).grows);
-    accepted =
-        λ known whole.
-        ap (λ bytes. containers w.spec_ex.bytes_per_sample (sample_count w) (bytes ++ w.waiting))
-        ((published_all known).out whole);
-    place = λ known. published ((state end).place ≡ at) patched are_frames told is (place known);
-    moments = at_each;
-  }
+  publishes_to at place =
+      subst (PublishesTo tells keeps state at told w) (sym same)
+      (in_medium tells keeps state at told w end answers published_all
+      (λ known. published ((state end).place ≡ at) patched are_frames told is (place known))
+      at_each)

@@ -5,7 +5,7 @@ use Rattle.std.specs.declared.io.Error.{Error as IoFault}
 use Rattle.std.specs.Io.{StartsWith}
 use Rattle.std.specs.List.{concat}
 use Rattle.hound_number.specs.{bytes_of, AreBytes}
-use Rattle.hound_medium.specs.{MediumState, WhereTells}
+use Rattle.hound_medium.specs.{MediumState, WhereTells, WhereKeeps}
 use Rattle.std.proofs.lemmas.Result.{on_ok_weaker}
 use Rattle.hound_medium.proofs.Outcomes.{on_ok}
 use Rattle.hound_medium.proofs.Torn.{bytes_at}
@@ -15,8 +15,9 @@ use Rattle.hound_spec.specs.{riff_tag, data_start, header, riff_size, padding, c
 use Rattle.hound_spec.proofs.HeaderLemmas.{described, header-parts, length-header, length-described}
 use Rattle.hound_sample.specs.{containers}
 use Rattle.hound_writer.specs.Parts.{IsConsistent, IsPublishResult, Patches, IsStanding}
-use Rattle.hound_writer.specs.Writer.{SameButSizes, with_sizes, field, Counts, ReadsFirst, WriterState, AreFrames, IsPadded, IsSound, IsWhole, IsBegun, HasHeader, accepted_samples, data_length, data_end, padded_end}
-use Rattle.hound_writer.specs.Publishing.{Publishes, ReadsAs}
+use Rattle.hound_writer.specs.Writer.{SameButSizes, with_sizes, field, Counts, ReadsFirst, WriterState, AreFrames, IsPadded, IsSound, IsWhole, IsBegun, HasHeader, accepted_samples, data_length, data_end, padded_end, sample_count}
+use Rattle.hound_writer.specs.Accepting.{IsPublishing, OnPublished}
+use Rattle.hound_writer.specs.Publishing.{Publishes, PublishesAtEach, PublishesTo, ReadsAs}
 use Rattle.hound_writer.proofs.Answers.{published, told_faults, told_ok}
 use Rattle.hound_writer.proofs.Keeping.{consistent_moved}
 use Rattle.hound_writer.proofs.Later.{drop_later}
@@ -305,3 +306,22 @@ patches_seen state a b riff result end same is patches =
     subst (λ w. Patches (w.data_start - 4) (riff_size w.data_start w.out) w.out result
     (state w.medium) end) same
     (subst (λ n. Patches (a.data_start - 4) n a.out result (state a.medium) end) is patches)
+
+-- a call that publishes, of a writer of which only the medium changes
+pub in_medium : {W : Type 0} (tells keeps : Bool) (state : W → MediumState) (at : ℕ)
+    (answer : Result (Unit {0}) Error) (w : WriterState W) (end : W) → IsPublishing answer w
+    → WhereTells tells (Publishes state w answer end)
+    → WhereTells tells (OnPublished answer ((state end).place ≡ at))
+    → WhereKeeps tells keeps (PublishesAtEach state w answer end)
+    → PublishesTo tells keeps state at answer w (record w { medium = end })
+in_medium tells keeps state at answer w end answers publishes place moments = record {
+  answers = answers;
+  samples = record { spec_ex = refl; data_start = refl; data_length = refl; buffer = refl };
+  publishes = publishes;
+  whole = λ told whole. omega (arith, whole, (publishes told).grows);
+  accepted = λ told whole.
+      ap (λ l. containers w.spec_ex.bytes_per_sample (sample_count w) (l ++ w.waiting))
+      ((publishes told).out whole);
+  place = place;
+  moments = moments;
+}
