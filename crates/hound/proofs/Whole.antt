@@ -11,7 +11,7 @@ use Rattle.hound_medium.proofs.Overlays.{length-placed}
 use Rattle.hound_writer.specs.{mark_of, Call, Lead, Left, Opens, Recorded, asked_by_all, made, new_file, publish, Finishes, WriterState, IsWhole}
 use Rattle.hound_writer.proofs.Accepting.{length_overlay_max}
 use Rattle.hound_writer.proofs.Fresh.{only_header}
-use Rattle.hound_writer.proofs.Recording.{end_left, ended, lead_more, left_by}
+use Rattle.hound_writer.proofs.Recording.{ended, lead_more, leaves, left_by}
 use Rattle.hound.specs.declared.session.Step.{Step}
 use Rattle.hound.specs.declared.session.Begin.{Begin}
 use Rattle.hound.specs.declared.session.Begin.TheVariants.{New, Append}
@@ -103,7 +103,7 @@ module _ {M : Type 0} (tells keeps : Bool) (state : M → MediumState) where
   all_lead calls first last finished medium lead ends =
       lead_more tells keeps state calls publish finished first last
       (ended tells keeps state last medium) lead
-      (end_left tells keeps state finished last medium ends)
+      (leaves tells keeps state finished last (ended tells keeps state last medium) ends)
 
   pub ran : (begin : Begin) (steps : List Step) (marks : List Bool) (end : End) (old : M)
       (answer finished : Result (Unit {0}) Error) (medium : M) (first last : WriterState M)

@@ -2,7 +2,6 @@
 -- fails nothing is patched.
 use Rattle.std.proofs.Common.{◌≡◌, ℕ, ◌+◌, ◌-◌, ◌≤◌, inl, inr, Bool, true, false, IsTrue, ◌%◌, Result, Err, OnOk, List, length, take, drop, refl, sym, ◌∙◌, ap, subst, arith, length-append, length-take}
 use Rattle.std.proofs.lemmas.Bool.{cases_lt}
-use Rattle.std.proofs.lemmas.List.{get_or_append_left}
 use Rattle.std.specs.List.{concat}
 use Rattle.std.specs.Io.{StartsWith}
 use Rattle.std.specs.declared.io.Error.{Error as IoFault}
@@ -19,9 +18,11 @@ use Rattle.hound_writer.specs.Accepting.{OnPublished, faults_told, KeepsStored}
 use Rattle.hound_writer.specs.Parts.{GoesAtEach, GoesOut, StaysAround, after_out}
 use Rattle.hound_writer.specs.Writer.{Counts, ChangesSizesOnly, field, WriterState, IsBegun, IsPadded, IsSound, HasHeader, accepted_samples, data_length, padded_end}
 use Rattle.hound_durable.specs.{place_of}
+use Rattle.hound_durable.proofs.Ascending.{place_before}
 use Rattle.hound_writer.specs.Publishing.{PublishesTo, Finishes, IsHalfPublished, IsOldOrNew, OncePutBefore, Publishes, PublishesAtEach, ReadsAs}
 use Rattle.hound_writer.proofs.Answers.{on_published_then, publishing_as}
 use Rattle.hound_writer.proofs.Later.{counts_later, goes_further, length_same}
+use Rattle.hound_writer.proofs.Publishing.{in_medium}
 use Rattle.hound_writer.proofs.Sizes.{header_front, sizes_front, sizes_then, take_front}
 use Rattle.hound_writer.proofs.Standing.{inside}
 use Rattle.hound_writer.proofs.Storing.{stored_join}
@@ -150,15 +151,9 @@ module _ {W : Type 0} (tells keeps : Bool) (state : W → MediumState) (a : Writ
 
   published_of : (at : ℕ) → WhereTells tells (AreBytes (state a.medium).contents)
       → PublishesTo tells keeps state at (Err (IoError e)) a (after_out false m a)
-  published_of at small = record {
-    answers = tt;
-    samples = record { spec_ex = refl; data_start = refl; data_length = refl; buffer = refl };
-    publishes = publishes_cut;
-    whole = λ told. (out.file told).whole;
-    accepted = λ told. (out.file told).accepted;
-    place = λ _. tt;
-    moments = λ told kept. publishes_at_each_cut told kept (small told);
-  }
+  published_of at small =
+      in_medium tells keeps state at (Err (IoError e)) a m tt publishes_cut (λ _. tt)
+      (λ told kept. publishes_at_each_cut told kept (small told))
 
 -- the same for a writer as contracts see it
 pub published_cut : {W : Type 0} (tells keeps : Bool) (state : W → MediumState) (far at : ℕ)
@@ -292,8 +287,7 @@ module _ {W : Type 0} (tells keeps : Bool) (state : W → MediumState) (a : Writ
             | inl sooner ↦
                 let same : place_of (state end).past i ≡ place_of (state m).past i =
                 ap (λ l. place_of l i) g.half.past
-                ∙ ap (λ (x : ℕ × ℕ). x.0)
-                (get_or_append_left (state m).past g.half.added (0, 0) i sooner) in
+                ∙ place_before (state m).past g.half.added i sooner in
                 absurd (omega (arith, before, same, goes.behind i from sooner))
             | inr then ↦
                 padded_as_first (moment (state end).start (state end).past k)
@@ -378,11 +372,7 @@ pub finishes_of : {W : Type 0} (tells keeps : Bool) (state : W → MediumState)
     (answer : Result (Unit {0}) Error) (w new : WriterState W)
     → PublishesTo tells keeps state new.data_start answer w new
     → Finishes tells keeps state w answer new.medium
-finishes_of tells keeps state answer w new p = record {
-  answers = p.answers;
-  publishes = p.publishes;
-  place = λ told.
-      subst (λ n. OnPublished answer ((state new.medium).place ≡ n)) p.samples.data_start
-      (p.place told);
-  moments = p.moments;
-}
+finishes_of tells keeps state answer w new p =
+    in_medium tells keeps state w.data_start answer w new.medium p.answers p.publishes
+    (subst (λ n. WhereTells tells (OnPublished answer ((state new.medium).place ≡ n)))
+    p.samples.data_start p.place) p.moments

@@ -5,7 +5,7 @@ use Rattle.std.specs.declared.io.Error.{Error as IoFault}
 use Rattle.std.specs.Io.{StartsWith}
 use Rattle.std.specs.List.{concat}
 use Rattle.hound_number.specs.{bytes_of, AreBytes}
-use Rattle.hound_medium.specs.{MediumState, WhereTells}
+use Rattle.hound_medium.specs.{MediumState, WhereTells, WhereKeeps}
 use Rattle.std.proofs.lemmas.Result.{on_ok_weaker}
 use Rattle.hound_medium.proofs.Outcomes.{on_ok}
 use Rattle.hound_medium.proofs.Torn.{bytes_at}
@@ -15,8 +15,9 @@ use Rattle.hound_spec.specs.{riff_tag, data_start, header, riff_size, padding, c
 use Rattle.hound_spec.proofs.HeaderLemmas.{described, header-parts, length-header, length-described}
 use Rattle.hound_sample.specs.{containers}
 use Rattle.hound_writer.specs.Parts.{IsConsistent, IsPublishResult, Patches, IsStanding}
-use Rattle.hound_writer.specs.Writer.{SameButSizes, with_sizes, field, Counts, ReadsFirst, WriterState, AreFrames, IsPadded, IsSound, IsWhole, IsBegun, HasHeader, accepted_samples, data_length, data_end, padded_end}
-use Rattle.hound_writer.specs.Publishing.{Publishes, ReadsAs}
+use Rattle.hound_writer.specs.Writer.{SameButSizes, with_sizes, field, Counts, ReadsFirst, WriterState, AreFrames, IsPadded, IsSound, IsWhole, IsBegun, HasHeader, accepted_samples, data_length, data_end, padded_end, sample_count}
+use Rattle.hound_writer.specs.Accepting.{IsPublishing, OnPublished}
+use Rattle.hound_writer.specs.Publishing.{Publishes, PublishesAtEach, PublishesTo, ReadsAs}
 use Rattle.hound_writer.proofs.Answers.{published, told_faults, told_ok}
 use Rattle.hound_writer.proofs.Keeping.{consistent_moved}
 use Rattle.hound_writer.proofs.Later.{drop_later}
@@ -294,14 +295,31 @@ consistent_patched tells state w end may_have_moved limit riff result keeps patc
     (λ told. let half = (patches told).half in stands_patched w.spec_ex w.data_start w.out
     (state w.medium).contents (state end).contents (keeps.stands told) half.0 half.2.same half.2.field)
 
--- a patch of a writer's fields, as contracts see it
-pub patches_seen : {W : Type 0} (state : W → MediumState) (a b : WriterState W) (riff : ℕ)
-    (result : Result (Unit {0}) IoFault) (end : MediumState) → a ≡ b
+-- what a patch of a writer's fields does, P, as contracts see it
+pub patch_seen : {W : Type 0} (P : ℕ → ℕ → ℕ → MediumState → MediumState → Type 0)
+    (state : W → MediumState) (a b : WriterState W) (riff : ℕ) (end : MediumState) → a ≡ b
     → riff ≡ riff_size a.data_start a.out
-    → Patches (a.data_start - 4) riff a.out result (state a.medium) end
-    → Patches (b.data_start - 4) (riff_size b.data_start b.out) b.out result
-    (state b.medium) end
-patches_seen state a b riff result end same is patches =
-    subst (λ w. Patches (w.data_start - 4) (riff_size w.data_start w.out) w.out result
-    (state w.medium) end) same
-    (subst (λ n. Patches (a.data_start - 4) n a.out result (state a.medium) end) is patches)
+    → P (a.data_start - 4) riff a.out (state a.medium) end
+    → P (b.data_start - 4) (riff_size b.data_start b.out) b.out (state b.medium) end
+patch_seen P state a b riff end same is patches =
+    subst (λ w. P (w.data_start - 4) (riff_size w.data_start w.out) w.out (state w.medium) end)
+    same (subst (λ n. P (a.data_start - 4) n a.out (state a.medium) end) is patches)
+
+-- a call that publishes, of a writer of which only the medium changes
+pub in_medium : {W : Type 0} (tells keeps : Bool) (state : W → MediumState) (at : ℕ)
+    (answer : Result (Unit {0}) Error) (w : WriterState W) (end : W) → IsPublishing answer w
+    → WhereTells tells (Publishes state w answer end)
+    → WhereTells tells (OnPublished answer ((state end).place ≡ at))
+    → WhereKeeps tells keeps (PublishesAtEach state w answer end)
+    → PublishesTo tells keeps state at answer w (record w { medium = end })
+in_medium tells keeps state at answer w end answers publishes place moments = record {
+  answers = answers;
+  samples = record { spec_ex = refl; data_start = refl; data_length = refl; buffer = refl };
+  publishes = publishes;
+  whole = λ told whole. omega (arith, whole, (publishes told).grows);
+  accepted = λ told whole.
+      ap (λ l. containers w.spec_ex.bytes_per_sample (sample_count w) (l ++ w.waiting))
+      ((publishes told).out whole);
+  place = place;
+  moments = moments;
+}

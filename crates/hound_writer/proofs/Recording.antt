@@ -1,18 +1,19 @@
 -- A list of calls and one more.
-use Rattle.std.proofs.Common.{ℕ, MatchResult, Ok, Err, arith, Bool, false, List, [], ◌∷◌, ◌++◌, ◌≡◌, length, Result, refl, subst, sym, ◌∙◌, ap}
+use Rattle.std.proofs.Common.{ℕ, MatchResult, Ok, Err, Bool, false, List, [], ◌∷◌, ◌++◌, ◌≡◌, length, Result, refl, subst, sym, ◌∙◌, ap}
 use Rattle.std.specs.Prelude.{⊤}
 use Rattle.std.proofs.lemmas.Bool.{false≢true}
 use Rattle.hound_spec.specs.declared.error.Error.{Error}
 use Rattle.hound_spec.specs.declared.spec.WavSpecEx.{WavSpecEx}
 use Rattle.hound_medium.specs.{MediumState, WhereTells}
-use Rattle.hound_sample.specs.{Refusal, containers}
+use Rattle.hound_sample.specs.{Refusal}
 use Rattle.hound_writer.specs.Accepting.{Accepts}
 use Rattle.hound_writer.specs.Appending.{Appends}
 use Rattle.hound_writer.specs.Batch.{IsSameFile}
 use Rattle.hound_writer.specs.Beginning.{Begins}
-use Rattle.hound_writer.specs.Publishing.{Checkpoints, Finishes}
-use Rattle.hound_writer.specs.Writer.{WriterState, IsWhole, accepted_samples, sample_count}
+use Rattle.hound_writer.specs.Publishing.{Checkpoints, Finishes, PublishesTo}
+use Rattle.hound_writer.specs.Writer.{WriterState, IsWhole, accepted_samples}
 use Rattle.hound_writer.specs.Calls.{AreKnown, Asked, put, write, publish, Call, Does, Begun, IsKnown, Known, Lead, Left, Opens, Recorded, asked_by_all, appended, new_file, with_memory}
+use Rattle.hound_writer.proofs.Answers.{on_published_then}
 
 -- a writer of the same file is the same but for its memory
 pub same_but_memory : {W : Type 0} (a b : WriterState W) → IsSameFile a b
@@ -74,7 +75,7 @@ module _ {W : Type 0} (tells keeps : Bool) (state : W → MediumState) where
   pub call_spec : (asked : Asked) (answer : Result (Unit {0}) Error) (a b : WriterState W)
       → Does tells keeps state asked answer a b → b.spec_ex ≡ a.spec_ex
   call_spec (put allocates containers) answer a b (accepts, reuses) = accepts.adds.spec_ex
-  call_spec publish answer a b leaves = leaves.samples.spec_ex
+  call_spec publish answer a b does = does.samples.spec_ex
 
   pub lead_spec : (calls : List Call) (a b : WriterState W) → Lead tells keeps state calls a b
       → b.spec_ex ≡ a.spec_ex
@@ -88,34 +89,22 @@ module _ {W : Type 0} (tells keeps : Bool) (state : W → MediumState) where
   opens_spec s new_file first opens = opens.1.begun.spec
   opens_spec s (appended start found) first opens = opens.spec_is
 
-  pub flush_left : (answer : Result (Unit {0}) Error) (a b : WriterState W)
-      → Checkpoints tells keeps state answer a b → Does tells keeps state publish answer a b
-  flush_left answer a b c = record {
-    answers = c.answers;
-    samples = c.samples;
-    publishes = c.publishes;
-    whole = c.whole;
-    accepted = c.accepted;
-    moments = c.moments;
+  -- a flush or an end leaves its medium somewhere
+  pub leaves : {at : ℕ} (answer : Result (Unit {0}) Error) (a b : WriterState W)
+      → PublishesTo tells keeps state at answer a b → Does tells keeps state publish answer a b
+  leaves answer a b p = record {
+    answers = p.answers;
+    samples = p.samples;
+    publishes = p.publishes;
+    whole = p.whole;
+    accepted = p.accepted;
+    place = λ told. on_published_then answer (λ _. refl) (p.place told);
+    moments = p.moments;
   }
 
   -- the writer that an end leaves: the same but for its medium
   abbrev pub ended : WriterState W → W → WriterState W
   ended w end = record w { medium = end }
-
-  pub end_left : (answer : Result (Unit {0}) Error) (w : WriterState W) (end : W)
-      → Finishes tells keeps state w answer end
-      → Does tells keeps state publish answer w (ended w end)
-  end_left answer w end f = record {
-    answers = f.answers;
-    samples = record { spec_ex = refl; data_start = refl; data_length = refl; buffer = refl };
-    publishes = f.publishes;
-    whole = λ told whole. let grows = (f.publishes told).grows in omega (arith, whole, grows);
-    accepted = λ told whole.
-        ap (λ l. containers w.spec_ex.bytes_per_sample (sample_count w) (l ++ w.waiting))
-        ((f.publishes told).out whole);
-    moments = f.moments;
-  }
 
   pub recorded_more : (one : Known) (asked : Asked) (answer : Result (Unit {0}) Error)
       (s : WavSpecEx) (file : Begun) (known : List Known) (b c : WriterState W)
@@ -159,7 +148,7 @@ module _ {W : Type 0} (tells keeps : Bool) (state : W → MediumState) where
       → Checkpoints tells keeps state answer b c
       → Recorded tells keeps state s file (known ++ one ∷ []) c
   recorded_flush one answer s file known b c is so_far does =
-      recorded_more one publish answer s file known b c is so_far (flush_left answer b c does)
+      recorded_more one publish answer s file known b c is so_far (leaves answer b c does)
 
   -- the same writer with another memory for batches
   pub recorded_same : (s : WavSpecEx) (file : Begun) (known : List Known) (a b : WriterState W)
@@ -218,6 +207,6 @@ module _ {W : Type 0} (tells keeps : Bool) (state : W → MediumState) where
   left_by one answer s file known w end is f so_far = record {
     last = ended w end;
     recorded = recorded_more one publish answer s file known w (ended w end) is so_far
-        (end_left answer w end f);
+        (leaves answer w (ended w end) f);
     is = refl;
   }

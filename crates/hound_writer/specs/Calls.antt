@@ -5,13 +5,13 @@ use Rattle.hound_spec.specs.declared.error.Error.{Error}
 use Rattle.hound_spec.specs.declared.error.Error.TheVariants.{IoError}
 use Rattle.hound_spec.specs.declared.spec.WavSpecEx.{WavSpecEx}
 use Rattle.hound_spec.specs.{data_start}
-use Rattle.hound_medium.specs.{MediumState, WhereTells, WhereKeeps}
+use Rattle.hound_medium.specs.{MediumState, WhereTells}
 use Rattle.hound_sample.specs.{Refusal}
-use Rattle.hound_writer.specs.Accepting.{Accepts, IsPublishing, mark_of}
+use Rattle.hound_writer.specs.Accepting.{Accepts, mark_of}
 use Rattle.hound_writer.specs.Appending.{Appends}
 use Rattle.hound_writer.specs.Beginning.{Begins}
-use Rattle.hound_writer.specs.Publishing.{Publishes, PublishesAtEach}
-use Rattle.hound_writer.specs.Writer.{WriterState, KeepsSamples, IsWhole, accepted_samples}
+use Rattle.hound_writer.specs.Publishing.{LeavesWriter}
+use Rattle.hound_writer.specs.Writer.{WriterState, IsWhole, accepted_samples}
 
 -- What a call asks of a writer: to accept these containers, or none, with the reason, maybe in
 -- memory that it takes for them first; or to publish what was accepted, by a flush or an end.
@@ -61,17 +61,6 @@ abbrev pub AreKnown : List Known → List Call → Type 0
 AreKnown [] [] = ⊤
 AreKnown (one ∷ known) (call ∷ calls) = IsKnown one call × AreKnown known calls
 AreKnown _ _ = ⊥
-
--- What a call that publishes leaves of the writer; after an end, the writer with its medium only.
-pub record LeavesWriter {W : Type 0} (tells keeps : Bool) (state : W → MediumState)
-    (answer : Result (Unit {0}) Error) (old new : WriterState W) : Type 0 where
-  pub answers : IsPublishing answer old
-  pub samples : KeepsSamples old new
-  pub publishes : WhereTells tells (Publishes state old answer new.medium)
-  pub whole : WhereTells tells (IsWhole state old → IsWhole state new)
-  pub accepted : WhereTells tells
-      (IsWhole state old → accepted_samples state new ≡ accepted_samples state old)
-  pub moments : WhereKeeps tells keeps (PublishesAtEach state old answer new.medium)
 
 -- the memory that a batch of these containers needs
 abbrev pub size_of : Result (List (List ℕ)) Refusal → ℕ

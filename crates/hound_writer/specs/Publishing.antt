@@ -128,6 +128,12 @@ pub record PublishesTo {W : Type 0} (tells keeps : Bool) (state : W → MediumSt
   pub place : WhereTells tells (OnPublished answer ((state new.medium).place ≡ at))
   pub moments : WhereKeeps tells keeps (PublishesAtEach state old answer new.medium)
 
+-- What such a call leaves of the writer, wherever the medium is then.
+abbrev pub LeavesWriter : {W : Type 0} → Bool → Bool → (W → MediumState) →
+    Result (Unit {0}) Error → WriterState W → WriterState W → Type 0
+LeavesWriter tells keeps state answer old new =
+    PublishesTo tells keeps state (state new.medium).place answer old new
+
 -- where the medium is then: at the end of the accepted data if the writer continues, or else where
 -- the data begin
 abbrev pub place_after : {W : Type 0} → Bool → WriterState W → ℕ
@@ -142,9 +148,7 @@ Checkpoints tells keeps state answer old new =
 
 -- What the end of a writer does, by its result: it publishes, and leaves the medium where the data
 -- begin.
-pub record Finishes {W : Type 0} (tells keeps : Bool) (state : W → MediumState) (w : WriterState W)
-    (answer : Result (Unit {0}) Error) (end : W) : Type 0 where
-  pub answers : IsPublishing answer w
-  pub publishes : WhereTells tells (Publishes state w answer end)
-  pub place : WhereTells tells (OnPublished answer ((state end).place ≡ w.data_start))
-  pub moments : WhereKeeps tells keeps (PublishesAtEach state w answer end)
+abbrev pub Finishes : {W : Type 0} → Bool → Bool → (W → MediumState) → WriterState W →
+    Result (Unit {0}) Error → W → Type 0
+Finishes tells keeps state w answer end =
+    PublishesTo tells keeps state w.data_start answer w (record w { medium = end })

@@ -2,7 +2,7 @@ use Rattle.std.proofs.Common.{rules, subst, sym, w32}
 use Rattle.std.proofs.lemmas.Bool.{false≢true}
 use Rattle.std.proofs.Math.Facts.{to_z-of_z}
 use Rattle.hound.specs.Run.{Takes}
-use Rattle.hound_writer.proofs.Recording.{flush_left}
+use Rattle.hound_writer.proofs.Recording.{leaves}
 use Rattle.hound.proofs.Running.{whole_taken}
 use Rattle.hound.proofs.steps.take_step.Goals as goal
 
@@ -34,5 +34,5 @@ returns-in-Flush g c =
     let flush = c.flush in
     subst (λ step. Takes W.tells W.keeps W.state step flush.result c.args.writer.now flush.new.self)
     (sym c.in-Flush.is)
-    (flush_left W.tells W.keeps W.state flush.result c.args.writer.now flush.new.self
+    (leaves W.tells W.keeps W.state flush.result c.args.writer.now flush.new.self
     flush.ensures.checkpoints)
