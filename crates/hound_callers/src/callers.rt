@@ -1,7 +1,8 @@
 // Functions of a user of the library, whose contracts follow from its public ones.
-ghost use Rattle.std.specs.Prelude.{◌≡◌, ℕ, suc, ◌+◌, ◌-◌, ◌/◌, ◌<◌, ◌≤◌, ◌++◌, Bool, false, true, List, length, map, drop, [], ◌∷◌, slice_index_or, None, Some, Ok, Result, IfOk, IfSome, OnOk};
+ghost use Rattle.std.specs.Prelude.{◌≡◌, ℕ, suc, ◌+◌, ◌-◌, ◌/◌, ◌<◌, ◌≤◌, ◌++◌, ◌⊎◌, Bool, false, true, List, length, map, drop, [], ◌∷◌, slice_index_or, None, Some, Ok, Result, IfOk, IfSome, MatchResult, OnOk};
 ghost use Rattle.std.specs.List.{concat};
-ghost use Rattle.hound.specs.{Asked, Begun, Call, found_in, start_of, IsSoundSpec, IsSameFile, containers, AreContainers, Counts, canonical, data_start, Around, HasPublished, IsLeftAfter, Keeps, LosesNothing, accepted_by_all, begins_at, held, SurvivesLoss, containers_in, ReadsAs, samples_left, OpensAs, IsNoPad, ReadsFrames, IsSixteen, IsSession, Ran, all_calls, accepted_by_steps, field, MediumState, WhereKeeps, WhereTells, Error, IsWritable, IsWhole, accepted_samples, sample_count, WavSpecEx, container_at, meaning_at, refusal_at, samples_before, unread};
+ghost use Rattle.hound.specs.{Asked, Begun, Call, found_in, start_of, IsSoundSpec, IsSameFile, containers, AreContainers, Counts, canonical, data_start, Around, HasPublished, IsLeftAfter, Keeps, LosesNothing, accepted_by_all, begins_at, held, SurvivesLoss, containers_in, ReadsAs, samples_left, OpensAs, IsNoPad, ReadsFrames, IsIoError, IsSixteen, IsSession, Ran, all_calls, accepted_by_steps, field, MediumState, WhereKeeps, WhereTells, Error, IsWritable, IsWhole, accepted_samples, sample_count, WavSpecEx, container_at, meaning_at, refusal_at, samples_before, unread};
+ghost use Rattle.hound.specs.declared.Error.TheVariants.{OutOfMemory};
 ghost use Rattle.hound.specs.declared.session.Begin.TheVariants.{New};
 ghost use Rattle.hound.specs.declared.session.End.{End};
 ghost use Rattle.hound.specs.declared.session.End.TheVariants.{Drop};
@@ -154,14 +155,14 @@ pub fn convert<R: io::Read + Drop, M: Medium>(
     Ok(())
 }
 
-/// The first sample of a frame: that of its container, for a reader that has read nothing yet and a
-/// type that reads the file.
+/// The first sample of a frame: that of its container, or an `IoError`, for a reader that has read
+/// nothing yet and a type that reads the file.
 pub fn sample_at<S: Sample, R: Source>(reader: WavReader<R>, time: u32) -> hound::Result<Option<S>>
     requires { reader.bytes_read ≡ 0 }
     ensures { WhereTells R.tells (time < reader.num_samples / reader.spec_ex.spec.channels
-        → refusal_at S.refusal reader.spec_ex ≡ None → IfOk result (λ sample. sample
+        → refusal_at S.refusal reader.spec_ex ≡ None → MatchResult result (λ sample. sample
         ≡ Some (meaning_at S.meaning reader.spec_ex (container_at reader.spec_ex.bytes_per_sample
-        (samples_before time reader.spec_ex) (unread (R.state reader.reader)))))) }
+        (samples_before time reader.spec_ex) (unread (R.state reader.reader))))) IsIoError) }
 {
     a_seek_leads_to_its_frame::<R, S>();
     let mut reader = reader;
@@ -169,15 +170,17 @@ pub fn sample_at<S: Sample, R: Source>(reader: WavReader<R>, time: u32) -> hound
     reader.into_samples().next().transpose()
 }
 
-/// All samples that a reader has left, for a type that reads the file: the meanings of its containers.
+/// All samples that a reader has left, for a type that reads the file: the meanings of its
+/// containers, or an `IoError` or `OutOfMemory`.
 pub fn samples_of<S: Sample, R: io::Read + Drop>(
     alloc: Global,
     reader: WavReader<R>,
 ) -> hound::Result<Vec<S>>
     ensures { IfSome (R.remaining reader.reader) (λ bytes.
-        refusal_at S.refusal reader.spec_ex ≡ None → IfOk result (λ samples. samples.items
+        refusal_at S.refusal reader.spec_ex ≡ None → MatchResult result (λ samples. samples.items
         ≡ map (meaning_at S.meaning reader.spec_ex)
-        (containers reader.spec_ex.bytes_per_sample (samples_left reader) bytes))) }
+        (containers reader.spec_ex.bytes_per_sample (samples_left reader) bytes))
+        (λ e. IsIoError e ⊎ (e ≡ OutOfMemory))) }
 {
     items_are_of_the_file::<R, S>();
     an_iterator_gives_what_it_hints::<R, S>();

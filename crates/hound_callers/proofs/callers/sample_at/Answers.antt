@@ -1,17 +1,27 @@
-use Rattle.std.proofs.Common.{◌≡◌, ℕ, List, [], Option, None, Some, Result, Ok, Err, IfOk, ap, refl, subst, sym}
+use Rattle.std.proofs.Common.{◌≡◌, ℕ, List, [], Option, None, Some, Result, Ok, Err, MatchResult, ap, refl, subst, sym}
 use Rattle.std.specs.Option.{option_transpose}
-use Rattle.hound.specs.{Error, IsMeaningOf, Seeks, container_at, meaning_at, samples_before, taken_reader, unread}
+use Rattle.hound.specs.{Error, IsIoError, IsMeaningOf, Seeks, container_at, meaning_at, samples_before, taken_reader, unread}
+use Rattle.hound.specs.declared.Error.TheVariants.{IoError}
 use Rattle.hound_callers.proofs.callers.sample_at.Goals as goal
+
+-- an item that isn't a sample is an `IoError`
+failed : {A : Type 0} (meaning : List ℕ → A) (container : List ℕ) (e : Error)
+    → IsMeaningOf meaning container (Some (Err e)) → IsIoError e
+failed meaning container (IoError e) is = tt
+failed meaning container _ is = absurd is
 
 -- an item that is the meaning of a container, as a result
 found : {A : Type 0} (meaning : List ℕ → A) (container : List ℕ) (next : Option (Result A Error))
     (result : Result (Option A) Error) → result ≡ option_transpose next
-    → IsMeaningOf meaning container next → IfOk result (λ sample. sample ≡ Some (meaning container))
+    → IsMeaningOf meaning container next
+    → MatchResult result (λ sample. sample ≡ Some (meaning container)) IsIoError
 found meaning container None result told is = absurd is
 found meaning container (Some (Ok value)) result told is =
-    subst (λ r. IfOk r (λ sample. sample ≡ Some (meaning container))) (sym told) (ap Some is)
+    subst (λ r. MatchResult r (λ sample. sample ≡ Some (meaning container)) IsIoError) (sym told)
+    (ap Some is)
 found meaning container (Some (Err e)) result told is =
-    subst (λ r. IfOk r (λ sample. sample ≡ Some (meaning container))) (sym told) tt
+    subst (λ r. MatchResult r (λ sample. sample ≡ Some (meaning container)) IsIoError) (sym told)
+    (failed meaning container e is)
 
 pub returns : goal.returns
 returns g c told inside none =

@@ -1,6 +1,7 @@
-use Rattle.std.proofs.Common.{◌≡◌, ℕ, zero, suc, List, [], ◌∷◌, ◌++◌, length, map, drop, take, Option, None, Some, Result, Ok, Err, IfSome, refl, sym, ap, subst, ◌∙◌}
-use Rattle.std.proofs.lemmas.List.{length-map}
-use Rattle.hound.specs.{AreItems, Error, GivesItems, IsNext, ReaderState, ReadRefusal, containers, meaning_at, refusal_at, samples_left, taken_reader}
+use Rattle.std.proofs.Common.{◌≡◌, ℕ, List, [], ◌∷◌, ◌++◌, length, map, drop, Option, None, Some, Result, Ok, Err, IfSome, IsErrAnd, MatchResult, ◌⊎◌, inl, refl, sym, ap, subst, ◌∙◌}
+use Rattle.std.proofs.lemmas.List.{length-map, map-append}
+use Rattle.hound.specs.{AreItems, Error, GivesItems, IsIoError, IsNext, ReaderState, ReadRefusal, containers, meaning_at, refusal_at, samples_left, taken_reader}
+use Rattle.hound.specs.declared.Error.TheVariants.{IoError, OutOfMemory}
 use Rattle.hound.specs.declared.SampleFormat.{SampleFormat}
 use Rattle.hound_callers.proofs.callers.samples_of.Goals as goal
 
@@ -8,14 +9,23 @@ use Rattle.hound_callers.proofs.callers.samples_of.Goals as goal
 module _ {R A : Type 0} (left : R → Option (List ℕ))
     (refusal : SampleFormat → ℕ → ℕ → Option ReadRefusal)
     (meaning : SampleFormat → ℕ → ℕ → List ℕ → A) where
-  one_more : (values : List A) (value : A) (old mid new : ReaderState R)
+  one_more : (items : List (Result A Error)) (item : Result A Error) (old mid new : ReaderState R)
+      → GivesItems left refusal meaning items old mid
+      → IsNext left refusal meaning (Some item) mid new
+      → GivesItems left refusal meaning (items ++ item ∷ []) old new
+  one_more [] item old mid new is next =
+      (new, subst (λ r. IsNext left refusal meaning (Some item) r new) is next, refl)
+  one_more (first ∷ items) item old mid new (then, given, others) next =
+      (then, given, one_more items item then mid new others next)
+
+  one_sample_more : (values : List A) (value : A) (old mid new : ReaderState R)
       → GivesItems left refusal meaning (map Ok values) old mid
       → IsNext left refusal meaning (Some (Ok value)) mid new
       → GivesItems left refusal meaning (map Ok (values ++ value ∷ [])) old new
-  one_more [] value old mid new is next =
-      (new, subst (λ r. IsNext left refusal meaning (Some (Ok value)) r new) is next, refl)
-  one_more (first ∷ values) value old mid new (then, given, others) next =
-      (then, given, one_more values value then mid new others next)
+  one_sample_more values value old mid new are next =
+      subst (λ items. GivesItems left refusal meaning items old new)
+      (sym (map-append Ok values (value ∷ [])))
+      (one_more (map Ok values) (Ok value) old mid new are next)
 
 -- items that are all samples are the meanings of the containers
 meanings : {A : Type 0} (meaning : List ℕ → A) (width : ℕ) (bytes : List ℕ) (values : List A)
@@ -37,6 +47,33 @@ if_known (Some bytes) refusal meaning width count values all are = λ none.
     (subst (λ r. AreItems r meaning width bytes (map Ok values)) none are)
     ∙ ap (λ n. map meaning (containers width n bytes)) all
 
+-- an error after items that are samples is an `IoError`
+last_fault : {A : Type 0} (meaning : List ℕ → A) (width : ℕ) (bytes : List ℕ) (values : List A)
+    (e : Error) → AreItems None meaning width bytes (map Ok values ++ Err e ∷ []) → IsIoError e
+last_fault meaning width bytes [] (IoError e) are = tt
+last_fault meaning width bytes [] _ are = absurd are
+last_fault meaning width bytes (value ∷ values) e (whole, is, are) =
+    last_fault meaning width (drop width bytes) values e are
+
+-- the same where the bytes are known, of what is returned for it
+module _ {T : Type 0} (P : List ℕ → T → Type 0) where
+  failed : (bytes : List ℕ) (result : Result T Error) (e : Error)
+      → IsErrAnd result (λ r. r ≡ e) → IsIoError e
+      → MatchResult result (P bytes) (λ e. IsIoError e ⊎ (e ≡ OutOfMemory))
+  failed bytes (Ok x) e is holds = absurd is
+  failed bytes (Err r) e is holds = inl (subst IsIoError (sym is) holds)
+
+  if_failed : {A : Type 0} (result : Result T Error) (left : Option (List ℕ))
+      (refusal : Option ReadRefusal) (meaning : List ℕ → A) (width : ℕ) (values : List A) (e : Error)
+      → IsErrAnd result (λ r. r ≡ e)
+      → IfSome left (λ bytes. AreItems refusal meaning width bytes (map Ok values ++ Err e ∷ []))
+      → IfSome left (λ bytes. refusal ≡ None
+      → MatchResult result (P bytes) (λ e. IsIoError e ⊎ (e ≡ OutOfMemory)))
+  if_failed result None refusal meaning width values e is are = tt
+  if_failed result (Some bytes) refusal meaning width values e is are = λ none.
+      failed bytes result e is (last_fault meaning width bytes values e
+      (subst (λ r. AreItems r meaning width bytes (map Ok values ++ Err e ∷ [])) none are))
+
 pub loop-sample-init : goal.loop-sample-init
 loop-sample-init g c =
     subst (λ items. GivesItems g.R.Read.remaining g.S.Sample.refusal g.S.Sample.meaning (map Ok items)
@@ -53,10 +90,30 @@ loop-sample-preserved g c =
     let new = taken_reader c.next.new.self in
     subst (λ items. GivesItems left refusal meaning (map Ok items) c.args.reader new)
     (sym c.in_ok-push.ensures.items)
-    (one_more left refusal meaning c.loop-sample.samples.items c.in_ok-sample.field-0 c.args.reader
-    old new c.loop-sample.invariant
+    (one_sample_more left refusal meaning c.loop-sample.samples.items c.in_ok-sample.field-0
+    c.args.reader old new c.loop-sample.invariant
     (subst (λ item. IsNext left refusal meaning (Some item) old new) c.in_ok-sample.was
     c.in-Some.ensures.steps))
+
+pub returns-in_err-sample : goal.returns-in_err-sample
+returns-in_err-sample g c =
+    let left = g.R.Read.remaining in
+    let refusal = g.S.Sample.refusal in
+    let meaning = g.S.Sample.meaning in
+    let s = c.args.reader.spec_ex in
+    let items = c.loop-sample.samples.items in
+    let old = taken_reader c.loop-sample.sample-iterator in
+    let new = taken_reader c.next.new.self in
+    let e = c.in_err-sample.field-0.0 in
+    if_failed (λ bytes samples. samples.items ≡ map (meaning_at meaning s)
+    (containers s.bytes_per_sample (samples_left c.args.reader) bytes)) c.from_residual.result
+    (left c.args.reader.reader) (refusal_at refusal s) (meaning_at meaning s) s.bytes_per_sample
+    items e c.from_residual.ensures.1
+    (c.items_are_of_the_file.ensures.items (map Ok items ++ Err e ∷ []) c.args.reader new
+    (one_more left refusal meaning (map Ok items) (Err e) c.args.reader old new
+    c.loop-sample.invariant
+    (subst (λ item. IsNext left refusal meaning (Some item) old new) c.in_err-sample.was
+    c.in-Some.ensures.steps)))
 
 pub returns : goal.returns
 returns g c =
