@@ -13,8 +13,8 @@ use Rattle.hound_medium.proofs.Spans.{moment_last}
 use Rattle.hound_durable.specs.{Ascends}
 use Rattle.hound_reader.specs.{Head, IsSoundSpec}
 use Rattle.hound_writer.specs.{mark_of, Begun, Call, Does, Known, Lead, Left, Opens, appended, found_in, new_file, publish, start_of, with_memory, Counts, ChangesSizesOnly, field, WriterState, HasHeader, IsBegun, IsCounted, IsSound, IsWhole, accepted_bytes, accepted_samples, data_length}
-use Rattle.hound_writer.proofs.Containers.{none_whole}
-use Rattle.hound_writer.proofs.Fresh.{none_accepted, zero_div}
+use Rattle.hound_writer.proofs.Containers.{none_whole, zero_div}
+use Rattle.hound_writer.proofs.Fresh.{none_accepted}
 use Rattle.hound_writer.proofs.Publishing.{reads_all}
 use Rattle.hound_writer.proofs.Heads.{head_inside, head_with}
 use Rattle.hound_writer.proofs.Samples.{concat-samples, length-out, length_out}

@@ -4,7 +4,7 @@ use Rattle.std.proofs.lemmas.List.{take_at, take_all, drop_at, drop-drop, append
 use Rattle.std.proofs.lemmas.Bool.{false≢true}
 use Rattle.std.specs.List.{concat}
 use Rattle.std.specs.declared.io.Error.{Error as IoFault}
-use Rattle.hound_medium.specs.{put_at, placed, overlay, moment, MediumState, WhereTells, WhereKeeps, Span}
+use Rattle.hound_medium.specs.{put_at, placed, overlay, moment, faults_after, MediumState, WhereTells, WhereKeeps, Span}
 use Rattle.hound_medium.proofs.Overlays.{overlay_is, length-put_at, take_overlay_before, length_overlay_le, front_part}
 use Rattle.hound_medium.proofs.Spans.{span_puts, span_still}
 use Rattle.hound_spec.specs.declared.error.Error.{Error}
@@ -12,8 +12,8 @@ use Rattle.hound_spec.specs.declared.error.Error.TheVariants.{IoError, OutOfMemo
 use Rattle.hound_spec.specs.{riff_size, greatest_u32}
 use Rattle.hound_sample.specs.{Refusal, containers, IsEncoded}
 use Rattle.hound_writer.specs.Accepting.{AcceptsBytes, Accepts, AddsAtEach, AcceptAnswer, FitAnswer, IsIoError, OnRefused, faults_told, if_marked, mark_of}
-use Rattle.hound_writer.specs.Parts.{all_out, PutsAt, IsStanding}
-use Rattle.hound_writer.specs.Writer.{Counts, WriterState, HasRoom, IsCounted, IsSound, IsWhole, accepted_samples, data_length}
+use Rattle.hound_writer.specs.Parts.{all_out, GoesToFile, PutsAt, IsStanding, StaysAround}
+use Rattle.hound_writer.specs.Writer.{Counts, WriterState, HasRoom, IsCounted, IsSound, IsWhole, accepted_samples, data_length, sample_count}
 use Rattle.hound_writer.proofs.Answers.{accept_as, on_refused, refused_then, unless_failed}
 use Rattle.hound_sample.proofs.Containers.{containers_append, containers_front}
 use Rattle.hound_writer.proofs.Containers.{count_append, count_bytes, joined_bytes, whole_more}
@@ -118,6 +118,111 @@ room_fits w bytes room whole =
     (data_length w + length (concat (containers width (length bytes / width) bytes))))
     greatest_u32 (omega (arith, room, ap length (joined_bytes width bytes whole)))
 
+-- bytes that are written after a writer's data, all or a beginning
+module _ {W : Type 0} (tells keeps : Bool) (state : W → MediumState) (w : WriterState W)
+    (stands : WhereTells tells
+    (IsStanding w.spec_ex w.data_start w.out (state w.medium).contents)) {T E : Type 0} (m : W)
+    (bytes : List ℕ) (result : Result T E) (told : IsTrue tells)
+    (puts : PutsAt keeps (w.data_start + w.out) bytes result (state w.medium) (state m)) where
+  abbrev was : List ℕ
+  was = (state w.medium).contents
+
+  abbrev now : List ℕ
+  now = (state m).contents
+
+  abbrev at : ℕ
+  at = w.data_start + w.out
+
+  pub front_stays : (n : ℕ) → n ≤ at → n ≤ length was
+      → take n now ≡ take n was
+  front_stays n before there =
+      ap (take n) puts.contents
+      ∙ take_overlay_before (take puts.count bytes) n at was before there
+
+  pub grows : length was ≤ length now
+  grows = omega (
+    arith,
+    ap length puts.contents,
+    length_overlay_le (take puts.count bytes) at was,
+  )
+
+  there : w.data_start ≤ length was
+  there = inside w.spec_ex w.data_start w.out was was (stands told)
+
+  pub front : take w.data_start now ≡ take w.data_start was
+  front = front_stays w.data_start (omega arith) there
+
+  pub data_stays : IsWhole state w
+      → take w.out (drop w.data_start now) ≡ take w.out (drop w.data_start was)
+  data_stays whole =
+      front_part at w.data_start w.out now was (omega arith)
+      (front_stays at (omega arith) whole)
+
+  pub still : IsStanding w.spec_ex w.data_start w.out now
+  still = stands_front w.spec_ex w.data_start w.out was now (stands told) front
+      (omega (arith, there, grows))
+
+  pub rest : drop (at + length bytes) now ≡ drop (at + length bytes) was
+  rest = ap (drop (at + length bytes)) puts.contents
+      ∙ drop_overlay_after (take puts.count bytes) (at + length bytes) at was
+      (omega (arith, length-take puts.count bytes))
+
+  pub reach : length now ≤ max (length was) (at + length bytes)
+  reach = omega (
+    arith,
+    ap length puts.contents,
+    length_overlay_max (take puts.count bytes) at was,
+    length-take puts.count bytes,
+  )
+
+  pub front_at_each : IsTrue keeps → was ≡ overlay (state w.medium).start (state w.medium).past
+      → Span (λ _ c. take w.data_start c ≡ take w.data_start (state w.medium).contents) 0
+      (state w.medium) (state m)
+  front_at_each kept replays =
+      let bs = take puts.count bytes in
+      span_puts
+      (λ _ c. take w.data_start c ≡ take w.data_start was) 0 (state w.medium) (state m) at bs replays
+      puts.start (puts.past kept) (inl puts.flushed)
+      (λ k within. take_overlay_before (take k bs) w.data_start at was
+      (omega arith) there)
+
+  pub around : (far : ℕ) → w.data_start + w.out + length bytes ≡ far
+      → StaysAround state far w (state m)
+  around far is = record {
+    stands = still;
+    front = front;
+    out = λ whole. front_stays at (omega arith) whole;
+    rest = subst (λ n. drop n now ≡ drop n was) is rest;
+    grows = grows;
+    reach = omega (arith, reach, is);
+  }
+
+-- a medium that changed only around the accepted bytes: all samples stay accepted, and count
+pub goes_beside : {W : Type 0} (state : W → MediumState) (far : ℕ) (all : Bool)
+    (w : WriterState W) (m : W) → IsSound w → w.out % w.spec_ex.bytes_per_sample ≡ 0
+    → (state m).faults ≡ faults_after (all_out all) (state w.medium).faults
+    → StaysAround state far w (state m) → GoesToFile state far all w (record w { medium = m })
+goes_beside state far all w m sound whole_out faults stays =
+    let same : IsWhole state w
+    → take w.out (drop w.data_start (state m).contents)
+    ≡ take w.out (drop w.data_start (state w.medium).contents) =
+    λ whole. front_part (w.data_start + w.out) w.data_start w.out (state m).contents
+    (state w.medium).contents (omega arith) (stays.out whole) in
+    let accepted : IsWhole state w
+    → accepted_samples state (record w { medium = m }) ≡ accepted_samples state w =
+    λ whole. ap (λ l. containers w.spec_ex.bytes_per_sample (sample_count w) (l ++ w.waiting))
+    (same whole) in
+    record {
+      faults = faults;
+      around = stays;
+      whole = λ whole. omega (arith, whole, stays.grows);
+      accepted = accepted;
+      counts =
+          λ whole. subst (λ l. Counts w.spec_ex w.data_start l (state m).contents)
+          (sym (accepted whole))
+          (counts_at state w sound whole_out (state m).contents whole stays.stands (same whole));
+    }
+
 -- a writer with an empty block, and a medium with bytes written after its data
 module _ {W : Type 0} (tells keeps : Bool) (state : W → MediumState) (w : WriterState W)
     (none : w.waiting ≡ []) (sound : IsSound w)
@@ -150,59 +255,6 @@ module _ {W : Type 0} (tells keeps : Bool) (state : W → MediumState) (w : Writ
       (puts : PutsAt keeps (w.data_start + w.out) bytes result (state w.medium) (state m)) where
     abbrev new : MediumState
     new = state m
-
-    pub front_stays : (n : ℕ) → n ≤ end → n ≤ length old.contents
-        → take n new.contents ≡ take n old.contents
-    front_stays n before there =
-        ap (take n) puts.contents
-        ∙ take_overlay_before (take puts.count bytes) n end old.contents before there
-
-    pub grows : length old.contents ≤ length new.contents
-    grows = omega (
-      arith,
-      ap length puts.contents,
-      length_overlay_le (take puts.count bytes) end old.contents,
-    )
-
-    there : w.data_start ≤ length old.contents
-    there = inside w.spec_ex w.data_start w.out old.contents old.contents (stands told)
-
-    pub front : take w.data_start new.contents ≡ take w.data_start old.contents
-    front = front_stays w.data_start (omega arith) there
-
-    pub data_stays : IsWhole state w
-        → take w.out (drop w.data_start new.contents) ≡ take w.out (drop w.data_start old.contents)
-    data_stays whole =
-        front_part end w.data_start w.out new.contents old.contents (omega arith)
-        (front_stays end (omega arith) whole)
-
-    pub still : IsStanding w.spec_ex w.data_start w.out new.contents
-    still = stands_front w.spec_ex w.data_start w.out old.contents new.contents (stands told) front
-        (omega (arith, there, grows))
-
-    pub rest : drop (end + length bytes) new.contents ≡ drop (end + length bytes) old.contents
-    rest = ap (drop (end + length bytes)) puts.contents
-        ∙ drop_overlay_after (take puts.count bytes) (end + length bytes) end old.contents
-        (omega (arith, length-take puts.count bytes))
-
-    pub reach : length new.contents ≤ max (length old.contents) (end + length bytes)
-    reach = omega (
-      arith,
-      ap length puts.contents,
-      length_overlay_max (take puts.count bytes) end old.contents,
-      length-take puts.count bytes,
-    )
-
-    pub front_at_each : IsTrue keeps → old.contents ≡ overlay old.start old.past
-        → Span (λ _ c. take w.data_start c ≡ take w.data_start (state w.medium).contents) 0
-        (state w.medium) (state m)
-    front_at_each kept replays =
-        let bs = take puts.count bytes in
-        span_puts
-        (λ _ c. take w.data_start c ≡ take w.data_start old.contents) 0 old new end bs replays
-        puts.start (puts.past kept) (inl puts.flushed)
-        (λ k within. take_overlay_before (take k bs) w.data_start end old.contents
-        (omega arith) there)
 
     pub at_each : IsTrue keeps → old.contents ≡ overlay old.start old.past → AddsAtEach state w new
     at_each kept replays =
@@ -272,9 +324,6 @@ module _ {W : Type 0} (tells keeps : Bool) (state : W → MediumState) (w : Writ
   abbrev pub after_put : W → ℕ → WriterState W
   after_put m out = record w { medium = m; out = out }
 
-  sound_put : (m : W) → IsSound (after_put m w.out)
-  sound_put m = sound_with w m w.out w.waiting sound sound.whole sound.fits
-
   module _ (m : W) (bytes : List ℕ) (room : HasRoom w (length bytes))
       (whole_bytes : length bytes % w.spec_ex.bytes_per_sample ≡ 0) where
     abbrev list : List (List ℕ)
@@ -300,24 +349,18 @@ module _ {W : Type 0} (tells keeps : Bool) (state : W → MediumState) (w : Writ
       };
       file = λ told.
           let p = puts told in
-          let same : IsWhole state w
-          → accepted_samples state (after_put m w.out) ≡ accepted_samples state w =
-          λ whole. samples_out state (after_put m w.out) none (sound_put m)
-          ∙ samples_same state w none sound (state m).contents
-          (data_stays m bytes (all_out false) told p whole) in
+          let f = goes_beside state (end + length bytes) false w m sound (whole_out state w none sound)
+          p.faults
+          (around tells keeps state w stands m bytes (all_out false) told p (end + length bytes) refl)
+          in
           record {
-            faults = p.faults;
-            front = front m bytes (all_out false) told p;
+            faults = f.faults;
+            front = f.around.front;
             rest = tt;
             reach = tt;
-            whole = λ whole. omega (arith, whole, grows m bytes (all_out false) told p);
-            accepted = λ whole. same whole ∙ sym (append-nil (accepted_samples state w));
-            counts =
-                λ whole. subst (λ l. Counts w.spec_ex w.data_start l (state m).contents)
-                (sym (same whole))
-                (counts_at state w sound (whole_out state w none sound) (state m).contents whole
-                (still m bytes (all_out false) told p)
-                (data_stays m bytes (all_out false) told p whole));
+            whole = f.whole;
+            accepted = λ whole. f.accepted whole ∙ sym (append-nil (accepted_samples state w));
+            counts = f.counts;
           };
       moments =
           λ told kept. at_each m bytes (all_out false) told (puts told) kept (replays told kept);
@@ -360,7 +403,7 @@ module _ {W : Type 0} (tells keeps : Bool) (state : W → MediumState) (w : Writ
           (count_append w.out (length bytes) width sound.width (whole_out state w none sound))
           ∙ containers_append width (w.out / width) (length bytes / width) samples
           ∙ (λ i. samples_same state w none sound (state m).contents
-          (data_stays m bytes (all_out true) told p whole) i
+          (data_stays tells keeps state w stands m bytes (all_out true) told p whole) i
           ++ containers width (length bytes / width)
           (drop (count_bytes w.out width (whole_out state w none sound) i) samples))
           ∙ ap (λ l. accepted_samples state w ++ l)
@@ -372,15 +415,15 @@ module _ {W : Type 0} (tells keeps : Bool) (state : W → MediumState) (w : Writ
           (omega (arith, count_bytes (length bytes) width whole_bytes))))) in
           let stands_now =
           stands_more w.spec_ex w.data_start w.out (w.out + length bytes) (state m).contents
-          (omega arith) (still m bytes (all_out true) told p) in
+          (omega arith) (still tells keeps state w stands m bytes (all_out true) told p) in
           record {
             faults = p.faults;
-            front = front m bytes (all_out true) told p;
+            front = front tells keeps state w stands m bytes (all_out true) told p;
             rest = let at : end + length bytes ≡ w.data_start +
                 (w.out + length bytes + length w.waiting) = omega (arith, ap length none) in
                 subst (λ n. drop n (state m).contents ≡ drop n old.contents) at
-                (rest m bytes (all_out true) told p);
-            reach = omega (arith, reach m bytes (all_out true) told p);
+                (rest tells keeps state w stands m bytes (all_out true) told p);
+            reach = omega (arith, reach tells keeps state w stands m bytes (all_out true) told p);
             whole = λ whole. bytes_inside m bytes (all_out true) told p p.whole whole;
             accepted = more;
             counts =

@@ -4,7 +4,7 @@ use Rattle.std.proofs.lemmas.List.{append-nil}
 use Rattle.std.proofs.Math.Nat.{mul-div_cancel_left, mul-le-mul_right, mul-mod_right}
 use Rattle.std.specs.List.{concat}
 use Rattle.std.specs.declared.io.Error.{Error as IoFault}
-use Rattle.hound_medium.specs.{overlay, MediumState, WhereTells, WhereKeeps}
+use Rattle.hound_medium.specs.{overlay, MediumState, WhereKeeps}
 use Rattle.hound_sample.specs.{Refusal, too_wide, unsupported, containers}
 use Rattle.hound_spec.specs.declared.error.Error.{Error}
 use Rattle.hound_spec.specs.declared.error.Error.TheVariants.{TooLong, TooWide, Unsupported}
@@ -12,14 +12,13 @@ use Rattle.hound_spec.specs.declared.spec.WavSpecEx.{WavSpecEx}
 use Rattle.hound_spec.specs.{greatest_u32}
 use Rattle.hound_writer.specs.Accepting.{AcceptsBytes, whole_containers, Accepts, IsIoError, containers_in, outcome_of, sample_bytes}
 use Rattle.hound_writer.specs.Parts.{GoesOut, result_of, IsConsistent}
-use Rattle.hound_writer.specs.Writer.{WriterState, HasRoom, IsCounted, IsWhole, data_end}
+use Rattle.hound_writer.specs.Writer.{WriterState, HasRoom, IsValid, data_end}
 use Rattle.hound_writer.specs.declared.outcome.Outcome.{Outcome}
 use Rattle.hound_writer.specs.declared.outcome.Outcome.TheVariants.{Accepted}
 use Rattle.hound_writer.proofs.Accepting.{accepts_refused}
 use Rattle.hound_sample.proofs.Joined.{joined, joined_size}
-use Rattle.hound_writer.proofs.Keeping.{consistent_seen}
 use Rattle.hound_writer.proofs.Later.{accepts_later}
-use Rattle.hound_writer.proofs.Samples.{counts_at}
+use Rattle.hound_writer.proofs.Samples.{valid_seen}
 use Rattle.hound_writer.proofs.Writing.{bytes_too_long}
 
 -- values of a type with this table, whose containers have the requested number of bytes
@@ -112,16 +111,8 @@ module _ {V : Type 0} (container : V → ℕ → ℕ → Result (List ℕ) Refus
       (consistent : IsConsistent tells state a may_have_moved limit)
       (replays : WhereKeeps tells keeps
       ((state w.medium).contents ≡ overlay (state w.medium).start (state w.medium).past)) where
-    known : IsConsistent tells state w may_have_moved limit
-    known = consistent_seen tells state may_have_moved may_have_moved limit a w same refl consistent
-
-    pub some_width : 1 ≤ w.spec_ex.bytes_per_sample
-    some_width = known.sound.width
-
-    counts : WhereTells tells (IsWhole state w → IsCounted state w)
-    counts told whole =
-        counts_at state w known.sound known.whole_out (state w.medium).contents whole
-        (known.stands told) refl
+    valid : IsValid tells state w
+    valid = valid_seen tells state may_have_moved limit a w same consistent
 
     -- one of them has no container
     pub many_refused : (outcome : Outcome) (fault : IoFault)
@@ -138,12 +129,12 @@ module _ {V : Type 0} (container : V → ℕ → ℕ → Result (List ℕ) Refus
         go (Err too_wide) is =
             subst (λ o. Accepts tells keeps state false (Err too_wide) (result_of o fault) w w)
             (sym is)
-            (accepts_refused tells keeps state w false (Err too_wide) TooWide counts replays refl
+            (accepts_refused tells keeps state w false (Err too_wide) TooWide valid.counts replays refl
             (λ _. refl) refl)
         go (Err unsupported) is =
             subst (λ o. Accepts tells keeps state false (Err unsupported) (result_of o fault) w w)
             (sym is)
-            (accepts_refused tells keeps state w false (Err unsupported) Unsupported counts replays
+            (accepts_refused tells keeps state w false (Err unsupported) Unsupported valid.counts replays
             refl (λ _. refl) refl)
 
     -- the file has no room for all of them
@@ -153,8 +144,8 @@ module _ {V : Type 0} (container : V → ℕ → ℕ → Result (List ℕ) Refus
         (Err TooLong) w w
     many_too_long have none =
         let size = size_of w.spec_ex have in
-        many_asked tells keeps state (Err TooLong) w w some_width have
-        (bytes_too_long tells keeps state w (sample_bytes container w.spec_ex values) counts
+        many_asked tells keeps state (Err TooLong) w w valid.sound.width have
+        (bytes_too_long tells keeps state w (sample_bytes container w.spec_ex values) valid.counts
         replays
         (ap (λ n. n % w.spec_ex.bytes_per_sample) size
         ∙ mul-mod_right w.spec_ex.bytes_per_sample (length values))
@@ -165,7 +156,7 @@ module _ {V : Type 0} (container : V → ℕ → ℕ → Result (List ℕ) Refus
         → HasRoom w (w.spec_ex.bytes_per_sample * length values) → ⊥
     too_many many room =
         let wide : 1 * length values ≤ w.spec_ex.bytes_per_sample * length values =
-        mul-le-mul_right (length values) some_width in
+        mul-le-mul_right (length values) valid.sound.width in
         omega (arith, many, room, wide)
 
 -- the outcome of samples whose containers were checked

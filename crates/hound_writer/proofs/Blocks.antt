@@ -1,6 +1,6 @@
 -- What the block of accepted samples changes: samples that join it, and its samples when it is
 -- written.
-use Rattle.std.proofs.Common.{◌≡◌, ℕ, zero, suc, ◌+◌, ◌/◌, ◌%◌, ◌≤◌, Bool, true, false, IsTrue, List, [], ◌++◌, length, take, drop, Result, Ok, inl, refl, sym, subst, ◌∙◌, ap, arith, length-append, length-drop}
+use Rattle.std.proofs.Common.{◌≡◌, ℕ, ◌+◌, ◌/◌, ◌%◌, ◌≤◌, Bool, true, false, IsTrue, List, [], ◌++◌, length, take, drop, Result, Ok, inl, refl, sym, subst, ◌∙◌, ap, arith, length-append, length-drop}
 use Rattle.std.proofs.lemmas.List.{append-nil, length-take-le, nil_from_length}
 use Rattle.std.specs.List.{concat}
 use Rattle.hound_medium.specs.{overlay, MediumState, WhereTells, WhereKeeps}
@@ -9,12 +9,12 @@ use Rattle.hound_sample.specs.{containers}
 use Rattle.hound_writer.specs.Accepting.{AcceptsBytes, AddsAtEach, FitAnswer, KeepsStored}
 use Rattle.hound_writer.specs.Parts.{GoesAtEach, GoesOut, IsLimit, StaysAround, after_out, all_out, block_length, IsConsistent, IsStanding, PutsAt}
 use Rattle.hound_writer.specs.Writer.{Counts, WriterState, HasRoom, IsSound, IsWhole, accepted_samples, data_length, data_end}
-use Rattle.hound_writer.proofs.Accepting.{accepts_all, adds_nothing, at_each, data_stays, front, front_at_each, front_stays, grows, reach, rest, room_fits, sound_more, still}
-use Rattle.hound_writer.proofs.Containers.{joined_bytes, none_whole, whole_more}
+use Rattle.hound_writer.proofs.Accepting.{accepts_all, adds_nothing, around, at_each, front_at_each, goes_beside, room_fits, sound_more, still}
+use Rattle.hound_writer.proofs.Containers.{joined_bytes, none_whole, whole_more, zero_div}
 use Rattle.hound_writer.proofs.Counted.{counts_more}
 use Rattle.hound_writer.proofs.Keeping.{consistent_moved, sound_with}
 use Rattle.hound_writer.proofs.PutsFrom.{puts_from}
-use Rattle.hound_writer.proofs.Samples.{counts_at, samples_more, samples_parts}
+use Rattle.hound_writer.proofs.Samples.{counts_at, samples_more, samples_parts, valid_seen}
 use Rattle.hound_writer.proofs.Standing.{stands_more}
 use Rattle.hound_writer.proofs.Storing.{joined_samples, puts_stored}
 
@@ -85,8 +85,7 @@ module _ {W : Type 0} (tells keeps : Bool) (state : W → MediumState) (w : Writ
               (known.stands told) refl;
         };
         moments = λ told kept. adds_nothing state w
-            (λ whole. counts_at state w sound known.whole_out old.contents whole
-            (known.stands told) refl) (replays told kept);
+            ((valid_seen tells state moved limit w w refl known).counts told) (replays told kept);
       }
 
 -- the buffered samples are written after the bytes in the medium
@@ -128,10 +127,6 @@ module _ {W : Type 0} (tells keeps : Bool) (state : W → MediumState) (w : Writ
       (sym (samples_parts state shorter sound_shorter known.whole_out whole
       ∙ ap (λ l. containers wide (w.out / wide) (drop w.data_start old.contents) ++ l) none
       ∙ append-nil (containers wide (w.out / wide) (drop w.data_start old.contents))))
-    where
-      zero_div : (n : ℕ) → 0 / n ≡ 0
-      zero_div zero = refl
-      zero_div (suc n) = omega arith
 
   moments : (IsWhole state w
       → KeepsStored w.data_start (concat (accepted_samples state w)) (state w.medium) (state m))
@@ -171,43 +166,17 @@ module _ {W : Type 0} (tells keeps : Bool) (state : W → MediumState) (w : Writ
         adds = moments (stored_out told kept)
             (at_each tells keeps state shorter refl sound_shorter stands m w.waiting
             (all_out all) told (puts told) kept (replays told kept));
-        front = front_at_each tells keeps state shorter refl sound_shorter stands m w.waiting
+        front = front_at_each tells keeps state w stands m w.waiting
             (all_out all) told (puts told) kept (replays told kept);
         behind =
             puts_from w.data_start end (take (puts told).count w.waiting) old (state m)
             (omega arith) ((puts told).past kept);
       }
 
-      same_out : (told : IsTrue tells) → IsWhole state w
-          → take w.out (drop w.data_start (state m).contents) ≡ take w.out
-          (drop w.data_start old.contents)
-      same_out told =
-          data_stays tells keeps state shorter refl sound_shorter stands m w.waiting
-          (all_out all) told (puts told)
-
-      around : IsTrue tells → StaysAround state (data_end w) w (state m)
-      around told =
-          let p = puts told in
-          let at : end + length w.waiting ≡ data_end w = omega arith in
-          record {
-            stands =
-                still tells keeps state shorter refl sound_shorter stands m w.waiting
-                (all_out all) told p;
-            front = front tells keeps state shorter refl sound_shorter stands m w.waiting
-                (all_out all) told p;
-            out = λ whole. front_stays tells keeps state shorter refl sound_shorter stands m
-                w.waiting (all_out all) told p end (omega arith) whole;
-            rest = subst (λ n. drop n (state m).contents ≡ drop n old.contents) at
-                (rest tells keeps state shorter refl sound_shorter stands m w.waiting
-                (all_out all) told p);
-            grows = grows tells keeps state shorter refl sound_shorter stands m w.waiting
-                (all_out all) told p;
-            reach = omega (
-              arith,
-              reach tells keeps state shorter refl sound_shorter stands m w.waiting
-                  (all_out all) told p,
-            );
-          }
+      stays_around : IsTrue tells → StaysAround state (data_end w) w (state m)
+      stays_around told =
+          around tells keeps state w stands m w.waiting (all_out all) told (puts told) (data_end w)
+          (omega arith)
 
   pub goes_out : (all : Bool)
       → WhereTells tells
@@ -221,7 +190,7 @@ module _ {W : Type 0} (tells keeps : Bool) (state : W → MediumState) (w : Writ
         (omega (arith, known.sound.fits)) known.whole_waiting puts replays).file told in
         record {
           faults = (puts told).faults;
-          around = around true puts told;
+          around = stays_around true puts told;
           whole = f.whole;
           accepted = λ whole. f.accepted whole ∙ sym (samples_first whole);
           counts = f.counts;
@@ -232,22 +201,8 @@ module _ {W : Type 0} (tells keeps : Bool) (state : W → MediumState) (w : Writ
     value = refl;
     sound = known.sound;
     file = λ told.
-        let a = around false puts told in
-        let accepted : IsWhole state w
-        → accepted_samples state (record w { medium = m }) ≡ accepted_samples state w =
-        λ whole. ap (λ bytes. containers wide (data_length w / wide) (bytes ++ w.waiting))
-        (same_out false puts told whole) in
-        record {
-          faults = (puts told).faults;
-          around = a;
-          whole = λ whole. omega (arith, whole, a.grows);
-          accepted = accepted;
-          counts =
-              λ whole. subst (λ l. Counts w.spec_ex w.data_start l (state m).contents)
-              (sym (accepted whole))
-              (counts_at state w known.sound known.whole_out (state m).contents whole a.stands
-              (same_out false puts told whole));
-        };
+        goes_beside state (data_end w) false w m known.sound known.whole_out (puts told).faults
+        (stays_around false puts told);
     moments = moments_out false puts;
   }
 
@@ -270,7 +225,7 @@ module _ {W : Type 0} (tells keeps : Bool) (state : W → MediumState) (w : Writ
         room = room;
         stands =
             λ told. stands_more w.spec_ex w.data_start w.out (data_length w) (state m).contents
-            (omega arith) (around true puts told).stands;
+            (omega arith) (stays_around true puts told).stands;
         place = λ told _. omega (arith, (puts told).place);
       }
 
@@ -278,7 +233,7 @@ module _ {W : Type 0} (tells keeps : Bool) (state : W → MediumState) (w : Writ
       (PutsAt keeps (w.data_start + w.out) w.waiting (all_out false) (state w.medium) (state m))
       → IsConsistent tells state (record w { medium = m }) true limit
   consistent_cut puts =
-      consistent_moved tells state w m moved limit known (λ told. (around false puts told).stands)
+      consistent_moved tells state w m moved limit known (λ told. (stays_around false puts told).stands)
 
 -- if nothing is buffered nothing is written
 pub goes_out_nothing : {W : Type 0} (tells keeps : Bool) (state : W → MediumState) (far : ℕ)
@@ -288,10 +243,7 @@ pub goes_out_nothing : {W : Type 0} (tells keeps : Bool) (state : W → MediumSt
     → length w.waiting ≡ 0 → GoesOut tells keeps state far true w w
 goes_out_nothing tells keeps state far w moved limit known replays none =
     let old = state w.medium in
-    let counts : IsTrue tells → IsWhole state w
-    → Counts w.spec_ex w.data_start (accepted_samples state w) old.contents =
-    λ told whole. counts_at state w known.sound known.whole_out old.contents whole
-    (known.stands told) refl in
+    let counts = (valid_seen tells state moved limit w w refl known).counts in
     record {
       value = λ i.
           record w {
@@ -350,7 +302,7 @@ module _ {W : Type 0} (tells keeps : Bool) (state : W → MediumState) (w : Writ
       → IsConsistent tells state (record w { medium = m }) true limit
   cut_at_once all puts =
       consistent_moved tells state w m moved limit known
-      (λ told. still tells keeps state w none known.sound known.stands m bytes (all_out all) told
+      (λ told. still tells keeps state w known.stands m bytes (all_out all) told
       (puts told))
 
   pub kept_at_once : (next : ℕ) → IsLimit w.data_start (w.out + length bytes) next
@@ -370,7 +322,7 @@ module _ {W : Type 0} (tells keeps : Bool) (state : W → MediumState) (w : Writ
         stands =
             λ told. stands_more w.spec_ex w.data_start w.out (w.out + length bytes)
             (state m).contents (omega arith)
-            (still tells keeps state w none known.sound known.stands m bytes (all_out true) told
+            (still tells keeps state w known.stands m bytes (all_out true) told
             (puts told));
         place = λ told _. omega (arith, (puts told).place);
       }

@@ -23,17 +23,17 @@ pub none_whole : (width : ℕ) → 0 % width ≡ 0
 none_whole zero = refl
 none_whole (suc width) = omega arith
 
+pub zero_div : (width : ℕ) → 0 / width ≡ 0
+zero_div zero = refl
+zero_div (suc width) = omega arith
+
 -- whole containers: as many bytes as their count says
 pub count_bytes : (n width : ℕ) → n % width ≡ 0 → n / width * width ≡ n
 count_bytes n width whole = omega (arith, div-add-mod' n width, whole)
 
 pub whole_more : (n more width : ℕ) → n % width ≡ 0 → more % width ≡ 0 → (n + more) % width ≡ 0
 whole_more n more width whole then =
-    add-mod n more width ∙ (λ i. (whole i + then i) % width) ∙ zero_mod width
-  where
-    zero_mod : (w : ℕ) → (0 + 0) % w ≡ 0
-    zero_mod zero = refl
-    zero_mod (suc w) = omega arith
+    add-mod n more width ∙ (λ i. (whole i + then i) % width) ∙ none_whole width
 
 pub count_more : (n width : ℕ) → 1 ≤ width → (n + width) / width ≡ suc (n / width)
 count_more n width some = omega (arith, add-div_right n {k = width} some)
@@ -79,13 +79,9 @@ pub container_alone : (width : ℕ) (bytes : List ℕ) → 1 ≤ width → lengt
 container_alone width bytes some is =
     let one : length bytes / width ≡ 1 =
     ap (λ n. n / width) (let e : length bytes ≡ 0 + width = omega (arith, is) in e)
-    ∙ count_more 0 width some ∙ ap suc (none width) in
+    ∙ count_more 0 width some ∙ ap suc (zero_div width) in
     (λ i. containers width (one i) bytes)
     ∙ ap (λ (c : List ℕ). c ∷ []) (take_all width bytes (omega (arith, is)))
-  where
-    none : (n : ℕ) → 0 / n ≡ 0
-    none zero = refl
-    none (suc n) = omega arith
 
 -- whole containers of two lists of bytes, one after the other
 pub containers_join : (width : ℕ) (a b : List ℕ) → 1 ≤ width → length a % width ≡ 0

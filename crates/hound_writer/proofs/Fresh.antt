@@ -1,5 +1,5 @@
 -- What one call for samples and an end leave in a medium that was empty: exactly the canonical file.
-use Rattle.std.proofs.Common.{◌≡◌, ℕ, zero, suc, ◌+◌, ◌/◌, Bool, List, [], ◌++◌, length, take, drop, Ok, IsTrue, refl, sym, ◌∙◌, ap, subst, arith, length-append, length-drop}
+use Rattle.std.proofs.Common.{◌≡◌, ℕ, ◌+◌, ◌/◌, Bool, List, [], ◌++◌, length, take, drop, Ok, IsTrue, sym, ◌∙◌, ap, subst, arith, length-append, length-drop}
 use Rattle.std.proofs.lemmas.List.{take_all}
 use Rattle.std.specs.Io.{StartsWith}
 use Rattle.hound_spec.specs.declared.spec.WavSpecEx.{WavSpecEx}
@@ -12,13 +12,9 @@ use Rattle.hound_writer.specs.Accepting.{Accepts}
 use Rattle.hound_writer.specs.Beginning.{Begins}
 use Rattle.hound_writer.specs.Publishing.{Finishes}
 use Rattle.hound_writer.specs.Writer.{WriterState, HasHeader, IsBegun, IsSound, accepted_samples, data_length}
+use Rattle.hound_writer.proofs.Containers.{zero_div}
 use Rattle.hound_writer.proofs.Samples.{samples_out}
 use Rattle.hound_writer.proofs.Sizes.{header_front}
-
--- no bytes are no samples, of any width
-pub zero_div : (w : ℕ) → 0 / w ≡ 0
-zero_div zero = refl
-zero_div (suc w) = omega arith
 
 -- a writer with no accepted bytes has no samples
 pub none_accepted : {M : Type 0} (state : M → MediumState) (w : WriterState M) → IsSound w

@@ -1,6 +1,6 @@
 -- A call that continues once the buffered samples are written.
 use Rattle.std.proofs.Common.{◌≡◌, ℕ, ◌+◌, ◌-◌, ◌≤◌, ◌%◌, Bool, true, false, IsTrue, Result, Err, IfErr, List, ◌++◌, length, take, drop, refl, sym, ◌∙◌, ap, subst, arith}
-use Rattle.std.proofs.lemmas.List.{drop-drop, append-nil}
+use Rattle.std.proofs.lemmas.List.{append-nil}
 use Rattle.std.specs.List.{concat}
 use Rattle.std.specs.declared.io.Error.{Error as IoFault}
 use Rattle.hound_medium.specs.{MediumState}
@@ -8,6 +8,7 @@ use Rattle.hound_medium.proofs.Spans.{join, span_weaker}
 use Rattle.hound_spec.specs.declared.error.Error.{Error}
 use Rattle.hound_spec.specs.declared.error.Error.TheVariants.{IoError}
 use Rattle.hound_sample.specs.{Refusal}
+use Rattle.hound_sample.proofs.Many.{drop_further}
 use Rattle.hound_writer.specs.Accepting.{AcceptsBytes, whole_containers, Accepts, AddsAtEach, FitAnswer, IsIoError, faults_told, if_marked, mark_of, KeepsStored}
 use Rattle.hound_writer.specs.Parts.{GoesOut, after_out, or_fault}
 use Rattle.hound_writer.specs.Writer.{Counts, WriterState, HasRoom, IsWhole, accepted_samples, data_length, data_end}
@@ -20,8 +21,7 @@ use Rattle.hound_writer.proofs.Storing.{stored_join}
 pub drop_later : (n m : ℕ) (a b : List ℕ) → n ≤ m → drop n a ≡ drop n b → drop m a ≡ drop m b
 drop_later n m a b le same =
     let at : n + (m - n) ≡ m = omega (arith, le) in
-    (λ i. drop (sym at i) a) ∙ sym (drop-drop (m - n) n a) ∙ ap (drop (m - n)) same
-    ∙ drop-drop (m - n) n b ∙ (λ i. drop (at i) b)
+    subst (λ k. drop k a ≡ drop k b) at (drop_further n (m - n) a b same)
 
 -- all of it
 module _ {W : Type 0} (tells keeps : Bool) (state : W → MediumState) (far : ℕ) (a : WriterState W)

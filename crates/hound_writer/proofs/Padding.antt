@@ -1,15 +1,13 @@
 -- The pad byte after the accepted data.
-use Rattle.std.proofs.Common.{◌≡◌, ℕ, zero, suc, ◌+◌, ◌/◌, ◌%◌, inl, inr, Bool, true, false, IsTrue, List, [], ◌∷◌, ◌++◌, length, take, drop, replicate, refl, sym, subst, ◌∙◌, ap, arith}
+use Rattle.std.proofs.Common.{◌≡◌, ℕ, zero, suc, ◌+◌, ◌%◌, inl, inr, Bool, true, false, IsTrue, List, [], ◌∷◌, length, take, drop, replicate, refl, sym, subst, ◌∙◌, ap, arith}
 use Rattle.std.proofs.lemmas.Bool.{cases_lt}
 use Rattle.std.proofs.lemmas.List.{take_all}
 use Rattle.std.specs.Io.{StartsWith}
 use Rattle.hound_medium.specs.{overlay, placed, put_at, MediumState, WhereTells, WhereKeeps}
-use Rattle.hound_sample.specs.{containers}
 use Rattle.hound_writer.specs.Parts.{GoesOut, after_out, all_out, IsConsistent, PutsAt}
-use Rattle.hound_writer.specs.Writer.{Counts, WriterState, IsPadded, IsWhole, accepted_samples, data_length, padded_end}
-use Rattle.hound_writer.proofs.Accepting.{at_each, data_stays, front, front_at_each, front_stays, grows, reach, rest, still}
+use Rattle.hound_writer.specs.Writer.{WriterState, IsPadded, data_length, padded_end}
+use Rattle.hound_writer.proofs.Accepting.{around, at_each, front_at_each, goes_beside}
 use Rattle.hound_writer.proofs.PutsFrom.{puts_from}
-use Rattle.hound_writer.proofs.Samples.{counts_at}
 
 -- a byte that was written is at its place
 put_stands : (p b : ℕ) (c : List ℕ) → take 1 (drop p (put_at p b c)) ≡ b ∷ []
@@ -66,49 +64,13 @@ module _ {W : Type 0} (tells keeps : Bool) (state : W → MediumState) (w : Writ
       value = value all;
       sound = known.sound;
       file = λ told.
-          let p = puts told in
-          let same =
-          data_stays tells keeps state w none known.sound known.stands m pad
-          (all_out all) told p in
-          let stands =
-          still tells keeps state w none known.sound known.stands m pad (all_out all) told p in
-          let longer =
-          grows tells keeps state w none known.sound known.stands m pad (all_out all) told p in
-          let at : end + 1 ≡ padded_end w = omega (arith, size, odd_size) in
-          let accepted : IsWhole state w → accepted_samples state new ≡ accepted_samples state w =
-          λ whole.
-          ap (λ bytes. containers w.spec_ex.bytes_per_sample
-          (data_length w / w.spec_ex.bytes_per_sample) (bytes ++ w.waiting)) (same whole) in
-          record {
-            faults = p.faults;
-            around = record {
-              stands = stands;
-              front = front tells keeps state w none known.sound known.stands m pad
-                  (all_out all) told p;
-              out = λ whole. front_stays tells keeps state w none known.sound known.stands m pad
-                  (all_out all) told p end (omega arith) whole;
-              rest = subst (λ n. drop n (state m).contents ≡ drop n old.contents) at
-                  (rest tells keeps state w none known.sound known.stands m pad (all_out all) told
-                  p);
-              grows = longer;
-              reach = omega (
-                arith,
-                at,
-                reach tells keeps state w none known.sound known.stands m pad (all_out all) told p,
-              );
-            };
-            whole = λ whole. omega (arith, whole, longer);
-            accepted = accepted;
-            counts =
-                λ whole. subst (λ l. Counts w.spec_ex w.data_start l (state m).contents)
-                (sym (accepted whole))
-                (counts_at state w known.sound known.whole_out (state m).contents whole stands
-                (same whole));
-          };
+          goes_beside state (padded_end w) all w m known.sound known.whole_out (puts told).faults
+          (around tells keeps state w known.stands m pad (all_out all) told (puts told)
+          (padded_end w) (omega (arith, size, odd_size)));
       moments = λ told kept. record {
         adds = at_each tells keeps state w none known.sound known.stands m pad (all_out all) told
             (puts told) kept (replays told kept);
-        front = front_at_each tells keeps state w none known.sound known.stands m pad
+        front = front_at_each tells keeps state w known.stands m pad
             (all_out all) told (puts told) kept (replays told kept);
         behind =
             puts_from w.data_start end (take (puts told).count pad) old (state m) (omega arith)

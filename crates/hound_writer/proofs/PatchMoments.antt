@@ -1,7 +1,7 @@
 -- The intermediate states of a patch, part after part, and of a call that publishes.
-use Rattle.std.proofs.Common.{◌≡◌, ℕ, suc, ◌+◌, ◌-◌, ◌<◌, ◌≤◌, ◌^◌, inl, inr, Bool, true, false, IsTrue, Result, Ok, Err, OnOk, IsOk, List, [], ◌∷◌, ◌++◌, length, take, drop, refl, sym, ◌∙◌, ap, subst, arith, length-append, length-take}
+use Rattle.std.proofs.Common.{◌≡◌, ℕ, ◌+◌, ◌-◌, ◌<◌, ◌≤◌, ◌^◌, inl, inr, Bool, true, false, IsTrue, Result, Ok, Err, OnOk, IsOk, List, [], ◌++◌, length, take, drop, refl, sym, ◌∙◌, ap, subst, arith, length-append, length-take}
 use Rattle.std.proofs.lemmas.Bool.{cases_lt, false≢true}
-use Rattle.std.proofs.lemmas.List.{take-take, length-take-le, get_or_at}
+use Rattle.std.proofs.lemmas.List.{take-take, length-take-le}
 use Rattle.std.proofs.lemmas.Result.{on_ok_weaker}
 use Rattle.std.specs.Io.{StartsWith}
 use Rattle.std.specs.List.{concat}
@@ -12,13 +12,14 @@ use Rattle.hound_medium.specs.{placed, overlay, moment, MediumState, Stays, Wher
 use Rattle.hound_spec.specs.{riff_size, padding}
 use Rattle.hound_medium.proofs.Outcomes.{from_ok}
 use Rattle.hound_medium.proofs.Overlays.{length-placed}
-use Rattle.hound_medium.proofs.Spans.{span_puts, join, and_still}
+use Rattle.hound_medium.proofs.Spans.{span_puts, span_weaker, join, and_still}
 use Rattle.hound_medium.proofs.Torn.{number_at_small}
 use Rattle.hound_spec.specs.declared.error.Error.{Error}
 use Rattle.hound_writer.specs.Writer.{Counts, field, WriterState, AreFrames, IsPadded, IsSound, IsWhole, accepted_samples, data_length, data_end}
 use Rattle.hound_writer.specs.Parts.{HasSize, IsPatched, Patches, PatchesAtEach, PutsAt, IsStanding, IsPublishResult}
 use Rattle.hound_writer.specs.Accepting.{IsPublishing}
 use Rattle.hound_durable.specs.{place_of}
+use Rattle.hound_durable.proofs.Ascending.{length_put, place_after}
 use Rattle.hound_writer.specs.Publishing.{PublishesTo, Publishes, IsHalfPublished, IsOldOrNew, PublishesAtEach, PutsLast}
 use Rattle.hound_writer.proofs.Answers.{published}
 use Rattle.hound_writer.proofs.Later.{drop_later}
@@ -72,11 +73,10 @@ module _ {T E : Type 0} (keeps : Bool) (p size new : ℕ) (result : Result T E)
 -- the byte that begins what was added
 first_added : (old new : List (ℕ × ℕ)) (p : ℕ) (bytes : List ℕ) → new ≡ old ++ placed p bytes
     → length old < length new → place_of new (length old) ≡ p
-first_added old new p [] is longer =
-    absurd (omega (arith, longer, ap length is, length-append old (placed p [])))
-first_added old new p (b ∷ bytes) is longer =
+first_added old new p bytes is longer =
     ap (λ l. place_of l (length old)) is
-    ∙ ap (λ (x : ℕ × ℕ). x.0) (get_or_at old (p, b) (placed (suc p) bytes) (0, 0) (length old) refl)
+    ∙ place_after old p bytes (length old) (omega arith)
+    (omega (arith, longer, ap length is, length_put old p bytes)) ∙ omega arith
 
 -- a patch that ended before its field
 pub patches_none : {V F : Type 0} (p size new : ℕ) (answer : Result V F) (a b : MediumState)
@@ -211,14 +211,8 @@ publishes_at_each state w none sound stands padded small end patched are_frames 
                 (span.each k from to);
           };
       split = split;
-      half = record {
-        start = span.start;
-        added = span.added;
-        past = span.past;
-        flushed = span.flushed;
-        each = λ k from to. half (k - split) (moment (state end).start (state end).past k)
-            (span.each k from to);
-      };
+      half = span_weaker (IsPatched p (riff_size w.data_start w.out) old w.out)
+          (IsHalfPublished w old) split (state w.medium) (state end) half span;
       puts = patches.puts;
       whole = published
           (length (state end).past ≡ split + 4) patched are_frames told is patches.whole;
@@ -240,18 +234,6 @@ publishes_at_each state w none sound stands padded small end patched are_frames 
           (λ k from to. samples (moment (state end).start (state end).past k)
           (span.each k from to).same.behind);
     }
-
--- the intermediate states of a patch of a writer's fields, as contracts see them
-pub patches_at_each_seen : {W : Type 0} (state : W → MediumState) (a b : WriterState W)
-    (riff : ℕ) (result : Result (Unit {0}) IoFault) (end : MediumState) → a ≡ b
-    → riff ≡ riff_size a.data_start a.out
-    → PatchesAtEach (a.data_start - 4) riff a.out result (state a.medium) end
-    → PatchesAtEach (b.data_start - 4) (riff_size b.data_start b.out) b.out result
-    (state b.medium) end
-patches_at_each_seen state a b riff result end same is patches =
-    subst (λ w. PatchesAtEach (w.data_start - 4) (riff_size w.data_start w.out) w.out result
-    (state w.medium) end) same
-    (subst (λ n. PatchesAtEach (a.data_start - 4) n a.out result (state a.medium) end) is patches)
 
 -- a call of a writer that patches, and its result by the frames
 module _ {W : Type 0} (tells keeps : Bool) (state : W → MediumState) (w : WriterState W) (end : W)

@@ -2,7 +2,6 @@
 -- fails nothing is patched.
 use Rattle.std.proofs.Common.{◌≡◌, ℕ, ◌+◌, ◌-◌, ◌≤◌, inl, inr, Bool, true, false, IsTrue, ◌%◌, Result, Err, OnOk, List, length, take, drop, refl, sym, ◌∙◌, ap, subst, arith, length-append, length-take}
 use Rattle.std.proofs.lemmas.Bool.{cases_lt}
-use Rattle.std.proofs.lemmas.List.{get_or_append_left}
 use Rattle.std.specs.List.{concat}
 use Rattle.std.specs.Io.{StartsWith}
 use Rattle.std.specs.declared.io.Error.{Error as IoFault}
@@ -19,6 +18,7 @@ use Rattle.hound_writer.specs.Accepting.{OnPublished, faults_told, KeepsStored}
 use Rattle.hound_writer.specs.Parts.{GoesAtEach, GoesOut, StaysAround, after_out}
 use Rattle.hound_writer.specs.Writer.{Counts, ChangesSizesOnly, field, WriterState, IsBegun, IsPadded, IsSound, HasHeader, accepted_samples, data_length, padded_end}
 use Rattle.hound_durable.specs.{place_of}
+use Rattle.hound_durable.proofs.Ascending.{place_before}
 use Rattle.hound_writer.specs.Publishing.{PublishesTo, Finishes, IsHalfPublished, IsOldOrNew, OncePutBefore, Publishes, PublishesAtEach, ReadsAs}
 use Rattle.hound_writer.proofs.Answers.{on_published_then, publishing_as}
 use Rattle.hound_writer.proofs.Later.{counts_later, goes_further, length_same}
@@ -287,8 +287,7 @@ module _ {W : Type 0} (tells keeps : Bool) (state : W → MediumState) (a : Writ
             | inl sooner ↦
                 let same : place_of (state end).past i ≡ place_of (state m).past i =
                 ap (λ l. place_of l i) g.half.past
-                ∙ ap (λ (x : ℕ × ℕ). x.0)
-                (get_or_append_left (state m).past g.half.added (0, 0) i sooner) in
+                ∙ place_before (state m).past g.half.added i sooner in
                 absurd (omega (arith, before, same, goes.behind i from sooner))
             | inr then ↦
                 padded_as_first (moment (state end).start (state end).past k)

@@ -5,14 +5,14 @@ use Rattle.std.proofs.lemmas.List.{drop-drop, length-take-le, get_or-take, get_o
 use Rattle.std.proofs.Math.Seq.{get_or-append_right}
 use Rattle.std.specs.List.{concat}
 use Rattle.hound_medium.specs.{moment, placed, put_at, MediumState}
-use Rattle.hound_medium.proofs.Overlays.{front_part, length-placed}
+use Rattle.hound_medium.proofs.Overlays.{front_part}
 use Rattle.hound_medium.proofs.Spans.{moment_before}
 use Rattle.hound_sample.specs.{containers}
 use Rattle.hound_durable.specs.{place_of}
 use Rattle.hound_writer.specs.Accepting.{IsStored, KeepsStored, StaysTrue}
 use Rattle.hound_writer.specs.Writer.{WriterState, IsSound, IsWhole, accepted_bytes, accepted_samples, data_length}
 use Rattle.hound_writer.proofs.Containers.{joined_bytes}
-use Rattle.hound_durable.proofs.Ascending.{place_placed}
+use Rattle.hound_durable.proofs.Ascending.{length_put, place_after}
 
 -- the byte with this number among all bytes written
 abbrev byte_of : List (ℕ × ℕ) → ℕ → ℕ
@@ -96,13 +96,11 @@ puts_stored start at before bytes count old new is past a len within =
       from,
       to,
       ap length past,
-      length-append old.past (placed at put),
-      length-placed at put,
+      length_put old.past at put,
     ) in
     let place : place_of new.past k ≡ at + j =
     ap (λ l. place_of l k) past
-    ∙ ap (λ (x : ℕ × ℕ). x.0) (get_or-append_right old.past (placed at put) k (0, 0) from)
-    ∙ place_placed at put j few in
+    ∙ place_after old.past at put k from (omega (arith, few)) in
     let byte : byte_of new.past k ≡ get_or bytes j 0 =
     ap (λ l. byte_of l k) past
     ∙ ap (λ (x : ℕ × ℕ). x.1) (get_or-append_right old.past (placed at put) k (0, 0) from)

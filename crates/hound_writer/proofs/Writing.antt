@@ -9,11 +9,10 @@ use Rattle.hound_spec.specs.{riff_size, greatest_u32}
 use Rattle.hound_sample.specs.{Refusal, too_wide, unsupported, containers, IsEncoded}
 use Rattle.hound_writer.specs.Accepting.{AcceptsBytes, Accepts, FitAnswer, one}
 use Rattle.hound_writer.specs.Parts.{IsConsistent}
-use Rattle.hound_writer.specs.Writer.{WriterState, HasRoom, IsCounted, IsWhole, data_length}
+use Rattle.hound_writer.specs.Writer.{WriterState, HasRoom, IsCounted, IsValid, IsWhole, data_length}
 use Rattle.hound_writer.proofs.Accepting.{accepts_refused}
-use Rattle.hound_writer.proofs.Keeping.{consistent_seen}
 use Rattle.hound_writer.proofs.Containers.{container_alone, joined_bytes}
-use Rattle.hound_writer.proofs.Samples.{counts_at}
+use Rattle.hound_writer.proofs.Samples.{valid_seen}
 
 -- there is no room, as the test finds
 pub no_room : {W : Type 0} (w : WriterState W) (n : ℕ) → (HasRoom w n → ⊥)
@@ -58,13 +57,8 @@ module _ {W : Type 0} (tells keeps : Bool) (state : W → MediumState)
   same_asked =
       λ i. container (same i).spec_ex.spec.bits_per_sample (same i).spec_ex.bytes_per_sample
 
-  kept : IsConsistent tells state w may_have_moved limit
-  kept = consistent_seen tells state may_have_moved may_have_moved limit a w same refl consistent
-
-  counts : WhereTells tells (IsWhole state w → IsCounted state w)
-  counts told whole =
-      counts_at state w kept.sound kept.whole_out (state w.medium).contents whole
-      (kept.stands told) refl
+  valid : IsValid tells state w
+  valid = valid_seen tells state may_have_moved limit a w same consistent
 
   module _
       (replays : WhereKeeps tells keeps
@@ -82,13 +76,13 @@ module _ {W : Type 0} (tells keeps : Bool) (state : W → MediumState)
         go (Err too_wide) is =
             let e_is : e ≡ TooWide = cc in
             subst (λ x. Accepts tells keeps state false (Err too_wide) (Err x) w w) (sym e_is)
-            (accepts_refused tells keeps state w false (Err too_wide) TooWide counts replays refl
+            (accepts_refused tells keeps state w false (Err too_wide) TooWide valid.counts replays refl
             (λ _. refl) refl)
         go (Err unsupported) is =
             let e_is : e ≡ Unsupported = cc in
             subst (λ x. Accepts tells keeps state false (Err unsupported) (Err x) w w) (sym e_is)
             (accepts_refused tells keeps state w false
-            (Err unsupported) Unsupported counts replays refl (λ _. refl) refl)
+            (Err unsupported) Unsupported valid.counts replays refl (λ _. refl) refl)
 
   -- the call was for its container
   pub sample_accepts : (c bytes : List ℕ) (answer : Result (Unit {0}) Error) (new : WriterState W)
@@ -100,7 +94,7 @@ module _ {W : Type 0} (tells keeps : Bool) (state : W → MediumState)
   sample_accepts c bytes answer new is cut size accepts =
       let all : containers w.spec_ex.bytes_per_sample
       (length bytes / w.spec_ex.bytes_per_sample) bytes ≡ c ∷ [] =
-      container_alone w.spec_ex.bytes_per_sample bytes kept.sound.width (ap length cut ∙ size)
+      container_alone w.spec_ex.bytes_per_sample bytes valid.sound.width (ap length cut ∙ size)
       ∙ ap (λ (l : List ℕ). l ∷ []) cut in
       subst (λ r. Accepts tells keeps state false (one r) answer w new) (sym is)
       (subst (λ (l : List (List ℕ)).

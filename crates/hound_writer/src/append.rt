@@ -1,7 +1,7 @@
 // Appending to existing files.
 ghost use Rattle.std.specs.Prelude.{◌≡◌, [], ⊤, MatchResult};
 ghost use Rattle.hound_medium.specs.{WhereTells};
-ghost use Rattle.hound_reader.specs.{IsSoundSpec, Head, IsDataPlace, Names};
+ghost use Rattle.hound_reader.specs.{IsSoundSpec, Head, IsDataPlace};
 ghost use Rattle.hound_writer.specs.Calls.{Recorded, appended};
 ghost use Rattle.hound_writer.specs.Writer.{IsWhole, accepted_samples};
 ghost use Rattle.hound_writer.specs.Appending.{Appends, IsNotAppended, FailsCheck, head_fault};
@@ -13,13 +13,6 @@ use hound_reader::{Cause, FileHead, HeadError, Reason, error_of, find_data};
 use hound_spec::{Error, Result, is_pair};
 use std::result;
 
-// The error of a cause that the bytes decide.
-fn refused(cause: Cause) -> Error
-    ensures { Names result cause }
-{
-    error_of(HeadError::Refused(cause))
-}
-
 // Checks whether a file with this head can be appended to.
 #[tactic(auto, unfolding(crate::specs::Appending::head_fault))]
 fn check_head(head: FileHead) -> Result<()>
@@ -30,13 +23,13 @@ fn check_head(head: FileHead) -> Result<()>
     let spec = head.spec_ex.spec;
     let width = head.spec_ex.bytes_per_sample;
     if head.data_length % width as u32 != 0 {
-        return Err(refused(Cause::Format(Reason::DataLength)));
+        return Err(error_of(HeadError::Refused(Cause::Format(Reason::DataLength))));
     }
     if !is_pair(spec.sample_format, spec.bits_per_sample, width) {
         return Err(Error::Unsupported);
     }
     if head.data_length / width as u32 % spec.channels as u32 != 0 {
-        return Err(refused(Cause::Format(Reason::FrameLength)));
+        return Err(error_of(HeadError::Refused(Cause::Format(Reason::FrameLength))));
     }
     if riff_size(head.data_start, head.data_length as u64) > u32::MAX as u64 {
         return Err(Error::TooLong);

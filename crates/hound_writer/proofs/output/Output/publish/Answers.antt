@@ -1,11 +1,12 @@
 use Rattle.std.proofs.Common.{◌-◌, ◌∙◌, Ok, ap, arith, inl, refl, subst, sym}
 use Rattle.std.proofs.lemmas.Bool.{true≢false}
+use Rattle.std.specs.declared.io.Error.{Error as IoFault}
 use Rattle.hound_medium.specs.{one_more}
-use Rattle.hound_writer.specs.Parts.{IsPatched}
+use Rattle.hound_writer.specs.Parts.{IsPatched, Patches, PatchesAtEach}
 use Rattle.hound_writer.proofs.Keeping.{consistent_gone}
-use Rattle.hound_writer.proofs.PatchMoments.{patches_at_each_seen, patches_still}
+use Rattle.hound_writer.proofs.PatchMoments.{patches_still}
 use Rattle.hound_writer.proofs.Patching.{cut}
-use Rattle.hound_writer.proofs.Publishing.{consistent_patched, patches_seen}
+use Rattle.hound_writer.proofs.Publishing.{consistent_patched, patch_seen}
 use Rattle.hound_writer.proofs.output.Output.publish.Goals as goal
 
 pub invariant_of-self : goal.invariant_of-self
@@ -42,7 +43,8 @@ returns-in_err-go-clause-patches g c tells =
     let patches = c.in_ok-patch.ensures.patches tells in
     let half = patches.half in
     let told = c.from_residual-in_err-go in
-    patches_seen W.state _ c.args.self.now _ told.result _ c.self.view_is (omega arith)
+    patch_seen (λ p riff n. Patches p riff n told.result) W.state _ c.args.self.now _ _
+    c.self.view_is (omega arith)
     (cut _ _ _ half.0 _ _ _ told.ensures.0 half.1
     (subst (λ l. IsPatched (i.data_start - 4) c.riff_size-riff_size.result
     (W.state i.writer).contents i.data_bytes_written half.0 l) (sym go.stays.contents) half.2)
@@ -52,7 +54,8 @@ pub returns-clause-moments : goal.returns-clause-moments
 returns-clause-moments g c tells keeps =
     let W = g.W.Placed in
     let go = c.in_ok-go.ensures tells in
-    patches_at_each_seen W.state _ c.args.self.now _ (Ok tt) _ c.self.view_is (omega arith)
+    patch_seen (λ p riff n. PatchesAtEach {E = IoFault} p riff n (Ok tt)) W.state _ c.args.self.now _ _
+    c.self.view_is (omega arith)
     (patches_still _ _ _ _ (Ok tt) (W.state c.self.inside.writer) (W.state c.patch.new.medium) _
     (g.met.W.Medium.replays c.patch.new.medium tells keeps) go.stays (inl go.flushed) refl
     (c.in_ok-patch.ensures.moments tells keeps))
