@@ -1,6 +1,6 @@
 // Reading a block, and opening a file again.
-ghost use Rattle.std.specs.Prelude.{◌≡◌, ℕ, ◌+◌, ◌*◌, ◌/◌, ◌≤◌, ◌++◌, List, None, Some, Ok, IsSome, IfOk, MatchResult, drop, length, map, take};
-ghost use Rattle.hound.specs.{AreContainers, GivesItems, IsIoError, IsWhole, IsWritable, ReaderState, WavSpecEx, WhereTells, accepted_samples, canonical, containers, data_fault, data_start, greatest_u32, header, one_more, over_bytes, riff_size, samples_before};
+ghost use Rattle.std.specs.Prelude.{◌≡◌, ℕ, ◌+◌, ◌-◌, ◌*◌, ◌/◌, ◌≤◌, ◌++◌, List, None, Some, Ok, IsSome, IfOk, MatchResult, drop, length, map, min, take};
+ghost use Rattle.hound.specs.{AreContainers, GivesItems, IsIoError, IsWhole, IsWritable, ReaderState, WavSpecEx, WhereTells, accepted_samples, canonical, containers, data_fault, data_start, greatest_u32, header, one_more, over_bytes, riff_size, samples_before, samples_left};
 
 use hound::{
     Error, Medium, Sample, Source, WavReader, WavWriter, a_block_is_its_items,
@@ -8,13 +8,14 @@ use hound::{
 };
 use std::{io, result};
 
-/// Reads a block: at an Ok its samples are those that as many calls of `next` would have given, and
-/// the reader is left as these would have left it.
+/// Reads a block: at an Ok it has all samples that fit or are left (`all`), those that as many calls
+/// of `next` would have given, and the reader is left as these would have left it (`same`).
 pub fn read_block<S: Sample, R: io::Read + Drop>(
     reader: &mut WavReader<R>,
     block: &mut [S],
 ) -> hound::Result<usize>
-    ensures { IsSome (R.remaining reader.old.reader) → IfOk result (λ count.
+    ensures all { IfOk result (λ count. count ≡ min (length block.old) (samples_left reader.old)) }
+    ensures same { IsSome (R.remaining reader.old.reader) → IfOk result (λ count.
         (others : List S) (other : ReaderState R) → length others ≡ count →
         GivesItems R.remaining S.refusal S.meaning (map Ok others) reader.old other →
         (take count block.new ≡ others)
@@ -27,14 +28,17 @@ pub fn read_block<S: Sample, R: io::Read + Drop>(
 }
 
 /// Reads a block from a frame on, by a reader that has read nothing yet. Returns how many samples
-/// came, and what is left of the input: the bytes after their containers.
+/// came, all that fit or are left (`all`), and what is left of the input: the bytes after their
+/// containers (`rest`).
 pub fn read_from<S: Sample, R: Source>(
     reader: WavReader<R>,
     time: u32,
     block: &mut [S],
 ) -> hound::Result<(usize, R)>
     requires { reader.bytes_read ≡ 0 }
-    ensures { WhereTells R.tells ((bytes : List ℕ) → R.remaining reader.reader ≡ Some bytes →
+    ensures all { IfOk result (λ done. done.0
+        ≡ min (length block.old) (reader.num_samples - samples_before time reader.spec_ex)) }
+    ensures rest { WhereTells R.tells ((bytes : List ℕ) → R.remaining reader.reader ≡ Some bytes →
         IfOk result (λ done. R.remaining done.1 ≡ Some (drop ((samples_before time reader.spec_ex
         + done.0) * reader.spec_ex.bytes_per_sample) bytes))) }
 {

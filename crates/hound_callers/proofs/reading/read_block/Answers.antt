@@ -3,8 +3,8 @@ use Rattle.std.proofs.lemmas.List.{length-take-le}
 use Rattle.hound.specs.{Error, GivesItemsOfBytes, items_of}
 use Rattle.hound_callers.proofs.reading.read_block.Goals as goal
 
-pub returns : goal.returns
-returns g c known others other long gives =
+pub returns-clause-same : goal.returns-clause-same
+returns-clause-same g c known others other long gives =
     let read = c.read_samples-count in
     let count = read.result.0 in
     let samples = take count read.new.samples in

@@ -20,8 +20,8 @@ took left refusal meaning (value ∷ values) old new (mid, given, others) =
       ap (λ s. length values * s.bytes_per_sample) given.spec_ex,
     )
 
-pub returns : goal.returns
-returns g c told bytes is =
+pub returns-clause-rest : goal.returns-clause-rest
+returns-clause-rest g c told bytes is =
     let reader = c.args.reader in
     let state = g.R.Placed.state in
     let left = g.R.Read.remaining in
