@@ -5,6 +5,7 @@
 mod callers;
 mod either;
 mod example;
+mod reading;
 mod recording;
 mod twelve;
 
@@ -14,8 +15,10 @@ pub use callers::{
 };
 pub use either::EitherSample;
 pub use example::record_and_read;
+pub use reading::{read_block, read_from, reopen};
 pub use recording::{
-    pack_one, record, record_batch, record_checkpoints, record_mixed, record_steps, record_twelve,
-    record_twelve_and_repair, record_twelve_through_a_loss,
+    finish_durable, pack_one, record, record_at_once, record_batch, record_checkpoints,
+    record_mixed, record_steps, record_twelve, record_twelve_and_repair,
+    record_twelve_through_a_loss, write_if_short,
 };
 pub use twelve::Twelve;

@@ -1,7 +1,7 @@
 // Recorders that make their calls themselves.
-ghost use Rattle.std.specs.Prelude.{◌≡◌, ◌⊎◌, ◌-◌, ◌/◌, ◌<◌, ◌≤◌, ℕ, true, List, ◌∷◌, ◌++◌, [], ⊤, Ok, MatchResult, IsOk, OnErr, OnOk, drop, length, map, take};
+ghost use Rattle.std.specs.Prelude.{◌≡◌, ◌⊎◌, ◌-◌, ◌/◌, ◌<◌, ◌≤◌, ℕ, true, List, ◌∷◌, ◌++◌, [], ⊤, Ok, MatchResult, IsFalse, IsOk, IsTrue, OnErr, OnOk, drop, length, map, take};
 ghost use Rattle.std.specs.List.{flat_map};
-ghost use Rattle.hound.specs.{one, Begun, Call, Known, Left, Recorded, made, new_file, publish, write, containers, int_container, Around, within, HasPublished, Kept, KeptWithin, accepted_by_all, canonical, data_start, held, AcceptsEach, containers_in, signed_bytes_of, IsNoPad, ReadsFrames, IsSixteen, Ran, asked_by, containers_of, field, MediumState, WhereKeeps, WhereTells, WriterState, IsWhole, accepted_samples, data_length, WavSpecEx};
+ghost use Rattle.hound.specs.{one, Begun, Call, Known, Left, Recorded, made, new_file, publish, write, containers, int_container, Around, within, HasPublished, Kept, KeptWithin, accepted_by_all, canonical, data_start, held, AcceptsEach, Ascends, ReadsAs, WritesToBatch, containers_in, fits, remaining, signed_bytes_of, IsNoPad, ReadsFrames, IsSixteen, Ran, asked_by, containers_of, field, MediumState, WhereKeeps, WhereTells, WriterState, IsWhole, accepted_samples, data_length, WavSpecEx};
 ghost use Rattle.hound.specs.declared.session.Begin.TheVariants.{New};
 ghost use Rattle.hound.specs.declared.session.End.TheVariants.{Finalize};
 ghost use Rattle.hound.specs.declared.session.Step.TheVariants.{Whole};
@@ -9,9 +9,10 @@ ghost use Rattle.hound_callers.specs.Recording.{HaveContainers, IsStopped, Stops
 
 use crate::twelve::Twelve;
 use hound::{
-    Begin, Durable, End, Error, Medium, Placed, Repair, Sample, Source, Step, WavSpecEx, WavWriter,
-    a_batch_is_its_values, a_repair_loses_no_published_sample, a_run_leaves_its_calls,
-    calls_are_a_run, repair_to_end, run_session, sessions_leave_one_file, what_a_loss_leaves,
+    Begin, Durable, End, Error, Medium, Placed, Repair, Sample, SampleWriter16, Source, Step,
+    WavSpecEx, WavWriter, a_batch_is_its_values, a_block_is_its_samples, a_durable_medium_ascends,
+    a_repair_loses_no_published_sample, a_run_leaves_its_calls, calls_are_a_run, repair_to_end,
+    run_session, sessions_leave_one_file, short_integers_are_kept, what_a_loss_leaves,
     what_is_kept, what_is_known,
 };
 use std::alloc::Global;
@@ -338,4 +339,48 @@ pub fn record_mixed<M: Source + Medium>(
     let _ = record_batch(alloc, &mut writer, batch);
     let (medium, _) = writer.finalize_into();
     Ok(medium)
+}
+
+/// Writes samples by one call and publishes them: the file is then read as if each had been written
+/// by a call of its own.
+pub fn record_at_once<S: Sample + Copy, M: Medium>(
+    writer: &mut WavWriter<M>,
+    samples: &[S],
+) -> hound::Result<()>
+    ensures { WhereTells M.tells (IsWhole M.state writer.old → OnOk result ((each : WriterState M) →
+        AcceptsEach M.tells M.keeps M.state S.container samples.now writer.old each →
+        ReadsAs writer.old.spec_ex writer.old.data_start (accepted_samples M.state each) (M.state writer.new.medium).contents)) }
+{
+    a_block_is_its_samples::<S, M>();
+    writer.write_samples(samples)?;
+    writer.flush()
+}
+
+/// Writes an integer to a batch as itself if it has sixteen bits, and returns whether it has; a batch
+/// alone drops the higher bits of any other.
+pub fn write_if_short<M: Medium>(batch: &mut SampleWriter16<'_, M>, value: i32) -> bool
+    requires { 1 ≤ remaining batch.old }
+    ensures short { result ≡ fits 16 value }
+    ensures written { IsTrue result → WritesToBatch (signed_bytes_of 2 value) batch.old batch.new }
+    ensures left { IsFalse result → batch.new ≡ batch.old }
+{
+    short_integers_are_kept();
+    if value < i16::MIN as i32 || value > i16::MAX as i32 {
+        return false;
+    }
+    batch.write_sample(value);
+    true
+}
+
+/// Ends a recording over a durable medium, and takes the medium out. At an Ok all that was written to
+/// it is flushed, and in any case what was written since its last flush went to ascending places.
+pub fn finish_durable<M: Medium>(writer: WavWriter<Durable<M>>) -> (M, hound::Result<()>)
+    ensures flushed { WhereKeeps M.tells M.keeps (OnOk result.1 (
+        let s = M.state result.0 in s.flushed ≡ length s.past)) }
+    ensures ascends { WhereKeeps M.tells M.keeps (
+        let s = M.state result.0 in Ascends s.past s.flushed (length s.past)) }
+{
+    let (durable, result) = writer.finalize_into();
+    a_durable_medium_ascends(&durable);
+    (durable.into_inner(), result)
 }

@@ -1,7 +1,10 @@
-// The functions of `callers`, each run once.
-use crate::helpers::{FOUR_SAMPLES, empty_tape, integers, sixteen, tape_of};
-use hound::{WavReader, WavWriter};
-use hound_callers::{convert, open_written, publish, record_checkpoint, sample_at, samples_of};
+// The functions of `callers` and `reading`, each run once.
+use crate::helpers::{FOUR_SAMPLES, NO_SAMPLES, empty_tape, integers, sixteen, tape_of};
+use hound::{Source, WavReader, WavWriter};
+use hound_callers::{
+    convert, open_written, publish, read_block, read_from, record_at_once, record_checkpoint,
+    reopen, sample_at, samples_of,
+};
 use std::test::Fail;
 
 // Stereo, 44100 Hz, 16 bits: 2, -3, 5, -7.
@@ -58,5 +61,36 @@ fn samples_are_collected_and_found(rt: HostRuntime) -> Result<(), Fail> {
     let second: Option<i16> = sample_at(WavReader::new(tape_of(rt.alloc(), STEREO)?)?, 1)?;
     let third: Option<i16> = sample_at(WavReader::new(tape_of(rt.alloc(), STEREO)?)?, 2)?;
     assert_eq!(rt; (second, third), (Some(5), None));
+    Ok(())
+}
+
+#[test]
+fn a_block_is_read_and_the_rest_is_left(rt: HostRuntime) -> Result<(), Fail> {
+    let mut reader = WavReader::new(STEREO)?;
+    let mut block = [0i16; 3];
+    let count = read_block(&mut reader, &mut block)?;
+    assert_eq!(rt; (count, block), (3, [2, -3, 5]));
+    let reader = WavReader::new(tape_of(rt.alloc(), STEREO)?)?;
+    let mut block = [0i32; 1];
+    let (count, mut rest) = read_from(reader, 1, &mut block)?;
+    let mut left = [0; 4];
+    let left_count = rest.get(&mut left)?;
+    assert_eq!(rt;
+        (count, block, left_count, left),
+        (1, [5], 2, [0xf9, 0xff, 0, 0])
+    );
+    Ok(())
+}
+
+#[test]
+fn a_written_file_is_opened_again(rt: HostRuntime) -> Result<(), Fail> {
+    let tape = tape_of(rt.alloc(), &FOUR_SAMPLES)?;
+    let writer = reopen(tape).map_err(|(_, error)| error)?;
+    assert_eq!(rt; writer.len(), 4);
+    let tape = tape_of(rt.alloc(), &NO_SAMPLES)?;
+    let mut writer = reopen(tape).map_err(|(_, error)| error)?;
+    record_at_once(&mut writer, &[2i16, -3, 5, -7])?;
+    let tape = writer.drop_into();
+    assert!(rt; tape.bytes() == FOUR_SAMPLES.as_slice());
     Ok(())
 }

@@ -1,9 +1,10 @@
 // The recorders of `hound_callers`, each run once.
-use crate::helpers::{empty_tape, integers, read_all, sixteen};
-use hound::{Journal, Step, Tape, WavReader, WavSpecEx, WavWriter};
+use crate::helpers::{FOUR_SAMPLES, empty_tape, integers, read_all, sixteen};
+use hound::{Durable, Journal, Step, Tape, WavReader, WavSpecEx, WavWriter};
 use hound_callers::{
-    Twelve, pack_one, record_batch, record_checkpoints, record_mixed, record_steps, record_twelve,
-    record_twelve_and_repair, record_twelve_through_a_loss,
+    Twelve, finish_durable, pack_one, record_at_once, record_batch, record_checkpoints,
+    record_mixed, record_steps, record_twelve, record_twelve_and_repair,
+    record_twelve_through_a_loss, write_if_short,
 };
 use std::alloc::Global;
 use std::test::Fail;
@@ -101,6 +102,35 @@ fn takes_a_batch(alloc: Global) -> hound::Result<bool> {
     Ok(holds(alloc, tape.bytes(), &[300, -301]))
 }
 
+// 40000 needs more than sixteen bits.
+fn takes_shorts(alloc: Global) -> hound::Result<bool> {
+    let mut writer = WavWriter::new(empty_tape(alloc), sixteen(1))?;
+    let mut batch = writer.get_i16_writer(alloc, 2)?;
+    let marks = [
+        write_if_short(&mut batch, 40_000),
+        batch.remaining() >= 1 && write_if_short(&mut batch, 32_767),
+        batch.remaining() >= 1 && write_if_short(&mut batch, -32_768),
+    ];
+    if batch.remaining() != 0 {
+        return Ok(false);
+    }
+    batch.flush()?;
+    let (tape, result) = writer.finalize_into();
+    result?;
+    Ok(marks == [false, true, true] && holds(alloc, tape.bytes(), &[32_767, -32_768]))
+}
+
+fn ends_durably(alloc: Global) -> hound::Result<bool> {
+    let journal = Journal::new(alloc, Vec::new(alloc))?;
+    let mut writer = WavWriter::new(Durable::new(journal), sixteen(1))?;
+    record_at_once(&mut writer, &[2i16, -3, 5, -7])?;
+    let (journal, result) = finish_durable(writer);
+    result?;
+    let taken = journal.taken();
+    let bytes = journal.bytes_after(alloc, taken)?;
+    Ok(journal.flushed() == taken && bytes.as_slice() == FOUR_SAMPLES.as_slice())
+}
+
 fn packs(alloc: Global) -> bool {
     match pack_one(Tape::new(Vec::new(alloc)), integers(1, 44100, 16, 2), -301) {
         Ok(tape) => holds(alloc, tape.bytes(), &[-301]),
@@ -156,7 +186,13 @@ fn a_recorder_counts_what_it_published(rt: HostRuntime) -> Result<(), Fail> {
 #[test]
 fn batches_steps_and_single_calls_are_recorded(rt: HostRuntime) -> Result<(), Fail> {
     let alloc = rt.alloc();
-    let found = (takes_a_batch(alloc)?, packs(alloc), takes_steps(alloc));
-    assert_eq!(rt; found, (true, true, true));
+    let found = (
+        takes_a_batch(alloc)?,
+        takes_shorts(alloc)?,
+        packs(alloc),
+        takes_steps(alloc),
+    );
+    assert_eq!(rt; found, (true, true, true, true));
+    assert!(rt; ends_durably(alloc)?);
     Ok(())
 }

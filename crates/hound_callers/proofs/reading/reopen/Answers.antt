@@ -1,0 +1,191 @@
+use Rattle.std.proofs.Common.{◌≡◌, ◌∙◌, ℕ, zero, suc, ◌+◌, ◌-◌, ◌*◌, ◌/◌, ◌%◌, ◌≤◌, Bool, true, false, not, cond, eqb, le-ltb, IsTrue, List, [], ◌∷◌, ◌++◌, length, take, drop, Some, None, Result, Ok, Err, MatchResult, inl, inr, refl, sym, ap, subst, arith, length-append, append-nil, drop_at}
+use Rattle.std.proofs.Math.Nat.{div-mul-le_self, mod-eq-sub-div-mul}
+use Rattle.std.proofs.lemmas.Bool.{cases_Bool, eqb-true}
+use Rattle.std.proofs.lemmas.List.{drop-take}
+use Rattle.std.specs.List.{AllByRecursion, concat}
+use Rattle.hound.specs.{Appends, Cause, Error, FollowsData, HasOneAppendAnswer, Head, IsIoError, IsNotAppended, IsWhole, IsWritable, MediumState, SampleFormat, WavSpecEx, WriterState, accepted_samples, appendable, bytes_of, containers, data_fault, data_length, data_start, data_tag, faulty, fmt_tag, greatest_u32, head_fault, header, is_short, long_fmt, one_more, padding, riff_size, riff_tag, sized_fmt, subformat, wave_tag}
+use Rattle.hound.specs.declared.SampleFormat.TheVariants.{Int, Float}
+use Rattle.hound_callers.proofs.reading.reopen.Goals as goal
+
+subformat_long : (format : SampleFormat) → length (subformat format) ≡ 16
+subformat_long Int = refl
+subformat_long Float = refl
+
+sized_long : (s : WavSpecEx) → length (bytes_of 4 40 ++ long_fmt s) ≡ 44
+sized_long s = simp length-append (omega (arith, subformat_long s.spec.sample_format))
+
+around : (fmt : List ℕ) (size len : ℕ)
+    → length (riff_tag ++ bytes_of 4 size ++ wave_tag ++ fmt_tag ++ fmt ++ data_tag ++ bytes_of 4 len)
+    ≡ 24 + length fmt
+around fmt size len = simp length-append (omega arith)
+
+-- a header ends where its data begin
+header_long : (s : WavSpecEx) (size len : ℕ) → length (header s size len) ≡ data_start s
+unfolding header sized_fmt
+header_long s size len = elim (cases_Bool (is_short s)) [
+  | inl short ↦ rw short refl
+  | inr long ↦ rw long (around (bytes_of 4 40 ++ long_fmt s) size len ∙ ap (λ n. 24 + n) (sized_long s))
+]
+
+-- whole samples, and whole frames
+are_whole : (s : WavSpecEx) (len : ℕ) → data_fault s len ≡ None
+    → (eqb (len % s.bytes_per_sample) 0 ≡ true)
+    × (eqb (len / s.bytes_per_sample % s.spec.channels) 0 ≡ true)
+are_whole s len none =
+    go (eqb (len % s.bytes_per_sample) 0) (eqb (len / s.bytes_per_sample % s.spec.channels) 0) _ _
+    none
+  where
+    go : (a b : Bool) (c d : Cause) → cond (not a) (Some c) (cond (not b) (Some d) None) ≡ None
+        → (a ≡ true) × (b ≡ true)
+    go true true c d none = (refl, refl)
+    go true false c d none = cc
+    go false b c d none = cc
+
+-- a head that fails no check
+no_fault : (s : WavSpecEx) (len : ℕ) → IsWritable s → data_fault s len ≡ None
+    → riff_size (data_start s) len ≤ greatest_u32 → head_fault s len (data_start s) ≡ None
+unfolding head_fault
+no_fault s len writable none fits =
+    let (samples, frames) = are_whole s len none in
+    let pair = writable.pair in
+    let room = le-ltb greatest_u32 (riff_size (data_start s) len) fits in
+    rw (samples, pair, frames, room) refl
+
+first_of : (w m : ℕ) (bytes : List ℕ) → w ≤ m → take w (take m bytes) ≡ take w bytes
+first_of zero m bytes inside = refl
+first_of (suc w) zero bytes inside = absurd (omega (arith, inside))
+first_of (suc w) (suc m) [] inside = refl
+first_of (suc w) (suc m) (b ∷ bytes) inside =
+    ap (λ l. b ∷ l) (first_of w m bytes (omega (arith, inside)))
+
+-- containers are in the bytes that they take
+containers_in_first : (w n m : ℕ) (bytes : List ℕ) → n * w ≤ m
+    → containers w n (take m bytes) ≡ containers w n bytes
+containers_in_first w zero m bytes inside = refl
+containers_in_first w (suc n) m bytes inside =
+    let j = m - w in
+    let whole : w + j ≡ m = omega (arith, inside) in
+    λ i. first_of w m bytes (omega (arith, inside)) i ∷
+    (ap (λ k. containers w n (drop w (take k bytes))) (sym whole)
+    ∙ ap (containers w n) (drop-take w j bytes)
+    ∙ containers_in_first w n j (drop w bytes) (omega (arith, inside))) i
+
+concat_long : (w : ℕ) (list : List (List ℕ)) → AllByRecursion (λ c. length c ≡ w) list
+    → length (concat list) ≡ length list * w
+concat_long w [] each = omega arith
+concat_long w (c ∷ list) (one, each) =
+    omega (arith, one, concat_long w list each, length-append c (concat list))
+
+module _ {M : Type 0} (state : M → MediumState) (s : WavSpecEx) (len : ℕ) (old : MediumState)
+    (answer : HasOneAppendAnswer old.contents) (head : Head old.contents s len (data_start s))
+    (sound : head_fault s len (data_start s) ≡ None) where
+  this : appendable s len (data_start s) ≡ answer.0
+  this = answer.2 (appendable s len (data_start s)) (head, sound)
+
+  -- a writer that appends has these samples
+  opened : (w : WriterState M) → w.waiting ≡ [] → FollowsData old state w
+      → (w.spec_ex ≡ s) × (data_start s + len ≤ length old.contents → IsWhole state w)
+      × (accepted_samples state w
+      ≡ containers s.bytes_per_sample (len / s.bytes_per_sample) (drop (data_start s) old.contents))
+  opened w none found =
+      let a = answer.2 (appendable w.spec_ex (data_length w) w.data_start) (found.head, found.check) in
+      let b = this in
+      let spec : w.spec_ex ≡ s = cc in
+      let long : data_length w ≡ len = cc in
+      let start : w.data_start ≡ data_start s = cc in
+      let same = found.puts.stays.contents in
+      let out : w.out ≡ len = omega (arith, long, ap length none) in
+      let all : accepted_samples state w ≡ containers s.bytes_per_sample (len / s.bytes_per_sample)
+      (take len (drop (data_start s) old.contents) ++ []) =
+      λ i. containers (spec i).bytes_per_sample (long i / (spec i).bytes_per_sample)
+      (take (out i) (drop (start i) (same i)) ++ none i) in (
+        spec,
+        λ whole. omega (arith, start, out, whole, ap length same),
+        all ∙ ap (containers s.bytes_per_sample (len / s.bytes_per_sample)) (append-nil _)
+            ∙ containers_in_first s.bytes_per_sample (len / s.bytes_per_sample) len
+            (drop (data_start s) old.contents) (div-mul-le_self len s.bytes_per_sample),
+      )
+
+  -- what a call that appends comes to
+  comes : {tells : Bool} (told : IsTrue tells) (P : WriterState M → Type 0)
+      → ((w : WriterState M)
+      → (w.spec_ex ≡ s) × (data_start s + len ≤ length old.contents → IsWhole state w)
+      × (accepted_samples state w
+      ≡ containers s.bytes_per_sample (len / s.bytes_per_sample) (drop (data_start s) old.contents))
+      → P w)
+      → (result : Result (WriterState M) (M × Error))
+      → MatchResult result (Appends tells state old)
+      (λ refused. IsTrue tells → IsNotAppended old (state refused.0) refused.1)
+      → MatchResult result P
+      (λ refused. IsIoError refused.1 × ((state refused.0).faults ≡ one_more old.faults))
+  comes told P then (Ok w) appends = then w (opened w appends.none_waits (appends.file told))
+  comes told P then (Err refused) not = elim (not told).why [
+    | inl (fault, is, names, same) ↦
+        let a = answer.2 (faulty fault) is in
+        let b = this in
+        let never : faulty fault ≡ appendable s len (data_start s) = a ∙ sym b in
+        absurd (cc never)
+    | inr failed ↦ failed
+  ]
+
+pub returns-clause-begun : goal.returns-clause-begun
+returns-clause-begun g c told s size len rest writable none fits is =
+    let M = g.M.Placed in
+    let old = M.state c.args.medium in
+    let few : len ≤ greatest_u32 = omega (arith, fits) in
+    let after : drop (data_start s) old.contents ≡ rest =
+    ap (drop (data_start s)) is ∙ drop_at (header s size len) rest (data_start s)
+    (header_long s size len) in
+    comes M.state s len old (c.one_append_answer.ensures old.contents)
+    (subst (λ bytes. Head bytes s len (data_start s)) (sym is)
+    (c.written_is_head.ensures s size len rest writable few))
+    (no_fault s len writable none fits) told _
+    (λ w (spec, whole, all). (
+      spec,
+      λ within. whole (omega (
+        arith,
+        within,
+        ap length is,
+        length-append (header s size len) rest,
+        header_long s size len,
+      )),
+      all ∙ ap (containers s.bytes_per_sample (len / s.bytes_per_sample)) after,
+    )) c.try_append.result c.try_append.ensures.appends
+
+pub returns-clause-written : goal.returns-clause-written
+returns-clause-written g c told s list writable each fits is =
+    let M = g.M.Placed in
+    let old = M.state c.args.medium in
+    let (read, same) = c.written_is_read.ensures s list writable each in
+    let n = length (concat list) in
+    let size = riff_size (data_start s) n in
+    let w = s.bytes_per_sample in
+    let samples = eqb-true (read.len % w) 0 (are_whole s read.len read.frames).0 in
+    let long : read.len ≡ length list * w =
+    omega (
+      arith,
+      samples,
+      mod-eq-sub-div-mul read.len w,
+      div-mul-le_self read.len w,
+      ap (λ k. k * w) read.count,
+    ) in
+    comes M.state s read.len old (c.one_append_answer.ensures old.contents)
+    (subst (λ bytes. Head bytes s read.len (data_start s)) (sym is) read.head)
+    (no_fault s read.len writable read.frames
+    (subst (λ k. riff_size (data_start s) k ≤ greatest_u32) (sym long) fits)) told _
+    (λ w (spec, whole, all). (
+      spec,
+      whole (omega (
+        arith,
+        long,
+        concat_long s.bytes_per_sample list each.each,
+        ap length is,
+        length-append (header s size n) (concat list ++ padding n),
+        length-append (concat list) (padding n),
+        header_long s size n,
+      )),
+      all ∙ ap (λ k. containers s.bytes_per_sample k (drop (data_start s) old.contents))
+          (sym read.count)
+          ∙ ap (λ bytes. containers s.bytes_per_sample (length list) (drop (data_start s) bytes)) is
+          ∙ same,
+    )) c.try_append.result c.try_append.ensures.appends

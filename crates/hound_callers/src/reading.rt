@@ -1,0 +1,74 @@
+// Reading a block, and opening a file again.
+ghost use Rattle.std.specs.Prelude.{◌≡◌, ℕ, ◌+◌, ◌-◌, ◌*◌, ◌/◌, ◌≤◌, ◌++◌, List, None, Some, Ok, IsSome, IfOk, MatchResult, drop, length, map, min, take};
+ghost use Rattle.hound.specs.{AreContainers, GivesItems, IsIoError, IsWhole, IsWritable, ReaderState, WavSpecEx, WhereTells, accepted_samples, canonical, containers, data_fault, data_start, greatest_u32, header, one_more, over_bytes, riff_size, samples_before, samples_left};
+
+use hound::{
+    Error, Medium, Sample, Source, WavReader, WavWriter, a_block_is_its_items,
+    a_reader_stands_as_counted, one_append_answer, written_is_head, written_is_read,
+};
+use std::{io, result};
+
+/// Reads a block: at an Ok it has all samples that fit or are left (`all`), those that as many calls
+/// of `next` would have given, and the reader is left as these would have left it (`same`).
+pub fn read_block<S: Sample, R: io::Read + Drop>(
+    reader: &mut WavReader<R>,
+    block: &mut [S],
+) -> hound::Result<usize>
+    ensures all { IfOk result (λ count. count ≡ min (length block.old) (samples_left reader.old)) }
+    ensures same { IsSome (R.remaining reader.old.reader) → IfOk result (λ count.
+        (others : List S) (other : ReaderState R) → length others ≡ count →
+        GivesItems R.remaining S.refusal S.meaning (map Ok others) reader.old other →
+        (take count block.new ≡ others)
+        × (over_bytes R.remaining reader.new ≡ over_bytes R.remaining other)) }
+{
+    a_block_is_its_items::<R, S>();
+    let (count, result) = reader.read_samples(block);
+    result?;
+    Ok(count)
+}
+
+/// Reads a block from a frame on, by a reader that has read nothing yet. Returns how many samples
+/// came, all that fit or are left (`all`), and what is left of the input: the bytes after their
+/// containers (`rest`).
+pub fn read_from<S: Sample, R: Source>(
+    reader: WavReader<R>,
+    time: u32,
+    block: &mut [S],
+) -> hound::Result<(usize, R)>
+    requires { reader.bytes_read ≡ 0 }
+    ensures all { IfOk result (λ done. done.0
+        ≡ min (length block.old) (reader.num_samples - samples_before time reader.spec_ex)) }
+    ensures rest { WhereTells R.tells ((bytes : List ℕ) → R.remaining reader.reader ≡ Some bytes →
+        IfOk result (λ done. R.remaining done.1 ≡ Some (drop ((samples_before time reader.spec_ex
+        + done.0) * reader.spec_ex.bytes_per_sample) bytes))) }
+{
+    a_reader_stands_as_counted::<R, S>();
+    let mut reader = reader;
+    reader.seek(time)?;
+    let (count, result) = reader.read_samples(block);
+    result?;
+    Ok((count, reader.into_inner()))
+}
+
+/// Opens a file to append to it. The samples accepted so far are those of a canonical file
+/// (`written`), or, of a recording that was cut off, those that its header counts (`begun`). If
+/// these are whole frames and leave room, it is Ok unless the medium fails.
+pub fn reopen<M: Source + Medium>(medium: M) -> result::Result<WavWriter<M>, (M, Error)>
+    requires { WhereTells M.tells ((M.state medium).place ≡ 0) }
+    ensures written { WhereTells M.tells ((s : WavSpecEx) (list : List (List ℕ)) → IsWritable s →
+        AreContainers s list → riff_size (data_start s) (length list * s.bytes_per_sample) ≤ greatest_u32 →
+        (M.state medium).contents ≡ canonical s list → MatchResult result
+        (λ w. (w.spec_ex ≡ s) × IsWhole M.state w × (accepted_samples M.state w ≡ list))
+        (λ refused. IsIoError refused.1 × ((M.state refused.0).faults ≡ one_more (M.state medium).faults))) }
+    ensures begun { WhereTells M.tells ((s : WavSpecEx) (size len : ℕ) (rest : List ℕ) → IsWritable s →
+        data_fault s len ≡ None → riff_size (data_start s) len ≤ greatest_u32 →
+        (M.state medium).contents ≡ header s size len ++ rest → MatchResult result
+        (λ w. (w.spec_ex ≡ s) × (len ≤ length rest → IsWhole M.state w)
+        × (accepted_samples M.state w ≡ containers s.bytes_per_sample (len / s.bytes_per_sample) rest))
+        (λ refused. IsIoError refused.1 × ((M.state refused.0).faults ≡ one_more (M.state medium).faults))) }
+{
+    written_is_head();
+    written_is_read();
+    one_append_answer();
+    WavWriter::try_append(medium)
+}
