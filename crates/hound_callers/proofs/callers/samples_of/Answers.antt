@@ -1,13 +1,7 @@
-<<<<<<< HEAD
 use Rattle.std.proofs.Common.{◌≡◌, ℕ, List, [], ◌∷◌, ◌++◌, length, map, drop, Option, None, Some, Result, Ok, Err, IfSome, IsErrAnd, MatchResult, ◌⊎◌, inl, refl, sym, ap, subst, ◌∙◌}
 use Rattle.std.proofs.lemmas.List.{length-map, map-append}
 use Rattle.hound.specs.{AreItems, Error, GivesItems, IsIoError, IsNext, ReaderState, ReadRefusal, containers, meaning_at, refusal_at, samples_left, taken_reader}
 use Rattle.hound.specs.declared.Error.TheVariants.{IoError, OutOfMemory}
-=======
-use Rattle.std.proofs.Common.{◌≡◌, ℕ, List, [], ◌∷◌, ◌++◌, length, map, drop, Option, None, Some, Ok, IfSome, refl, sym, ap, subst, ◌∙◌}
-use Rattle.std.proofs.lemmas.List.{length-map}
-use Rattle.hound.specs.{AreItems, GivesItems, IsNext, ReaderState, ReadRefusal, containers, meaning_at, refusal_at, samples_left, taken_reader}
->>>>>>> laws
 use Rattle.hound.specs.declared.SampleFormat.{SampleFormat}
 use Rattle.hound_callers.proofs.callers.samples_of.Goals as goal
 
