@@ -2,6 +2,7 @@
 use Rattle.std.specs.Prelude.{FitsSigned}
 use Rattle.std.proofs.Common.{◌≡◌, ℕ, ℤ, zero, suc, ◌+◌, ◌-◌, ◌*◌, ◌<◌, ◌≤◌, Bool, true, false, cond, ◌==◌, nat_le, List, [], ◌∷◌, ◌++◌, length, Option, Some, None, refl, ap, sym, ◌∙◌, subst, append_assoc, append-nil, arith}
 use Rattle.std.proofs.lemmas.Bool.Decides.{nat_tests}
+use Rattle.std.proofs.lemmas.List.Elements.{filter-append}
 use Rattle.std.proofs.lemmas.Int.Digits.{digits_push, digits_value_push}
 use Rattle.std.proofs.lemmas.Str.{digit_value_digit}
 use Rattle.std.proofs.lemmas.Str.Parse.{digit_from_value}
@@ -62,15 +63,6 @@ answers-append ws vs (Some xs) (Some ys) front back = say-append ws vs xs ys fro
 
 -- ---- parts
 
-filter-append : (ws vs : List (List ℕ)) → filter is_filled (ws ++ vs) ≡ filter is_filled ws ++ filter is_filled vs
-filter-append [] vs = refl
-filter-append (w ∷ ws) vs = by_case (is_filled w) (filter-append ws vs)
-  where
-    by_case : (b : Bool) → filter is_filled (ws ++ vs) ≡ filter is_filled ws ++ filter is_filled vs
-        → cond b (w ∷ filter is_filled (ws ++ vs)) (filter is_filled (ws ++ vs)) ≡ cond b (w ∷ filter is_filled ws) (filter is_filled ws) ++ filter is_filled vs
-    by_case true rest = ap (λ t. w ∷ t) rest
-    by_case false rest = rest
-
 append_first-onto : (word : List ℕ) (b : ℕ) (parts : List (List ℕ)) → append_first word (onto_first b parts) ≡ append_first (word ++ b ∷ []) parts
 append_first-onto word b [] = refl
 append_first-onto word b (part ∷ parts) = ap (λ t. t ∷ parts) (sym (append_assoc word (b ∷ []) part))
@@ -118,9 +110,6 @@ digit_is b digit = (grind (arith, nat_tests, digit_value_digit), grind (arith, n
 
 no_digit : (b : ℕ) → is_digit b ≡ false → digit_value b < 10 → ⊥
 no_digit b other small = let h = digit_from_value b small in grind (arith, nat_tests)
-
-some_byte : (b : ℕ) → without_minus (b ∷ []) ≡ cond (b == 45) [] (b ∷ [])
-some_byte b = refl
 
 digits_at : (xs : List ℕ) (b : ℕ) (ys : List ℕ) → AllDigits 10 (xs ++ b ∷ ys) → digit_value b < 10
 digits_at [] b ys all = all.0
@@ -178,89 +167,48 @@ begun-push c cs negative magnitude b begun digit =
     longer [] = omega arith
     longer (x ∷ xs) = omega arith
 
-led_more : (place next : Place) (word : List ℕ) (b : ℕ) → Led word place → next_place place b ≡ Some next → Led (word ++ (b ∷ [])) next
-led_more Between next word b led goes =
-    subst (λ w. Led (w ++ (b ∷ [])) next) (sym led) (by_minus (b == 45) refl goes)
+-- the word leads to a place, or no word that continues it says a number
+abbrev Arrives : List ℕ → Option Place → Type 0
+Arrives word (Some place) = Led word place
+Arrives word None = Broken word
+
+byte_more : (place : Place) (word : List ℕ) (b : ℕ) → Led word place → Arrives (word ++ (b ∷ [])) (next_place place b)
+byte_more Between word b led =
+    subst (λ w. Arrives (w ++ (b ∷ [])) (next_place Between b)) (sym led) (by_minus (b == 45) refl)
   where
-    by_digit : (t : Bool) → is_digit b ≡ t → (b == 45) ≡ false → cond t (Some (Inside false (b - 48))) None ≡ Some next → Led (b ∷ []) next
-    by_digit true digit other goes =
+    by_digit : (t : Bool) → is_digit b ≡ t → (b == 45) ≡ false → Arrives (b ∷ []) (cond t (Some (Inside false (b - 48))) None)
+    by_digit true digit other =
         let d = digit_is b digit in
         let same : without_minus (b ∷ []) ≡ b ∷ [] = ap (λ t. cond t [] (b ∷ [])) other in
-        let arrives : Inside false (b - 48) ≡ next = cc in
-        subst (Led (b ∷ [])) arrives (record {
+        record {
           numeral = subst (IsNumeral 10) (sym same) (omega arith, (d.0, tt));
           value = ap (digits_value 10) same ∙ omega (arith, d.1);
           sign = other;
-        })
-    by_digit false digit other goes = cc
-
-    by_minus : (t : Bool) → (b == 45) ≡ t → cond t (Some AfterMinus) (cond (is_digit b) (Some (Inside false (b - 48))) None) ≡ Some next → Led (b ∷ []) next
-    by_minus true minus goes =
-        let arrives : AfterMinus ≡ next = cc in
-        let same : b ≡ 45 = grind (arith, nat_tests) in
-        subst (Led (b ∷ [])) arrives (ap (λ n. n ∷ []) same)
-    by_minus false other goes = by_digit (is_digit b) refl other goes
-led_more AfterMinus next word b led goes =
-    subst (λ w. Led (w ++ (b ∷ [])) next) (sym led) (by_digit (is_digit b) refl goes)
-  where
-    by_digit : (t : Bool) → is_digit b ≡ t → cond t (Some (Inside true (b - 48))) None ≡ Some next → Led (45 ∷ b ∷ []) next
-    by_digit true digit goes =
-        let d = digit_is b digit in
-        let arrives : Inside true (b - 48) ≡ next = cc in
-        subst (Led (45 ∷ b ∷ [])) arrives (record {
-          numeral = (omega arith, (d.0, tt));
-          value = omega (arith, d.1);
-          sign = refl;
-        })
-    by_digit false digit goes = cc
-led_more (Inside negative magnitude) next [] b led goes = absurd (begun_some [] negative magnitude led refl)
-led_more (Inside negative magnitude) next (c ∷ cs) b led goes = by_digit (is_digit b) refl goes
-  where
-    by_fit : (t : Bool) → is_digit b ≡ true
-        → option_map (λ longer. Inside negative longer) (cond t (Some (magnitude * 10 + (b - 48))) None) ≡ Some next
-        → Led ((c ∷ cs) ++ (b ∷ [])) next
-    by_fit true digit goes =
-        let arrives : Inside negative (magnitude * 10 + (b - 48)) ≡ next = cc in
-        subst (Led ((c ∷ cs) ++ (b ∷ []))) arrives (begun-push c cs negative magnitude b led digit)
-    by_fit false digit goes = cc
-
-    by_digit : (t : Bool) → is_digit b ≡ t
-        → cond t (option_map (λ longer. Inside negative longer) (longer_magnitude magnitude (b - 48))) None ≡ Some next
-        → Led ((c ∷ cs) ++ (b ∷ [])) next
-    by_digit true digit goes = by_fit (nat_le (magnitude * 10 + (b - 48)) 2147483648) digit goes
-    by_digit false digit goes = cc
-
--- ---- a byte that breaks the word
-
-broken_more : (place : Place) (word : List ℕ) (b : ℕ) → Led word place → next_place place b ≡ None → Broken (word ++ (b ∷ []))
-broken_more Between word b led stops =
-    subst (λ w. Broken (w ++ (b ∷ []))) (sym led) (λ more n says. by_minus (b == 45) refl stops more n says)
-  where
-    by_digit : (t : Bool) → is_digit b ≡ t → (b == 45) ≡ false → cond t (Some (Inside false (b - 48))) None ≡ None → Broken (b ∷ [])
-    by_digit true digit other stops = λ more n says. cc
-    by_digit false digit other stops = λ more n says.
+        }
+    by_digit false digit other = λ more n says.
         no_digit b digit ((subst (IsNumeral 10) (ap (λ t. cond t more (b ∷ more)) other) says.digits).1.0)
 
-    by_minus : (t : Bool) → (b == 45) ≡ t → cond t (Some AfterMinus) (cond (is_digit b) (Some (Inside false (b - 48))) None) ≡ None → Broken (b ∷ [])
-    by_minus true minus stops = λ more n says. cc
-    by_minus false other stops = by_digit (is_digit b) refl other stops
-broken_more AfterMinus word b led stops =
-    subst (λ w. Broken (w ++ (b ∷ []))) (sym led) (by_digit (is_digit b) refl stops)
+    by_minus : (t : Bool) → (b == 45) ≡ t → Arrives (b ∷ []) (cond t (Some AfterMinus) (cond (is_digit b) (Some (Inside false (b - 48))) None))
+    by_minus true minus = let same : b ≡ 45 = grind (arith, nat_tests) in ap (λ n. n ∷ []) same
+    by_minus false other = by_digit (is_digit b) refl other
+byte_more AfterMinus word b led =
+    subst (λ w. Arrives (w ++ (b ∷ [])) (next_place AfterMinus b)) (sym led) (by_digit (is_digit b) refl)
   where
-    by_digit : (t : Bool) → is_digit b ≡ t → cond t (Some (Inside true (b - 48))) None ≡ None → Broken (45 ∷ b ∷ [])
-    by_digit true digit stops = λ more n says. cc
-    by_digit false digit stops = λ more n says. no_digit b digit says.digits.1.0
-broken_more (Inside negative magnitude) [] b led stops = absurd (begun_some [] negative magnitude led refl)
-broken_more (Inside negative magnitude) (c ∷ cs) b led stops = λ more n says. by_digit (is_digit b) refl stops more n says
+    by_digit : (t : Bool) → is_digit b ≡ t → Arrives (45 ∷ b ∷ []) (cond t (Some (Inside true (b - 48))) None)
+    by_digit true digit =
+        let d = digit_is b digit in
+        record { numeral = (omega arith, (d.0, tt)); value = omega (arith, d.1); sign = refl }
+    by_digit false digit = λ more n says. no_digit b digit says.digits.1.0
+byte_more (Inside negative magnitude) [] b led = absurd (begun_some [] negative magnitude led refl)
+byte_more (Inside negative magnitude) (c ∷ cs) b led = by_digit (is_digit b) refl
   where
     whole : (more : List ℕ) → without_minus (((c ∷ cs) ++ (b ∷ [])) ++ more) ≡ (without_minus (c ∷ cs)) ++ (b ∷ more)
     whole more = minus-push c (cs ++ (b ∷ [])) more ∙ (ap (λ t. t ++ more) (minus-push c cs (b ∷ [])) ∙ append_assoc (without_minus (c ∷ cs)) (b ∷ []) more)
 
     by_fit : (t : Bool) → nat_le (magnitude * 10 + (b - 48)) 2147483648 ≡ t → is_digit b ≡ true
-        → option_map (λ longer. Inside negative longer) (cond t (Some (magnitude * 10 + (b - 48))) None) ≡ None
-        → Broken ((c ∷ cs) ++ (b ∷ []))
-    by_fit true fit digit stops = λ more n says. cc
-    by_fit false long digit stops = λ more n says.
+        → Arrives ((c ∷ cs) ++ (b ∷ [])) (option_map (λ longer. Inside negative longer) (cond t (Some (magnitude * 10 + (b - 48))) None))
+    by_fit true fit digit = begun-push c cs negative magnitude b led digit
+    by_fit false long digit = λ more n says.
         let d = digit_is b digit in
         let all : digits_value 10 (without_minus (((c ∷ cs) ++ (b ∷ [])) ++ more)) ≡ digits_value_after 10 (digits_value 10 (without_minus (c ∷ cs)) * 10 + digit_value b) more =
         ap (digits_value 10) (whole more) ∙ value_after-append 0 (without_minus (c ∷ cs)) (b ∷ more) in
@@ -271,10 +219,9 @@ broken_more (Inside negative magnitude) (c ∷ cs) b led stops = λ more n says.
         omega (arith, d.1)
 
     by_digit : (t : Bool) → is_digit b ≡ t
-        → cond t (option_map (λ longer. Inside negative longer) (longer_magnitude magnitude (b - 48))) None ≡ None
-        → Broken ((c ∷ cs) ++ (b ∷ []))
-    by_digit true digit stops = by_fit (nat_le (magnitude * 10 + (b - 48)) 2147483648) refl digit stops
-    by_digit false digit stops = λ more n says.
+        → Arrives ((c ∷ cs) ++ (b ∷ [])) (cond t (option_map (λ longer. Inside negative longer) (longer_magnitude magnitude (b - 48))) None)
+    by_digit true digit = by_fit (nat_le (magnitude * 10 + (b - 48)) 2147483648) refl digit
+    by_digit false digit = λ more n says.
         no_digit b digit (digits_at (without_minus (c ∷ cs)) b more (subst (IsNumeral 10) (whole more) says.digits).1)
 
 -- ---- the end of a word
@@ -316,10 +263,10 @@ answered (b ∷ bytes) place word led =
   where
     by_next : ((next : Place) (started : List ℕ) → Led started next
         → Answers (filter is_filled (append_first started (slice_split is_separator bytes))) (numbers_from next bytes))
-        → (o : Option Place) → next_place place b ≡ o
+        → (o : Option Place) → Arrives (word ++ (b ∷ [])) o
         → Answers (filter is_filled (append_first (word ++ (b ∷ [])) (slice_split is_separator bytes))) (option_and_then (λ next. numbers_from next bytes) o)
-    by_next later None stops = broken_first b word (slice_split is_separator bytes) (broken_more place word b led stops)
-    by_next later (Some next) goes = later next (word ++ (b ∷ [])) (led_more place next word b led goes)
+    by_next later None broken = broken_first b word (slice_split is_separator bytes) broken
+    by_next later (Some next) begun = later next (word ++ (b ∷ [])) begun
 
     by_separator : ((next : Place) (started : List ℕ) → Led started next
         → Answers (filter is_filled (append_first started (slice_split is_separator bytes))) (numbers_from next bytes))
@@ -331,10 +278,10 @@ answered (b ∷ bytes) place word led =
         let back = subst (λ p. Answers (filter is_filled p) (numbers_from Between bytes)) (append_first-nil bytes) (later Between [] refl) in
         let all = answers-append (filter is_filled (word ∷ [])) (filter is_filled (slice_split is_separator bytes)) (ended place) (numbers_from Between bytes) front back in
         subst (λ p. Answers p (option_and_then (λ numbers. before numbers (numbers_from Between bytes)) (ended place)))
-        (sym (filter-append (word ∷ []) (slice_split is_separator bytes)) ∙ ap (λ w. filter is_filled (w ∷ (slice_split is_separator bytes))) (sym (append-nil word))) all
+        (sym (filter-append is_filled (word ∷ []) (slice_split is_separator bytes)) ∙ ap (λ w. filter is_filled (w ∷ (slice_split is_separator bytes))) (sym (append-nil word))) all
     by_separator later false =
         subst (λ p. Answers (filter is_filled p) (option_and_then (λ next. numbers_from next bytes) (next_place place b)))
-        (sym (append_first-onto word b (slice_split is_separator bytes))) (by_next later (next_place place b) refl)
+        (sym (append_first-onto word b (slice_split is_separator bytes))) (by_next later (next_place place b) (byte_more place word b led))
 
 whole : (text : List ℕ) → Answers (words text) (numbers_from Between text)
 whole text = subst (λ p. Answers (filter is_filled p) (numbers_from Between text)) (append_first-nil text) (answered text Between [] refl)

@@ -1,25 +1,25 @@
 // Lines of numbers, buffered for the output.
-ghost use Rattle.std.specs.Prelude.{◌≡◌, ◌+◌, ◌<◌, ◌≤◌, ◌↔◌, ℕ, false, IsTrue, [], ◌∷◌, ◌++◌, decimal, length};
-ghost use Rattle.std.specs.Fmt.{digit_glyph};
+ghost use Rattle.std.specs.Prelude.{◌≡◌, ◌+◌, ◌<◌, ◌≤◌, ◌↔◌, ℕ, false, IsTrue, [], ◌∷◌, ◌++◌, decimal, length, List, take, ◌-◌, IsOk, Ok, Some, min};
 ghost use Rattle.hound_text.specs.Text.{integer_line, pattern_line};
 ghost use Rattle.hound_number.specs.{Writes};
 
 use crate::output::write_text;
-use std::io;
 use std::marker::Model;
+use std::{io, mem};
+
+// The two digits of each number below 100.
+static PAIRS: [u8; 200] =
+    *b"00010203040506070809101112131415161718192021222324252627282930313233343536373839404142434445464748495051525354555657585960616263646566676869707172737475767778798081828384858687888990919293949596979899";
 
 /// Lines that were made and not yet written. Contracts see the list of their bytes.
 #[derive(Drop)]
 pub struct Lines {
-    // Their bytes; what comes after these means nothing. They are more than a `BufWriter` keeps, so
-    // it hands them on as they are.
+    // Their bytes, and then any others. A `BufWriter` hands so many on as they are.
     bytes: [u8; 16384],
     length: usize,
 }
 
 impl Model for Lines {
-    ghost use Rattle.std.specs.Prelude.{ℕ, ◌≤◌, List, take};
-
     ghost Value = { List ℕ };
 
     ghost view = { λ lines. take lines.length lines.bytes };
@@ -83,20 +83,24 @@ impl Lines {
         self.length += 1;
     }
 
-    // Appends the digits of a number in base 10, which are made from the last one on.
+    // Appends the digits of a number in base 10, which are made in pairs from the last ones on.
     #[inline(always)]
     fn push_decimal(&mut self, mut number: u32)
         requires { length self.old + 10 ≤ 16384 }
         ensures { self.new ≡ self.old ++ decimal number }
     {
         let mut text = [0; 10];
-        let mut start = 9;
-        while number >= 10 {
-            text[start] = b'0' + (number % 10) as u8;
-            number /= 10;
-            start -= 1;
+        let mut start = 8;
+        loop {
+            let pair = 2 * (number % 100) as usize;
+            text[start..start + 2].copy_from_slice(&PAIRS[pair..pair + 2]);
+            if number < 100 {
+                break;
+            }
+            number /= 100;
+            start -= 2;
         }
-        text[start] = b'0' + number as u8;
+        start += (number < 10) as usize; // One digit has no zero before it.
         self.append(&text[start..]);
     }
 
@@ -116,15 +120,13 @@ impl Lines {
         ensures emptied { self.new ≡ [] }
         ensures written { Writes self.old result (O.contents output.old) (O.contents output.new) }
     {
-        let length = self.length;
-        self.length = 0;
+        let length = mem::take(&mut self.length);
         write_text(output, &self.bytes[..length])
     }
 }
 
 /// Appends text, as far as there is room.
 impl io::Write for Lines {
-    ghost use Rattle.std.specs.Prelude.{◌-◌, IsOk, Ok, Some, min};
     ghost use Rattle.std.specs.Io.KnownBytes.{Keeps, WriteAppends};
     ghost use Rattle.std.specs.Io.{WritesAtMost};
 

@@ -1,8 +1,7 @@
 // Bytes to the output, whatever interrupts it.
 ghost use Rattle.hound_number.specs.{Writes};
 
-use std::io;
-use std::io::ErrorKind;
+use std::io::{self, ErrorKind};
 
 /// Writes all of the bytes, in order, and tries again where a write is interrupted, as std's
 /// `write_all` does. A write that takes no byte is a fault of the kind `WriteZero`; at an `Err` a
