@@ -1,6 +1,6 @@
 # What `hound` and `test` look at before they start: the Rattle kit, its version, and memory.
 
-PROVED_WITH="rattle-kit-13b logic dac8208d650f15bf"
+PROVED_WITH="rattle-kit-13f logic dac8208d650f15bf"
 LEAST_MEMORY=8 # GB
 
 # Ends with a line where nothing can be proved here.
@@ -10,7 +10,7 @@ look_at_kit() {
         exit 1
     fi
     kit=$(rt version)
-    # Another kit with the same logic will do, as 13f.
+    # Another kit with the same logic will do, as 13b.
     if [ "${kit#* }" != "${PROVED_WITH#* }" ] && [ "${HOUND_KIT:-}" != any ]; then
         echo "$1: this kit is $kit, and all was proved with $PROVED_WITH; with HOUND_KIT=any in the environment it is tried all the same" >&2
         exit 1

@@ -30,7 +30,7 @@ fn is_marked(answer: &Result<()>) -> bool
     }
 }
 
-// BeginsAs a new file, or appends to the existing one.
+// Begins a new file, or appends to the existing one.
 pub(crate) fn begin_writer<M: Source + Medium>(
     medium: M,
     begin: Begin,
