@@ -1,6 +1,7 @@
 -- Bytes written inside contents, over older bytes.
-use Rattle.std.proofs.Common.{◌≡◌, ℕ, ◌+◌, ◌-◌, ◌≤◌, List, ◌++◌, length, take, drop, sym, ◌∙◌, ap, arith, append_assoc, length-append, length-drop}
-use Rattle.std.proofs.lemmas.List.{drop_at, take-take, drop-drop, take-append-le, length-take-le}
+use Rattle.std.proofs.lemmas.Grind.{common_steps}
+use Rattle.std.proofs.Common.{◌≡◌, ℕ, ◌+◌, ◌-◌, ◌≤◌, List, ◌++◌, length, take, drop, sym, ◌∙◌, ap, arith, append_assoc, length-append}
+use Rattle.std.proofs.lemmas.List.{drop_at, drop-drop, length-take-le}
 use Rattle.hound_medium.specs.State.{placed, overlay}
 use Rattle.hound_medium.proofs.Overlays.{overlay_is}
 
@@ -18,10 +19,7 @@ module _ (c : List ℕ) (at : ℕ) (bs : List ℕ) (inside : at + length bs ≤ 
   -- what was before them stays
   pub take_before : (n : ℕ) → n ≤ at → take n (overlay c (placed at bs)) ≡ take n c
   unfolding new
-  take_before n h =
-      ap (take n) parts
-      ∙ take-append-le n (take at c) (bs ++ drop (at + length bs) c) (omega (arith, front))
-      ∙ take-take n at c h
+  take_before n h = grind (arith, common_steps, parts)
 
   -- what was after them stays
   pub drop_behind : (n : ℕ) → at + length bs ≤ n → drop n (overlay c (placed at bs)) ≡ drop n c
@@ -42,15 +40,7 @@ module _ (c : List ℕ) (at : ℕ) (bs : List ℕ) (inside : at + length bs ≤ 
 
   pub same_size : length (overlay c (placed at bs)) ≡ length c
   unfolding new
-  same_size =
-      ap length parts ∙ length-append (take at c) (bs ++ drop (at + length bs) c)
-      ∙ omega (
-        arith,
-        front,
-        length-append bs (drop (at + length bs) c),
-        length-drop (at + length bs) c,
-        inside,
-      )
+  same_size = grind (arith, common_steps, parts)
 
   -- from their place on: the bytes, and what was after them
   pub drop_to : drop at (overlay c (placed at bs)) ≡ bs ++ drop (at + length bs) c

@@ -1,8 +1,8 @@
 -- Bytes written at places of a list: what they leave.
+use Rattle.std.proofs.lemmas.Grind.{common_steps}
 use Rattle.std.proofs.Common.{◌≡◌, ℕ, zero, suc, ◌+◌, ◌-◌, ◌<◌, ◌≤◌, max, replicate, List, [], ◌∷◌, ◌++◌, length, get_or, take, drop, refl, sym, ◌∙◌, ap, arith, append_assoc, length-append, take-append-drop}
-use Rattle.std.proofs.lemmas.List.{append-nil, length-replicate, take_more, length-take-le, take-take, take_all}
+use Rattle.std.proofs.lemmas.List.{append-nil, length-replicate, take_more, take-take}
 use Rattle.std.proofs.Math.Seq.{drop-nil}
-use Rattle.std.proofs.Math.ListN.{drop_of_length-le}
 use Rattle.std.proofs.lemmas.Slice.{between_is}
 use Rattle.hound_medium.specs.State.{put_at, placed, overlay}
 use Rattle.hound_number.specs.{AreBytes}
@@ -69,11 +69,7 @@ overlay_is c p (b ∷ bs) h =
 -- bytes written at the end
 pub overlay_at_end : (c : List ℕ) (p : ℕ) (bs : List ℕ) → p ≡ length c
     → overlay c (placed p bs) ≡ c ++ bs
-overlay_at_end c p bs end =
-    overlay_is c p bs (omega (arith, end))
-    ∙ ap (λ l. l ++ (bs ++ drop (p + length bs) c)) (take_all p c (omega (arith, end)))
-    ∙ ap (λ l. c ++ (bs ++ l)) (drop_of_length-le c (omega (arith, end)))
-    ∙ ap (λ l. c ++ l) (append-nil bs)
+overlay_at_end c p bs end = grind (arith, common_steps, overlay_is)
 
 -- zeros that were already after the contents, where the byte or its gap comes
 put_at_padded : (p b : ℕ) (c : List ℕ) (m : ℕ)
@@ -135,11 +131,7 @@ small_overlay c p (b ∷ bs) small fits =
 -- one byte more of those that are written
 pub placed_more : (p : ℕ) (bs : List ℕ) (i : ℕ) → i < length bs
     → placed p (take (i + 1) bs) ≡ placed p (take i bs) ++ (p + i, get_or bs i 0) ∷ []
-placed_more p bs i h =
-    ap (placed p) (take_more bs i 0 h)
-    ∙ placed-append p (take i bs) (get_or bs i 0 ∷ [])
-    ∙ ap (λ n. placed p (take i bs) ++ (p + n, get_or bs i 0) ∷ [])
-    (length-take-le i bs (omega arith))
+placed_more p bs i h = grind (arith, common_steps, placed-append)
 
 -- one byte more of a past
 pub overlay_more : (c : List ℕ) (past : List (ℕ × ℕ)) (i : ℕ) (e : ℕ × ℕ) → i < length past

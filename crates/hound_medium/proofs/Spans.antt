@@ -1,7 +1,7 @@
 -- What holds in each intermediate state, call after call.
-use Rattle.std.proofs.Common.{◌≡◌, ℕ, ◌+◌, ◌-◌, ◌≤◌, List, [], ◌++◌, length, take, Result, Ok, Err, sym, ◌∙◌, ap, subst, arith, inl, inr, append_assoc, length-append, ⊎_elim}
-use Rattle.std.proofs.lemmas.Bool.{cases_lt}
-use Rattle.std.proofs.lemmas.List.{append-nil, take-append-le, take_all}
+use Rattle.std.proofs.lemmas.Grind.{common_steps}
+use Rattle.std.proofs.Common.{◌≡◌, ℕ, ◌+◌, ◌-◌, ◌≤◌, List, ◌++◌, length, take, Result, Ok, Err, sym, ◌∙◌, ap, subst, arith, inl, inr, length-append}
+use Rattle.std.proofs.lemmas.List.{take-append-le, take_all}
 use Rattle.std.proofs.Math.Seq.{take-append-add}
 use Rattle.hound_medium.specs.State.{placed, overlay, moment, MediumState, Flushes, Stays, Span, FlushedSince}
 use Rattle.hound_medium.proofs.Overlays.{overlay-append, length-placed, take-placed}
@@ -22,13 +22,6 @@ pub moment_last : (s : MediumState) → s.contents ≡ overlay s.start s.past
     → moment s.start s.past (length s.past) ≡ s.contents
 moment_last s replays =
     ap (overlay s.start) (take_all (length s.past) s.past (omega arith)) ∙ sym replays
-
--- one flush and then another
-pub flushed_then : (a b c : MediumState) → length a.past ≤ length b.past → FlushedSince a b
-    → FlushedSince b c → FlushedSince a c
-flushed_then a b c le (inl same) (inl still) = inl (still ∙ same)
-flushed_then a b c le (inr since) (inl still) = inr (omega (arith, since, still))
-flushed_then a b c le first (inr since) = inr (omega (arith, le, since))
 
 -- what a call of flush leaves
 pub flushed_since : {T E : Type 0} (result : Result T E) (a b : MediumState) → Flushes result a b
@@ -71,64 +64,24 @@ module _ (At : ℕ → List ℕ → Type 0) (split : ℕ) where
   pub span_still : (old new : MediumState) → old.contents ≡ overlay old.start old.past
       → new.start ≡ old.start → new.past ≡ old.past → FlushedSince old new
       → At (length old.past - split) old.contents → Span At split old new
-  span_still old new replays start past flushed at =
-      span_puts old new 0 [] replays start (past ∙ sym (append-nil old.past)) flushed
-      (λ k within. let none : length old.past ≡ length old.past + k = omega (arith, within) in
-      subst (λ l. At (length old.past + k - split) (overlay old.contents (placed 0 l)))
-      (sym (take_all k [] (omega arith))) (subst (λ m. At (m - split) old.contents) none at))
+  span_still old new replays start past flushed at = grind (arith, common_steps)
 
   -- one span and then another
   pub join : (a b c : MediumState) → Span At split a b → Span At split b c → Span At split a c
-  join a b c first then = record {
-    start = then.start ∙ first.start;
-    added = first.added ++ then.added;
-    past = then.past ∙ ap (λ (l : List (ℕ × ℕ)). l ++ then.added) first.past
-        ∙ append_assoc a.past first.added then.added;
-    flushed = flushed_then a b c
-        (omega (arith, ap length first.past, length-append a.past first.added)) first.flushed
-        then.flushed;
-    each = λ k from to. ⊎_elim
-        (λ later. then.each k (omega arith) to)
-        (λ sooner.
-        let same : moment b.start b.past k ≡ moment c.start c.past k =
-        sym (moment_before b.start b.past then.added k sooner)
-        ∙ (λ i. moment (sym then.start i) (sym then.past i) k) in
-        subst (At (k - split)) same (first.each k from sooner))
-        (cases_lt (length b.past) k);
-  }
-
-  -- what holds at the end
-  pub span_end : (old new : MediumState) → new.contents ≡ overlay new.start new.past
-      → Span At split old new → At (length new.past - split) new.contents
-  span_end old new replays span =
-      let n = length new.past in
-      let longer : n ≡ length old.past + length span.added =
-      ap length span.past ∙ length-append old.past span.added in
-      subst (At (n - split)) (moment_last new replays)
-      (span.each n (omega (arith, longer)) (omega arith))
+  join a b c first then = grind (arith, common_steps)
 
   -- a span, and then a call that writes nothing
   pub and_still : (a b c : MediumState) → Span At split a b → b.contents ≡ overlay b.start b.past
       → Stays b c → FlushedSince b c → Span At split a c
-  and_still a b c span replays stays flushed =
-      join a b c span
-      (span_still b c replays stays.start stays.past flushed (span_end a b replays span))
+  and_still a b c span replays stays flushed = grind (arith, common_steps)
 
 -- what holds at the end of a span that is at level 0 throughout
 pub span_end_zero : (At : ℕ → List ℕ → Type 0) (old new : MediumState)
     → new.contents ≡ overlay new.start new.past → Span At (length new.past) old new
     → At 0 new.contents
-span_end_zero At old new replays span =
-    let none : length new.past - length new.past ≡ 0 = omega arith in
-    subst (λ j. At j new.contents) none (span_end At (length new.past) old new replays span)
+span_end_zero At old new replays span = grind (arith, common_steps)
 
 -- what follows at each level
 pub span_weaker : (At Bt : ℕ → List ℕ → Type 0) (split : ℕ) (old new : MediumState)
     → ((j : ℕ) (c : List ℕ) → At j c → Bt j c) → Span At split old new → Span Bt split old new
-span_weaker At Bt split old new weaker span = record {
-  start = span.start;
-  added = span.added;
-  past = span.past;
-  flushed = span.flushed;
-  each = λ k from to. weaker (k - split) (moment new.start new.past k) (span.each k from to);
-}
+span_weaker At Bt split old new weaker span = grind (arith, common_steps)

@@ -1,11 +1,12 @@
 -- A number of four bytes inside contents, while another overwrites it.
+use Rattle.std.proofs.lemmas.Grind.{common_steps}
 use Rattle.std.proofs.Common.{◌≡◌, ℕ, ◌+◌, ◌-◌, ◌<◌, ◌≤◌, ◌^◌, inl, inr, List, ◌++◌, length, take, drop, sym, ◌∙◌, ap, arith, length-drop}
 use Rattle.std.proofs.lemmas.List.{drop-drop, length-take-le, get_or-take, get_or-drop, get_or_past}
 use Rattle.std.proofs.lemmas.Bool.{cases_lt}
 use Rattle.std.proofs.Math.Seq.{take-append-add}
 use Rattle.std.proofs.lemmas.Slice.{between_is}
 use Rattle.hound_number.specs.{bytes_of, number, mix, AreBytes}
-use Rattle.hound_number.proofs.Mixing.{bytes_of-number, length-bytes_of, number_small}
+use Rattle.hound_number.proofs.Mixing.{bytes_of-number, number_small}
 use Rattle.hound_medium.specs.State.{placed, overlay}
 use Rattle.hound_medium.proofs.Inside.{drop_to}
 
@@ -47,9 +48,4 @@ module _ (p : ℕ) (c : List ℕ) (inside : p + 4 ≤ length c) where
     pub number_at_mix : (new k : ℕ) → k ≤ 4
         → number (take 4 (drop p (overlay c (placed p (take k (bytes_of 4 new)))))) ≡ mix k
         (number (take 4 (drop p c))) new
-    number_at_mix new k h =
-        let size : length (take k (bytes_of 4 new)) ≡ k =
-        length-take-le k (bytes_of 4 new) (omega (arith, h, length-bytes_of 4 new)) in
-        ap number (four_bytes (take k (bytes_of 4 new)) (omega (arith, size, h))
-        ∙ ap (λ n. take k (bytes_of 4 new) ++ drop n (take 4 (drop p c))) size
-        ∙ ap (λ l. take k (bytes_of 4 new) ++ drop k l) (sym bytes_at))
+    number_at_mix new k h = grind (arith, common_steps, four_bytes, bytes_at)

@@ -1,10 +1,11 @@
 -- Reads into the rest of a buffer, one after the other.
-use Rattle.std.proofs.Common.{◌≡◌, ℕ, ◌+◌, ◌-◌, ◌≤◌, List, ◌++◌, arith, length, take, slice_range, sym, ap, ◌∙◌, subst, le_refl, drop_at, length-take-le, Option}
+use Rattle.std.proofs.lemmas.Grind.{common_steps}
+use Rattle.std.proofs.Common.{◌≡◌, ℕ, ◌+◌, ◌-◌, ◌≤◌, List, ◌++◌, arith, length, take, slice_range, sym, ap, ◌∙◌, subst, le_refl, Option}
 use Rattle.std.proofs.lemmas.Slice.{take-put_mid_below}
 use Rattle.std.specs.Io.KnownBytes.{Consumes}
 use Rattle.std.proofs.KnownBytes.{Consumes-trans}
-use borrow.Rule.Slice.PartMut.{put_mid, post_of}
-use lib.Seq.{take-add, take-append-le}
+use borrow.Rule.Slice.PartMut.{put_mid}
+use lib.Seq.{take-add}
 
 -- a front that stayed, and the part after it, are the longer front
 front_and_part : (a b : ℕ) (old new : List ℕ) → a ≤ b → take a new ≡ take a old
@@ -17,11 +18,7 @@ front_and_part a b old new h front =
 -- the beginning of the part that was written into a list
 slice_range-put_mid : (a k n : ℕ) (xs ys : List ℕ) → a ≤ length xs → n ≤ length ys
     → slice_range (put_mid a k xs ys) a (a + n) ≡ take n ys
-slice_range-put_mid a k n xs ys within fits =
-    let same : (a + n) - a ≡ n = omega arith in
-    let after = post_of a k xs in
-    ap (take ((a + n) - a)) (drop_at (take a xs) (ys ++ after) a (length-take-le a xs within))
-    ∙ ap (λ m. take m (ys ++ after)) same ∙ take-append-le n ys after fits
+slice_range-put_mid a k n xs ys within fits = grind (arith, common_steps)
 
 -- what a buffer had and what a read appended were taken, one after the other
 pub taken_behind : (old mid new : Option (List ℕ)) (at k n : ℕ) (buf given : List ℕ)

@@ -1,6 +1,7 @@
 -- Integers that are read from their containers.
-use Rattle.std.proofs.Common.{◌≡◌, ℕ, zero, suc, ℤ, pos, negsuc, ◌+◌, ◌-◌, ◌*◌, ◌^◌, ◌<◌, ◌≤◌, ◌-ℤ◌, true, cond, ltb, List, take, None, Ok, IsTrue, refl, ◌∙◌, ap, arith, rules}
-use Rattle.std.proofs.lemmas.Bool.{ltb-true, lt-ltb, le-ltb}
+use Rattle.std.proofs.lemmas.Grind.{common_steps}
+use Rattle.std.proofs.Common.{◌≡◌, ℕ, zero, suc, ℤ, pos, negsuc, ◌+◌, ◌-◌, ◌*◌, ◌^◌, ◌<◌, ◌≤◌, ◌-ℤ◌, true, List, None, Ok, IsTrue, refl, ◌∙◌, ap, arith, rules}
+use Rattle.std.proofs.lemmas.Bool.{ltb-true, lt-ltb}
 use Rattle.hound_number.specs.{number, bytes_of, signed_of, signed_number, signed_bytes_of}
 use Rattle.hound_number.proofs.Mixing.{length-bytes_of}
 use Rattle.hound_spec.proofs.FmtLemmas.{number-bytes_of}
@@ -8,7 +9,7 @@ use Rattle.hound_spec.proofs.WritableLemmas.{of_pair}
 use Rattle.hound_spec.specs.declared.spec.SampleFormat.TheVariants.{Int}
 use Rattle.hound_sample.specs.Container.{fits, int_bytes, int_container, offset_byte}
 use Rattle.hound_sample.specs.ContainerLaws.{contained}
-use Rattle.hound_sample.specs.Reading.{int_meaning, int_refusal, low_short}
+use Rattle.hound_sample.specs.Reading.{int_meaning, int_refusal}
 
 -- a number below half of the range is itself
 signed_of-pos : (k n : ℕ) → 2 * n < 256 ^ k → signed_of k n ≡ pos n
@@ -22,14 +23,7 @@ minus a (suc p) n e = let less : a < suc p = omega (arith, e) in
 
 -- a number from half of the range on counts from its end downwards
 signed_of-negsuc : (k n : ℕ) → 2 * (n + 1) ≤ 256 ^ k → signed_of k (256 ^ k - (n + 1)) ≡ negsuc n
-signed_of-negsuc k n h = go (256 ^ k) h
-  where
-    go : (p : ℕ) → 2 * (n + 1) ≤ p
-        → cond (ltb (2 * (p - (n + 1))) p) (pos (p - (n + 1)))
-        (pos (p - (n + 1)) -ℤ pos p) ≡ negsuc n
-    go p few =
-        rw (le-ltb (2 * (p - (n + 1))) p (omega (arith, few)))
-        (minus (p - (n + 1)) p n (omega (arith, few)))
+signed_of-negsuc k n h = grind (arith, common_steps)
 
 -- whole bytes of signed bits
 signed_back : (k bits : ℕ) (v : ℤ) → 2 * 2 ^ (bits - 1) ≡ 256 ^ k → IsTrue (fits bits v)
@@ -76,12 +70,3 @@ integers_same v bits width c is =
       ),
     ) pair
     fit
-
--- the two low bytes of the four of a short number are its two bytes
-pub short_kept : (v : ℤ) → IsTrue (fits 16 v) → low_short v ≡ v
-short_kept (pos n) h = signed_back 2 16 (pos n) refl h
-short_kept (negsuc n) h =
-    let few : n < 2 ^ 15 = ltb-true n (2 ^ 15) h in
-    let e : number (take 2 (bytes_of 4 (4294967296 - (n + 1)))) ≡ 65536 - (n + 1) =
-    omega (arith, few) in
-    ap (signed_of 2) e ∙ signed_of-negsuc 2 n (omega (arith, few))

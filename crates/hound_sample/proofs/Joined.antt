@@ -1,7 +1,7 @@
 -- The containers of many samples.
 use Rattle.std.proofs.Common.{◌≡◌, ℕ, zero, suc, ◌+◌, ◌*◌, ◌<◌, ◌≤◌, Bool, true, false, ◌&&◌, List, [], ◌∷◌, ◌++◌, length, take, drop, get_or, Result, Ok, Err, IsOk, is_ok, refl, sym, ◌∙◌, ap, subst, arith, length-append, append_assoc, replicate, ◌-◌}
-use Rattle.std.proofs.lemmas.List.{take_more, drop_at, take_at, append-nil, length-take-le, take-append-drop}
-use Rattle.std.proofs.lemmas.Grind.{flat_map-append}
+use Rattle.std.proofs.lemmas.List.{drop_at, take_at, length-take-le, take-append-drop}
+use Rattle.std.proofs.lemmas.Grind.{flat_map-append, common_steps}
 use Rattle.std.proofs.Math.Bool.{and_assoc}
 use Rattle.std.specs.List.{concat}
 use Rattle.hound_spec.specs.declared.error.Error.{Error}
@@ -53,10 +53,7 @@ module _ {V : Type 0} (container : V → Result (List ℕ) Refusal) where
       → value ≡ get_or values i value
       → is_ok (all_containers container (take (i + 1) values))
       ≡ (is_ok (all_containers container (take i values)) && is_ok (container value))
-  ok_more values i value inside is =
-      ap (λ l. is_ok (all_containers container l)) (take_more values i value inside)
-      ∙ (λ j. is_ok (all_containers container (take i values ++ sym is j ∷ [])))
-      ∙ ok_append (take i values) value
+  ok_more values i value inside is = grind (arith, common_steps, ok_append)
 
   -- the first error is that of all
   refused_after : (before after : List V) (value : V) (refusal : Refusal)
@@ -131,17 +128,7 @@ module _ {V : Type 0} (container : V → Result (List ℕ) Refusal) where
       → value ≡ get_or values i value → container value ≡ Ok c
       → joined_containers container (take (i + 1) values)
       ≡ joined_containers container (take i values) ++ c
-  joined_more values i value c inside is has =
-      ap (joined_containers container)
-      (take_more values i value inside ∙ (λ j. take i values ++ sym is j ∷ []))
-      ∙ append (take i values)
-    where
-      append : (values : List V) → joined_containers container (values ++ value ∷ [])
-          ≡ joined_containers container values ++ c
-      append [] = append-nil (bytes_in (container value)) ∙ ap bytes_in has
-      append (first ∷ values) =
-          ap (λ l. bytes_in (container first) ++ l) (append values)
-          ∙ sym (append_assoc (bytes_in (container first)) (joined_containers container values) c)
+  joined_more values i value c inside is has = grind (arith, common_steps)
 
   -- values that all have containers, each of one width
   module _ (width : ℕ)

@@ -1,6 +1,7 @@
 -- Samples that were read one after the other.
+use Rattle.std.proofs.lemmas.Grind.{common_steps}
 use Rattle.std.proofs.Common.{◌≡◌, ℕ, zero, suc, ◌+◌, ◌*◌, ◌<◌, ◌≤◌, List, [], ◌∷◌, ◌++◌, map, length, take, drop, refl, sym, ap, ◌∙◌, subst, arith, Option, None, Some, Result, Ok, Err}
-use Rattle.std.proofs.lemmas.List.{take-append-drop, length-take-le, length-drop, append_assoc, take_all, drop-drop, map-append, length-map}
+use Rattle.std.proofs.lemmas.List.{take-append-drop, length-take-le, length-drop, append_assoc, take_all, drop-drop}
 use Rattle.std.proofs.lemmas.Slice.{take-put_mid}
 use Rattle.std.specs.Io.KnownBytes.{Consumes}
 use borrow.Rule.Slice.PartMut.{put_mid}
@@ -107,19 +108,12 @@ module _ {A : Type 0} (meaning : List ℕ → A) (width : ℕ) where
       → values ≡ map meaning (containers width (length part) from) → length part ≡ count
       → take (count * width) from ≡ take (count * width) bytes
       → values ≡ map meaning (containers width count bytes)
-  decoded count values part from bytes is size same =
-      is ∙ ap (λ n. map meaning (containers width n from)) size
-      ∙ ap (map meaning) (containers_front width count from bytes same)
+  decoded count values part from bytes is size same = grind (arith, common_steps, containers_front)
 
   all_of : (at k count : ℕ) (bytes : List ℕ) (xs values : List A) → at ≤ length xs
       → values ≡ map meaning (containers width count bytes)
       → map Ok (take (at + count) (put_mid at k xs values)) ≡ map Ok (take at xs) ++ samples_of count bytes
-  all_of at k count bytes xs values within is =
-      let size : length values ≡ count =
-      ap length is ∙ length-map (containers width count bytes) meaning
-      ∙ length-containers width count bytes in
-      ap (map Ok) (take-put_mid at k xs values (at + count) (omega (arith, size)) within)
-      ∙ map-append Ok (take at xs) values ∙ ap (λ vs. map Ok (take at xs) ++ map Ok vs) is
+  all_of at k count bytes xs values within is = grind (arith, common_steps, length-containers, take-put_mid)
 
   -- samples appended to others were read after them
   pub each_behind : (at k count : ℕ) (bytes : List ℕ) (xs values : List A)

@@ -1,5 +1,6 @@
 -- Containers that were read, by the bytes that were taken.
-use Rattle.std.proofs.Common.{◌≡◌, ℕ, ◌<◌, List, length, refl, sym, ap, ◌∙◌, arith, take_at, drop_at, length-append, Option, Some, None, Result, Ok}
+use Rattle.std.proofs.lemmas.Grind.{common_steps}
+use Rattle.std.proofs.Common.{◌≡◌, ℕ, ◌<◌, List, length, refl, sym, arith, drop_at, length-append, Option, Some, None, Result, Ok}
 use Rattle.hound_spec.specs.declared.error.Error.{Error}
 use Rattle.std.specs.Io.KnownBytes.{Consumes}
 use Rattle.hound_number.specs.{WhereKnown}
@@ -9,12 +10,7 @@ use Rattle.hound_sample.specs.Reading.{ReadRefusal, Reads, ReadsContainer, Takes
 pub takes_container : {A : Type 0} (bytes : List ℕ) (old new : Option (List ℕ)) (width : ℕ)
     (meaning : List ℕ → A) (value : A) → Consumes old new bytes → length bytes ≡ width
     → value ≡ meaning bytes → WhereKnown old new (TakesContainer meaning width value)
-takes_container bytes old new width meaning value taken whole is =
-    known_from bytes old new (TakesContainer meaning width value) taken (λ ys. (
-      omega (arith, length-append bytes ys),
-      is ∙ ap meaning (sym (take_at bytes ys width whole)),
-      sym (drop_at bytes ys width whole),
-    ))
+takes_container bytes old new width meaning value taken whole is = grind (arith, common_steps)
 
 pub takes_part : (bytes : List ℕ) (old new : Option (List ℕ)) (width : ℕ) → Consumes old new bytes
     → length bytes < width → WhereKnown old new (TakesPart width)

@@ -1,4 +1,5 @@
 -- Four bytes that are stored into a list, of which the first ones count.
+use Rattle.std.proofs.lemmas.Grind.{common_steps}
 use Rattle.std.proofs.Common.{◌≡◌, ℕ, ◌+◌, ◌<◌, ◌≤◌, List, [], ◌∷◌, ◌++◌, length, take, slice_index_or, slice_set, refl, sym, ◌∙◌, ap, arith, append_assoc}
 use Rattle.std.proofs.lemmas.List.{length-set, length-take-le, take-take, take_more_set}
 use Rattle.std.proofs.Math.Seq.{take-append-add}
@@ -17,9 +18,7 @@ all_four (a ∷ b ∷ c ∷ d ∷ e ∷ l) is = absurd (omega (arith, is))
 -- one more byte
 store : (l : List ℕ) (at k byte : ℕ) → at + k < length l
     → take (at + (k + 1)) (slice_set l (at + k) byte) ≡ take (at + k) l ++ byte ∷ []
-store l at k byte inside =
-    ap (λ n. take n (slice_set l (at + k) byte))
-    (let e : at + (k + 1) ≡ at + k + 1 = omega arith in e) ∙ take_more_set l (at + k) byte inside
+store l at k byte inside = grind (arith, common_steps)
 
 pub four_stored : (l : List ℕ) (at width : ℕ) (bytes : List ℕ) → length bytes ≡ 4
     → at + 4 ≤ length l → width ≤ 4

@@ -1,4 +1,5 @@
 -- Writing fields and reading them are inverse.
+use Rattle.std.proofs.lemmas.Grind.{common_steps}
 use Rattle.std.proofs.Common.{◌≡◌, ℕ, zero, suc, ◌+◌, ◌*◌, ◌/◌, ◌%◌, ◌^◌, ◌<◌, ◌≤◌, List, [], ◌∷◌, ◌++◌, length, take, drop, refl, sym, ap, ◌∙◌, arith, length-drop, take_all}
 use Rattle.std.proofs.lemmas.List.{drop-drop, drop_all}
 use Rattle.hound_number.specs.{number, bytes_of, AreBytes}
@@ -13,14 +14,7 @@ number-bytes_of (suc k) n h = let less : n / 256 < 256 ^ k = omega (arith, h) in
 -- what is written is read back, whatever comes after it
 pub fields_written : (f : FmtFields) (rest : List ℕ) → FieldsFit f
     → fmt_fields (fmt_bytes f ++ rest) ≡ f
-fields_written f rest fit = λ i. record {
-  tag = number-bytes_of 2 f.tag fit.tag i;
-  channels = number-bytes_of 2 f.channels fit.channels i;
-  rate = number-bytes_of 4 f.rate fit.rate i;
-  byte_rate = number-bytes_of 4 f.byte_rate fit.byte_rate i;
-  align = number-bytes_of 2 f.align fit.align i;
-  bits = number-bytes_of 2 f.bits fit.bits i;
-}
+fields_written f rest fit = grind (arith, common_steps)
 
 are_bytes-drop : (n : ℕ) (bytes : List ℕ) → AreBytes bytes → AreBytes (drop n bytes)
 are_bytes-drop zero bytes small = small

@@ -1,6 +1,6 @@
 -- How long a header is.
-use Rattle.std.proofs.Common.{◌≡◌, ℕ, ◌+◌, ◌%◌, ◌≤◌, true, false, List, ◌++◌, length, refl, sym, ◌∙◌, ap, inl, inr, arith, append_assoc, length-append}
-use Rattle.std.proofs.lemmas.Bool.{cases_Bool}
+use Rattle.std.proofs.lemmas.Grind.{common_steps}
+use Rattle.std.proofs.Common.{◌≡◌, ℕ, ◌+◌, ◌%◌, ◌≤◌, true, false, List, ◌++◌, length, refl, ◌∙◌, ap, arith, length-append}
 use Rattle.std.proofs.lemmas.List.{length-replicate}
 use Rattle.std.specs.List.{concat}
 use Rattle.hound_number.specs.{bytes_of}
@@ -8,7 +8,7 @@ use Rattle.hound_spec.specs.declared.spec.SampleFormat.{SampleFormat}
 use Rattle.hound_spec.specs.declared.spec.SampleFormat.TheVariants.{Int, Float}
 use Rattle.hound_spec.specs.declared.spec.WavSpecEx.{WavSpecEx}
 use Rattle.hound_spec.specs.FmtChunk.{subformat}
-use Rattle.hound_spec.specs.Header.{is_short, riff_tag, wave_tag, fmt_tag, data_tag, short_fmt, long_fmt, sized_fmt, header, data_start, riff_size, padding, canonical}
+use Rattle.hound_spec.specs.Header.{is_short, riff_tag, wave_tag, fmt_tag, data_tag, short_fmt, long_fmt, sized_fmt, header, data_start, padding, canonical}
 
 pub length-subformat : (f : SampleFormat) → length (subformat f) ≡ 16
 length-subformat Int = refl
@@ -35,41 +35,20 @@ length-sized_fmt-long : (s : WavSpecEx) → is_short s ≡ false → length (siz
 length-sized_fmt-long s long = ap length (sized_fmt-long s long)
     ∙ length-append (bytes_of 4 40) (long_fmt s) ∙ ap (λ n. 4 + n) (length-long_fmt s)
 
-length-around : (fmt : List ℕ) (size data_length : ℕ)
-    → length
-    (riff_tag ++ bytes_of 4 size ++ wave_tag ++ fmt_tag ++ fmt ++ data_tag
-    ++ bytes_of 4 data_length) ≡ 24 + length fmt
-length-around fmt size data_length = simp length-append (omega arith)
-
 pub length-header : (s : WavSpecEx) (size data_length : ℕ)
     → length (header s size data_length) ≡ data_start s
 unfolding header
-length-header s size data_length = elim (cases_Bool (is_short s)) [
-  | inl short ↦ rw short (length-around (sized_fmt s) size data_length
-      ∙ ap (λ n. 24 + n) (length-sized_fmt-short s short))
-  | inr long ↦ rw long (length-around (sized_fmt s) size data_length
-      ∙ ap (λ n. 24 + n) (length-sized_fmt-long s long))
-]
+length-header s size data_length = grind (arith, common_steps, length-sized_fmt-short, length-sized_fmt-long)
 
 -- what was written so far, and bytes after it
 pub and_then : (more all old new : List ℕ) → old ≡ all → new ≡ old ++ more → new ≡ all ++ more
 and_then more all old new so_far adds = adds ∙ ap (λ l. l ++ more) so_far
 
 pub data_start_least : (s : WavSpecEx) → 44 ≤ data_start s
-data_start_least s =
-    elim (cases_Bool (is_short s)) [
-      | inl short ↦ rw short (omega arith)
-      | inr long ↦ rw long
-          (omega arith)
-    ]
+data_start_least s = grind (arith, common_steps)
 
 pub data_start_most : (s : WavSpecEx) → data_start s ≤ 68
-data_start_most s =
-    elim (cases_Bool (is_short s)) [
-      | inl short ↦ rw short (omega arith)
-      | inr long ↦ rw long
-          (omega arith)
-    ]
+data_start_most s = grind (arith, common_steps)
 
 -- what a header has between the RIFF size and the data length
 abbrev pub described : WavSpecEx → List ℕ
@@ -80,13 +59,7 @@ pub header-parts : (s : WavSpecEx) (size data_length : ℕ)
     → header s size data_length ≡ riff_tag ++
     (bytes_of 4 size ++ (described s ++ bytes_of 4 data_length))
 unfolding header
-header-parts s size data_length =
-    append_assoc (riff_tag ++ bytes_of 4 size ++ wave_tag ++ fmt_tag ++ sized_fmt s) data_tag
-    (bytes_of 4 data_length)
-    ∙ append_assoc (riff_tag ++ bytes_of 4 size ++ wave_tag ++ fmt_tag) (sized_fmt s)
-    (data_tag ++ bytes_of 4 data_length)
-    ∙ ap (λ l. riff_tag ++ (bytes_of 4 size ++ (wave_tag ++ (fmt_tag ++ l))))
-    (sym (append_assoc (sized_fmt s) data_tag (bytes_of 4 data_length)))
+header-parts s size data_length = grind (arith, common_steps)
 
 pub length-described : (s : WavSpecEx) → length (described s) + 12 ≡ data_start s
 length-described s =
@@ -105,12 +78,4 @@ length-padding n = length-replicate (n % 2) 0
 
 pub length-canonical : (s : WavSpecEx) (list : List (List ℕ))
     → length (canonical s list) ≡ data_start s + length (concat list) + length (concat list) % 2
-length-canonical s list =
-    let n = length (concat list) in
-    length-append (header s (riff_size (data_start s) n) n) (concat list ++ padding n)
-    ∙ omega (
-      arith,
-      length-header s (riff_size (data_start s) n) n,
-      length-append (concat list) (padding n),
-      length-padding n,
-    )
+length-canonical s list = grind (arith, common_steps, length-header)

@@ -1,9 +1,9 @@
 -- What holds for every pair of used bits and bytes.
-use Rattle.std.proofs.Common.{◌≡◌, ℕ, ◌*◌, ◌%◌, ◌<◌, ◌≤◌, true, ◌&&◌, ◌==◌, List, [], ◌∷◌, sym, subst, inl, inr, arith, eqb-true, lit≤}
+use Rattle.std.proofs.lemmas.Grind.{common_steps}
+use Rattle.std.proofs.Common.{◌≡◌, ℕ, ◌*◌, ◌%◌, ◌<◌, ◌≤◌, true, ◌&&◌, ◌==◌, List, [], ◌∷◌, sym, subst, inl, inr, arith, eqb-true}
 use Rattle.std.proofs.lemmas.Bool.{or_cases, and_parts}
 use Rattle.std.specs.List.{list_any, AllByRecursion}
 use Rattle.hound_spec.specs.declared.spec.SampleFormat.{SampleFormat}
-use Rattle.hound_spec.specs.declared.spec.SampleFormat.TheVariants.{Int, Float}
 use Rattle.hound_spec.specs.Header.{pairs, IsPair}
 
 -- what holds for each row of a list of pairs holds for the pairs that are in it
@@ -33,29 +33,4 @@ pub record PairFacts (bits width : ℕ) : Type 0 where
   pub few : width ≤ 4
 
 pub pair_facts : (f : SampleFormat) (bits width : ℕ) → IsPair f bits width → PairFacts bits width
-pair_facts f bits width is = of_pair PairFacts f bits width (each f) is
-  where
-    known : (k w : ℕ) → 1 ≤ k → k ≤ w → w ≤ 4 → PairFacts (8 * k) w
-    known k w some fits few = record {
-      some_bits = omega arith;
-      whole_bytes = omega arith;
-      in_width = omega arith;
-      some = omega arith;
-      few = few;
-    }
-
-    each : (f : SampleFormat) → AllByRecursion (λ (b, w). PairFacts b w) (pairs f)
-    each Int = (
-      known 1 1 (lit≤ tt) (lit≤ tt) (lit≤ tt),
-      (
-        known 2 2 (lit≤ tt) (lit≤ tt) (lit≤ tt),
-        (
-          known 3 3 (lit≤ tt) (lit≤ tt) (lit≤ tt),
-          (
-            known 3 4 (lit≤ tt) (lit≤ tt) (lit≤ tt),
-            (known 4 4 (lit≤ tt) (lit≤ tt) (lit≤ tt), tt),
-          ),
-        ),
-      ),
-    )
-    each Float = (known 4 4 (lit≤ tt) (lit≤ tt) (lit≤ tt), tt)
+pair_facts f bits width is = grind (arith, common_steps)

@@ -1,4 +1,5 @@
 -- The digits of a number, two at a time.
+use Rattle.std.proofs.lemmas.Grind.{common_steps}
 use Rattle.std.proofs.Common.{◌≡◌, ℕ, zero, suc, ◌+◌, ◌-◌, ◌*◌, ◌/◌, ◌%◌, ◌^◌, ◌<◌, ◌≤◌, nat_lt, List, [], ◌∷◌, ◌++◌, length, take, drop, drop-drop, drop_at, length-take-le, inl, inr, append_assoc, refl, ap, sym, ◌∙◌, arith}
 use Rattle.std.proofs.lemmas.Bool.{cases_lt, lt-ltb, le-ltb}
 use Rattle.std.proofs.lemmas.Fmt.{decimal_digit, decimal_step}
@@ -51,11 +52,7 @@ decimal_short n tail small =
 
 -- of a number with more digits: those of its hundredth, and the last two
 pub decimal_more : (n : ℕ) → 100 ≤ n → n < 2 ^ 64 → decimal n ≡ decimal (n / 100) ++ pair (n % 100)
-decimal_more n many small =
-    let tens : n / 10 / 10 ≡ n / 100 = omega arith in
-    let ten : n / 10 % 10 ≡ n % 100 / 10 = omega arith in
-    let one : n % 10 ≡ n % 100 % 10 = omega arith in
-    rw (decimal_step n (omega (arith, many)) small, decimal_step (n / 10) (omega (arith, many)) (omega (arith, small)), append_assoc, tens, ten, ← one)
+decimal_more n many small = grind (arith, common_steps, decimal_step)
 
 -- four bits are a digit in base 16
 pub sixteen-pow : (k : ℕ) → 2 ^ (4 * k) ≡ 16 ^ k

@@ -1,6 +1,7 @@
 -- The lines of numbers say these numbers.
+use Rattle.std.proofs.lemmas.Grind.{common_steps}
 use Rattle.std.specs.Prelude.{FitsSigned}
-use Rattle.std.proofs.Common.{◌≡◌, ℕ, ℤ, suc, ◌<◌, true, false, cond, ◌==◌, pos, negsuc, neg_ℤ, List, [], ◌∷◌, ◌++◌, drop, refl, ap, sym, ◌∙◌, subst, append_assoc, arith}
+use Rattle.std.proofs.Common.{◌≡◌, ℕ, ℤ, suc, ◌<◌, false, pos, negsuc, neg_ℤ, List, [], ◌∷◌, ◌++◌, refl, ap, sym, ◌∙◌, subst, append_assoc, arith}
 use Rattle.std.proofs.lemmas.Bool.Decides.{nat_tests}
 use Rattle.std.proofs.lemmas.Fmt.{decimal_is_IsNumeral}
 use Rattle.std.proofs.lemmas.List.Splits.{slice_split-cons_no}
@@ -9,15 +10,12 @@ use Rattle.std.specs.Char.{digit_value}
 use Rattle.std.specs.Fmt.{decimal, signed_decimal}
 use Rattle.std.specs.Int.{w32}
 use Rattle.std.specs.List.{AllByRecursion, filter, flat_map, onto_first, slice_split}
-use Rattle.std.specs.Str.Parse.{AllDigits, IsNumeral, digits_value, starts_with_minus}
-use Rattle.hound_text.specs.Text.{SayNumbers, SaysNumber, SaysNumbers, is_filled, is_separator, signed_value, without_minus, integer_line}
+use Rattle.std.specs.Str.Parse.{AllDigits, IsNumeral, digits_value}
+use Rattle.hound_text.specs.Text.{SayNumbers, SaysNumber, SaysNumbers, is_filled, is_separator, integer_line}
 
 -- a digit is no separator and no minus
 digit_no_separator : (b : ℕ) → digit_value b < 10 → is_separator b ≡ false
 digit_no_separator b small = let h = digit_from_value b small in grind (arith, nat_tests)
-
-digit_no_minus : (b : ℕ) → digit_value b < 10 → (b == 45) ≡ false
-digit_no_minus b small = let h = digit_from_value b small in grind (arith, nat_tests)
 
 -- digits before a line feed are the first part
 digits_first : (ds rest : List ℕ) → AllDigits 10 ds
@@ -27,20 +25,10 @@ digits_first (d ∷ ds) rest all =
     slice_split-cons_no is_separator d (ds ++ 10 ∷ rest) (digit_no_separator d all.0)
     ∙ ap (onto_first d) (digits_first ds rest all.1)
 
-numeral_no_minus : (ds : List ℕ) → IsNumeral 10 ds → starts_with_minus ds ≡ false
-numeral_no_minus [] numeral = absurd (omega (arith, numeral.0))
-numeral_no_minus (d ∷ ds) numeral = digit_no_minus d numeral.1.0
-
 -- a numeral says its value
 numeral_says : (ds : List ℕ) (n : ℕ) → IsNumeral 10 ds → digits_value 10 ds ≡ n
     → FitsSigned w32 (pos n) → SaysNumber ds (pos n)
-numeral_says ds n numeral value within =
-    let no_minus = numeral_no_minus ds numeral in
-    let same : without_minus ds ≡ ds = ap (λ t. cond t (drop 1 ds) ds) no_minus in
-    let says : signed_value (starts_with_minus ds) (digits_value 10 (without_minus ds)) ≡ pos n =
-    ap (λ t. signed_value t (digits_value 10 (without_minus ds))) no_minus
-    ∙ ap (λ w. pos (digits_value 10 w)) same ∙ ap (λ v. pos v) value in
-    record { digits = subst (IsNumeral 10) (sym same) numeral; value = sym says; within = within }
+numeral_says ds n numeral value within = grind (arith, common_steps)
 
 decimal_says : (number : ℤ) → FitsSigned w32 number → SaysNumber (signed_decimal number) number
 decimal_says (pos n) within =
@@ -68,17 +56,10 @@ line_first (negsuc n) rest within =
     ∙ slice_split-cons_no is_separator 45 (decimal (suc n) ++ 10 ∷ rest) refl
     ∙ ap (onto_first 45) (digits_first (decimal (suc n)) rest numeral.1)
 
--- a word that says a number has a byte
-says_filled : (word : List ℕ) (number : ℤ) → SaysNumber word number → is_filled word ≡ true
-says_filled [] number says = let none = says.digits.0 in absurd (omega arith)
-says_filled (b ∷ bytes) number says = refl
-
 one_more : (word : List ℕ) (parts : List (List ℕ)) (number : ℤ) (numbers : List ℤ) → SaysNumber word number
     → SayNumbers (filter is_filled parts) numbers
     → SayNumbers (filter is_filled (word ∷ parts)) (number ∷ numbers)
-one_more word parts number numbers says rest =
-    subst (λ t. SayNumbers (cond t (word ∷ filter is_filled parts) (filter is_filled parts)) (number ∷ numbers))
-    (sym (says_filled word number says)) (says, rest)
+one_more word parts number numbers says rest = grind (arith, common_steps)
 
 pub lines_say : (numbers : List ℤ) → AllByRecursion (FitsSigned w32) numbers
     → SaysNumbers (flat_map integer_line numbers) numbers

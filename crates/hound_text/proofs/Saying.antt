@@ -1,6 +1,7 @@
 -- The numbers that are read from the front of a text are those that its words say.
+use Rattle.std.proofs.lemmas.Grind.{common_steps}
 use Rattle.std.specs.Prelude.{FitsSigned}
-use Rattle.std.proofs.Common.{◌≡◌, ℕ, ℤ, zero, suc, ◌+◌, ◌-◌, ◌*◌, ◌<◌, ◌≤◌, Bool, true, false, cond, ◌==◌, nat_le, List, [], ◌∷◌, ◌++◌, length, Option, Some, None, refl, ap, sym, ◌∙◌, subst, append_assoc, append-nil, arith}
+use Rattle.std.proofs.Common.{◌≡◌, ℕ, ℤ, zero, suc, ◌+◌, ◌-◌, ◌*◌, ◌<◌, ◌≤◌, Bool, true, false, cond, ◌==◌, nat_le, List, [], ◌∷◌, ◌++◌, Option, Some, None, refl, ap, sym, ◌∙◌, subst, append_assoc, append-nil, arith}
 use Rattle.std.proofs.lemmas.Bool.Decides.{nat_tests}
 use Rattle.std.proofs.lemmas.List.Elements.{filter-append}
 use Rattle.std.proofs.lemmas.Int.Digits.{digits_push, digits_value_push}
@@ -98,11 +99,7 @@ broken_first b word parts broken = λ ns all. out word parts broken ns all
 
 -- a byte after a word that has one
 minus-push : (c : ℕ) (cs more : List ℕ) → without_minus ((c ∷ cs) ++ more) ≡ without_minus (c ∷ cs) ++ more
-minus-push c cs more = by_case (c == 45)
-  where
-    by_case : (t : Bool) → cond t (cs ++ more) (c ∷ cs ++ more) ≡ cond t cs (c ∷ cs) ++ more
-    by_case true = refl
-    by_case false = refl
+minus-push c cs more = grind (arith, common_steps)
 
 -- a digit is no separator and no minus, and its value is what is added
 digit_is : (b : ℕ) → is_digit b ≡ true → (digit_value b < 10) × (digit_value b ≡ b - 48)
@@ -145,27 +142,11 @@ value_after-append n [] ys = refl
 value_after-append n (x ∷ xs) ys = value_after-append (n * 10 + digit_value x) xs ys
 
 begun_some : (word : List ℕ) (negative : Bool) (magnitude : ℕ) → IsBegun word negative magnitude → word ≡ [] → ⊥
-begun_some word negative magnitude begun none =
-    let h = subst (λ w. IsNumeral 10 (without_minus w)) none begun.numeral in
-    let e : 0 < 0 = h.0 in omega arith
+begun_some word negative magnitude begun none = grind (arith, common_steps)
 
 begun-push : (c : ℕ) (cs : List ℕ) (negative : Bool) (magnitude b : ℕ) → IsBegun (c ∷ cs) negative magnitude
     → is_digit b ≡ true → IsBegun ((c ∷ cs) ++ (b ∷ [])) negative (magnitude * 10 + (b - 48))
-begun-push c cs negative magnitude b begun digit =
-    let d = digit_is b digit in
-    let same = minus-push c cs (b ∷ []) in
-    let xs = without_minus (c ∷ cs) in
-    let value : digits_value 10 (xs ++ (b ∷ [])) ≡ digits_value 10 xs * 10 + digit_value b = digits_value_push 10 xs b in
-    let was = begun.value in
-    record {
-      numeral = subst (IsNumeral 10) (sym same) (longer xs, digits_push 10 xs b begun.numeral.1 d.0);
-      value = ap (digits_value 10) same ∙ (value ∙ (ap (λ n. n * 10 + digit_value b) was ∙ ap (λ n. magnitude * 10 + n) d.1));
-      sign = begun.sign;
-    }
-  where
-    longer : (xs : List ℕ) → 0 < length (xs ++ (b ∷ []))
-    longer [] = omega arith
-    longer (x ∷ xs) = omega arith
+begun-push c cs negative magnitude b begun digit = grind (arith, common_steps, minus-push, digits_value_push, digits_push)
 
 -- the word leads to a place, or no word that continues it says a number
 abbrev Arrives : List ℕ → Option Place → Type 0

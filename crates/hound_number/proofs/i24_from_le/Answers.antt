@@ -1,4 +1,5 @@
-use Rattle.std.proofs.Common.{rules, arith, ◌≡◌, ◌<◌, ◌-◌, ◌+◌, ◌*◌, inl, inr, ℕ, ℤ, pos, negsuc, to_z, of_z, ◌+ℤ◌, ◌*ℤ◌, sym, ap, ◌∙◌, slice_index_or, length, List, [], ◌∷◌, suc, ◌^◌}
+use Rattle.std.proofs.lemmas.Grind.{common_steps}
+use Rattle.std.proofs.Common.{rules, arith, ◌≡◌, ◌<◌, ◌-◌, ◌+◌, ◌*◌, ℕ, pos, negsuc, to_z, of_z, ◌+ℤ◌, ◌*ℤ◌, ap, ◌∙◌, slice_index_or, length, List, [], ◌∷◌}
 use mir.Syntax.{w8, w32}
 use Rattle.std.proofs.Math.Facts.{to_z_pos, to_z-neg}
 use Rattle.std.proofs.lemmas.Bool.{cases_lt}
@@ -16,16 +17,7 @@ high_half l k small low = search rules
 -- the sign of the high byte is that of the number
 signed_high : (l h : ℕ) → l < 65536 → h < 256
     → to_z w8 h *ℤ pos 65536 +ℤ pos l ≡ signed_of 3 (l + h * 65536)
-signed_high l h small byte = elim (cases_lt h 128) [
-  | inl low ↦ ap (λ z. z *ℤ pos 65536 +ℤ pos l) (to_z_pos w8 low) ∙ low_half l h small low
-  | inr high ↦ (
-      let sign : to_z w8 h ≡ negsuc (255 - h) =
-      ap (to_z w8) (let e : h ≡ 2 ^ 8 - suc (255 - h) = omega (arith, high, byte) in e)
-      ∙ to_z-neg w8 (255 - h) (omega (arith, high)) in
-      ap (λ z. z *ℤ pos 65536 +ℤ pos l) sign
-      ∙ high_half l (255 - h) small (omega (arith, high))
-      ∙ ap (λ n. signed_of 3 (l + n * 65536)) (let back : 255 - (255 - h) ≡ h = omega (arith, byte) in back))
-]
+signed_high l h small byte = grind (arith, common_steps, cases_lt, to_z_pos, low_half, to_z, to_z-neg, high_half)
 
 -- the number of three bytes, each by its place
 whole : (bytes : List ℕ) → length bytes ≡ 3

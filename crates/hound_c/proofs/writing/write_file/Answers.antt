@@ -1,3 +1,4 @@
+use Rattle.std.proofs.lemmas.Grind.{common_steps}
 use Rattle.std.proofs.lemmas.Result.{err_from_is_err_and}
 use Rattle.std.proofs.Common.{◌≡◌, ◌+◌, ◌-◌, ◌*◌, ◌%◌, ◌≤◌, ◌++◌, Ok, length, take, drop, refl, sym, ◌∙◌, ap, subst, arith, rules, inr, length-append, length-drop}
 use Rattle.std.proofs.lemmas.List.{length-take-le, take_at}
@@ -27,11 +28,7 @@ returns-in_err-check_samples-clause-writes g c =
     )
 
 pub copy_from_slice-requires : goal.copy_from_slice-requires
-copy_from_slice-requires g c =
-    let size = ap length (c.as_slice.ensures ∙ c.header_of-header.ensures)
-    ∙ length-header c.spec_of-spec_ex.result _ _ in
-    let start = c.data_start_of-data_start.result in
-    length-take-le start c.args.out.now (search rules) ∙ c.data_start_of-data_start.ensures ∙ sym size
+copy_from_slice-requires g c = grind (arith, common_steps, length-header, length-take-le)
 
 pub returns-clause-writes : goal.returns-clause-writes
 returns-clause-writes g c =

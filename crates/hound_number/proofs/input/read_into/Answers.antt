@@ -1,17 +1,12 @@
-use Rattle.std.proofs.Common.{◌++◌, rules, arith, length-take, length-append, take}
+use Rattle.std.proofs.lemmas.Grind.{common_steps}
+use Rattle.std.proofs.Common.{◌++◌, arith, length-take, length-append, take}
 use Rattle.std.proofs.KnownBytes.{Consumes-trans, Consumes-kept}
 use Rattle.hound_number.proofs.Counting.{NoneFailed-trans}
 use Rattle.hound_number.proofs.Pieces.{taken_behind}
 use Rattle.hound_number.proofs.input.read_into.Goals as goal
 
 pub loop-at-preserved : goal.loop-at-preserved
-loop-at-preserved g c = record {
-  within = search rules;
-  failures = NoneFailed-trans _ _ _ c.loop-at.invariant.failures c.in-Ok.ensures.failures;
-  taken = taken_behind _ _ _ c.loop-at.at _ c.in-Ok.n c.loop-at.buf c.read_some.new.buf
-      c.loop-at.invariant.within c.in-Ok.ensures.bound.0 c.loop-at.invariant.taken
-      c.in-Ok.ensures.bytes.0;
-}
+loop-at-preserved g c = grind (arith, common_steps, NoneFailed-trans, taken_behind)
 
 pub returns-in-Ok-eq0-clause-part : goal.returns-in-Ok-eq0-clause-part
 returns-in-Ok-eq0-clause-part g c =

@@ -1,14 +1,8 @@
-use Rattle.std.proofs.Common.{◌≡◌, ◌*◌, ◌≤◌, ◌++◌, length, take, ap, sym, ◌∙◌, arith, Ok, IsOk, subst, refl}
+use Rattle.std.proofs.Common.{◌≡◌, ◌++◌, take, ap, sym, ◌∙◌, arith, Ok, IsOk, subst}
 use Rattle.std.proofs.lemmas.Bool.{false≢true}
-use Rattle.std.proofs.lemmas.List.{take_all}
-use Rattle.std.proofs.Math.Nat.{mul-le-mul_left}
-use Rattle.hound_sample.specs.Container.{joined_containers}
 use Rattle.hound_sample.proofs.Joined.{each_has, encoded_bytes, encoded_ok, joined_more}
 use Rattle.hound_sample.proofs.slices.store_each.Goals as goal
 use Rattle.hound_sample.proofs.slices.store_each.Goals.{in-Ok, in-Err}
-
-pub loop-sample-init : goal.loop-sample-init
-loop-sample-init g c = record { end = omega arith; size = refl; stored = refl }
 
 pub loop-sample-preserved : goal.loop-sample-preserved
 loop-sample-preserved g c =
@@ -34,14 +28,3 @@ loop-sample-preserved g c =
           }
       | in-Err w ↦ absurd (false≢true (encoded_ok _ _ w.in-Err.ensures ∙ has))
     ]
-
-pub returns : goal.returns
-returns g c =
-    let a = c.args in
-    let loop = c.loop-sample in
-    let container = λ (s : g.row.S.Denot). g.S.Sample.container s a.bits a.width in
-    let last : length a.samples.now ≤ loop.sample-index = omega (arith, c.loop-sample-test.false) in
-    let more : a.width * length a.samples.now ≤ a.width * loop.sample-index = mul-le-mul_left a.width last in
-    sym (take_all loop.end loop.bytes (omega (arith, loop.invariant.end, loop.invariant.size, c.requires.room, more)))
-    ∙ loop.invariant.stored
-    ∙ ap (joined_containers container) (take_all loop.sample-index a.samples.now last)

@@ -1,7 +1,7 @@
-use Rattle.std.proofs.Common.{◌≡◌, ◌++◌, ap, sym, ◌∙◌, length, arith, append_assoc, length-append, true, false}
+use Rattle.std.proofs.Common.{◌≡◌, ◌++◌, ap, sym, ◌∙◌, append_assoc, true, false}
 use Rattle.hound_number.specs.{bytes_of}
 use Rattle.hound_spec.specs.Header.{is_short, short_fmt, long_fmt}
-use Rattle.hound_spec.proofs.HeaderLemmas.{length-long_fmt, sized_fmt-short, sized_fmt-long}
+use Rattle.hound_spec.proofs.HeaderLemmas.{sized_fmt-short, sized_fmt-long}
 use Rattle.hound_spec.proofs.header.write_fmt.Goals as goal
 
 pub returns-then-is_short-clause-chunk : goal.returns-then-is_short-clause-chunk
@@ -18,14 +18,3 @@ returns-else-is_short-clause-chunk c =
     c.write_waveformatextensible.ensures
     ∙ append_assoc c.args.header.now (bytes_of 4 40) (long_fmt s)
     ∙ ap (λ l. c.args.header.now ++ l) (sym (sized_fmt-long s long))
-
-pub returns-else-is_short-clause-size : goal.returns-else-is_short-clause-size
-returns-else-is_short-clause-size c =
-    let s = c.args.spec_ex in
-    omega (
-      arith,
-      ap length c.write_waveformatextensible.ensures,
-      length-append (c.args.header.now ++ bytes_of 4 40) (long_fmt s),
-      length-append c.args.header.now (bytes_of 4 40),
-      length-long_fmt s,
-    )

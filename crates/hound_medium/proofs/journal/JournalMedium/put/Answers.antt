@@ -1,17 +1,11 @@
-use Rattle.std.proofs.Common.{rules, ◌∙◌, take, ap, subst, sym}
-use Rattle.hound_number.specs.{AreBytes}
+use Rattle.std.proofs.lemmas.Grind.{common_steps}
+use Rattle.std.proofs.Common.{◌∙◌, take, ap, sym, arith}
 use Rattle.hound_medium.specs.State.{overlay, placed}
 use Rattle.hound_medium.proofs.Overlays.{small_overlay, small_take, replays_more}
 use Rattle.hound_medium.proofs.journal.JournalMedium.put.Goals as goal
 
 pub invariant_of-self-2-clause-are_bytes : goal.invariant_of-self-2-clause-are_bytes
-invariant_of-self-2-clause-are_bytes c =
-    let j = c.call.new.self in
-    let new = take c.min-n.result c.args.bytes.now in
-    let is = c.count_fault.ensures.same ∙ c.in_ok-count_fault.was in
-    subst AreBytes (sym (rw is at c.put_and_keep-outcome.ensures.ok))
-    (small_overlay j.bytes.items j.place new j.are_bytes
-    (small_take c.min-n.result c.args.bytes.now (λ i. search rules)))
+invariant_of-self-2-clause-are_bytes c = grind (arith, common_steps, small_overlay, small_take)
 
 pub invariant_of-self-2-clause-replays : goal.invariant_of-self-2-clause-replays
 invariant_of-self-2-clause-replays c =

@@ -1,4 +1,5 @@
-use Rattle.std.proofs.Common.{◌≡◌, suc, ◌-◌, ◌/◌, ◌%◌, ◌^◌, ◌++◌, ◌∷◌, [], false, length, length-append, ap, sym, ◌∙◌, append_assoc, append-nil, arith}
+use Rattle.std.proofs.lemmas.Grind.{common_steps}
+use Rattle.std.proofs.Common.{◌≡◌, suc, ◌-◌, ◌/◌, ◌%◌, ◌^◌, ◌++◌, ◌∷◌, [], false, length, length-append, ap, ◌∙◌, append_assoc, append-nil, arith}
 use Rattle.std.specs.Fmt.{digit_glyph}
 use Rattle.hound_text.specs.Text.{padded_digits}
 use Rattle.hound_text.proofs.Decimals.{sixteen-pow}
@@ -29,12 +30,4 @@ loop-place-preserved c =
     }
 
 pub returns : goal.returns
-returns c =
-    let loop = c.loop-place in
-    let none : loop.place ≡ 0 = omega (arith, c.loop-place-test.false) in
-    c.push-2.ensures
-    ∙ ap (λ l. l ++ 10 ∷ [])
-    (sym (append-nil loop.self)
-    ∙ ap (λ n. loop.self ++ padded_digits 16 n c.args.pattern) (sym none)
-    ∙ loop.invariant.digits)
-    ∙ append_assoc c.args.self.now (padded_digits 16 8 c.args.pattern) (10 ∷ [])
+returns c = grind (arith, common_steps, append-nil, append_assoc)
