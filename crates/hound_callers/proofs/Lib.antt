@@ -1,4 +1,2 @@
-pub mod Blocks
 pub mod Failing
-pub mod Asking
 pub mod Publishing

@@ -1,7 +1,8 @@
 -- What a recorder asks of its writer, and what it sees; the checkpoints of a session.
-use Rattle.std.specs.Prelude.{◌≡◌, ◌⊎◌, ℕ, suc, ◌%◌, ◌==◌, Bool, true, false, List, [], ◌∷◌, ◌++◌, map, Result, Ok, ◌+◌, ◌<◌, ◌≤◌, length, slice_index_or, Option, None, Some}
-use Rattle.std.specs.List.{flat_map}
-use Rattle.hound.specs.{Asked, Known, made, marked, publish, write, Refusal}
+use Rattle.std.specs.Prelude.{◌≡◌, ◌⊎◌, ℕ, suc, ◌%◌, ◌==◌, Bool, true, false, List, [], ◌∷◌, ◌++◌, map, Result, Ok, IsOk, ◌+◌, ◌<◌, ◌≤◌, length, slice_index_or, Option, None, Some}
+use Rattle.std.specs.Borrow.{Bor}
+use Rattle.std.specs.List.{All, flat_map}
+use Rattle.hound.specs.{Asked, IsWhole, Known, MediumState, ReadsAs, Refusal, WavSpecEx, WriterState, accepted_samples, containers_in, if_marked, made, marked, publish, write}
 use Rattle.hound.specs.declared.session.Step.{Step}
 use Rattle.hound.specs.declared.session.Step.TheVariants.{Flush}
 
@@ -16,6 +17,16 @@ abbrev pub recorder_asks : {V : Type 0} → (V → Result (List (List ℕ)) Refu
 recorder_asks containers i [] = []
 recorder_asks containers i (block ∷ blocks) =
     block_asks (containers block) (i % 4 == 3) ++ recorder_asks containers (suc i) blocks
+
+-- the containers of a block of samples
+abbrev pub containers_by : {V : Type 0} → (V → ℕ → ℕ → Result (List ℕ) Refusal) → WavSpecEx →
+    Bor (List V) → Result (List (List ℕ)) Refusal
+containers_by container s block = containers_in container s block.now
+
+-- all that a recorder of blocks asks, with the end
+abbrev pub all_asked : {V : Type 0} → (V → ℕ → ℕ → Result (List ℕ) Refusal) → WavSpecEx →
+    List (Bor (List V)) → List Known
+all_asked container s blocks = recorder_asks (containers_by container s) 0 blocks ++ made publish ∷ []
 
 -- the marks of the calls of blocks that were published: a write and a flush of each
 abbrev pub published_calls : {V : Type 0} → (V → Result (List (List ℕ)) Refusal) → List V →
@@ -43,10 +54,9 @@ StopsAt containers (block ∷ blocks) calls = IsStopped (containers block) calls
 -- each of these blocks has containers, and these are all of them
 abbrev pub HaveContainers : {V : Type 0} → (V → Result (List (List ℕ)) Refusal) → List V →
     List (List ℕ) → Type 0
-HaveContainers containers [] list = list ≡ []
-HaveContainers containers (block ∷ blocks) list = (first rest : List (List ℕ))
-    × (containers block ≡ Ok first) × HaveContainers containers blocks rest
-    × (list ≡ first ++ rest)
+HaveContainers containers blocks list =
+    All (λ block. IsOk (containers block)) blocks
+    × (list ≡ flat_map (λ block. if_marked true (containers block)) blocks)
 
 -- the step with this number is a flush with a mark: it published all that was accepted
 abbrev pub IsCheckpoint : List Step → List Bool → ℕ → Type 0
@@ -63,3 +73,12 @@ abbrev pub IsLast : List Step → List Bool → ℕ → Option ℕ → Type 0
 IsLast steps marks n None = HasNone steps marks 0 n
 IsLast steps marks n (Some i) =
     (i < n) × IsCheckpoint steps marks i × HasNone steps marks (i + 1) n
+
+-- Samples that were asked for follow those that were accepted before, and the file is read as all of
+-- these.
+abbrev pub IsPublished : {M : Type 0} → (M → MediumState) → Result (List (List ℕ)) Refusal →
+    WriterState M → WriterState M → Type 0
+IsPublished state asked old new = (list : List (List ℕ)) × (asked ≡ Ok list)
+    × ReadsAs old.spec_ex old.data_start (accepted_samples state old ++ list)
+    (state new.medium).contents
+    × IsWhole state new × (accepted_samples state new ≡ accepted_samples state old ++ list)

@@ -1,13 +1,13 @@
 // Functions of a user of the library, whose contracts follow from its public ones.
 ghost use Rattle.std.specs.Prelude.{◌≡◌, ℕ, suc, ◌+◌, ◌-◌, ◌/◌, ◌<◌, ◌≤◌, ◌++◌, ◌⊎◌, Bool, false, true, List, length, map, drop, [], ◌∷◌, slice_index_or, None, Some, Ok, Result, IfOk, IfSome, MatchResult, OnOk};
 ghost use Rattle.std.specs.List.{concat};
-ghost use Rattle.hound.specs.{Asked, Begun, Call, found_in, start_of, IsSoundSpec, IsSameFile, containers, AreContainers, Counts, canonical, data_start, Around, HasPublished, IsLeftAfter, Keeps, LosesNothing, accepted_by_all, begins_at, held, SurvivesLoss, containers_in, ReadsAs, samples_left, OpensAs, IsNoPad, ReadsFrames, IsIoError, IsSixteen, IsSession, Ran, all_calls, accepted_by_steps, field, MediumState, WhereKeeps, WhereTells, Error, IsWritable, IsWhole, accepted_samples, sample_count, WavSpecEx, container_at, meaning_at, refusal_at, samples_before, unread};
+ghost use Rattle.hound.specs.{Asked, Begun, Call, found_in, start_of, IsSoundSpec, IsSameFile, containers, AreContainers, Counts, canonical, data_start, Around, HasPublished, IsLeftAfter, Keeps, LosesNothing, accepted_by_all, begins_at, held, SurvivesLoss, one, samples_left, OpensAs, IsNoPad, ReadsFrames, IsIoError, IsSixteen, IsSession, Ran, all_calls, accepted_by_steps, field, MediumState, WhereKeeps, WhereTells, Error, IsWritable, IsWhole, accepted_samples, sample_count, WavSpecEx, container_at, meaning_at, refusal_at, samples_before, unread};
 ghost use Rattle.hound.specs.declared.Error.TheVariants.{OutOfMemory};
 ghost use Rattle.hound.specs.declared.session.Begin.TheVariants.{New};
 ghost use Rattle.hound.specs.declared.session.End.{End};
 ghost use Rattle.hound.specs.declared.session.End.TheVariants.{Drop};
 ghost use Rattle.hound.specs.declared.session.Step.TheVariants.{Flush};
-ghost use Rattle.hound_callers.specs.Recording.{IsLast};
+ghost use Rattle.hound_callers.specs.Recording.{IsLast, IsPublished};
 
 use hound::{
     Begin, Durable, End, Error, Medium, Placed, Repair, Sample, Source, Step, WavReader, WavSpecEx,
@@ -31,37 +31,11 @@ pub fn record_checkpoint<S: Sample, M: Medium>(
     writer: &mut WavWriter<M>,
     sample: S,
 ) -> hound::Result<()>
-    ensures { WhereTells M.tells (IsWhole M.state writer.old → OnOk result (
-        let s = writer.old.spec_ex in (container : List ℕ)
-        × (S.container sample s.spec.bits_per_sample s.bytes_per_sample ≡ Ok container)
-        × ReadsAs s writer.old.data_start (accepted_samples M.state writer.old ++ (container ∷ [])) (M.state writer.new.medium).contents
-        × IsWhole M.state writer.new × (accepted_samples M.state writer.new ≡ accepted_samples M.state writer.old ++ (container ∷ [])))) }
+    ensures { WhereTells M.tells (IsWhole M.state writer.old → OnOk result (IsPublished M.state
+        (one (S.container sample writer.old.spec_ex.spec.bits_per_sample writer.old.spec_ex.bytes_per_sample))
+        writer.old writer.new)) }
 {
     writer.write_sample(sample)?;
-    writer.flush()
-}
-
-// How many samples are written by one call.
-const BLOCK: usize = 1024;
-
-/// Writes samples by blocks and publishes them: the file is then read as the samples before and all
-/// of these.
-pub fn record_blocks<S: Sample + Copy, M: Medium>(
-    writer: &mut WavWriter<M>,
-    samples: &[S],
-) -> hound::Result<()>
-    ensures { WhereTells M.tells (IsWhole M.state writer.old → OnOk result (
-        let s = writer.old.spec_ex in (list : List (List ℕ))
-        × (containers_in S.container s samples.now ≡ Ok list)
-        × ReadsAs s writer.old.data_start (accepted_samples M.state writer.old ++ list) (M.state writer.new.medium).contents
-        × IsWhole M.state writer.new × (accepted_samples M.state writer.new ≡ accepted_samples M.state writer.old ++ list))) }
-{
-    let mut done = 0;
-    while done < samples.len() {
-        let count = BLOCK.min(samples.len() - done);
-        writer.write_samples(&samples[done..done + count])?;
-        done += count;
-    }
     writer.flush()
 }
 

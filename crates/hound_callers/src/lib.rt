@@ -10,8 +10,8 @@ mod recording;
 mod twelve;
 
 pub use callers::{
-    convert, give_up_batch, open_written, publish, record_blocks, record_checkpoint,
-    record_through_a_loss, repair_recording, sample_at, samples_of,
+    convert, give_up_batch, open_written, publish, record_checkpoint, record_through_a_loss,
+    repair_recording, sample_at, samples_of,
 };
 pub use either::EitherSample;
 pub use example::record_and_read;

@@ -1,11 +1,11 @@
 // Recorders that make their calls themselves.
 ghost use Rattle.std.specs.Prelude.{◌≡◌, ◌⊎◌, ◌-◌, ◌/◌, ◌<◌, ◌≤◌, ℕ, true, List, ◌∷◌, ◌++◌, [], ⊤, Ok, MatchResult, IsFalse, IsOk, IsTrue, OnErr, OnOk, drop, length, map, take};
-ghost use Rattle.std.specs.List.{flat_map};
-ghost use Rattle.hound.specs.{one, Begun, Call, Known, Left, Recorded, made, new_file, publish, write, containers, int_container, Around, within, HasPublished, Kept, KeptWithin, accepted_by_all, canonical, data_start, held, AcceptsEach, Ascends, ReadsAs, WritesToBatch, containers_in, fits, remaining, signed_bytes_of, IsNoPad, ReadsFrames, IsSixteen, Ran, asked_by, containers_of, field, MediumState, WhereKeeps, WhereTells, WriterState, IsWhole, accepted_samples, data_length, WavSpecEx};
+ghost use Rattle.std.specs.List.{All, flat_map};
+ghost use Rattle.hound.specs.{one, Begun, Call, Known, Left, Recorded, made, new_file, publish, write, containers, int_container, Around, within, HasPublished, Kept, KeptWithin, accepted_by_all, canonical, data_start, held, AcceptsEach, Ascends, WritesToBatch, containers_in, fits, remaining, signed_bytes_of, IsNoPad, ReadsFrames, IsSixteen, Ran, asked_by, containers_of, field, MediumState, WhereKeeps, WhereTells, WriterState, IsWhole, accepted_samples, data_length, WavSpecEx};
 ghost use Rattle.hound.specs.declared.session.Begin.TheVariants.{New};
 ghost use Rattle.hound.specs.declared.session.End.TheVariants.{Finalize};
 ghost use Rattle.hound.specs.declared.session.Step.TheVariants.{Whole};
-ghost use Rattle.hound_callers.specs.Recording.{HaveContainers, IsStopped, StopsAt, block_asks, published_calls, recorder_asks, seen};
+ghost use Rattle.hound_callers.specs.Recording.{HaveContainers, IsPublished, IsStopped, StopsAt, all_asked, block_asks, containers_by, published_calls, recorder_asks, seen};
 
 use crate::twelve::Twelve;
 use hound::{
@@ -44,13 +44,10 @@ pub fn record<S: Sample + Copy, M: Source + Medium>(
 ) -> result::Result<WavWriter<M>, (M, Error)>
     requires { WhereTells M.tells ((M.state medium).place ≡ 0) }
     ensures { MatchResult result
-        (Recorded M.tells M.keeps M.state spec_ex new_file (recorder_asks (λ block. containers_in S.container spec_ex block.now) 0 blocks.now))
+        (Recorded M.tells M.keeps M.state spec_ex new_file (recorder_asks (containers_by S.container spec_ex) 0 blocks.now))
         (λ _. ⊤) }
 {
-    let mut writer = match WavWriter::try_new(medium, spec_ex) {
-        Ok(writer) => writer,
-        Err(refused) => return Err(refused),
-    };
+    let mut writer = WavWriter::try_new(medium, spec_ex)?;
     for i in 0..blocks.len() {
         record_block(&mut writer, blocks[i], i % 4 == 3);
     }
@@ -67,18 +64,14 @@ pub fn record_twelve<M: Source + Medium>(
 ) -> result::Result<M, (M, Error)>
     requires { WhereTells M.tells ((M.state medium).place ≡ 0) }
     ensures left { MatchResult result (λ left. Left M.tells M.keeps M.state spec_ex new_file
-        (recorder_asks (λ block. containers_in ⟦<Twelve as Sample>⟧.container spec_ex block.now) 0 blocks.now ++ made publish ∷ []) left)
+        (all_asked ⟦<Twelve as Sample>⟧.container spec_ex blocks.now) left)
         (λ _. ⊤) }
     ensures kept { MatchResult result (λ left. WhereKeeps M.tells M.keeps
-        (Kept M.tells M.keeps M.state spec_ex new_file (recorder_asks (λ block. containers_in ⟦<Twelve as Sample>⟧.container spec_ex block.now) 0 blocks.now ++ made publish ∷ []) left))
+        (Kept M.tells M.keeps M.state spec_ex new_file (all_asked ⟦<Twelve as Sample>⟧.container spec_ex blocks.now) left))
         (λ _. ⊤) }
 {
     what_is_kept::<M>();
-    let writer = match record(medium, spec_ex, blocks) {
-        Ok(writer) => writer,
-        Err(refused) => return Err(refused),
-    };
-    let (medium, _) = writer.finalize_into();
+    let (medium, _) = record(medium, spec_ex, blocks)?.finalize_into();
     Ok(medium)
 }
 
@@ -95,7 +88,7 @@ pub fn record_twelve_through_a_loss<M: Source + Medium>(
     requires past { WhereKeeps M.tells M.keeps ((M.state medium).past ≡ []) }
     requires flushed { WhereKeeps M.tells M.keeps ((M.state medium).flushed ≡ 0) }
     ensures { MatchResult result (λ left. WhereKeeps M.tells M.keeps
-        (Around (M.state medium) (M.state left) (λ _ durable. KeptWithin M.tells M.keeps (⟦<Durable<M> as Placed>⟧.state) spec_ex new_file (recorder_asks (λ block. containers_in ⟦<Twelve as Sample>⟧.container spec_ex block.now) 0 blocks.now ++ made publish ∷ []) durable (within durable))))
+        (Around (M.state medium) (M.state left) (λ _ durable. KeptWithin M.tells M.keeps (⟦<Durable<M> as Placed>⟧.state) spec_ex new_file (all_asked ⟦<Twelve as Sample>⟧.container spec_ex blocks.now) durable (within durable))))
         (λ _. ⊤) }
 {
     let writer = match record(Durable::new(medium), spec_ex, blocks) {
@@ -130,13 +123,12 @@ fn publish_block<S: Sample + Copy, M: Medium>(
 // Writes and publishes blocks until a call fails, and returns how many were published.
 fn publish_blocks<S: Sample + Copy, M: Medium>(writer: &mut WavWriter<M>, blocks: &[&[S]]) -> usize
     ensures within { result ≤ length blocks.now }
-    ensures have { (list : List (List ℕ)) × HaveContainers
-        (λ block. containers_in S.container writer.old.spec_ex block.now) (take result blocks.now) list }
+    ensures have { All (λ block. IsOk (containers_by S.container writer.old.spec_ex block)) (take result blocks.now) }
     ensures published { (s : WavSpecEx) (file : Begun)
         → Recorded M.tells M.keeps M.state s file [] writer.old → (more : List Known)
-        × StopsAt (λ block. containers_in S.container s block.now) (drop result blocks.now) more
+        × StopsAt (containers_by S.container s) (drop result blocks.now) more
         × Recorded M.tells M.keeps M.state s file
-        (seen (published_calls (λ block. containers_in S.container s block.now) (take result blocks.now)) ++ more) writer.new }
+        (seen (published_calls (containers_by S.container s) (take result blocks.now)) ++ more) writer.new }
 {
     for i in 0..blocks.len() {
         if publish_block(writer, blocks[i]).is_err() {
@@ -165,11 +157,11 @@ pub fn record_checkpoints<M: Source + Medium>(
     ensures { MatchResult result (λ done. (done.1 ≤ length blocks.now)
         × WhereKeeps M.tells M.keeps (
         Around (M.state medium) (M.state done.0) (λ _ durable. (more : List Known)
-        × StopsAt (λ block. containers_in ⟦<Twelve as Sample>⟧.container spec_ex block.now) (drop done.1 blocks.now) more
-        × (kept : KeptWithin M.tells M.keeps (⟦<Durable<M> as Placed>⟧.state) spec_ex new_file ((seen (published_calls (λ block. containers_in ⟦<Twelve as Sample>⟧.container spec_ex block.now) (take done.1 blocks.now)) ++ more) ++ made publish ∷ []) durable (within durable))
+        × StopsAt (containers_by ⟦<Twelve as Sample>⟧.container spec_ex) (drop done.1 blocks.now) more
+        × (kept : KeptWithin M.tells M.keeps (⟦<Durable<M> as Placed>⟧.state) spec_ex new_file ((seen (published_calls (containers_by ⟦<Twelve as Sample>⟧.container spec_ex) (take done.1 blocks.now)) ++ more) ++ made publish ∷ []) durable (within durable))
         × (0 < done.1 → (before after : List Call) × (flush : Call)
         × (kept.left.recorded.calls ≡ before ++ (flush ∷ after)) × HasPublished flush
-        × HaveContainers (λ block. containers_in ⟦<Twelve as Sample>⟧.container spec_ex block.now) (take done.1 blocks.now) (accepted_by_all before)))))
+        × HaveContainers (containers_by ⟦<Twelve as Sample>⟧.container spec_ex) (take done.1 blocks.now) (accepted_by_all before)))))
         (λ _. ⊤) }
 {
     what_is_known();
@@ -193,7 +185,7 @@ pub fn record_twelve_and_repair<M: Source + Medium>(
 ) -> result::Result<(M, Repair), (M, Error)>
     requires { WhereTells M.tells ((M.state medium).place ≡ 0) }
     ensures { MatchResult result (λ done. WhereKeeps M.tells M.keeps ((left : M)
-        × (kept : Kept M.tells M.keeps M.state spec_ex new_file (recorder_asks (λ block. containers_in ⟦<Twelve as Sample>⟧.container spec_ex block.now) 0 blocks.now ++ made publish ∷ []) left)
+        × (kept : Kept M.tells M.keeps M.state spec_ex new_file (all_asked ⟦<Twelve as Sample>⟧.container spec_ex blocks.now) left)
         × ((before after : List Call) (flush : Call) → kept.left.recorded.calls ≡ before ++ (flush ∷ after)
         → HasPublished flush
         → IsNoPad spec_ex (field (data_start spec_ex - 4) (M.state left).contents)
@@ -204,10 +196,7 @@ pub fn record_twelve_and_repair<M: Source + Medium>(
 {
     what_is_kept::<M>();
     a_repair_loses_no_published_sample();
-    let writer = match record(medium, spec_ex, blocks) {
-        Ok(writer) => writer,
-        Err(refused) => return Err(refused),
-    };
+    let writer = record(medium, spec_ex, blocks)?;
     let mut medium = writer.drop_into();
     if let Err(error) = medium.go(0) {
         return Err((medium, Error::IoError(error)));
@@ -255,10 +244,7 @@ pub fn pack_one<M: Source + Medium>(
     let steps = [Step::Whole(value)];
     calls_are_a_run::<M>(&steps);
     sessions_leave_one_file::<M>(spec_ex, &[&steps[..]]);
-    let mut writer = match WavWriter::try_new(medium, spec_ex) {
-        Ok(writer) => writer,
-        Err(refused) => return Err(refused),
-    };
+    let mut writer = WavWriter::try_new(medium, spec_ex)?;
     if let Err(error) = writer.write_sample(value) {
         return Err((writer.drop_into(), error));
     }
@@ -331,25 +317,24 @@ pub fn record_mixed<M: Source + Medium>(
         (λ _. ⊤) }
 {
     what_is_kept::<M>();
-    let mut writer = match WavWriter::try_new(medium, spec_ex) {
-        Ok(writer) => writer,
-        Err(refused) => return Err(refused),
-    };
+    let mut writer = WavWriter::try_new(medium, spec_ex)?;
     record_singles(&mut writer, singles);
     let _ = record_batch(alloc, &mut writer, batch);
     let (medium, _) = writer.finalize_into();
     Ok(medium)
 }
 
-/// Writes samples by one call and publishes them: the file is then read as if each had been written
-/// by a call of its own.
+/// Writes samples by one call and publishes them: the file is then read as the samples before and all
+/// of these (`published`), which are those that calls of their own would have written (`same`).
 pub fn record_at_once<S: Sample + Copy, M: Medium>(
     writer: &mut WavWriter<M>,
     samples: &[S],
 ) -> hound::Result<()>
-    ensures { WhereTells M.tells (IsWhole M.state writer.old → OnOk result ((each : WriterState M) →
+    ensures published { WhereTells M.tells (IsWhole M.state writer.old → OnOk result (IsPublished M.state
+        (containers_in S.container writer.old.spec_ex samples.now) writer.old writer.new)) }
+    ensures same { WhereTells M.tells (IsWhole M.state writer.old → OnOk result ((each : WriterState M) →
         AcceptsEach M.tells M.keeps M.state S.container samples.now writer.old each →
-        ReadsAs writer.old.spec_ex writer.old.data_start (accepted_samples M.state each) (M.state writer.new.medium).contents)) }
+        accepted_samples M.state writer.new ≡ accepted_samples M.state each)) }
 {
     a_block_is_its_samples::<S, M>();
     writer.write_samples(samples)?;

@@ -24,7 +24,7 @@ returns-clause-none g c tells none writable i inside is =
         s.4.0,
         s.4.1,
         failed M.tells M.keeps shown tells c.args.spec_ex steps marks Drop run.result.1 s.0 s.1
-            writable s.4.1 i inside is
+            s.4.0 writable s.4.1 i inside is
             (unmarked_at marks i (omega (arith, inside, c.requires.size, run.ensures.size))
             (λ marked. last i (omega arith) inside (inside, is, marked))),
       ),

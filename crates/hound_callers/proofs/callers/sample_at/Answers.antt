@@ -4,24 +4,14 @@ use Rattle.hound.specs.{Error, IsIoError, IsMeaningOf, Seeks, container_at, mean
 use Rattle.hound.specs.declared.Error.TheVariants.{IoError}
 use Rattle.hound_callers.proofs.callers.sample_at.Goals as goal
 
--- an item that isn't a sample is an `IoError`
-failed : {A : Type 0} (meaning : List ℕ → A) (container : List ℕ) (e : Error)
-    → IsMeaningOf meaning container (Some (Err e)) → IsIoError e
-failed meaning container (IoError e) is = tt
-failed meaning container _ is = absurd is
-
--- an item that is the meaning of a container, as a result
+-- an item is the meaning of a container, as a result, or an `IoError`
 found : {A : Type 0} (meaning : List ℕ → A) (container : List ℕ) (next : Option (Result A Error))
-    (result : Result (Option A) Error) → result ≡ option_transpose next
     → IsMeaningOf meaning container next
-    → MatchResult result (λ sample. sample ≡ Some (meaning container)) IsIoError
-found meaning container None result told is = absurd is
-found meaning container (Some (Ok value)) result told is =
-    subst (λ r. MatchResult r (λ sample. sample ≡ Some (meaning container)) IsIoError) (sym told)
-    (ap Some is)
-found meaning container (Some (Err e)) result told is =
-    subst (λ r. MatchResult r (λ sample. sample ≡ Some (meaning container)) IsIoError) (sym told)
-    (failed meaning container e is)
+    → MatchResult (option_transpose next) (λ sample. sample ≡ Some (meaning container)) IsIoError
+found meaning container None is = absurd is
+found meaning container (Some (Ok value)) is = ap Some is
+found meaning container (Some (Err (IoError e))) is = tt
+found meaning container (Some (Err _)) is = absurd is
 
 pub returns : goal.returns
 returns g c told inside none =
@@ -32,10 +22,11 @@ returns g c told inside none =
       counts = c.in_ok-seek.ensures.counts;
       source = c.in_ok-seek.ensures.source told;
     } in
-    found (meaning_at g.S.Sample.meaning s)
+    rw c.transpose.ensures
+    (found (meaning_at g.S.Sample.meaning s)
     (container_at s.bytes_per_sample (samples_before c.args.time s) (unread (state reader.reader)))
-    c.next.result c.transpose.result c.transpose.ensures
+    c.next.result
     (c.a_seek_leads_to_its_frame.ensures.since_new [] c.args.time reader reader
     (taken_reader c.into_samples.result) _ c.next.result told c.requires refl
     (subst (Seeks state c.args.time reader) (sym c.into_samples.ensures) seeks) inside none
-    c.next.ensures.steps)
+    c.next.ensures.steps))

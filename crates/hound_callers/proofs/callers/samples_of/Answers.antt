@@ -1,6 +1,7 @@
-use Rattle.std.proofs.Common.{◌≡◌, ℕ, List, [], ◌∷◌, ◌++◌, length, map, drop, Option, None, Some, Result, Ok, Err, IfSome, IsErrAnd, MatchResult, ◌⊎◌, inl, refl, sym, ap, subst, ◌∙◌}
+use Rattle.std.proofs.Common.{◌≡◌, ℕ, List, [], ◌∷◌, ◌++◌, length, map, drop, Option, None, Some, Result, Ok, Err, IsErrAnd, MatchResult, ◌⊎◌, inl, refl, sym, ap, subst, ◌∙◌}
 use Rattle.std.proofs.lemmas.List.{length-map, map-append}
-use Rattle.hound.specs.{AreItems, Error, GivesItems, IsIoError, IsNext, ReaderState, ReadRefusal, containers, meaning_at, refusal_at, samples_left, taken_reader}
+use Rattle.std.proofs.lemmas.Option.{IfSome_then}
+use Rattle.hound.specs.{AreItems, Error, GivesItems, IsIoError, IsNext, ReaderState, ReadRefusal, containers, meaning_at, taken_reader}
 use Rattle.hound.specs.declared.Error.TheVariants.{IoError, OutOfMemory}
 use Rattle.hound.specs.declared.SampleFormat.{SampleFormat}
 use Rattle.hound_callers.proofs.callers.samples_of.Goals as goal
@@ -35,18 +36,6 @@ meanings meaning width bytes [] are = refl
 meanings meaning width bytes (value ∷ values) (whole, is, are) =
     λ i. is i ∷ meanings meaning width (drop width bytes) values are i
 
--- the same where the bytes are known, of so many samples
-if_known : {A : Type 0} (left : Option (List ℕ)) (refusal : Option ReadRefusal)
-    (meaning : List ℕ → A) (width count : ℕ) (values : List A) → length values ≡ count
-    → IfSome left (λ bytes. AreItems refusal meaning width bytes (map Ok values))
-    → IfSome left (λ bytes. refusal ≡ None
-    → values ≡ map meaning (containers width count bytes))
-if_known None refusal meaning width count values all are = tt
-if_known (Some bytes) refusal meaning width count values all are = λ none.
-    meanings meaning width bytes values
-    (subst (λ r. AreItems r meaning width bytes (map Ok values)) none are)
-    ∙ ap (λ n. map meaning (containers width n bytes)) all
-
 -- an error after items that are samples is an `IoError`
 last_fault : {A : Type 0} (meaning : List ℕ → A) (width : ℕ) (bytes : List ℕ) (values : List A)
     (e : Error) → AreItems None meaning width bytes (map Ok values ++ Err e ∷ []) → IsIoError e
@@ -55,24 +44,12 @@ last_fault meaning width bytes [] _ are = absurd are
 last_fault meaning width bytes (value ∷ values) e (whole, is, are) =
     last_fault meaning width (drop width bytes) values e are
 
--- the same where the bytes are known, of what is returned for it
-module _ {T : Type 0} (P : List ℕ → T → Type 0) where
-  failed : (bytes : List ℕ) (result : Result T Error) (e : Error)
-      → IsErrAnd result (λ r. r ≡ e) → IsIoError e
-      → MatchResult result (P bytes) (λ e. IsIoError e ⊎ (e ≡ OutOfMemory))
-  failed bytes (Ok x) e is holds = absurd is
-  failed bytes (Err r) e is holds = inl (subst IsIoError (sym is) holds)
-
-  if_failed : {A : Type 0} (result : Result T Error) (left : Option (List ℕ))
-      (refusal : Option ReadRefusal) (meaning : List ℕ → A) (width : ℕ) (values : List A) (e : Error)
-      → IsErrAnd result (λ r. r ≡ e)
-      → IfSome left (λ bytes. AreItems refusal meaning width bytes (map Ok values ++ Err e ∷ []))
-      → IfSome left (λ bytes. refusal ≡ None
-      → MatchResult result (P bytes) (λ e. IsIoError e ⊎ (e ≡ OutOfMemory)))
-  if_failed result None refusal meaning width values e is are = tt
-  if_failed result (Some bytes) refusal meaning width values e is are = λ none.
-      failed bytes result e is (last_fault meaning width bytes values e
-      (subst (λ r. AreItems r meaning width bytes (map Ok values ++ Err e ∷ [])) none are))
+-- that error is what is returned for it
+failed : {T : Type 0} (P : T → Type 0) (result : Result T Error) (e : Error)
+    → IsErrAnd result (λ r. r ≡ e) → IsIoError e
+    → MatchResult result P (λ e. IsIoError e ⊎ (e ≡ OutOfMemory))
+failed P (Ok x) e is holds = absurd is
+failed P (Err r) e is holds = inl (subst IsIoError (sym is) holds)
 
 pub loop-sample-init : goal.loop-sample-init
 loop-sample-init g c =
@@ -105,24 +82,24 @@ returns-in_err-sample g c =
     let old = taken_reader c.loop-sample.sample-iterator in
     let new = taken_reader c.next.new.self in
     let e = c.in_err-sample.field-0.0 in
-    if_failed (λ bytes samples. samples.items ≡ map (meaning_at meaning s)
-    (containers s.bytes_per_sample (samples_left c.args.reader) bytes)) c.from_residual.result
-    (left c.args.reader.reader) (refusal_at refusal s) (meaning_at meaning s) s.bytes_per_sample
-    items e c.from_residual.ensures.1
+    IfSome_then (left c.args.reader.reader)
     (c.items_are_of_the_file.ensures.items (map Ok items ++ Err e ∷ []) c.args.reader new
     (one_more left refusal meaning (map Ok items) (Err e) c.args.reader old new
     c.loop-sample.invariant
     (subst (λ item. IsNext left refusal meaning (Some item) old new) c.in_err-sample.was
     c.in-Some.ensures.steps)))
+    (λ bytes are none. failed _ c.from_residual.result e c.from_residual.ensures.1
+    (last_fault (meaning_at meaning s) s.bytes_per_sample bytes items e (rw none at are)))
 
 pub returns : goal.returns
 returns g c =
     let s = c.args.reader.spec_ex in
+    let meaning = meaning_at g.S.Sample.meaning s in
     let items = c.loop-sample.samples.items in
     let last = taken_reader c.loop-sample.sample-iterator in
     let count = c.an_iterator_gives_what_it_hints.ensures.after (map Ok items) c.args.reader last _
     c.loop-sample.invariant c.in-None.ensures.steps in
-    if_known (g.R.Read.remaining c.args.reader.reader) (refusal_at g.S.Sample.refusal s)
-    (meaning_at g.S.Sample.meaning s) s.bytes_per_sample (samples_left c.args.reader) items
-    (sym (length-map items Ok) ∙ count)
+    IfSome_then (g.R.Read.remaining c.args.reader.reader)
     (c.items_are_of_the_file.ensures.items (map Ok items) c.args.reader last c.loop-sample.invariant)
+    (λ bytes are none. meanings meaning s.bytes_per_sample bytes items (rw none at are)
+    ∙ ap (λ n. map meaning (containers s.bytes_per_sample n bytes)) (sym (length-map items Ok) ∙ count))

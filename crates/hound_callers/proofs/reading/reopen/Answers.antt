@@ -1,7 +1,7 @@
 use Rattle.std.proofs.Common.{◌≡◌, ◌∙◌, ℕ, zero, suc, ◌+◌, ◌-◌, ◌*◌, ◌/◌, ◌%◌, ◌≤◌, Bool, true, false, not, cond, eqb, le-ltb, IsTrue, List, [], ◌∷◌, ◌++◌, length, take, drop, Some, None, Result, Ok, Err, MatchResult, inl, inr, refl, sym, ap, subst, arith, length-append, append-nil, drop_at}
 use Rattle.std.proofs.Math.Nat.{div-mul-le_self, mod-eq-sub-div-mul}
 use Rattle.std.proofs.lemmas.Bool.{cases_Bool, eqb-true}
-use Rattle.std.proofs.lemmas.List.{drop-take}
+use Rattle.std.proofs.lemmas.List.{drop-take, take-take}
 use Rattle.std.specs.List.{AllByRecursion, concat}
 use Rattle.hound.specs.{Appends, Cause, Error, FollowsData, HasOneAppendAnswer, Head, IsIoError, IsNotAppended, IsWhole, IsWritable, MediumState, SampleFormat, WavSpecEx, WriterState, accepted_samples, appendable, bytes_of, containers, data_fault, data_length, data_start, data_tag, faulty, fmt_tag, greatest_u32, head_fault, header, is_short, long_fmt, one_more, padding, riff_size, riff_tag, sized_fmt, subformat, wave_tag}
 use Rattle.hound.specs.declared.SampleFormat.TheVariants.{Int, Float}
@@ -51,13 +51,6 @@ no_fault s len writable none fits =
     let room = le-ltb greatest_u32 (riff_size (data_start s) len) fits in
     rw (samples, pair, frames, room) refl
 
-first_of : (w m : ℕ) (bytes : List ℕ) → w ≤ m → take w (take m bytes) ≡ take w bytes
-first_of zero m bytes inside = refl
-first_of (suc w) zero bytes inside = absurd (omega (arith, inside))
-first_of (suc w) (suc m) [] inside = refl
-first_of (suc w) (suc m) (b ∷ bytes) inside =
-    ap (λ l. b ∷ l) (first_of w m bytes (omega (arith, inside)))
-
 -- containers are in the bytes that they take
 containers_in_first : (w n m : ℕ) (bytes : List ℕ) → n * w ≤ m
     → containers w n (take m bytes) ≡ containers w n bytes
@@ -65,7 +58,7 @@ containers_in_first w zero m bytes inside = refl
 containers_in_first w (suc n) m bytes inside =
     let j = m - w in
     let whole : w + j ≡ m = omega (arith, inside) in
-    λ i. first_of w m bytes (omega (arith, inside)) i ∷
+    λ i. take-take w m bytes (omega (arith, inside)) i ∷
     (ap (λ k. containers w n (drop w (take k bytes))) (sym whole)
     ∙ ap (containers w n) (drop-take w j bytes)
     ∙ containers_in_first w n j (drop w bytes) (omega (arith, inside))) i

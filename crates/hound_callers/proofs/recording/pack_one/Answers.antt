@@ -1,26 +1,23 @@
-use Rattle.std.proofs.Common.{◌≡◌, [], ◌∷◌, true, Result, Ok, Err, arith, inr, length, of_z, refl, rules, subst, to_z, w32}
+use Rattle.std.proofs.Common.{◌≡◌, [], ◌∷◌, true, Ok, arith, inr, length, of_z, refl, rules, subst, to_z, w32}
 use Rattle.std.proofs.Math.Facts.{to_z-of_z}
 use Rattle.std.proofs.lemmas.Bool.{false≢true}
-use Rattle.hound.specs.{Call, canonical, Finishes, Ran, Takes, asked_by, containers_of, Error}
+use Rattle.hound.specs.{Call, canonical, Finishes, Ran, Takes, asked_by, containers_of}
 use Rattle.hound.specs.declared.session.Begin.TheVariants.{New}
 use Rattle.hound.specs.declared.session.End.TheVariants.{Finalize}
 use Rattle.hound.specs.declared.session.Step.TheVariants.{Whole}
+use Rattle.hound.proofs.Running.{is_ok}
 use Rattle.hound_callers.proofs.recording.pack_one.Goals as goal
 
--- a result that is no error
-is_ok : (answer : Result (Unit {0}) Error) → ((e : Error) → answer ≡ Err e → ⊥) → answer ≡ Ok tt
-is_ok (Ok x) fine = refl
-is_ok (Err e) fine = absurd (fine e refl)
-
-pub returns-in_default-Ok-clause-run : goal.returns-in_default-Ok-clause-run
-returns-in_default-Ok-clause-run g c =
+pub returns-in_default-Ok : goal.returns-in_default-Ok
+returns-in_default-Ok g c =
     let W = g.M.Placed in
     let s = c.args.spec_ex in
-    let first = c.in-Ok.writer in
+    let first = c.in_ok-writer.writer in
     let write = c.write_sample in
     let last = write.new.self in
     let end = c.finalize_into in
     let same = to_z w32 (of_z w32 c.args.value) in
+    let back : same ≡ c.args.value = to_z-of_z {w = w32} (search rules) in
     let takes : Takes W.tells W.keeps W.state (Whole same) (Ok tt) first last =
     subst (λ r. Takes W.tells W.keeps W.state (Whole same) r first last)
     (is_ok write.result c.in_default.not-Err)
@@ -33,34 +30,19 @@ returns-in_default-Ok-clause-run g c =
       answer = Ok tt;
       began = length (W.state first.medium).past;
     } in
-    subst (λ v. Ran W.tells W.keeps W.state (New s) (Whole v ∷ []) (true ∷ []) Finalize c.args.medium
-    (Ok tt) end.result.0) (to_z-of_z {w = w32} (search rules))
-    (c.calls_are_a_run.ensures (New s) Finalize c.args.medium end.result.0 first last (call ∷ [])
-    (Ok tt) (Ok tt) c.in-Ok.ensures.begins
-    (first.buffer, last, refl, takes, (last.buffer, refl)) refl finishes refl)
-
-pub returns-in_default-Ok-clause-exact : goal.returns-in_default-Ok-clause-exact
-returns-in_default-Ok-clause-exact g c told =
-    let W = g.M.Placed in
-    let s = c.args.spec_ex in
-    let first = c.in-Ok.writer in
-    let write = c.write_sample in
-    let last = write.new.self in
-    let end = c.finalize_into in
-    let same = to_z w32 (of_z w32 c.args.value) in
-    let takes : Takes W.tells W.keeps W.state (Whole same) (Ok tt) first last =
-    subst (λ r. Takes W.tells W.keeps W.state (Whole same) r first last)
-    (is_ok write.result c.in_default.not-Err)
-    (write.ensures.accepts, λ no. absurd (false≢true no)) in
-    let finishes : Finishes W.tells W.keeps W.state last (Ok tt) end.result.0 =
-    subst (λ r. Finishes W.tells W.keeps W.state last r end.result.0) c.in_default-Ok.is-1
-    end.ensures.finishes in
-    subst (λ v. (W.state end.result.0).contents ≡ canonical s (containers_of s (Whole v ∷ [])))
-    (to_z-of_z {w = w32} (search rules))
-    (c.sessions_leave_one_file.ensures told c.args.medium end.result.0 (c.requires.place told)
-    c.requires.empty (omega arith)
-    (inr (
-      end.result.0,
-      inr (first, c.in-Ok.ensures.begins, inr (last, takes, finishes)),
-      (refl, refl),
-    )))
+    record {
+      run = subst (λ v. Ran W.tells W.keeps W.state (New s) (Whole v ∷ []) (true ∷ []) Finalize
+          c.args.medium (Ok tt) end.result.0) back
+          (c.calls_are_a_run.ensures (New s) Finalize c.args.medium end.result.0 first last
+          (call ∷ []) (Ok tt) (Ok tt) c.in_ok-writer.ensures.begins
+          (first.buffer, last, refl, takes, (last.buffer, refl)) refl finishes refl);
+      exact = λ told. subst
+          (λ v. (W.state end.result.0).contents ≡ canonical s (containers_of s (Whole v ∷ []))) back
+          (c.sessions_leave_one_file.ensures told c.args.medium end.result.0 (c.requires.place told)
+          c.requires.empty (omega arith)
+          (inr (
+            end.result.0,
+            inr (first, c.in_ok-writer.ensures.begins, inr (last, takes, finishes)),
+            (refl, refl),
+          )));
+    }

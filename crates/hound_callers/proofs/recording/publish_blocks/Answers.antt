@@ -1,8 +1,9 @@
-use Rattle.std.proofs.Common.{◌≡◌, length, refl, ◌++◌, ◌∷◌, [], Bor, List, take, arith, sym, ap, ◌∙◌, subst}
+use Rattle.std.proofs.Common.{◌≡◌, length, refl, ◌++◌, ◌∷◌, [], take, IsOk, arith, sym, ap, ◌∙◌, subst}
 use Rattle.std.proofs.lemmas.List.{append-nil, drop_all}
-use Rattle.hound.specs.{Recorded, containers_in, WavSpecEx}
-use Rattle.hound_callers.specs.Recording.{StopsAt, published_calls, seen}
-use Rattle.hound_callers.proofs.Publishing.{at_ok, have_more, ok_list, seen_more}
+use Rattle.std.proofs.lemmas.List.Elements.{All-more}
+use Rattle.hound.specs.{Recorded, WavSpecEx}
+use Rattle.hound_callers.specs.Recording.{StopsAt, containers_by, published_calls, seen}
+use Rattle.hound_callers.proofs.Publishing.{at_ok, seen_more}
 use Rattle.hound_callers.proofs.recording.publish_blocks.Goals as goal
 
 pub loop-i-preserved : goal.loop-i-preserved
@@ -10,20 +11,16 @@ loop-i-preserved g c =
     let M = g.M.Placed in
     let i = c.loop-i.i in
     let blocks = c.args.blocks.now in
-    let f = λ (s : WavSpecEx) (block : Bor (List g.row.S.Denot)).
-    containers_in g.S.Sample.container s block.now in
+    let f = λ (s : WavSpecEx). containers_by g.S.Sample.container s in
     let s = c.args.writer.now.spec_ex in
     let ok = c.if-is_err.ensures.negation in
-    let (more, is) = ok_list _ (at_ok c.publish_block.result ok c.publish_block.ensures.have) in
-    let (list, have) = c.loop-i.invariant.have in
     record {
       within = omega (arith, c.loop-i-test.true);
       spec = c.publish_block.ensures.spec ∙ c.loop-i.invariant.spec;
-      have = (
-        list ++ more,
-        have_more (f s) blocks i _ list more c.loop-i-test.true have
-            ((λ j. f (sym c.loop-i.invariant.spec j) (sym c.index-blocks-i.is j)) ∙ is),
-      );
+      have = All-more (λ block. IsOk (f s block)) blocks i c.index-blocks-i.result c.loop-i-test.true
+          c.loop-i.invariant.have
+          (subst IsOk (λ j. f (c.loop-i.invariant.spec j) (c.index-blocks-i.is j))
+          (at_ok c.publish_block.result ok c.publish_block.ensures.have));
       published = λ x file first.
           subst (λ l. Recorded M.tells M.keeps M.state x file l c.publish_block.new.writer)
           (ap (λ block. seen (published_calls (f x) (take i blocks))
@@ -37,7 +34,7 @@ pub returns-clause-published : goal.returns-clause-published
 returns-clause-published g c s file first =
     let M = g.M.Placed in
     let blocks = c.args.blocks.now in
-    let f = λ (block : Bor (List g.row.S.Denot)). containers_in g.S.Sample.container s block.now in
+    let f = containers_by g.S.Sample.container s in
     let all : c.loop-i.i ≡ length blocks = omega (arith, c.loop-i.invariant.within, c.loop-i-test.false) in (
       [],
       subst (λ l. StopsAt f l []) (sym (drop_all (length blocks) blocks (omega arith))) refl,

@@ -1,23 +1,38 @@
-use Rattle.std.proofs.Common.{◌++◌, ◌%◌, Bor, List, take, arith, subst, sym}
+use Rattle.std.proofs.Common.{◌≡◌, ◌++◌, ◌∙◌, ◌%◌, ◌+◌, suc, drop, append_assoc, arith, ap, subst, sym}
 use Rattle.std.specs.Prelude.{◌==◌}
-use Rattle.hound.specs.{Recorded, new_file, containers_in}
-use Rattle.hound_callers.specs.Recording.{block_asks, recorder_asks}
-use Rattle.hound_callers.proofs.Asking.{asks_more}
+use Rattle.std.proofs.lemmas.List.{append-nil, at_drop_more, drop_all}
+use Rattle.hound.specs.{Recorded, new_file}
+use Rattle.hound_callers.specs.Recording.{block_asks, containers_by, recorder_asks}
 use Rattle.hound_callers.proofs.recording.record.Goals as goal
 
 pub loop-i-preserved : goal.loop-i-preserved
 loop-i-preserved g c =
-    let M = g.M.Placed in
     let s = c.args.spec_ex in
     let blocks = c.args.blocks.now in
     let i = c.loop-i.i in
-    let f = λ (block : Bor (List _)). containers_in g.S.Sample.container s block.now in
-    let asked = recorder_asks f 0 (take i blocks) in
+    let f = containers_by g.S.Sample.container s in
+    let b = c.index-blocks-i.result in
+    let next : suc i ≡ i + 1 = omega arith in
+    let (asked, is, all) = c.loop-i.invariant.recorded in
     record {
       within = omega arith;
-      recorded = subst (λ l. Recorded M.tells M.keeps M.state s new_file l c.record_block.new.writer)
-          (sym (asks_more f blocks i _ c.loop-i-test.true))
-          (subst (λ b. Recorded M.tells M.keeps M.state s new_file
-          (asked ++ block_asks (f b) (i % 4 == 3)) c.record_block.new.writer) c.index-blocks-i.is
-          (c.record_block.ensures s new_file asked c.loop-i.invariant.recorded));
+      recorded = (
+        asked ++ block_asks (f b) (i % 4 == 3),
+        c.record_block.ensures s new_file asked is,
+        append_assoc asked (block_asks (f b) (i % 4 == 3)) (recorder_asks f (i + 1) (drop (i + 1) blocks))
+            ∙ ap (λ l. asked ++ l) (sym (at_drop_more (recorder_asks f i) blocks i b c.loop-i-test.true
+            ∙ (λ j. block_asks (f (sym c.index-blocks-i.is j)) (i % 4 == 3)
+            ++ recorder_asks f (next j) (drop (i + 1) blocks))))
+            ∙ all,
+      );
     }
+
+pub returns : goal.returns
+returns g c =
+    let M = g.M.Placed in
+    let f = containers_by g.S.Sample.container c.args.spec_ex in
+    let (asked, is, all) = c.loop-i.invariant.recorded in
+    subst (λ l. Recorded M.tells M.keeps M.state c.args.spec_ex new_file l c.loop-i.writer)
+    (sym (append-nil asked)
+    ∙ ap (λ l. asked ++ recorder_asks f c.loop-i.i l) (sym (drop_all c.loop-i.i c.args.blocks.now (omega arith)))
+    ∙ all) is
