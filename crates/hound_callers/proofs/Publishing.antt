@@ -1,30 +1,11 @@
--- Samples that were written and published, and what is known of the calls of blocks of them.
-use Rattle.std.proofs.Common.{◌≡◌, ℕ, ◌+◌, ◌<◌, Bool, true, false, List, [], ◌∷◌, ◌++◌, length, take, get_or, Result, Ok, Err, IsOk, IsTrue, OnOk, is_ok, refl, sym, ◌∙◌, ap, subst, append_assoc, arith}
+-- Blocks that were each written and published, and what is known of their calls.
+use Rattle.std.proofs.Common.{◌≡◌, ℕ, ◌+◌, ◌<◌, Bool, true, List, [], ◌∷◌, ◌++◌, length, take, get_or, Result, Ok, Err, IsOk, OnOk, is_ok, refl, sym, ◌∙◌, ap, subst, append_assoc, arith}
 use Rattle.std.proofs.lemmas.Bool.{false≢true}
 use Rattle.std.proofs.lemmas.Grind.{flat_map-append}
 use Rattle.std.proofs.lemmas.List.{append-nil, map-append, take_more}
 use Rattle.std.specs.List.{All, flat_map}
-use Rattle.hound.specs.{if_marked, Accepts, AreKnown, Asked, Call, Checkpoints, Error, IsKnown, IsWhole, Known, MediumState, WriterState, marked, publish, write, Refusal, HasPublished, accepted_by_all, accepted_of}
-use Rattle.hound_callers.specs.Recording.{HaveContainers, IsPublished, published_calls, seen}
-
--- what was asked for is accepted by one call, and an Ok flush publishes it
-pub published : {M : Type 0} (tells keeps : Bool) (state : M → MediumState)
-    (asked : Result (List (List ℕ)) Refusal) (answer : Result (Unit {0}) Error)
-    (old mid new : WriterState M) → Accepts tells keeps state false asked (Ok tt) old mid
-    → Checkpoints tells keeps state answer mid new → IsTrue tells → IsWhole state old
-    → OnOk answer (IsPublished state asked old new)
-published tells keeps state asked (Err e) old mid new accepts publishes told whole = tt
-published tells keeps state (Err refusal) (Ok x) old mid new accepts publishes told whole =
-    let h = accepts.adds.answers in absurd (cc h)
-published tells keeps state (Ok list) (Ok x) old mid new accepts publishes told whole =
-    let file = accepts.file told in (
-      list,
-      refl,
-      rw (file.accepted whole, accepts.adds.spec_ex, accepts.adds.data_start) at
-          ((publishes.publishes told).read (file.whole whole)),
-      publishes.whole told (file.whole whole),
-      publishes.accepted told (file.whole whole) ∙ file.accepted whole,
-    )
+use Rattle.hound.specs.{if_marked, AreKnown, Asked, Call, IsKnown, Known, marked, publish, write, Refusal, HasPublished, accepted_by_all, accepted_of}
+use Rattle.hound_callers.specs.Recording.{HaveContainers, published_calls, seen}
 
 pub at_ok : {T E P : Type 0} (r : Result T E) → is_ok r ≡ true → OnOk r P → P
 at_ok (Ok x) is here = here

@@ -51,13 +51,6 @@ failed : {T : Type 0} (P : T → Type 0) (result : Result T Error) (e : Error)
 failed P (Ok x) e is holds = absurd is
 failed P (Err r) e is holds = inl (subst IsIoError (sym is) holds)
 
-pub loop-sample-init : goal.loop-sample-init
-loop-sample-init g c =
-    subst (λ items. GivesItems g.R.Read.remaining g.S.Sample.refusal g.S.Sample.meaning (map Ok items)
-    c.args.reader (taken_reader c.into_iter-sample-iterator.result)) (sym c.new-samples.ensures.items)
-    (ap taken_reader c.into_iter-sample-iterator.ensures.into_iter_gives
-    ∙ c.into_samples-sample-items.ensures)
-
 pub loop-sample-preserved : goal.loop-sample-preserved
 loop-sample-preserved g c =
     let left = g.R.Read.remaining in

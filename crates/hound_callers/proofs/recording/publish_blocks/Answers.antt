@@ -1,8 +1,7 @@
-use Rattle.std.proofs.Common.{◌≡◌, length, refl, ◌++◌, ◌∷◌, [], take, IsOk, arith, sym, ap, ◌∙◌, subst}
-use Rattle.std.proofs.lemmas.List.{append-nil, drop_all}
+use Rattle.std.proofs.Common.{◌++◌, ◌∷◌, [], take, IsOk, arith, sym, ap, ◌∙◌, subst}
 use Rattle.std.proofs.lemmas.List.Elements.{All-more}
 use Rattle.hound.specs.{Recorded, WavSpecEx}
-use Rattle.hound_callers.specs.Recording.{StopsAt, containers_by, published_calls, seen}
+use Rattle.hound_callers.specs.Recording.{containers_by, published_calls, seen}
 use Rattle.hound_callers.proofs.Publishing.{at_ok, seen_more}
 use Rattle.hound_callers.proofs.recording.publish_blocks.Goals as goal
 
@@ -29,17 +28,3 @@ loop-i-preserved g c =
           (at_ok c.publish_block.result ok c.publish_block.ensures.published x file _
           (c.loop-i.invariant.published x file first));
     }
-
-pub returns-clause-published : goal.returns-clause-published
-returns-clause-published g c s file first =
-    let M = g.M.Placed in
-    let blocks = c.args.blocks.now in
-    let f = containers_by g.S.Sample.container s in
-    let all : c.loop-i.i ≡ length blocks = omega (arith, c.loop-i.invariant.within, c.loop-i-test.false) in (
-      [],
-      subst (λ l. StopsAt f l []) (sym (drop_all (length blocks) blocks (omega arith))) refl,
-      subst (λ l. Recorded M.tells M.keeps M.state s file l c.loop-i.writer)
-          ((λ j. seen (published_calls f (take (all j) blocks)))
-          ∙ sym (append-nil (seen (published_calls f (take (length blocks) blocks)))))
-          (c.loop-i.invariant.published s file first),
-    )

@@ -1,7 +1,7 @@
-use Rattle.std.proofs.Common.{◌≡◌, ◌++◌, ◌∙◌, ◌%◌, ◌+◌, suc, drop, append_assoc, arith, ap, subst, sym}
+use Rattle.std.proofs.Common.{◌≡◌, ◌++◌, ◌∙◌, ◌%◌, ◌+◌, suc, drop, append_assoc, arith, ap, sym}
 use Rattle.std.specs.Prelude.{◌==◌}
-use Rattle.std.proofs.lemmas.List.{append-nil, at_drop_more, drop_all}
-use Rattle.hound.specs.{Recorded, new_file}
+use Rattle.std.proofs.lemmas.List.{at_drop_more}
+use Rattle.hound.specs.{new_file}
 use Rattle.hound_callers.specs.Recording.{block_asks, containers_by, recorder_asks}
 use Rattle.hound_callers.proofs.recording.record.Goals as goal
 
@@ -26,13 +26,3 @@ loop-i-preserved g c =
             ∙ all,
       );
     }
-
-pub returns : goal.returns
-returns g c =
-    let M = g.M.Placed in
-    let f = containers_by g.S.Sample.container c.args.spec_ex in
-    let (asked, is, all) = c.loop-i.invariant.recorded in
-    subst (λ l. Recorded M.tells M.keeps M.state c.args.spec_ex new_file l c.loop-i.writer)
-    (sym (append-nil asked)
-    ∙ ap (λ l. asked ++ recorder_asks f c.loop-i.i l) (sym (drop_all c.loop-i.i c.args.blocks.now (omega arith)))
-    ∙ all) is
