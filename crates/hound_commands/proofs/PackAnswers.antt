@@ -159,15 +159,6 @@ module _ {W : Type 0} (s : WavSpecEx) (integers : s.spec.sample_format ≡ Int) 
     end_refused room (IoError f) answer = tt
     end_refused room e answer = absurd answer
 
--- the error of a constructor: the spec can't be written, or the medium failed
-pub new_refused : {W : Type 0} (tells keeps : Bool) (state : W → MediumState) (s : WavSpecEx)
-    (ns : List ℤ) (old new : W) (e : Error) → IsNotBegun tells keeps state s old new e
-    → IsPackFailure s ns (failure_of e)
-new_refused tells keeps state s ns old new e (inl (not, is, same)) =
-    subst (λ x. IsPackFailure s ns (failure_of x)) (sym is) not
-new_refused tells keeps state s ns old new (IoError f) (inr failed) = tt
-new_refused tells keeps state s ns old new e (inr (writable, io, failed)) = absurd io
-
 -- a constructor and one call for the numbers, both Ok; then an end
 module _ {W : Type 0} {tells keeps : Bool} {state : W → MediumState} (s : WavSpecEx)
     (integers : s.spec.sample_format ≡ Int) (ns : List ℤ) (old : MediumState)

@@ -187,13 +187,7 @@ read_stops s k count None meaning (errors.IoError e) (Some xs) (Some ys) next ol
   (k, omega arith, showable, starts_with_of_eq _ (first ++ sample_lines s k xs) refl),
   subst (GetsBuffered old new lines) text_is got,
 )
-read_stops s k count None meaning (errors.FormatError e) (Some xs) (Some ys) next old new first text lines within same shown got read = absurd read
-read_stops s k count None meaning errors.TooWide (Some xs) (Some ys) next old new first text lines within same shown got read = absurd read
-read_stops s k count None meaning errors.UnfinishedSample (Some xs) (Some ys) next old new first text lines within same shown got read = absurd read
-read_stops s k count None meaning errors.Unsupported (Some xs) (Some ys) next old new first text lines within same shown got read = absurd read
-read_stops s k count None meaning errors.InvalidSampleFormat (Some xs) (Some ys) next old new first text lines within same shown got read = absurd read
-read_stops s k count None meaning errors.TooLong (Some xs) (Some ys) next old new first text lines within same shown got read = absurd read
-read_stops s k count None meaning errors.OutOfMemory (Some xs) (Some ys) next old new first text lines within same shown got read = absurd read
+read_stops s k count None meaning _ (Some xs) (Some ys) next old new first text lines within same shown got read = absurd read
 
 -- ---- a block of samples: the lines of what was read are pushed, and then comes the error
 
@@ -272,14 +266,6 @@ module _ {A : Type 0} (refusal : SampleFormat → ℕ → ℕ → Option ReadRef
       )
 
 -- files of integers are shown as `i32`
-pub integers_refusal : (s : WavSpecEx) → s.spec.sample_format ≡ Int → refusal_at (int_refusal 4) s ≡ show_refusal s
-integers_refusal s integers = go s.spec.sample_format integers
-  where
-    go : (f : SampleFormat) → f ≡ Int → int_refusal 4 f s.bytes_per_sample s.spec.bits_per_sample
-        ≡ refusal_for f s.bytes_per_sample s.spec.bits_per_sample
-    go Int is = refl
-    go Float is = cc
-
 pub integers_line : (s : WavSpecEx) → s.spec.sample_format ≡ Int → (c : List ℕ)
     → integer_line (int_meaning s.bytes_per_sample s.spec.bits_per_sample c) ≡ sample_line s c
 integers_line s integers c = go s.spec.sample_format integers
@@ -288,24 +274,6 @@ integers_line s integers c = go s.spec.sample_format integers
         ≡ line_for f s.bytes_per_sample s.spec.bits_per_sample c
     go Int is = refl
     go Float is = cc
-
--- and those of floats as their patterns
-pub patterns_refusal : (s : WavSpecEx) → s.spec.sample_format ≡ Float → refusal_at float_refusal s ≡ show_refusal s
-patterns_refusal s floats = go s.spec.sample_format floats
-  where
-    go : (f : SampleFormat) → f ≡ Float → float_refusal f s.bytes_per_sample s.spec.bits_per_sample
-        ≡ refusal_for f s.bytes_per_sample s.spec.bits_per_sample
-    go Float is = refl
-    go Int is = cc
-
-pub patterns_line : (s : WavSpecEx) → s.spec.sample_format ≡ Float → (c : List ℕ)
-    → pattern_line (pattern c) ≡ sample_line s c
-patterns_line s floats c = go s.spec.sample_format floats
-  where
-    go : (f : SampleFormat) → f ≡ Float → pattern_line (pattern c)
-        ≡ line_for f s.bytes_per_sample s.spec.bits_per_sample c
-    go Float is = refl
-    go Int is = cc
 
 -- ---- a file
 
@@ -317,16 +285,7 @@ head_stops (Some xs) out (errors.IoError e) refused = ([], inl (tt, refl), appen
 head_stops (Some xs) out (errors.FormatError e) (reason, unreadable, words) =
     ([], inl ((causes.Format reason, unreadable, (reason, refl, words)), refl), appends-none out)
 head_stops (Some xs) out errors.Unsupported refused = ([], inl ((causes.Unsupported, refused, refl), refl), appends-none out)
-head_stops (Some xs) out errors.TooWide refused = absurd refused
-head_stops (Some xs) out errors.UnfinishedSample refused = absurd refused
-head_stops (Some xs) out errors.InvalidSampleFormat refused = absurd refused
-head_stops (Some xs) out errors.TooLong refused = absurd refused
-head_stops (Some xs) out errors.OutOfMemory refused = absurd refused
-
--- nor at a fault before the samples
-pub fault_stops : (input out : Option (List ℕ)) → ShowsUntil input InputOrOutput out out
-fault_stops None out = tt
-fault_stops (Some xs) out = ([], inl (tt, refl), appends-none out)
+head_stops (Some xs) out _ refused = absurd refused
 
 -- the head of a readable file was taken, and the samples are left
 abbrev Opened : Option (List ℕ) → Option (List ℕ) → WavSpecEx → ℕ → Type 0
@@ -410,25 +369,6 @@ lines_stop input left s n (Ok x) spec samples out0 out1 out2 head first last spe
 lines_stop input left s n (Err failure) spec samples out0 out1 out2 head first last spec_is samples_is found none line shown stops part =
     file_stops input left s n InputOrOutput spec samples out0 out2 out2 head first [] spec_is samples_is found none line
     (part_stops_again s n failure left out0 out1 out2 first last stops part) (appends-none out2)
-
--- what was returned of the samples is returned of the file
-pub lines_shown : (input left : Option (List ℕ)) (s : WavSpecEx) (n : ℕ) (result : Result (Unit {0}) Failure) (spec : WavSpec)
-    (samples : ℕ) (out0 out1 out2 : Option (List ℕ)) (head first last : List ℕ)
-    → spec ≡ s.spec → samples ≡ n → Opened input left s n → head ≡ [] → first ≡ head ++ spec_line spec samples
-    → OnOk result (ShowsSamples s n left out0 out1 first last)
-    → Appends out1 out2 last → OnOk result (Shows input out0 out2)
-lines_shown input left s n (Ok x) spec samples out0 out1 out2 head first last spec_is samples_is found none line shown written =
-    file_shown input left s n spec samples out0 out1 out2 head first last spec_is samples_is found none line shown written
-lines_shown input left s n (Err failure) spec samples out0 out1 out2 head first last spec_is samples_is found none line shown written = tt
-
-pub lines_until : (input left : Option (List ℕ)) (s : WavSpecEx) (n : ℕ) (result : Result (Unit {0}) Failure) (spec : WavSpec)
-    (samples : ℕ) (out0 out1 out2 : Option (List ℕ)) (head first last : List ℕ)
-    → spec ≡ s.spec → samples ≡ n → Opened input left s n → head ≡ [] → first ≡ head ++ spec_line spec samples
-    → IfErr result (λ failure. StopsSamples s n failure left out0 out1 first last)
-    → Appends out1 out2 last → IfErr result (λ failure. ShowsUntil input failure out0 out2)
-lines_until input left s n (Ok x) spec samples out0 out1 out2 head first last spec_is samples_is found none line stops written = tt
-lines_until input left s n (Err failure) spec samples out0 out1 out2 head first last spec_is samples_is found none line stops written =
-    file_stops input left s n failure spec samples out0 out1 out2 head first last spec_is samples_is found none line stops written
 
 -- ---- a fault that is reported for what was returned
 

@@ -36,12 +36,6 @@ say_within [] (n ∷ ns) says = absurd says
 say_within (part ∷ parts) [] says = absurd says
 say_within (part ∷ parts) (n ∷ ns) says = (says.0.within, say_within parts ns says.1)
 
-have_length : (s : WavSpecEx) (ns : List ℤ) (cs : List (List ℕ)) → containers_of s ns ≡ Ok cs → length ns ≡ length cs
-have_length s [] cs have = ap length (let e : [] ≡ cs = cc in e)
-have_length s (n ∷ ns) cs have =
-    let (c, rest, is, more, all) = parts (int_container n s.spec.bits_per_sample s.bytes_per_sample) (containers_of s ns) cs have in
-    omega (arith, have_length s ns rest more, ap length all)
-
 -- ---- the lines of a packed file
 
 -- each integer is read back from its container
@@ -134,9 +128,7 @@ not_refused s ns file errors.TooLong packed (writable, refused) =
 not_refused s ns file errors.UnfinishedSample packed (writable, refused) =
     absurd (refused.frames (subst (λ l. length l % s.spec.channels ≡ 0)
     (one_list (containers_of s ns) packed.containers refused.containers packed.have refused.have) packed.frames))
-not_refused s ns file (errors.IoError e) packed refused = absurd refused.1
-not_refused s ns file (errors.FormatError e) packed refused = absurd refused.1
-not_refused s ns file errors.InvalidSampleFormat packed refused = absurd refused.1
+not_refused s ns file _ packed refused = absurd refused.1
 
 pub packed_is_not_refused : (s : WavSpecEx) (text file : List ℕ) (failure : Failure)
     → Packs s (Some text) (Some []) (Some file) → IsNotPacked s (Some text) failure → IsFaultOrMemory failure

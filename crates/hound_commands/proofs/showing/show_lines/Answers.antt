@@ -1,5 +1,6 @@
+use Rattle.std.proofs.lemmas.Result.{MatchResult-weaker, on_ok_weaker}
 use Rattle.hound_commands.proofs.Outputs.{part-written}
-use Rattle.hound_commands.proofs.ShowAnswers.{err_is, head_stops, lines_shown, lines_stop, lines_until}
+use Rattle.hound_commands.proofs.ShowAnswers.{err_is, file_shown, file_stops, head_stops, lines_stop}
 use Rattle.hound_commands.specs.Commands.{failure_of}
 use Rattle.hound_commands.specs.declared.failure.Failure.TheVariants.{InputOrOutput}
 use Rattle.hound_commands.proofs.showing.show_lines.Goals as goal
@@ -22,15 +23,17 @@ returns-in_err-write_to-clause-until g c =
 pub returns-clause-shown : goal.returns-clause-shown
 returns-clause-shown g c =
     let reader = c.in_ok-reader.reader in
-    lines_shown (g.R.Read.remaining c.args.input.now) _ reader.spec_ex reader.num_samples
-    c.show_samples-result.result c.spec.result c.len.result _ _ _ _ _ _ c.spec.ensures c.len.ensures
-    c.in_ok-reader.ensures.found c.new-lines.ensures c.in_ok-push_spec.ensures
-    c.show_samples-result.ensures.shown c.in_ok-write_to.ensures.written
+    on_ok_weaker c.show_samples-result.result
+    (λ shown. file_shown (g.R.Read.remaining c.args.input.now) _ reader.spec_ex reader.num_samples
+    c.spec.result c.len.result _ _ _ _ _ _ c.spec.ensures c.len.ensures c.in_ok-reader.ensures.found
+    c.new-lines.ensures c.in_ok-push_spec.ensures shown c.in_ok-write_to.ensures.written)
+    c.show_samples-result.ensures.shown
 
 pub returns-clause-until : goal.returns-clause-until
 returns-clause-until g c =
     let reader = c.in_ok-reader.reader in
-    lines_until (g.R.Read.remaining c.args.input.now) _ reader.spec_ex reader.num_samples
-    c.show_samples-result.result c.spec.result c.len.result _ _ _ _ _ _ c.spec.ensures c.len.ensures
-    c.in_ok-reader.ensures.found c.new-lines.ensures c.in_ok-push_spec.ensures
-    c.show_samples-result.ensures.until c.in_ok-write_to.ensures.written
+    MatchResult-weaker c.show_samples-result.result c.show_samples-result.ensures.until (λ _ _. tt)
+    (λ failure stops. file_stops (g.R.Read.remaining c.args.input.now) _ reader.spec_ex
+    reader.num_samples failure c.spec.result c.len.result _ _ _ _ _ _ c.spec.ensures c.len.ensures
+    c.in_ok-reader.ensures.found c.new-lines.ensures c.in_ok-push_spec.ensures stops
+    c.in_ok-write_to.ensures.written)
