@@ -1,8 +1,8 @@
 -- What a writer's calls for numbers return, said of the numbers.
-use Rattle.std.proofs.Common.{◌≡◌, ℕ, ℤ, ◌+◌, ◌*◌, ◌/◌, ◌%◌, ◌≤◌, Bool, true, false, cond, nat_le, List, [], ◌∷◌, length, Result, Ok, Err, IsTrue, inl, inr, refl, sym, ◌∙◌, ap, subst, length-append, leb-true, leb-false, arith}
+use Rattle.std.proofs.Common.{◌≡◌, ℕ, ℤ, ◌+◌, ◌*◌, ◌/◌, ◌%◌, ◌≤◌, Bool, true, false, cond, nat_le, List, [], ◌∷◌, length, Result, Ok, Err, IsTrue, refl, sym, ◌∙◌, ap, subst, length-append, leb-true, leb-false, arith}
 use Rattle.std.proofs.Math.Nat.{mul-div_cancel}
 use Rattle.std.specs.List.{AllByRecursion, concat}
-use Rattle.hound_writer.specs.{Accepts, AcceptAnswer, FitAnswer, IsPublishing, Begins, HasBegun, IsNotBegun, Finishes, WriterState, AreFrames, data_length, sample_count}
+use Rattle.hound_writer.specs.{Accepts, AcceptAnswer, FitAnswer, IsPublishing, Begins, HasBegun, Finishes, WriterState, AreFrames, data_length, sample_count}
 use Rattle.hound_sample.specs.{Refusal, too_wide, unsupported, fits, if_fits, int_bytes, int_container, and_more, int_container-in_width}
 use Rattle.hound_spec.specs.{greatest_u32, data_start, riff_size, IsPair}
 use Rattle.hound_medium.specs.{MediumState}

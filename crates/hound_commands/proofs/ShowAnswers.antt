@@ -4,7 +4,7 @@ use Rattle.std.specs.Io.{StartsWith}
 use Rattle.std.specs.Io.KnownBytes.{Appends, Keeps}
 use Rattle.std.proofs.Transfers.{starts_with_of_eq, starts_with_trans}
 use Rattle.hound_number.specs.{WhereKnown}
-use Rattle.hound_sample.specs.{ReadRefusal, other_format, wider, other_pair, float_refusal, int_meaning, int_refusal, pattern, items_of, Reads, error_of_read}
+use Rattle.hound_sample.specs.{ReadRefusal, other_format, wider, other_pair, int_meaning, items_of, Reads, error_of_read}
 use Rattle.hound_reader.specs.{ReaderState, meaning_at, refusal_at, GivesItems, IsRefusal, Readable, Unreadable}
 use Rattle.std.specs.List.{flat_map}
 use Rattle.hound_reader.specs.declared.cause.Cause.TheVariants as causes
@@ -14,10 +14,10 @@ use Rattle.hound_spec.specs.declared.spec.SampleFormat.{SampleFormat}
 use Rattle.hound_spec.specs.declared.spec.SampleFormat.TheVariants.{Float, Int}
 use Rattle.hound_spec.specs.declared.spec.WavSpec.{WavSpec}
 use Rattle.hound_spec.specs.declared.spec.WavSpecEx.{WavSpecEx}
-use Rattle.hound_text.specs.{integer_line, pattern_line}
+use Rattle.hound_text.specs.{integer_line}
 use Rattle.hound_commands.proofs.Outputs.{appends-kept, appends-none, gets-more, gets-none, gets-stopped, gets-then, gets-written}
 use Rattle.hound_commands.specs.Commands.{failure_of}
-use Rattle.hound_commands.specs.Showing.{GetsBeginning, GetsBuffered, AreShowable, Shows, ShowsSamples, ShowsUntil, StopsAt, StopsSamples, spec_line, line_for, refusal_for, sample_line, sample_lines, show_refusal}
+use Rattle.hound_commands.specs.Showing.{GetsBeginning, GetsBuffered, AreShowable, Shows, ShowsSamples, ShowsUntil, StopsAt, StopsSamples, spec_line, line_for, sample_line, sample_lines, show_refusal}
 use Rattle.hound_commands.specs.declared.failure.Failure.{Failure}
 use Rattle.hound_commands.specs.declared.failure.Failure.TheVariants.{BadNumber, InputOrOutput, Refused}
 

@@ -1,5 +1,5 @@
-use Rattle.std.proofs.Common.{rules, ◌≡◌, ◌<◌, OnOk, length, min, take, refl, sym, subst, arith, length-take}
-use Rattle.hound_reader.specs.{over_bytes, samples_left}
+use Rattle.std.proofs.Common.{rules, ◌≡◌, ◌<◌, OnOk, length, min, refl, sym, subst, arith, length-take}
+use Rattle.hound_reader.specs.{samples_left}
 use Rattle.hound_commands.specs.Commands.{failure_of}
 use Rattle.hound_commands.specs.declared.failure.Failure.TheVariants.{InputOrOutput}
 use Rattle.hound_commands.proofs.ShowAnswers.{all_shown, block_fails, block_shown, block_stops, err_is, Shown, none_shown}
@@ -20,13 +20,8 @@ returns-in_err-push_lines-clause-until g c =
     let n = c.args.reader.now.num_samples in
     let loop = c.loop-result.invariant in
     err_is _ c.from_residual.result InputOrOutput c.from_residual.ensures.1
-    (block_stops g.S.Sample.refusal g.S.Sample.meaning g.S.Line.line s n c.loop-result.reader.samples_read
-    (g.R.Read.remaining c.args.reader.now.reader.now) (g.O.Write.contents c.args.output.now)
-    (g.O.Write.contents c.loop-result.output) c.args.lines.now c.loop-result.lines
-    (take c.read_samples-count.result.0 c.read_samples-count.new.samples) c.read_samples-count.result.1
-    (over_bytes (λ r. g.R.Read.remaining r.now) c.loop-result.reader)
-    (over_bytes (λ r. g.R.Read.remaining r.now) c.read_samples-count.new.self) c.requires.refusal
-    c.requires.line loop.spec_ex loop.num_samples refl loop.within loop.shown
+    (block_stops _ _ g.S.Line.line s n _ _ _ _ _ _ _ c.read_samples-count.result.1
+    _ _ c.requires.refusal c.requires.line loop.spec_ex loop.num_samples refl loop.within loop.shown
     c.read_samples-count.ensures.items _ _
     c.in_err-push_lines.ensures.stopped c.in_err-push_lines.ensures.emptied)
 
@@ -37,13 +32,8 @@ returns-in_err-result-clause-until g c =
     let loop = c.loop-result.invariant in
     err_is _ c.from_residual-in_err-result.result (failure_of c.in_err-result.field-0.0)
     c.from_residual-in_err-result.ensures.1
-    (block_fails g.S.Sample.refusal g.S.Sample.meaning g.S.Line.line s n c.loop-result.reader.samples_read
-    (g.R.Read.remaining c.args.reader.now.reader.now) (g.O.Write.contents c.args.output.now)
-    (g.O.Write.contents c.loop-result.output) c.args.lines.now c.loop-result.lines
-    (take c.read_samples-count.result.0 c.read_samples-count.new.samples) c.read_samples-count.result.1
-    (over_bytes (λ r. g.R.Read.remaining r.now) c.loop-result.reader)
-    (over_bytes (λ r. g.R.Read.remaining r.now) c.read_samples-count.new.self) c.requires.refusal
-    c.requires.line loop.spec_ex loop.num_samples refl loop.within loop.shown
+    (block_fails _ _ g.S.Line.line s n _ _ _ _ _ _ _ c.read_samples-count.result.1
+    _ _ c.requires.refusal c.requires.line loop.spec_ex loop.num_samples refl loop.within loop.shown
     c.read_samples-count.ensures.items _ _
     c.in_err-result.field-0.0 c.in_err-result.was c.in_ok-push_lines.ensures.pushed)
 
@@ -52,13 +42,8 @@ returns-then-count-eq0-clause-shown g c =
     let s = c.args.reader.now.spec_ex in
     let n = c.args.reader.now.num_samples in
     let loop = c.loop-result.invariant in
-    let block = block_shown g.S.Sample.refusal g.S.Sample.meaning g.S.Line.line s n c.loop-result.reader.samples_read
-    (g.R.Read.remaining c.args.reader.now.reader.now) (g.O.Write.contents c.args.output.now)
-    (g.O.Write.contents c.loop-result.output) c.args.lines.now c.loop-result.lines
-    (take c.read_samples-count.result.0 c.read_samples-count.new.samples) c.read_samples-count.result.1
-    (over_bytes (λ r. g.R.Read.remaining r.now) c.loop-result.reader)
-    (over_bytes (λ r. g.R.Read.remaining r.now) c.read_samples-count.new.self) c.requires.refusal
-    c.requires.line loop.spec_ex loop.num_samples refl loop.within loop.shown
+    let block = block_shown _ _ g.S.Line.line s n _ _ _ _ _ _ _ c.read_samples-count.result.1
+    _ _ c.requires.refusal c.requires.line loop.spec_ex loop.num_samples refl loop.within loop.shown
     c.read_samples-count.ensures.items _ _ _
     c.in_ok-result.was c.in_ok-push_lines.ensures.pushed in
     let none = c.if-count-eq0.true in
@@ -77,13 +62,8 @@ loop-result-smaller g c =
     let s = c.args.reader.now.spec_ex in
     let n = c.args.reader.now.num_samples in
     let loop = c.loop-result.invariant in
-    let block = block_shown g.S.Sample.refusal g.S.Sample.meaning g.S.Line.line s n c.loop-result.reader.samples_read
-    (g.R.Read.remaining c.args.reader.now.reader.now) (g.O.Write.contents c.args.output.now)
-    (g.O.Write.contents c.loop-result.output) c.args.lines.now c.loop-result.lines
-    (take c.read_samples-count.result.0 c.read_samples-count.new.samples) c.read_samples-count.result.1
-    (over_bytes (λ r. g.R.Read.remaining r.now) c.loop-result.reader)
-    (over_bytes (λ r. g.R.Read.remaining r.now) c.read_samples-count.new.self) c.requires.refusal
-    c.requires.line loop.spec_ex loop.num_samples refl loop.within loop.shown
+    let block = block_shown _ _ g.S.Line.line s n _ _ _ _ _ _ _ c.read_samples-count.result.1
+    _ _ c.requires.refusal c.requires.line loop.spec_ex loop.num_samples refl loop.within loop.shown
     c.read_samples-count.ensures.items _ _ _
     c.in_ok-result.was c.in_ok-push_lines.ensures.pushed in
     let some = c.if-count-eq0.false in
@@ -96,13 +76,8 @@ loop-result-preserved g c =
     let s = c.args.reader.now.spec_ex in
     let n = c.args.reader.now.num_samples in
     let loop = c.loop-result.invariant in
-    let block = block_shown g.S.Sample.refusal g.S.Sample.meaning g.S.Line.line s n c.loop-result.reader.samples_read
-    (g.R.Read.remaining c.args.reader.now.reader.now) (g.O.Write.contents c.args.output.now)
-    (g.O.Write.contents c.loop-result.output) c.args.lines.now c.loop-result.lines
-    (take c.read_samples-count.result.0 c.read_samples-count.new.samples) c.read_samples-count.result.1
-    (over_bytes (λ r. g.R.Read.remaining r.now) c.loop-result.reader)
-    (over_bytes (λ r. g.R.Read.remaining r.now) c.read_samples-count.new.self) c.requires.refusal
-    c.requires.line loop.spec_ex loop.num_samples refl loop.within loop.shown
+    let block = block_shown _ _ g.S.Line.line s n _ _ _ _ _ _ _ c.read_samples-count.result.1
+    _ _ c.requires.refusal c.requires.line loop.spec_ex loop.num_samples refl loop.within loop.shown
     c.read_samples-count.ensures.items _ _ _
     c.in_ok-result.was c.in_ok-push_lines.ensures.pushed in
     record {
