@@ -4,7 +4,6 @@ use Rattle.std.specs.Io.{StartsWith}
 use Rattle.std.specs.Io.KnownBytes.{Appends, Keeps}
 use Rattle.std.proofs.KnownBytes.{starts_with_rest}
 use Rattle.std.proofs.Transfers.{starts_with_of_append, starts_with_trans}
-use Rattle.hound_number.specs.{Writes}
 use Rattle.hound_commands.specs.Showing.{GetsBeginning, GetsBuffered}
 
 -- texts appended one after the other
@@ -73,11 +72,6 @@ part-written text old new (n, short, all) = (
   starts_with_of_append text (take n text) (drop n text) (sym (take-append-drop n text)),
   all,
 )
-
-pub written-part : {T E : Type 0} (text : List ℕ) (result : Result T E) (old new : Option (List ℕ))
-    → Writes text result old new → OnErr result (GetsBeginning old new text)
-written-part text (Ok x) old new writes = tt
-written-part text (Err e) old new writes = part-written text old new writes
 
 -- a failed write of a buffer leaves a beginning of all that its text begins
 pub stopped-within : {T E : Type 0} (result : Result T E) (old mid new : Option (List ℕ)) (text buffered whole : List ℕ)

@@ -57,20 +57,6 @@ returns-then-count-eq0-clause-shown g c =
     all_shown s _ n _ _ _ _ _ _
     (omega (arith, none, count, few, some, loop.within, loop.num_samples, block.4)) block.0
 
-pub loop-result-smaller : goal.loop-result-smaller
-loop-result-smaller g c =
-    let s = c.args.reader.now.spec_ex in
-    let n = c.args.reader.now.num_samples in
-    let loop = c.loop-result.invariant in
-    let block = block_shown _ _ g.S.Line.line s n _ _ _ _ _ _ _ c.read_samples-count.result.1
-    _ _ c.requires.refusal c.requires.line loop.spec_ex loop.num_samples refl loop.within loop.shown
-    c.read_samples-count.ensures.items _ _ _
-    c.in_ok-result.was c.in_ok-push_lines.ensures.pushed in
-    let some = c.if-count-eq0.false in
-    let few = length-take c.read_samples-count.result.0 c.read_samples-count.new.samples in
-    let within = c.read_samples-count.ensures.within in
-    omega (arith, some, few, within, loop.num_samples, block.2, block.3, block.4)
-
 pub loop-result-preserved : goal.loop-result-preserved
 loop-result-preserved g c =
     let s = c.args.reader.now.spec_ex in
