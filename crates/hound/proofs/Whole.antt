@@ -144,9 +144,9 @@ module _ {M : Type 0} (tells keeps : Bool) (state : M → MediumState) where
       }
 
 -- a run over a new file
-module _ {M : Type 0} (tells keeps : Bool) (state : M → MediumState) (s : WavSpecEx)
-    (steps : List Step) (marks : List Bool) (end : End) (old : M)
-    (answer : Result (Unit {0}) Error) (medium : M)
+module _ {M : Type 0} {tells keeps : Bool} {state : M → MediumState} {s : WavSpecEx}
+    {steps : List Step} {marks : List Bool} {end : End} {old medium : M}
+    {answer : Result (Unit {0}) Error}
     (r : Ran tells keeps state (New s) steps marks end old answer medium) where
   pub steps_accepted : accepted_by_all r.calls ≡ accepted_by_steps s steps marks
   steps_accepted =

@@ -187,8 +187,7 @@ module _ {M : Type 0} {g : Ghosts M} (told : IsTrue g.tells) (kept : IsTrue g.ke
             let left = here.after_loss (omega (arith, long, at)) sector contents some one lost in (
               subst (λ l. Counts s (data_start s) l contents)
                   (all_accepted r.calls (end_call of_durable r.last r.finished) refl
-                  ∙ steps_accepted g.tells g.keeps of_durable s steps marks end
-                  old answer d r) left.0,
+                  ∙ steps_accepted r) left.0,
               left.1,
             ),
       )

@@ -1,4 +1,6 @@
-use Rattle.std.proofs.Common.{ap, arith, inl, inr, length, refl, rules, subst}
+use Rattle.std.proofs.Common.{◌≡◌, ap, arith, inl, inr, length, refl, rules, subst}
+use Rattle.hound_spec.specs.declared.spec.WavSpecEx.{WavSpecEx}
+use Rattle.hound.specs.declared.session.Begin.TheVariants.{New}
 use Rattle.hound.specs.Run.{IsNotBegunAs, Ran}
 use Rattle.hound.proofs.Whole.{new_canonical, new_exact, part_of_header, ran}
 use Rattle.hound.proofs.runs.run_session.Goals as goal
@@ -15,50 +17,23 @@ returns-in-Err-clause-begun g c tells s is_new empty long =
     c.in-Err.error) is_new c.in-Err.ensures) in
     absurd (omega (arith, long, part.1, part.2, c.requires.place tells, ap length empty))
 
-pub returns-clause-session : goal.returns-clause-session
-returns-clause-session g c =
+pub returns : goal.returns
+returns g c =
     let W = g.M.Placed in
     let (calls, asked, marked, lead) = c.take_steps.ensures.runs in
     let (finished, finishes, same) = c.end_writer.ensures in
     let end = c.end_writer.result in
-    inr (ran W.tells W.keeps W.state c.args.begin c.args.steps.now c.take_steps.new.marks c.args.end
-    c.args.medium end.1 finished end.0 c.in-Ok.writer c.take_steps.new.writer calls c.in-Ok.ensures
-    lead asked marked finishes same (g.met.M.Medium.replays))
-
-pub returns-clause-begun : goal.returns-clause-begun
-returns-clause-begun g c tells s is_new empty long =
-    let W = g.M.Placed in
-    let (calls, asked, marked, lead) = c.take_steps.ensures.runs in
-    let (finished, finishes, same) = c.end_writer.ensures in
-    let end = c.end_writer.result in
-    ran W.tells W.keeps W.state c.args.begin c.args.steps.now c.take_steps.new.marks c.args.end
-    c.args.medium end.1 finished end.0 c.in-Ok.writer c.take_steps.new.writer calls c.in-Ok.ensures
-    lead asked marked finishes same (g.met.M.Medium.replays)
-
-pub returns-clause-canonical : goal.returns-clause-canonical
-returns-clause-canonical g c tells s is_new is_finalize =
-    let W = g.M.Placed in
-    let (calls, asked, marked, lead) = c.take_steps.ensures.runs in
-    let (finished, finishes, same) = c.end_writer.ensures in
-    let end = c.end_writer.result in
-    new_canonical W.tells W.keeps W.state s c.args.steps.now c.take_steps.new.marks c.args.end
-    c.args.medium end.1 end.0
-    (subst (λ b. Ran W.tells W.keeps W.state b c.args.steps.now c.take_steps.new.marks c.args.end
-    c.args.medium end.1 end.0) is_new
-    (ran W.tells W.keeps W.state c.args.begin c.args.steps.now c.take_steps.new.marks c.args.end
-    c.args.medium end.1 finished end.0 c.in-Ok.writer c.take_steps.new.writer calls c.in-Ok.ensures
-    lead asked marked finishes same (g.met.M.Medium.replays))) tells is_finalize
-
-pub returns-clause-exact : goal.returns-clause-exact
-returns-clause-exact g c tells s is_new writable empty none =
-    let W = g.M.Placed in
-    let (calls, asked, marked, lead) = c.take_steps.ensures.runs in
-    let (finished, finishes, same) = c.end_writer.ensures in
-    let end = c.end_writer.result in
-    new_exact W.tells W.keeps W.state s c.args.steps.now c.take_steps.new.marks c.args.end
-    c.args.medium end.1 end.0
-    (subst (λ b. Ran W.tells W.keeps W.state b c.args.steps.now c.take_steps.new.marks c.args.end
-    c.args.medium end.1 end.0) is_new
-    (ran W.tells W.keeps W.state c.args.begin c.args.steps.now c.take_steps.new.marks c.args.end
-    c.args.medium end.1 finished end.0 c.in-Ok.writer c.take_steps.new.writer calls c.in-Ok.ensures
-    lead asked marked finishes same (g.met.M.Medium.replays))) tells empty (c.requires.place tells) none
+    let run = ran W.tells W.keeps W.state c.args.begin c.args.steps.now c.take_steps.new.marks
+    c.args.end c.args.medium end.1 finished end.0 c.in-Ok.writer c.take_steps.new.writer calls
+    c.in-Ok.ensures lead asked marked finishes same (g.met.M.Medium.replays) in
+    let new = λ (s : WavSpecEx) (is_new : c.args.begin ≡ New s).
+    subst (λ b. Ran W.tells W.keeps W.state b c.args.steps.now c.take_steps.new.marks c.args.end
+    c.args.medium end.1 end.0) is_new run in
+    record {
+      size = search rules;
+      session = inr run;
+      begun = λ tells s is_new empty long. run;
+      canonical = λ tells s is_new is_finalize. new_canonical (new s is_new) tells is_finalize;
+      exact = λ tells s is_new writable empty none.
+          new_exact (new s is_new) tells empty (c.requires.place tells) none;
+    }
