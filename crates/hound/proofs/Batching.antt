@@ -1,9 +1,12 @@
 -- What a batch accepts, and its values one by one.
-use Rattle.std.proofs.Common.{◌≡◌, ℕ, ℤ, ◌*◌, ◌/◌, Bool, true, false, List, [], ◌∷◌, ◌++◌, length, map, Result, Ok, Err, IsTrue, sym, ◌∙◌, ap, subst, refl, arith, length-append}
+use Rattle.std.proofs.Common.{◌≡◌, ℕ, ℤ, ◌/◌, Bool, true, false, List, [], ◌∷◌, ◌++◌, length, map, Result, Ok, Err, IsTrue, sym, ◌∙◌, ap, subst, refl, arith}
 use Rattle.std.proofs.lemmas.Bool.{false≢true}
 use Rattle.std.proofs.lemmas.Bool.Decides.{nat_tests}
-use Rattle.std.proofs.lemmas.List.{take_at, drop_at}
-use Rattle.std.specs.List.{concat, flat_map}
+use Rattle.std.proofs.lemmas.List.{append-nil}
+use Rattle.std.proofs.lemmas.List.Concat.{concat_is}
+use Rattle.std.proofs.lemmas.List.Folds.{flat_map-map}
+use Rattle.std.specs.List.{AllByRecursion, concat, flat_map}
+use Rattle.hound_reader.proofs.WrittenLemmas.{containers-concat, length-concat}
 use Rattle.hound_number.specs.{signed_bytes_of}
 use Rattle.hound_sample.specs.{Refusal, containers, int_bytes, int_container, contained}
 use Rattle.hound_medium.specs.{MediumState}
@@ -14,25 +17,13 @@ use Rattle.hound.proofs.Calling.{Went, call_went, went_still, went_then}
 -- the bytes of a batch's values are those of its containers, two to each
 joined : (values : List ℤ)
     → flat_map (signed_bytes_of 2) values ≡ concat (map (signed_bytes_of 2) values)
-joined [] = refl
-joined (v ∷ values) = ap (λ l. signed_bytes_of 2 v ++ l) (joined values)
+joined values =
+    let list = map (signed_bytes_of 2) values in
+    sym (concat_is list ∙ flat_map-map (λ x. x) (signed_bytes_of 2) values)
 
-length-joined : (values : List ℤ)
-    → length (concat (map (signed_bytes_of 2) values)) ≡ 2 * length values
-length-joined [] = refl
-length-joined (v ∷ values) =
-    length-append (signed_bytes_of 2 v) (concat (map (signed_bytes_of 2) values))
-    ∙ omega (arith, length-joined values)
-
-split : (values : List ℤ)
-    → containers 2 (length values) (concat (map (signed_bytes_of 2) values)) ≡ map
-    (signed_bytes_of 2) values
-split [] = refl
-split (v ∷ values) =
-    let rest = concat (map (signed_bytes_of 2) values) in
-    (λ i. take_at (signed_bytes_of 2 v) rest 2 refl i ∷ containers 2 (length values)
-    (drop_at (signed_bytes_of 2 v) rest 2 refl i))
-    ∙ ap (λ (l : List (List ℕ)). signed_bytes_of 2 v ∷ l) (split values)
+wide : (values : List ℤ) → AllByRecursion (λ c. length c ≡ 2) (map (signed_bytes_of 2) values)
+wide [] = tt
+wide (v ∷ values) = (refl, wide values)
 
 -- a number that fits in sixteen bits has its two bytes as its container
 short_container : (v : ℤ) (bits width : ℕ) (c : List ℕ) → bits ≡ 16
@@ -83,15 +74,17 @@ module _ {M : Type 0} (tells keeps : Bool) (state : M → MediumState) (told : I
       → (accepted_samples state b ≡ accepted_samples state c) × (data_length b ≡ data_length c)
   same_samples values first a b c whole sixteen two stays batch each =
       let bytes = short_bytes values in
-      let count : length bytes / 2 ≡ length values =
-      omega (arith, ap length (joined values), length-joined values) in
+      let each_two = map (signed_bytes_of 2) values in
+      let count : length bytes / 2 ≡ length each_two =
+      omega (arith, ap length (joined values), length-concat 2 each_two (wide values)) in
       let width : a.spec_ex.bytes_per_sample ≡ 2 =
       ap (λ x. x.bytes_per_sample) stays.spec_ex ∙ two in
       let list = containers a.spec_ex.bytes_per_sample (length bytes / a.spec_ex.bytes_per_sample)
       bytes in
-      let same : list ≡ map (signed_bytes_of 2) values =
+      let same : list ≡ each_two =
       (λ i. containers (width i) (length bytes / width i) bytes)
-      ∙ (λ i. containers 2 (count i) (joined values i)) ∙ split values in
+      ∙ (λ i. containers 2 (count i) ((joined values ∙ sym (append-nil (concat each_two))) i))
+      ∙ containers-concat 2 each_two [] (wide values) in
       let t = went_then tells keeps state told [] list first a b
       (subst (Went tells keeps state told [] first) (same_but_memory first a stays)
       (went_still tells keeps state told first a.buffer))

@@ -1,12 +1,11 @@
 -- One step more, and one session more.
-use Rattle.std.proofs.Common.{◌≡◌, ℕ, ℤ, ◌+◌, ◌<◌, List, [], ◌∷◌, ◌++◌, length, get_or, set, take, map, Bool, Result, sym, ◌∙◌, ap, subst, ◌≤◌, Bor, drop, Ok, Err, refl, inl, inr}
-use Rattle.std.proofs.lemmas.List.{map-append, take_more, take_more_set, drop_all, drop_more}
+use Rattle.std.proofs.Common.{◌≡◌, ℕ, ◌+◌, ◌<◌, List, [], ◌∷◌, ◌++◌, length, get_or, set, take, map, Bool, Result, sym, ◌∙◌, ap, subst, Bor, drop, Ok, Err, refl, inl, inr}
+use Rattle.std.proofs.lemmas.List.{map-append, take_more, take_more_set, drop_more}
 use Rattle.hound_spec.specs.declared.error.Error.{Error}
 use Rattle.hound_medium.specs.{MediumState}
 use Rattle.hound_writer.specs.{mark_of, Call, Lead, asked_by_all, WriterState, Finishes}
 use Rattle.hound_writer.proofs.Recording.{asked_more, call_at, lead_more, lead_spec}
 use Rattle.hound.specs.declared.session.Step.{Step}
-use Rattle.hound.specs.declared.session.Step.TheVariants.{Whole}
 use Rattle.hound.specs.Run.{Takes, asked_by}
 use Rattle.hound.specs.declared.session.Begin.TheVariants.{Append}
 use Rattle.hound.specs.Sessions.{RunsOn, RunsOnce, RunsUntil}
@@ -39,15 +38,6 @@ module _ {M : Type 0} (tells keeps : Bool) (state : M → MediumState) where
         lead_more tells keeps state calls (asked_by b.spec_ex step) answer a b c lead takes,
       )
 
--- an integer that was written is its step taken
-pub whole_taken : {M : Type 0} (tells keeps : Bool) (state : M → MediumState) (step : Step)
-    (value same : ℤ) (answer : Result (Unit {0}) Error) (old new : WriterState M)
-    → step ≡ Whole value → same ≡ value → Takes tells keeps state (Whole same) answer old new
-    → Takes tells keeps state step answer old new
-whole_taken tells keeps state step value same answer old new is back takes =
-    subst (λ s. Takes tells keeps state s answer old new) (sym is)
-    (subst (λ v. Takes tells keeps state (Whole v) answer old new) back takes)
-
 -- a result that is no error
 pub is_ok : (answer : Result (Unit {0}) Error) → ((e : Error) → answer ≡ Err e → ⊥) → answer ≡ Ok tt
 is_ok (Ok x) fine = refl
@@ -60,12 +50,6 @@ module _ {X S M : Type 0} (R : List X → S → Result (Unit {0}) Error → M �
   Leads xs left first now =
       (answer : Result (Unit {0}) Error) (medium : M) → R left now answer medium
       → R xs first answer medium
-
-  pub leads_end : (xs : List X) (i : ℕ) (a b : S) → Leads xs (drop i xs) a b → length xs ≤ i
-      → (answer : Result (Unit {0}) Error) (medium : M) → R [] b answer medium
-      → R xs a answer medium
-  leads_end xs i a b leads done answer medium here =
-      leads answer medium (subst (λ l. R l b answer medium) (sym (drop_all i xs done)) here)
 
   pub leads_on : (xs : List X) (i : ℕ) (a b : S) → Leads xs (drop i xs) a b → (d : X)
       → i < length xs → (answer : Result (Unit {0}) Error) (medium : M)

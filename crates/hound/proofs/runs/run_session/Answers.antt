@@ -1,13 +1,9 @@
-use Rattle.std.proofs.Common.{◌≡◌, ap, arith, inl, inr, length, refl, rules, subst}
+use Rattle.std.proofs.Common.{◌≡◌, ap, arith, inr, length, rules, subst}
 use Rattle.hound_spec.specs.declared.spec.WavSpecEx.{WavSpecEx}
 use Rattle.hound.specs.declared.session.Begin.TheVariants.{New}
 use Rattle.hound.specs.Run.{IsNotBegunAs, Ran}
 use Rattle.hound.proofs.Whole.{new_canonical, new_exact, part_of_header, ran}
 use Rattle.hound.proofs.runs.run_session.Goals as goal
-
-pub returns-in-Err-clause-session : goal.returns-in-Err-clause-session
-returns-in-Err-clause-session g c =
-    inl (c.in-Err.error, refl, c.in-Err.ensures, search rules)
 
 pub returns-in-Err-clause-begun : goal.returns-in-Err-clause-begun
 returns-in-Err-clause-begun g c tells s is_new empty long =

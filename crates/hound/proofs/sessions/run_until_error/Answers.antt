@@ -1,8 +1,5 @@
-use Rattle.std.proofs.Common.{inl, inr, refl}
+use Rattle.std.proofs.Common.{inr}
 use Rattle.hound.proofs.sessions.run_until_error.Goals as goal
-
-pub returns-in-Err : goal.returns-in-Err
-returns-in-Err g c = inl (c.in-Err.error, refl, c.in-Err.ensures)
 
 pub returns-in-Ok-take_until_error : goal.returns-in-Ok-take_until_error
 returns-in-Ok-take_until_error g c =

@@ -1,10 +1,6 @@
 use Rattle.std.proofs.Common.{arith}
-use Rattle.hound.specs.Sessions.{RunsUntil}
-use Rattle.hound.proofs.Running.{leads_end, step_failed, step_more}
+use Rattle.hound.proofs.Running.{step_failed, step_more}
 use Rattle.hound.proofs.sessions.take_until_error.Goals as goal
-
-pub loop-i-init : goal.loop-i-init
-loop-i-init g c = record { within = omega arith; leads = λ answer medium runs. runs }
 
 pub returns-in-Err : goal.returns-in-Err
 returns-in-Err g c =
@@ -26,10 +22,3 @@ loop-i-preserved g c =
           loop.writer loop.invariant.leads _ take.result take.new.writer c.loop-i-test.true
           take.ensures c.in-Ok.is;
     }
-
-pub returns : goal.returns
-returns g c =
-    let W = g.M.Placed in
-    let loop = c.loop-i in
-    leads_end (RunsUntil W.tells W.keeps W.state) c.args.steps.now loop.i c.args.writer.now
-    loop.writer loop.invariant.leads c.loop-i-test.false

@@ -1,4 +1,4 @@
-use Rattle.std.proofs.Common.{◌≡◌, false, true, if◌then◌else◌, Err, refl, rules, subst, sym}
+use Rattle.std.proofs.Common.{◌≡◌, false, if◌then◌else◌, Err, refl, rules, subst, sym}
 use Rattle.hound_spec.specs.declared.error.Error.TheVariants.{Unsupported}
 use Rattle.hound_sample.specs.{int_container, unsupported}
 use Rattle.hound_writer.specs.{Accepts, containers_in}
@@ -16,13 +16,3 @@ returns-then-not-is_sixteen g c =
     (Err Unsupported) old old) (sym other)
     (accepts_refused W.tells W.keeps W.state old false (Err unsupported) Unsupported
     c.spec.ensures.valid.counts (g.met.M.Medium.replays old.medium) refl (λ _. refl) refl)
-
-pub returns : goal.returns
-returns g c =
-    let W = g.M.Placed in
-    let old = c.args.writer.now in
-    let sixteen : is_sixteen old.spec_ex.spec ≡ true = search rules in
-    subst (λ b. Accepts W.tells W.keeps W.state false
-    (if b then containers_in int_container old.spec_ex c.args.values.now else Err unsupported)
-    c.write_samples.result old c.write_samples.new.self) (sym sixteen)
-    c.write_samples.ensures.accepts
