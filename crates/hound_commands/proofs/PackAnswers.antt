@@ -1,5 +1,5 @@
 -- What a writer's calls for numbers return, said of the numbers.
-use Rattle.std.proofs.Common.{◌≡◌, ℕ, ℤ, ◌+◌, ◌*◌, ◌/◌, ◌%◌, ◌≤◌, Bool, true, false, cond, nat_le, List, [], ◌∷◌, length, Result, Ok, Err, IsTrue, refl, sym, ◌∙◌, ap, subst, length-append, leb-true, leb-false, arith}
+use Rattle.std.proofs.Common.{◌≡◌, ℕ, ℤ, ◌+◌, ◌*◌, ◌/◌, ◌%◌, ◌≤◌, Bool, true, false, cond, nat_le, List, [], ◌∷◌, length, Result, Ok, Err, IsTrue, refl, sym, ◌∙◌, ap, subst, leb-true, leb-false, arith}
 use Rattle.std.proofs.Math.Nat.{mul-div_cancel}
 use Rattle.std.specs.List.{AllByRecursion, concat}
 use Rattle.hound_writer.specs.{Accepts, AcceptAnswer, FitAnswer, IsPublishing, Begins, HasBegun, Finishes, WriterState, AreFrames, data_length, sample_count}
@@ -10,6 +10,7 @@ use Rattle.hound_spec.specs.declared.error.Error.{Error}
 use Rattle.hound_spec.specs.declared.error.Error.TheVariants.{IoError, OutOfMemory, TooLong, TooWide, UnfinishedSample}
 use Rattle.hound_spec.specs.declared.spec.SampleFormat.TheVariants.{Int}
 use Rattle.hound_spec.specs.declared.spec.WavSpecEx.{WavSpecEx}
+use Rattle.hound_reader.proofs.WrittenLemmas.{length-concat}
 use Rattle.hound_writer.proofs.Fresh.{fresh_file}
 use Rattle.hound_commands.specs.Commands.{failure_of, HasRoom, IsPackError, IsPackFailure, IsPacked, containers_of}
 
@@ -31,15 +32,9 @@ each_width s (n ∷ ns) cs have =
     ((int_container-in_width n _ _ c is).0, each_width s ns rest more)
 
 -- so they take as many bytes as the width says, each
-wide_bytes : (width : ℕ) (cs : List (List ℕ)) → AllByRecursion (λ c. length c ≡ width) cs
-    → length (concat cs) ≡ length cs * width
-wide_bytes width [] wide = omega arith
-wide_bytes width (c ∷ cs) (size, wide) =
-    omega (arith, size, wide_bytes width cs wide, length-append c (concat cs))
-
 pub have-bytes : (s : WavSpecEx) (ns : List ℤ) (cs : List (List ℕ)) → containers_of s ns ≡ Ok cs
     → length (concat cs) ≡ length cs * s.bytes_per_sample
-have-bytes s ns cs have = wide_bytes s.bytes_per_sample cs (each_width s ns cs have)
+have-bytes s ns cs have = length-concat s.bytes_per_sample cs (each_width s ns cs have)
 
 -- integers of a spec that can be written are of bits and bytes that have containers
 never_unsupported : (v : ℤ) (bits width : ℕ) → IsPair Int bits width

@@ -1,6 +1,6 @@
 -- What the lines of samples are, one sample after the other.
 use Rattle.std.proofs.Common.{◌≡◌, ℕ, zero, suc, ◌+◌, ◌*◌, ◌<◌, ◌≤◌, List, [], ◌∷◌, ◌++◌, length, map, take, drop, Option, Some, None, Result, Ok, Err, IfErr, IfSome, IsErrAnd, OnOk, inl, inr, refl, sym, ◌∙◌, ap, subst, append_assoc, append-nil, length-drop, drop-drop, arith}
-use Rattle.std.specs.Io.{StartsWith}
+use Rattle.std.proofs.lemmas.Option.{IfSome_then}
 use Rattle.std.specs.Io.KnownBytes.{Appends, Keeps}
 use Rattle.std.proofs.Transfers.{starts_with_of_eq, starts_with_trans}
 use Rattle.hound_number.specs.{WhereKnown}
@@ -149,19 +149,53 @@ all_shown s k count (Some xs) (Some ys) old new first lines all (text, (left_is,
 
 -- ---- where the samples are not all shown
 
--- the lines of samples that were read could not all be written
-pub room_stops : (s : WavSpecEx) (k count : ℕ) (left now old new newer : Option (List ℕ)) (first text lines room : List ℕ)
+-- the lines of samples that were read are a part
+read_part : (s : WavSpecEx) (k count : ℕ) (left now old new : Option (List ℕ)) (first text lines : List ℕ)
     → k ≤ count → ReadAs s k left now first text → GetsBuffered old new lines text
-    → GetsBeginning new newer lines → room ≡ []
-    → StopsSamples s count InputOrOutput left old newer first room
-room_stops s k count None now old new newer first text lines room within read got stopped emptied = tt
-room_stops s k count (Some xs) None old new newer first text lines room within read got stopped emptied = absurd read
-room_stops s k count (Some xs) (Some ys) old new newer first text lines room within (left_is, showable, text_is) got stopped emptied =
-    let (part, beginning, all) = gets-stopped old new newer text lines got stopped in (
-      part,
-      (k, within, showable, subst (λ t. StartsWith t part) text_is beginning),
-      (part, sym (append-nil part) ∙ ap (λ l. part ++ l) (sym emptied), all),
-    )
+    → StopsSamples s count InputOrOutput left old new first lines
+read_part s k count None now old new first text lines within read got = tt
+read_part s k count (Some xs) None old new first text lines within read got = absurd read
+read_part s k count (Some xs) (Some ys) old new first text lines within (left_is, showable, text_is) got =
+    (text, (k, within, showable, starts_with_of_eq _ text (sym text_is)), got)
+
+-- and the buffer could not be written
+pub part_stops : (s : WavSpecEx) (n : ℕ) (left out0 out1 out2 : Option (List ℕ)) (first last : List ℕ)
+    → StopsSamples s n InputOrOutput left out0 out1 first last → GetsBeginning out1 out2 last
+    → StopsSamples s n InputOrOutput left out0 out2 first []
+part_stops s n left out0 out1 out2 first last stops part =
+    IfSome_then left stops (λ bytes (text, (k, within, showable, front), gets).
+    let (written, beginning, all) = gets-stopped out0 out1 out2 text last gets part in (
+      written,
+      (k, within, showable, starts_with_trans (first ++ sample_lines s k bytes) text written front beginning),
+      (written, sym (append-nil written), all),
+    ))
+
+whole_stops : (s : WavSpecEx) (n : ℕ) (bytes first text : List ℕ) → AreShowable s n bytes
+    → text ≡ first ++ sample_lines s n bytes → StopsAt s n InputOrOutput bytes first text
+whole_stops s n bytes first text showable text_is =
+    (n, omega arith, showable, starts_with_of_eq _ text (sym text_is))
+
+faulted : (s : WavSpecEx) (n : ℕ) (failure : Failure) (bytes first text : List ℕ)
+    → StopsAt s n failure bytes first text → StopsAt s n InputOrOutput bytes first text
+faulted s n BadNumber bytes first text stops = absurd stops
+faulted s n InputOrOutput bytes first text stops = stops
+faulted s n (Refused e) bytes first text (some, refused, text_is) =
+    (0, omega arith, none_showable s bytes, starts_with_of_eq _ text (append-nil first ∙ sym text_is))
+
+-- a fault, whatever was returned before it
+pub stopped : (s : WavSpecEx) (n : ℕ) (result : Result (Unit {0}) Failure) (left old new : Option (List ℕ)) (first last : List ℕ)
+    → OnOk result (ShowsSamples s n left old new first last)
+    → IfErr result (λ failure. StopsSamples s n failure left old new first last)
+    → StopsSamples s n InputOrOutput left old new first last
+stopped s n (Ok x) left old new first last shown stops =
+    IfSome_then left shown (λ bytes (showable, got). (
+      first ++ sample_lines s n bytes,
+      whole_stops s n bytes first (first ++ sample_lines s n bytes) showable refl,
+      got,
+    ))
+stopped s n (Err failure) left old new first last shown stops =
+    IfSome_then left stops
+    (λ bytes (text, here, got). (text, faulted s n failure bytes first text here, got))
 
 -- a read that failed: a fault, or a spec whose samples are not shown
 read_stops : {A : Type 0} (s : WavSpecEx) (k count : ℕ) (refusal : Option ReadRefusal) (meaning : List ℕ → A)
@@ -182,11 +216,8 @@ read_stops {A} s zero count (Some refusal) meaning error (Some xs) (Some ys) nex
     of other_format shows = (within, (other_format, shows, refl), refl)
     of wider shows = (within, (wider, shows, refl), refl)
     of other_pair shows = (within, (other_pair, shows, refl), refl)
-read_stops s k count None meaning (errors.IoError e) (Some xs) (Some ys) next old new first text lines within same (left_is, showable, text_is) got read = (
-  first ++ sample_lines s k xs,
-  (k, omega arith, showable, starts_with_of_eq _ (first ++ sample_lines s k xs) refl),
-  subst (GetsBuffered old new lines) text_is got,
-)
+read_stops s k count None meaning (errors.IoError e) (Some xs) (Some ys) next old new first text lines within same shown got read =
+    read_part s k count (Some xs) (Some ys) old new first text lines (omega (arith, within)) shown got
 read_stops s k count None meaning _ (Some xs) (Some ys) next old new first text lines within same shown got read = absurd read
 
 -- ---- a block of samples: the lines of what was read are pushed, and then comes the error
@@ -230,8 +261,10 @@ module _ {A : Type 0} (refusal : SampleFormat → ℕ → ℕ → Option ReadRef
       → StopsSamples s n InputOrOutput left out0 out2 first room
   block_stops out2 room stopped emptied =
       let (mid, at, inside, read, rest) = after in
-      room_stops s (k + length values) n left mid.reader out0 out1 out2 first
-      (shown.0 ++ flat_map line values) (lines ++ flat_map line values) room inside read buffered stopped emptied
+      subst (StopsSamples s n InputOrOutput left out0 out2 first) (sym emptied)
+      (part_stops s n left out0 out1 out2 first (lines ++ flat_map line values)
+      (read_part s (k + length values) n left mid.reader out0 out1 first
+      (shown.0 ++ flat_map line values) (lines ++ flat_map line values) inside read buffered) stopped)
 
   -- they are, and then comes an error
   pub block_fails : (out2 : Option (List ℕ)) (room : List ℕ) (error : Error) → result ≡ Err error
@@ -326,63 +359,7 @@ file_stops (Some xs) (Some ys) s n failure spec samples out0 out1 out2 head firs
       gets-written out0 out1 out2 text last gets written,
     )
 
--- the buffer could not be written
-part_stops : (s : WavSpecEx) (n : ℕ) (left out0 out1 out2 : Option (List ℕ)) (first last : List ℕ)
-    → ShowsSamples s n left out0 out1 first last → GetsBeginning out1 out2 last
-    → StopsSamples s n InputOrOutput left out0 out2 first []
-part_stops s n None out0 out1 out2 first last shown part = tt
-part_stops s n (Some ys) out0 out1 out2 first last (showable, text) part =
-    let (written, beginning, all) = gets-stopped out0 out1 out2 (first ++ sample_lines s n ys) last text part in (
-      written,
-      (n, omega arith, showable, beginning),
-      (written, sym (append-nil written), all),
-    )
-
-part_stops_again : (s : WavSpecEx) (n : ℕ) (failure : Failure) (left out0 out1 out2 : Option (List ℕ)) (first last : List ℕ)
-    → StopsSamples s n failure left out0 out1 first last → GetsBeginning out1 out2 last
-    → StopsSamples s n InputOrOutput left out0 out2 first []
-part_stops_again s n failure None out0 out1 out2 first last stops part = tt
-part_stops_again s n BadNumber (Some ys) out0 out1 out2 first last (text, stops, gets) part = absurd stops
-part_stops_again s n InputOrOutput (Some ys) out0 out1 out2 first last (text, (k, within, showable, front), gets) part =
-    let (written, beginning, all) = gets-stopped out0 out1 out2 text last gets part in (
-      written,
-      (k, within, showable, starts_with_trans (first ++ sample_lines s k ys) text written front beginning),
-      (written, sym (append-nil written), all),
-    )
-part_stops_again s n (Refused e) (Some ys) out0 out1 out2 first last (text, (some, refused, text_is), gets) part =
-    let (written, beginning, all) = gets-stopped out0 out1 out2 text last gets part in (
-      written,
-      (0, omega arith, none_showable s ys, subst (λ t. StartsWith t written) (text_is ∙ sym (append-nil first)) beginning),
-      (written, sym (append-nil written), all),
-    )
-
--- the buffer could not be written, whatever the samples left
-pub lines_stop : (input left : Option (List ℕ)) (s : WavSpecEx) (n : ℕ) (result : Result (Unit {0}) Failure) (spec : WavSpec)
-    (samples : ℕ) (out0 out1 out2 : Option (List ℕ)) (head first last : List ℕ)
-    → spec ≡ s.spec → samples ≡ n → Opened input left s n → head ≡ [] → first ≡ head ++ spec_line spec samples
-    → OnOk result (ShowsSamples s n left out0 out1 first last)
-    → IfErr result (λ failure. StopsSamples s n failure left out0 out1 first last)
-    → GetsBeginning out1 out2 last → ShowsUntil input InputOrOutput out0 out2
-lines_stop input left s n (Ok x) spec samples out0 out1 out2 head first last spec_is samples_is found none line shown stops part =
-    file_stops input left s n InputOrOutput spec samples out0 out2 out2 head first [] spec_is samples_is found none line
-    (part_stops s n left out0 out1 out2 first last shown part) (appends-none out2)
-lines_stop input left s n (Err failure) spec samples out0 out1 out2 head first last spec_is samples_is found none line shown stops part =
-    file_stops input left s n InputOrOutput spec samples out0 out2 out2 head first [] spec_is samples_is found none line
-    (part_stops_again s n failure left out0 out1 out2 first last stops part) (appends-none out2)
-
 -- ---- a fault that is reported for what was returned
-
-whole_stops : (s : WavSpecEx) (n : ℕ) (bytes first text : List ℕ) → AreShowable s n bytes
-    → text ≡ first ++ sample_lines s n bytes → StopsAt s n InputOrOutput bytes first text
-whole_stops s n bytes first text showable text_is =
-    (n, omega arith, showable, starts_with_of_eq _ text (sym text_is))
-
-faulted : (s : WavSpecEx) (n : ℕ) (failure : Failure) (bytes first text : List ℕ)
-    → StopsAt s n failure bytes first text → StopsAt s n InputOrOutput bytes first text
-faulted s n BadNumber bytes first text stops = absurd stops
-faulted s n InputOrOutput bytes first text stops = stops
-faulted s n (Refused e) bytes first text (some, refused, text_is) =
-    (0, omega arith, none_showable s bytes, starts_with_of_eq _ text (append-nil first ∙ sym text_is))
 
 pub fault_reported : (input out0 out1 out2 : Option (List ℕ)) (result : Result (Unit {0}) Failure)
     → OnOk result (Shows input out0 out1) → IfErr result (λ failure. ShowsUntil input failure out0 out1)
