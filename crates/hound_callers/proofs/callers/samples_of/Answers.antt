@@ -19,15 +19,6 @@ module _ {R A : Type 0} (left : R → Option (List ℕ))
   one_more (first ∷ items) item old mid new (then, given, others) next =
       (then, given, one_more items item then mid new others next)
 
-  one_sample_more : (values : List A) (value : A) (old mid new : ReaderState R)
-      → GivesItems left refusal meaning (map Ok values) old mid
-      → IsNext left refusal meaning (Some (Ok value)) mid new
-      → GivesItems left refusal meaning (map Ok (values ++ value ∷ [])) old new
-  one_sample_more values value old mid new are next =
-      subst (λ items. GivesItems left refusal meaning items old new)
-      (sym (map-append Ok values (value ∷ [])))
-      (one_more (map Ok values) (Ok value) old mid new are next)
-
 -- items that are all samples are the meanings of the containers
 meanings : {A : Type 0} (meaning : List ℕ → A) (width : ℕ) (bytes : List ℕ) (values : List A)
     → AreItems None meaning width bytes (map Ok values)
@@ -58,9 +49,8 @@ loop-sample-preserved g c =
     let meaning = g.S.Sample.meaning in
     let old = taken_reader c.loop-sample.sample-iterator in
     let new = taken_reader c.next.new.self in
-    subst (λ items. GivesItems left refusal meaning (map Ok items) c.args.reader new)
-    (sym c.in_ok-push.ensures.items)
-    (one_sample_more left refusal meaning c.loop-sample.samples.items c.in_ok-sample.field-0
+    rw (c.in_ok-push.ensures.items, map-append)
+    (one_more left refusal meaning (map Ok c.loop-sample.samples.items) (Ok c.in_ok-sample.field-0)
     c.args.reader old new c.loop-sample.invariant
     (subst (λ item. IsNext left refusal meaning (Some item) old new) c.in_ok-sample.was
     c.in-Some.ensures.steps))

@@ -1,9 +1,10 @@
-use Rattle.std.proofs.Common.{◌≡◌, ◌∙◌, ℕ, zero, suc, ◌+◌, ◌-◌, ◌*◌, ◌/◌, ◌%◌, ◌≤◌, Bool, true, false, not, cond, eqb, le-ltb, IsTrue, List, [], ◌∷◌, ◌++◌, length, take, drop, Some, None, Result, Ok, Err, MatchResult, inl, inr, refl, sym, ap, subst, arith, length-append, append-nil, drop_at}
+use Rattle.std.proofs.Common.{◌≡◌, ◌∙◌, ℕ, zero, suc, ◌+◌, ◌-◌, ◌*◌, ◌/◌, ◌%◌, ◌≤◌, Bool, true, false, not, cond, eqb, le-ltb, List, [], ◌∷◌, ◌++◌, length, take, drop, Some, None, inl, inr, refl, sym, ap, subst, arith, length-append, append-nil, drop_at}
 use Rattle.std.proofs.Math.Nat.{div-mul-le_self, mod-eq-sub-div-mul}
 use Rattle.std.proofs.lemmas.Bool.{cases_Bool, eqb-true}
 use Rattle.std.proofs.lemmas.List.{drop-take, take-take}
+use Rattle.std.proofs.lemmas.Result.{MatchResult-weaker}
 use Rattle.std.specs.List.{AllByRecursion, concat}
-use Rattle.hound.specs.{Appends, Cause, Error, FollowsData, HasOneAppendAnswer, Head, IsIoError, IsNotAppended, IsWhole, IsWritable, MediumState, SampleFormat, WavSpecEx, WriterState, accepted_samples, appendable, bytes_of, containers, data_fault, data_length, data_start, data_tag, faulty, fmt_tag, greatest_u32, head_fault, header, is_short, long_fmt, one_more, padding, riff_size, riff_tag, sized_fmt, subformat, wave_tag}
+use Rattle.hound.specs.{Cause, FollowsData, HasOneAppendAnswer, Head, IsWhole, IsWritable, MediumState, SampleFormat, WavSpecEx, WriterState, accepted_samples, appendable, bytes_of, containers, data_fault, data_length, data_start, data_tag, faulty, fmt_tag, greatest_u32, head_fault, header, is_short, long_fmt, padding, riff_size, riff_tag, sized_fmt, subformat, wave_tag}
 use Rattle.hound.specs.declared.SampleFormat.TheVariants.{Int, Float}
 use Rattle.hound_callers.proofs.reading.reopen.Goals as goal
 
@@ -99,86 +100,68 @@ module _ {M : Type 0} (state : M → MediumState) (s : WavSpecEx) (len : ℕ) (o
             (drop (data_start s) old.contents) (div-mul-le_self len s.bytes_per_sample),
       )
 
-  -- what a call that appends comes to
-  comes : {tells : Bool} (told : IsTrue tells) (P : WriterState M → Type 0)
-      → ((w : WriterState M)
-      → (w.spec_ex ≡ s) × (data_start s + len ≤ length old.contents → IsWhole state w)
-      × (accepted_samples state w
-      ≡ containers s.bytes_per_sample (len / s.bytes_per_sample) (drop (data_start s) old.contents))
-      → P w)
-      → (result : Result (WriterState M) (M × Error))
-      → MatchResult result (Appends tells state old)
-      (λ refused. IsTrue tells → IsNotAppended old (state refused.0) refused.1)
-      → MatchResult result P
-      (λ refused. IsIoError refused.1 × ((state refused.0).faults ≡ one_more old.faults))
-  comes told P then (Ok w) appends = then w (opened w appends.none_waits (appends.file told))
-  comes told P then (Err refused) not = elim (not told).why [
-    | inl (fault, is, names, same) ↦
-        let a = answer.2 (faulty fault) is in
-        let b = this in
-        let never : faulty fault ≡ appendable s len (data_start s) = a ∙ sym b in
-        absurd (cc never)
-    | inr failed ↦ failed
-  ]
-
 pub returns-clause-begun : goal.returns-clause-begun
 returns-clause-begun g c told s size len rest writable none fits is =
     let M = g.M.Placed in
     let old = M.state c.args.medium in
     let few : len ≤ greatest_u32 = omega (arith, fits) in
+    let long = header_long s size len in
     let after : drop (data_start s) old.contents ≡ rest =
-    ap (drop (data_start s)) is ∙ drop_at (header s size len) rest (data_start s)
-    (header_long s size len) in
-    comes M.state s len old (c.one_append_answer.ensures old.contents)
-    (subst (λ bytes. Head bytes s len (data_start s)) (sym is)
-    (c.written_is_head.ensures s size len rest writable few))
-    (no_fault s len writable none fits) told _
-    (λ w (spec, whole, all). (
+    ap (drop (data_start s)) is ∙ drop_at (header s size len) rest (data_start s) long in
+    let answer = c.one_append_answer.ensures old.contents in
+    let head = subst (λ bytes. Head bytes s len (data_start s)) (sym is)
+    (c.written_is_head.ensures s size len rest writable few) in
+    let sound = no_fault s len writable none fits in
+    MatchResult-weaker c.try_append.result c.try_append.ensures.appends
+    (λ w appends.
+    let (spec, whole, all) = opened M.state s len old answer head sound w appends.none_waits
+    (appends.file told) in (
       spec,
       λ within. whole (omega (
         arith,
         within,
         ap length is,
         length-append (header s size len) rest,
-        header_long s size len,
+        long,
       )),
       all ∙ ap (containers s.bytes_per_sample (len / s.bytes_per_sample)) after,
-    )) c.try_append.result c.try_append.ensures.appends
+    ))
+    (λ refused not. elim (not told).why [
+      | inl (fault, here, names, same) ↦
+          let a = answer.2 (faulty fault) here in
+          let b = this M.state s len old answer head sound in
+          let never : faulty fault ≡ appendable s len (data_start s) = a ∙ sym b in
+          absurd (cc never)
+      | inr failed ↦ failed
+    ])
 
 pub returns-clause-written : goal.returns-clause-written
 returns-clause-written g c told s list writable each fits is =
-    let M = g.M.Placed in
-    let old = M.state c.args.medium in
     let (read, same) = c.written_is_read.ensures s list writable each in
     let n = length (concat list) in
     let size = riff_size (data_start s) n in
+    let rest = concat list ++ padding n in
     let w = s.bytes_per_sample in
+    let bytes : n ≡ length list * w = concat_long w list each.each in
     let samples = eqb-true (read.len % w) 0 (are_whole s read.len read.frames).0 in
-    let long : read.len ≡ length list * w =
+    let long : read.len ≡ n =
     omega (
       arith,
+      bytes,
       samples,
       mod-eq-sub-div-mul read.len w,
       div-mul-le_self read.len w,
       ap (λ k. k * w) read.count,
     ) in
-    comes M.state s read.len old (c.one_append_answer.ensures old.contents)
-    (subst (λ bytes. Head bytes s read.len (data_start s)) (sym is) read.head)
-    (no_fault s read.len writable read.frames
-    (subst (λ k. riff_size (data_start s) k ≤ greatest_u32) (sym long) fits)) told _
+    MatchResult-weaker c.try_append.result
+    (returns-clause-begun g c told s size n rest writable
+    (subst (λ k. data_fault s k ≡ None) long read.frames)
+    (subst (λ k. riff_size (data_start s) k ≤ greatest_u32) (sym bytes) fits) is)
     (λ w (spec, whole, all). (
       spec,
-      whole (omega (
-        arith,
-        long,
-        concat_long s.bytes_per_sample list each.each,
-        ap length is,
-        length-append (header s size n) (concat list ++ padding n),
-        length-append (concat list) (padding n),
-        header_long s size n,
-      )),
-      all ∙ ap (λ k. containers s.bytes_per_sample k (drop (data_start s) old.contents))
-          (sym read.count)
-          ∙ ap (λ bytes. containers s.bytes_per_sample (length list) (drop (data_start s) bytes)) is
-          ∙ same,
-    )) c.try_append.result c.try_append.ensures.appends
+      whole (omega (arith, length-append (concat list) (padding n))),
+      all ∙ (λ i. containers s.bytes_per_sample
+          ((ap (λ k. k / s.bytes_per_sample) (sym long) ∙ sym read.count) i)
+          (sym (drop_at (header s size n) rest (data_start s) (header_long s size n)) i)) ∙ same,
+    ))
+    (λ refused failed. failed)
