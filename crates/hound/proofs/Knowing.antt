@@ -37,19 +37,17 @@ pub accepted : (seen : List (Asked × Bool)) (calls : List Call)
     → AreKnown (map (λ (one : Asked × Bool). marked one.0 one.1) seen) calls
     → accepted_by_all calls ≡ flat_map (λ (one : Asked × Bool). accepted_of one.0 one.1) seen
 accepted [] [] are = refl
-accepted [] (call ∷ calls) are = absurd are
-accepted (one ∷ seen) [] are = absurd are
 accepted (one ∷ seen) (call ∷ calls) are =
     λ i. accepted_of (are.0.0 i) (are.0.1 i) ++ accepted seen calls are.1 i
+accepted _ _ are = absurd are
 
 -- calls that steps asked
 pub known_steps : (s : WavSpecEx) (steps : List Step) (calls : List Call)
     → asked_by_all calls ≡ map (asked_by s) steps
     → AreKnown (map (λ step. made (asked_by s step)) steps) calls
 known_steps s [] [] asked = tt
-known_steps s [] (call ∷ calls) asked = cc
-known_steps s (step ∷ steps) [] asked = cc
 known_steps s (step ∷ steps) (call ∷ calls) asked =
     let one : call.asked ≡ asked_by s step = cc in
     let rest : asked_by_all calls ≡ map (asked_by s) steps = cc in
     ((one, tt), known_steps s steps calls rest)
+known_steps s _ _ asked = cc

@@ -64,12 +64,11 @@ calls_accept : (s : WavSpecEx) (steps : List Step) (calls : List Call)
     → accepted_by_all calls ≡ accepted_by_steps s steps
     (map (λ (call : Call). mark_of call.answer) calls)
 calls_accept s [] [] asked = refl
-calls_accept s [] (call ∷ calls) asked = cc
-calls_accept s (step ∷ steps) [] asked = cc
 calls_accept s (step ∷ steps) (call ∷ calls) asked =
     let one : call.asked ≡ asked_by s step = cc in
     let rest : asked_by_all calls ≡ map (asked_by s) steps = cc in
     λ i. accepted_of (one i) (mark_of call.answer) ++ calls_accept s steps calls rest i
+calls_accept s _ _ asked = cc
 
 module _ {M : Type 0} (tells keeps : Bool) (state : M → MediumState) where
   run_spec : (begin : Begin) (old : M) (w : WriterState M) → BeginsAs tells keeps state begin old w

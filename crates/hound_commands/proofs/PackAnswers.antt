@@ -18,9 +18,8 @@ use Rattle.hound_commands.specs.Commands.{failure_of, HasRoom, IsPackError, IsPa
 pub parts : (first : Result (List ℕ) Refusal) (more : Result (List (List ℕ)) Refusal)
     (list : List (List ℕ)) → and_more first more ≡ Ok list
     → (c : List ℕ) × (rest : List (List ℕ)) × (first ≡ Ok c) × (more ≡ Ok rest) × (list ≡ c ∷ rest)
-parts (Err refusal) more list is = cc
-parts (Ok c) (Err refusal) list is = cc
 parts (Ok c) (Ok rest) list is = (c, rest, refl, refl, (let same : c ∷ rest ≡ list = cc in sym same))
+parts _ _ list is = cc
 
 -- containers of numbers have the width of the spec, each
 pub each_width : (s : WavSpecEx) (ns : List ℤ) (cs : List (List ℕ)) → containers_of s ns ≡ Ok cs
@@ -58,12 +57,10 @@ none_unsupported s pair (n ∷ ns) is =
         → int_container n s.spec.bits_per_sample s.bytes_per_sample ≡ first
         → (more : Result (List (List ℕ)) Refusal) → containers_of s ns ≡ more
         → and_more first more ≡ Err unsupported → ⊥
-    go later (Err too_wide) here more there is = cc
     go later (Err unsupported) here more there is =
         never_unsupported n s.spec.bits_per_sample s.bytes_per_sample pair here
-    go later (Ok c) here (Ok rest) there is = cc
-    go later (Ok c) here (Err too_wide) there is = cc
     go later (Ok c) here (Err unsupported) there is = later there
+    go later _ here _ there is = cc
 
 module _ {W : Type 0} (s : WavSpecEx) (integers : s.spec.sample_format ≡ Int) (ns : List ℤ)
     (first : WriterState W) (begun : HasBegun s first) where

@@ -23,18 +23,16 @@ use Rattle.hound_commands.specs.declared.failure.Failure.TheVariants.{BadNumber,
 
 say_one : (parts : List (List ℕ)) (ns ms : List ℤ) → SayNumbers parts ns → SayNumbers parts ms → ns ≡ ms
 say_one [] [] [] here there = refl
-say_one [] (n ∷ ns) ms here there = absurd here
 say_one [] [] (m ∷ ms) here there = absurd there
-say_one (part ∷ parts) [] ms here there = absurd here
 say_one (part ∷ parts) (n ∷ ns) [] here there = absurd there
 say_one (part ∷ parts) (n ∷ ns) (m ∷ ms) here there =
     ap (λ x. x ∷ ns) (here.0.value ∙ sym there.0.value) ∙ ap (λ l. m ∷ l) (say_one parts ns ms here.1 there.1)
+say_one _ _ ms here there = absurd here
 
 say_within : (parts : List (List ℕ)) (ns : List ℤ) → SayNumbers parts ns → AllByRecursion (FitsSigned w32) ns
 say_within [] [] says = tt
-say_within [] (n ∷ ns) says = absurd says
-say_within (part ∷ parts) [] says = absurd says
 say_within (part ∷ parts) (n ∷ ns) says = (says.0.within, say_within parts ns says.1)
+say_within _ _ says = absurd says
 
 -- ---- the lines of a packed file
 

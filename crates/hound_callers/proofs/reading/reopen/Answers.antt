@@ -39,8 +39,7 @@ are_whole s len none =
     go : (a b : Bool) (c d : Cause) → cond (not a) (Some c) (cond (not b) (Some d) None) ≡ None
         → (a ≡ true) × (b ≡ true)
     go true true c d none = (refl, refl)
-    go true false c d none = cc
-    go false b c d none = cc
+    go _ _ c d none = cc
 
 -- a head that fails no check
 no_fault : (s : WavSpecEx) (len : ℕ) → IsWritable s → data_fault s len ≡ None

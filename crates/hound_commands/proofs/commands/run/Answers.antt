@@ -21,12 +21,8 @@ pack_words : (words : List (Bor (List ℕ))) (none : Bor (List ℕ)) (spec : Wav
     → (get_or words 0 none).now ≡ codes "pack"
     → SaySpec (get_or words 1 none).now (get_or words 2 none).now (get_or words 3 none).now spec
     → IsPackCommand words spec
-pack_words [] none spec least below word says = absurd (omega arith)
-pack_words (a ∷ []) none spec least below word says = absurd (omega arith)
-pack_words (a ∷ b ∷ []) none spec least below word says = absurd (omega arith)
-pack_words (a ∷ b ∷ c ∷ []) none spec least below word says = absurd (omega arith)
 pack_words (a ∷ b ∷ c ∷ d ∷ []) none spec least below word says = (word, says)
-pack_words (a ∷ b ∷ c ∷ d ∷ e ∷ words) none spec least below word says = absurd (omega arith)
+pack_words _ none spec least below word says = absurd (omega arith)
 
 pub returns-clause-failed : goal.returns-clause-failed
 returns-clause-failed g c = λ one. elim c.if-words-lt2.branch [
