@@ -1,10 +1,12 @@
 use Rattle.std.proofs.Common.{length, drop, ◌≤◌}
-use Rattle.hound.proofs.Running.{SessionsLead}
+use Rattle.hound.specs.declared.session.Begin.TheVariants.{Append}
+use Rattle.hound.specs.Sessions.{RunsOn}
+use Rattle.hound.proofs.Running.{Leads}
 use Rattle.hound.proofs.sessions.append_sessions.Given as goal
 
 abbrev pub invariant-loop-i : goal.invariant-loop-i
 invariant-loop-i g l = record {
   within : l.i ≤ length l.sessions;
-  leads : SessionsLead g.M.Placed.tells g.M.Placed.keeps g.M.Placed.state l.sessions
+  leads : Leads (RunsOn g.M.Placed.tells g.M.Placed.keeps g.M.Placed.state Append) l.sessions
       (drop l.i l.sessions) l.fn.medium l.medium;
 }
