@@ -1,5 +1,5 @@
 -- What calls lead to, in each state.
-use Rattle.std.proofs.Common.{◌≡◌, ℕ, ◌+◌, ◌%◌, ◌≤◌, ◌⊎◌, max, Bool, List, [], ◌∷◌, ◌++◌, length, Result, IsTrue, refl, sym, ◌∙◌, ap, subst, arith, inl, inr, append_assoc, length-append}
+use Rattle.std.proofs.Common.{◌≡◌, ℕ, ◌+◌, ◌%◌, ◌<◌, ◌≤◌, max, Bool, List, [], ◌∷◌, ◌++◌, length, Result, IsTrue, refl, sym, ◌∙◌, ap, subst, arith, inl, inr, append_assoc, length-append}
 use Rattle.std.proofs.lemmas.Bool.{cases_lt}
 use Rattle.std.proofs.lemmas.List.{append-nil}
 use Rattle.std.specs.List.{concat}
@@ -24,20 +24,14 @@ length-concat-append xs ys = ap length (concat-append xs ys) ∙ length-append (
 sizes_still : (start : ℕ) (c : List ℕ) → ChangesSizesOnly start c c
 sizes_still start c = record { front = refl; middle = refl }
 
--- a state since the first of some calls is that of one of them
-pub at_call : (calls : List Call) (past : List (ℕ × ℕ)) (k : ℕ) → begins_at calls past ≤ k
-    → k ≤ length past
-    → (calls ≡ []) ⊎ ((before after : List Call) × (call : Call) × (calls ≡ before ++ (call ∷ after))
-    × (call.began ≤ k) × (k ≤ begins_at after past))
-at_call [] past k from to = inl refl
-at_call (call ∷ calls) past k from to = elim (cases_lt (begins_at calls past) k) [
-  | inr within ↦ inr ([], calls, call, refl, from, within)
-  | inl since ↦ elim (at_call calls past k (omega (arith, since)) to) [
-    | inl none ↦ absurd (omega (arith, since, to, ap (λ l. begins_at l past) none))
-    | inr (before, after, one, is, low, high) ↦
-        inr (call ∷ before, after, one, ap (λ l. call ∷ l) is, low, high)
-  ]
-]
+-- a list that has a last element
+pub last_of : {V : Type 0} (list : List V) → 0 < length list
+    → (first : List V) × (last : V) × (list ≡ first ++ last ∷ [])
+last_of [] some = absurd (omega (arith, some))
+last_of (one ∷ []) some = ([], one, refl)
+last_of (one ∷ two ∷ list) some =
+    let (first, last, parts) = last_of (two ∷ list) (omega arith) in
+    (one ∷ first, last, ap (λ l. one ∷ l) parts)
 
 module _ {W : Type 0} (tells keeps : Bool) (state : W → MediumState) (told : IsTrue tells) where
   -- what calls that accepted these led to

@@ -16,8 +16,8 @@ use Rattle.hound_repair.specs.declared.sizes.RepairState.TheVariants.{HasChunksA
 use Rattle.hound_writer.specs.{Call, field, IsStored}
 use Rattle.hound.specs.Headline.{HasPublished, IsLeftAfter, Promises, accepted_by_all, begins_at}
 use Rattle.hound.proofs.Losing.{stored_survives}
-use Rattle.hound.proofs.Calling.{at_call}
-use Rattle.hound.proofs.PowerLoss.{accepted_parts}
+use Rattle.hound.proofs.Calling.{last_of}
+use Rattle.hound.proofs.PowerLoss.{accepted_parts, during}
 
 module _ (s : WavSpecEx) (h : ℕ) (found : List (List ℕ)) (calls : List Call) (end : MediumState)
     (promises : Promises s h found calls end) (some : 1 ≤ s.bytes_per_sample)
@@ -102,23 +102,20 @@ module _ (s : WavSpecEx) (h : ℕ) (found : List (List ℕ)) (calls : List Call)
         (promises.head k (omega (arith, first_began, since)) until),
     subst (IsStored h (concat list) 0 (length (concat list))) (sym is) (stored_later k since until),
   )
-  published_is_left c (inr (f, k, sector, since, le, until, ascends, sized, one, lost)) = (
-    elim (at_call calls end.past k (omega (arith, first_began, since, le)) until) [
-      | inl none ↦
-          absurd (omega (
-            arith,
-            ap length none,
-            ap length same,
-            length-append before (flush ∷ after),
-          ))
-      | inr (front, rest, call, parts, low, high) ↦
-          (promises.after_loss front rest call f k sector c parts
-          (omega (arith, first_began, since)) le low high ascends sized one lost).2
-    ],
-    stored_survives h (length (concat list)) sector f k (concat list) end.start end.past c
-        (omega arith) lost
-        (λ j low high. stored_later j (omega (arith, since, low)) (omega (arith, high, until))),
-  )
+  published_is_left c (inr (f, k, sector, since, le, until, ascends, sized, one, lost)) =
+      let (front, last, ends) = last_of calls (omega (
+        arith,
+        ap length same,
+        length-append before (flush ∷ after),
+      )) in
+      let d = during front [] last end k
+      (omega (arith, first_began, since, le, ap (λ l. begins_at l end.past) ends)) until in (
+        (promises.after_loss d.first d.rest d.call f k sector c (ends ∙ d.parts)
+            (omega (arith, first_began, since)) le d.from d.to ascends sized one lost).2,
+        stored_survives h (length (concat list)) sector f k (concat list) end.start end.past c
+            (omega arith) lost
+            (λ j low high. stored_later j (omega (arith, since, low)) (omega (arith, high, until))),
+      )
 
   -- so a repair loses none of them
   pub none_lost : (looks : Bool) (cut mended : MediumState) (found : Repair)

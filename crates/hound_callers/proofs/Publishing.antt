@@ -1,24 +1,16 @@
 -- Blocks that were each written and published, and what is known of their calls.
-use Rattle.std.proofs.Common.{◌≡◌, ℕ, ◌+◌, ◌<◌, Bool, true, List, [], ◌∷◌, ◌++◌, length, take, get_or, Result, Ok, Err, IsOk, OnOk, is_ok, refl, sym, ◌∙◌, ap, subst, append_assoc, arith}
+use Rattle.std.proofs.Common.{◌≡◌, ℕ, ◌+◌, ◌<◌, Bool, true, List, [], ◌∷◌, ◌++◌, length, take, get_or, Result, Ok, Err, IsOk, OnOk, is_ok, refl, sym, ◌∙◌, ap, subst, append_assoc}
 use Rattle.std.proofs.lemmas.Bool.{false≢true}
 use Rattle.std.proofs.lemmas.Grind.{flat_map-append}
 use Rattle.std.proofs.lemmas.List.{append-nil, map-append, take_more}
 use Rattle.std.specs.List.{All, flat_map}
 use Rattle.hound.specs.{if_marked, AreKnown, Asked, Call, IsKnown, Known, marked, publish, write, Refusal, HasPublished, accepted_by_all, accepted_of}
+use Rattle.hound.proofs.Calling.{last_of}
 use Rattle.hound_callers.specs.Recording.{HaveContainers, published_calls, seen}
 
 pub at_ok : {T E P : Type 0} (r : Result T E) → is_ok r ≡ true → OnOk r P → P
 at_ok (Ok x) is here = here
 at_ok (Err e) is here = absurd (false≢true is)
-
--- a list that has a last element
-pub last_of : {V : Type 0} (list : List V) → 0 < length list
-    → (first : List V) × (last : V) × (list ≡ first ++ last ∷ [])
-last_of [] some = absurd (omega (arith, some))
-last_of (one ∷ []) some = ([], one, refl)
-last_of (one ∷ two ∷ list) some =
-    let (first, last, parts) = last_of (two ∷ list) (omega arith) in
-    (one ∷ first, last, ap (λ l. one ∷ l) parts)
 
 module _ {V : Type 0} (f : V → Result (List (List ℕ)) Refusal) where
   -- the two calls of a block more are known after those of the blocks before it
