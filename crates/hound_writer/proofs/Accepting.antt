@@ -493,11 +493,3 @@ accepts_beside tells keeps state asked answer a b memory accepts =
       moments = λ told kept. let at_each = accepts.moments told kept in
           record { counts = at_each.counts; front = at_each.front; stored = at_each.stored };
     }
-
--- the result for containers that have room and need no memory
-pub fit_failed : (answer : Result (Unit {0}) Error) → FitAnswer true false answer
-    → IfErr answer IsIoError
-fit_failed (Ok x) here = tt
-fit_failed (Err (IoError e)) here = tt
-fit_failed (Err OutOfMemory) here = absurd (false≢true here)
-fit_failed (Err e) here = absurd here

@@ -2,11 +2,12 @@
 use Rattle.std.proofs.Common.{◌≡◌, ℕ, zero, suc, ◌+◌, ◌*◌, ◌/◌, ◌%◌, ◌≤◌, List, [], ◌∷◌, ◌++◌, length, take, drop, refl, sym, ◌∙◌, ap, arith}
 use Rattle.std.proofs.lemmas.List.{take-take, take_all, take-append-le, drop_at}
 use Rattle.std.proofs.lemmas.Nat.{div-add-mod'}
-use Rattle.std.proofs.Math.Nat.{add-mod, add-div_right, mul-add-div_right}
+use Rattle.std.proofs.Math.Nat.{add-mod, div_self, mod_self, mul-add-div_right}
 use Rattle.std.proofs.Math.Seq.{take-add}
 use Rattle.std.specs.List.{concat}
 use Rattle.hound_sample.specs.{containers}
 pub use Rattle.hound_sample.proofs.Containers.{containers_append, containers_front}
+pub use Rattle.std.proofs.Math.Nat.{zero-mod as none_whole, zero-div as zero_div}
 
 -- the containers joined are the bytes
 pub concat-containers : (width count : ℕ) (bytes : List ℕ)
@@ -18,15 +19,6 @@ concat-containers width (suc count) bytes =
     ∙ sym (take-add width (count * width) bytes)
     ∙ ap (λ n. take n bytes) (let e : width + count * width ≡ suc count * width = omega arith in e)
 
--- no bytes are whole containers
-pub none_whole : (width : ℕ) → 0 % width ≡ 0
-none_whole zero = refl
-none_whole (suc width) = omega arith
-
-pub zero_div : (width : ℕ) → 0 / width ≡ 0
-zero_div zero = refl
-zero_div (suc width) = omega arith
-
 -- whole containers: as many bytes as their count says
 pub count_bytes : (n width : ℕ) → n % width ≡ 0 → n / width * width ≡ n
 count_bytes n width whole = omega (arith, div-add-mod' n width, whole)
@@ -35,19 +27,9 @@ pub whole_more : (n more width : ℕ) → n % width ≡ 0 → more % width ≡ 0
 whole_more n more width whole then =
     add-mod n more width ∙ (λ i. (whole i + then i) % width) ∙ none_whole width
 
-pub count_more : (n width : ℕ) → 1 ≤ width → (n + width) / width ≡ suc (n / width)
-count_more n width some = omega (arith, add-div_right n {k = width} some)
-
 -- the bytes of one container are whole
 pub one_whole : (width n : ℕ) → n ≡ width → n % width ≡ 0
-one_whole zero n is = ap (λ k. k % 0) is
-one_whole (suc width) n is =
-    let m = suc width in
-    let one : m / m ≡ 1 =
-    ap (λ k. k / m) (let e : m ≡ 0 + m = omega arith in e) ∙ count_more 0 m (omega arith)
-    ∙ ap suc (let e : 0 / m ≡ 0 = omega arith in e) in
-    let left : m / m * m ≡ 1 * m = ap (λ k. k * m) one in
-    ap (λ k. k % m) is ∙ (let e : m % m ≡ 0 = omega (arith, div-add-mod' m m, left) in e)
+one_whole width n is = ap (λ k. k % width) is ∙ mod_self width
 
 -- the count of whole containers of two parts
 pub count_append : (n more width : ℕ) → 1 ≤ width → n % width ≡ 0
@@ -77,9 +59,7 @@ containers_cut n width bytes whole =
 pub container_alone : (width : ℕ) (bytes : List ℕ) → 1 ≤ width → length bytes ≡ width
     → containers width (length bytes / width) bytes ≡ bytes ∷ []
 container_alone width bytes some is =
-    let one : length bytes / width ≡ 1 =
-    ap (λ n. n / width) (let e : length bytes ≡ 0 + width = omega (arith, is) in e)
-    ∙ count_more 0 width some ∙ ap suc (zero_div width) in
+    let one : length bytes / width ≡ 1 = ap (λ n. n / width) is ∙ div_self some in
     (λ i. containers width (one i) bytes)
     ∙ ap (λ (c : List ℕ). c ∷ []) (take_all width bytes (omega (arith, is)))
 

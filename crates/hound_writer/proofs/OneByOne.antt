@@ -26,10 +26,6 @@ all_accepted tells keeps state (Ok list) old new told whole accepts = (
   record { samples = (accepts.file told).accepted whole; size = accepts.adds.data_length },
 )
 
-one_list : (asked : Result (List (List ℕ)) Refusal) (a b : List (List ℕ)) → asked ≡ Ok a
-    → asked ≡ Ok b → a ≡ b
-one_list asked a b is are = cc
-
 module _ {V W : Type 0} (tells keeps : Bool) (state : W → MediumState)
     (container : V → ℕ → ℕ → Result (List ℕ) Refusal) (told : IsTrue tells) where
   -- all that were written one by one
@@ -86,8 +82,7 @@ module _ {V W : Type 0} (tells keeps : Bool) (state : W → MediumState)
       all_accepted tells keeps state (containers_in container a.spec_ex values) a b told whole
       block in
       let (others, are, ones) = each_accepted values a c whole each in
-      let lists : list ≡ others =
-      one_list (containers_in container a.spec_ex values) list others is are in (
+      let lists : list ≡ others = cc in (
         all.samples ∙ ap (λ l. accepted_samples state a ++ l) lists ∙ sym ones.samples,
         all.size ∙ ap (λ l. data_length a + length (concat l)) lists ∙ sym ones.size,
       )
