@@ -1,5 +1,5 @@
 -- What bytes after the accepted ones change.
-use Rattle.std.proofs.Common.{◌≡◌, ℕ, zero, suc, ◌+◌, ◌*◌, ◌-◌, ◌/◌, ◌%◌, ◌≤◌, max, nat_le, Bool, true, false, List, [], ◌∷◌, ◌++◌, length, take, drop, replicate, Result, Ok, Err, IfErr, IsTrue, inl, refl, sym, subst, ◌∙◌, ap, arith, length-append, length-take, le-leb}
+use Rattle.std.proofs.Common.{◌≡◌, ℕ, zero, suc, ◌+◌, ◌*◌, ◌-◌, ◌/◌, ◌%◌, ◌≤◌, max, nat_le, Bool, true, false, List, [], ◌∷◌, ◌++◌, length, take, drop, replicate, Result, Ok, Err, IfErr, IsTrue, inl, refl, rules, sym, subst, ◌∙◌, ap, arith, length-append, length-take, le-leb}
 use Rattle.std.proofs.lemmas.List.{take_at, take_all, drop_at, drop-drop, append-nil, length-take-le}
 use Rattle.std.proofs.lemmas.Bool.{false≢true}
 use Rattle.std.specs.List.{concat}
@@ -81,26 +81,11 @@ accepts_refused tells keeps state w memory asked e counts replays mark faults an
     let old = state w.medium in
     let nothing : if_marked (mark_of {T = Unit {0}} (Err e)) asked ≡ [] =
     ap (λ m. if_marked m asked) mark in
+    let more = ap (λ l. length (concat l)) nothing in
+    let none = append-nil (accepted_samples state w) in
     record {
-      adds = record {
-        answers = answers;
-        refused = on_refused {T = Unit {0}} (Err e) refl;
-        spec_ex = refl;
-        data_start = refl;
-        data_length = omega (arith, ap (λ l. length (concat l)) nothing);
-        kept = omega arith;
-      };
-      file = λ told. record {
-        faults = faults old.faults;
-        front = refl;
-        rest = unless_failed {T = Unit {0}} (Err e) refl;
-        reach = unless_failed {T = Unit {0}} (Err e) (omega arith);
-        whole = λ whole. whole;
-        accepted =
-            λ _. sym (append-nil (accepted_samples state w))
-            ∙ ap (λ l. accepted_samples state w ++ l) (sym nothing);
-        counts = counts told;
-      };
+      adds = search (rules, on_refused);
+      file = λ told. let same = faults old.faults in search (rules, unless_failed);
       moments = λ told kept. adds_nothing state w (counts told) (replays told kept);
     }
 
@@ -212,16 +197,11 @@ goes_beside state far all w m sound whole_out faults stays =
     → accepted_samples state (record w { medium = m }) ≡ accepted_samples state w =
     λ whole. ap (λ l. containers w.spec_ex.bytes_per_sample (sample_count w) (l ++ w.waiting))
     (same whole) in
-    record {
-      faults = faults;
-      around = stays;
-      whole = λ whole. omega (arith, whole, stays.grows);
-      accepted = accepted;
-      counts =
-          λ whole. subst (λ l. Counts w.spec_ex w.data_start l (state m).contents)
-          (sym (accepted whole))
-          (counts_at state w sound whole_out (state m).contents whole stays.stands (same whole));
-    }
+    let counts : IsWhole state w → IsCounted state (record w { medium = m }) =
+    λ whole. subst (λ l. Counts w.spec_ex w.data_start l (state m).contents)
+    (sym (accepted whole))
+    (counts_at state w sound whole_out (state m).contents whole stays.stands (same whole)) in
+    search rules
 
 -- a writer with an empty block, and a medium with bytes written after its data
 module _ {W : Type 0} (tells keeps : Bool) (state : W → MediumState) (w : WriterState W)
@@ -337,31 +317,18 @@ module _ {W : Type 0} (tells keeps : Bool) (state : W → MediumState) (w : Writ
         ((state w.medium).contents ≡ overlay (state w.medium).start (state w.medium).past)
         → AcceptsBytes tells keeps state bytes (Err (IoError e)) w (after_put m w.out)
     accepts_none e puts replays = record {
-      adds = record {
-        answers =
-            subst (λ b. FitAnswer {T = Unit {0}} b false (Err (IoError e)))
-            (sym (room_fits w bytes room whole_bytes)) tt;
-        refused = tt;
-        spec_ex = refl;
-        data_start = refl;
-        data_length = omega arith;
-        kept = omega arith;
-      };
+      adds =
+          let answers = subst (λ b. FitAnswer {T = Unit {0}} b false (Err (IoError e)))
+          (sym (room_fits w bytes room whole_bytes)) tt in
+          search rules;
       file = λ told.
           let p = puts told in
           let f = goes_beside state (end + length bytes) false w m sound (whole_out state w none sound)
           p.faults
           (around tells keeps state w stands m bytes (all_out false) told p (end + length bytes) refl)
           in
-          record {
-            faults = f.faults;
-            front = f.around.front;
-            rest = tt;
-            reach = tt;
-            whole = f.whole;
-            accepted = λ whole. f.accepted whole ∙ sym (append-nil (accepted_samples state w));
-            counts = f.counts;
-          };
+          let none = append-nil (accepted_samples state w) in
+          search rules;
       moments =
           λ told kept. at_each m bytes (all_out false) told (puts told) kept (replays told kept);
     }
@@ -381,16 +348,11 @@ module _ {W : Type 0} (tells keeps : Bool) (state : W → MediumState) (w : Writ
         ((state w.medium).contents ≡ overlay (state w.medium).start (state w.medium).past)
         → AcceptsBytes tells keeps state bytes (Ok tt) w (after_put m (w.out + length bytes))
     accepts_all puts replays = record {
-      adds = record {
-        answers =
-            subst (λ b. FitAnswer {T = Unit {0}} b false (Ok tt))
-            (sym (room_fits w bytes room whole_bytes)) tt;
-        refused = tt;
-        spec_ex = refl;
-        data_start = refl;
-        data_length = omega (arith, ap length (joined_bytes width bytes whole_bytes));
-        kept = omega arith;
-      };
+      adds =
+          let answers = subst (λ b. FitAnswer {T = Unit {0}} b false (Ok tt))
+          (sym (room_fits w bytes room whole_bytes)) tt in
+          let size = ap length (joined_bytes width bytes whole_bytes) in
+          search rules;
       file = λ told.
           let p = puts told in
           let last = after_put m (w.out + length bytes) in
@@ -470,26 +432,12 @@ pub accepts_beside : {W : Type 0} (tells keeps : Bool) (state : W → MediumStat
 accepts_beside tells keeps state asked answer a b memory accepts =
     let adds = accepts.adds in
     record {
-      adds = record {
-        answers = accept_as false false asked answer a (record a { buffer = memory })
-            (λ wants. wants) refl refl adds.answers;
-        refused = refused_then answer
-            (ap (λ (w : WriterState _). record w { buffer = memory })) adds.refused;
-        spec_ex = adds.spec_ex;
-        data_start = adds.data_start;
-        data_length = adds.data_length;
-        kept = omega arith;
-      };
-      file = λ told. let f = accepts.file told in
-          record {
-            faults = f.faults;
-            front = f.front;
-            rest = f.rest;
-            reach = f.reach;
-            whole = f.whole;
-            accepted = f.accepted;
-            counts = f.counts;
-          };
-      moments = λ told kept. let at_each = accepts.moments told kept in
-          record { counts = at_each.counts; front = at_each.front; stored = at_each.stored };
+      adds =
+          let answers = accept_as false false asked answer a (record a { buffer = memory })
+          (λ wants. wants) refl refl adds.answers in
+          let refused = refused_then answer
+          (ap (λ (w : WriterState _). record w { buffer = memory })) adds.refused in
+          search rules;
+      file = search rules;
+      moments = search rules;
     }

@@ -1,6 +1,6 @@
 -- What the block of accepted samples changes: samples that join it, and its samples when it is
 -- written.
-use Rattle.std.proofs.Common.{◌≡◌, ℕ, ◌+◌, ◌/◌, ◌%◌, ◌≤◌, Bool, true, false, IsTrue, List, [], ◌++◌, length, take, drop, Result, Ok, inl, refl, sym, subst, ◌∙◌, ap, arith, length-append, length-drop}
+use Rattle.std.proofs.Common.{◌≡◌, ℕ, ◌+◌, ◌/◌, ◌%◌, ◌≤◌, Bool, true, false, IsTrue, List, [], ◌++◌, length, take, drop, Result, Ok, inl, refl, rules, sym, subst, ◌∙◌, ap, arith, length-append, length-drop}
 use Rattle.std.proofs.lemmas.List.{append-nil, length-take-le, nil_from_length}
 use Rattle.std.specs.List.{concat}
 use Rattle.hound_medium.specs.{overlay, MediumState, WhereTells, WhereKeeps}
@@ -44,17 +44,11 @@ module _ {W : Type 0} (tells keeps : Bool) (state : W → MediumState) (w : Writ
   pub consistent_longer : length w.waiting + length bytes ≤ block_length
       → IsConsistent tells state (record w { waiting = w.waiting ++ bytes }) moved limit
   consistent_longer few =
-      record {
-        sound = sound_longer;
-        whole_out = known.whole_out;
-        whole_waiting =
-            ap (λ n. n % width) (length-append w.waiting bytes)
-            ∙ whole_more (length w.waiting) (length bytes) width known.whole_waiting whole_bytes;
-        block = omega (arith, few, length-append w.waiting bytes);
-        room = known.room;
-        stands = known.stands;
-        place = known.place;
-      }
+      let sound = sound_longer in
+      let size = length-append w.waiting bytes in
+      let whole = ap (λ n. n % width) size
+      ∙ whole_more (length w.waiting) (length bytes) width known.whole_waiting whole_bytes in
+      search rules
 
   -- samples join the buffered ones
   pub accepts_waiting : WhereKeeps tells keeps
@@ -63,27 +57,16 @@ module _ {W : Type 0} (tells keeps : Bool) (state : W → MediumState) (w : Writ
   accepts_waiting replays =
       let old = state w.medium in
       record {
-        adds = record {
-          answers =
-              subst (λ b. FitAnswer {T = Unit {0}} b false (Ok tt))
-              (sym (room_fits w bytes room whole_bytes)) tt;
-          refused = tt;
-          spec_ex = refl;
-          data_start = refl;
-          data_length = omega (arith, more, ap length (joined_bytes width bytes whole_bytes));
-          kept = omega arith;
-        };
-        file = λ told. record {
-          faults = refl;
-          front = refl;
-          rest = refl;
-          reach = omega arith;
-          whole = λ whole. whole;
-          accepted = λ whole. samples_more state w sound known.whole_out bytes whole sound.whole;
-          counts =
-              λ whole. counts_at state longer sound_longer known.whole_out old.contents whole
-              (known.stands told) refl;
-        };
+        adds =
+            let answers = subst (λ b. FitAnswer {T = Unit {0}} b false (Ok tt))
+            (sym (room_fits w bytes room whole_bytes)) tt in
+            let size = ap length (joined_bytes width bytes whole_bytes) in
+            let longer = more in
+            search rules;
+        file = λ told.
+            let more = samples_more state w sound known.whole_out bytes in
+            let counts = counts_at state longer sound_longer known.whole_out old.contents in
+            search rules;
         moments = λ told kept. adds_nothing state w
             ((valid_seen tells state moved limit w w refl known).counts told) (replays told kept);
       }
@@ -188,13 +171,9 @@ module _ {W : Type 0} (tells keeps : Bool) (state : W → MediumState) (w : Writ
     file = λ told.
         let f = (accepts_all tells keeps state shorter refl sound_shorter stands m w.waiting
         (omega (arith, known.sound.fits)) known.whole_waiting puts replays).file told in
-        record {
-          faults = (puts told).faults;
-          around = stays_around true puts told;
-          whole = f.whole;
-          accepted = λ whole. f.accepted whole ∙ sym (samples_first whole);
-          counts = f.counts;
-        };
+        let around = stays_around true puts told in
+        let first = samples_first in
+        search rules;
     moments = moments_out true puts;
   }
   goes_out false puts = record {
@@ -251,21 +230,7 @@ goes_out_nothing tells keeps state far w moved limit known replays none =
             waiting = nil_from_length w.waiting none i;
           };
       sound = known.sound;
-      file = λ told. record {
-        faults = refl;
-        around =
-            record {
-              stands = known.stands told;
-              front = refl;
-              out = λ _. refl;
-              rest = refl;
-              grows = omega arith;
-              reach = omega arith;
-            };
-        whole = λ whole. whole;
-        accepted = λ _. refl;
-        counts = counts told;
-      };
+      file = search rules;
       moments = λ told kept. record {
         adds = adds_nothing state w (counts told) (replays told kept);
         front = span_still (λ _ c. take w.data_start c ≡ take w.data_start old.contents) 0 old old

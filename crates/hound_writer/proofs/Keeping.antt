@@ -1,5 +1,5 @@
 -- What a writer keeps true between its calls.
-use Rattle.std.proofs.Common.{◌≡◌, ℕ, ◌+◌, ◌%◌, ◌≤◌, Bool, true, false, List, length, subst, sym}
+use Rattle.std.proofs.Common.{◌≡◌, ℕ, ◌+◌, ◌%◌, ◌≤◌, Bool, true, false, List, length, rules, subst, sym}
 use Rattle.std.proofs.lemmas.Bool.{true≢false}
 use Rattle.hound_spec.specs.{greatest_u32, riff_size}
 use Rattle.hound_medium.specs.{MediumState, WhereTells}
@@ -19,30 +19,14 @@ pub sound_with : {W : Type 0} (w : WriterState W) (medium : W) (out : ℕ) (wait
     → IsSound w → (out + length waiting) % w.spec_ex.bytes_per_sample ≡ 0
     → riff_size w.data_start (out + length waiting) ≤ greatest_u32
     → IsSound (record w { medium = medium; out = out; waiting = waiting })
-sound_with w medium out waiting sound whole fits = record {
-  pair = sound.pair;
-  channels = sound.channels;
-  width = sound.width;
-  whole = whole;
-  after_head = sound.after_head;
-  fits = fits;
-}
+sound_with w medium out waiting sound whole fits = search rules
 
 -- over a medium that may have moved, if the head is still there
 pub consistent_moved : {W : Type 0} (tells : Bool) (state : W → MediumState) (w : WriterState W)
     (m : W) (moved : Bool) (limit : ℕ) → IsConsistent tells state w moved limit
     → WhereTells tells (IsStanding w.spec_ex w.data_start w.out (state m).contents)
     → IsConsistent tells state (record w { medium = m }) true limit
-consistent_moved tells state w m moved limit known stands =
-    record {
-      sound = sound_with w m w.out w.waiting known.sound known.sound.whole known.sound.fits;
-      whole_out = known.whole_out;
-      whole_waiting = known.whole_waiting;
-      block = known.block;
-      room = known.room;
-      stands = stands;
-      place = λ told is. absurd (true≢false is);
-    }
+consistent_moved tells state w m moved limit known stands = search rules
 
 -- over a medium with the same contents, which is where the next bytes go unless it may have moved
 pub consistent_gone : {W : Type 0} (tells : Bool) (state : W → MediumState) (w : WriterState W)
@@ -51,13 +35,6 @@ pub consistent_gone : {W : Type 0} (tells : Bool) (state : W → MediumState) (w
     → WhereTells tells (moved_now ≡ false → (state m).place ≡ w.data_start + w.out)
     → IsConsistent tells state (record w { medium = m }) moved_now limit
 consistent_gone tells state w m moved moved_now limit known same place =
-    record {
-      sound = sound_with w m w.out w.waiting known.sound known.sound.whole known.sound.fits;
-      whole_out = known.whole_out;
-      whole_waiting = known.whole_waiting;
-      block = known.block;
-      room = known.room;
-      stands = λ told. subst (IsStanding w.spec_ex w.data_start w.out) (sym (same told))
-          (known.stands told);
-      place = place;
-    }
+    let stands : WhereTells tells (IsStanding w.spec_ex w.data_start w.out (state m).contents) =
+    λ told. subst (IsStanding w.spec_ex w.data_start w.out) (sym (same told)) (known.stands told) in
+    search rules

@@ -1,5 +1,5 @@
 -- A call that continues once the buffered samples are written.
-use Rattle.std.proofs.Common.{◌≡◌, ℕ, ◌+◌, ◌-◌, ◌≤◌, ◌%◌, Bool, true, false, IsTrue, Result, Err, IfErr, List, ◌++◌, length, take, drop, refl, sym, ◌∙◌, ap, subst, arith}
+use Rattle.std.proofs.Common.{◌≡◌, ℕ, ◌+◌, ◌-◌, ◌≤◌, ◌%◌, Bool, true, false, IsTrue, Result, Err, IfErr, List, ◌++◌, length, take, drop, refl, rules, sym, ◌∙◌, ap, subst, arith}
 use Rattle.std.proofs.lemmas.List.{append-nil}
 use Rattle.std.specs.List.{concat}
 use Rattle.std.specs.declared.io.Error.{Error as IoFault}
@@ -158,15 +158,10 @@ accepts_cut tells keeps state far a b bytes e out room whole = record {
         ∙ (let same : data_length a ≡ data_length a + 0 = omega arith in same);
     kept = omega (arith, ap (λ w. length w.buffer) out.value);
   };
-  file = λ told. let f = out.file told in record {
-    faults = f.faults;
-    front = f.around.front;
-    rest = tt;
-    reach = tt;
-    whole = f.whole;
-    accepted = λ whole. f.accepted whole ∙ sym (append-nil (accepted_samples state a));
-    counts = f.counts;
-  };
+  file = λ told.
+      let f = out.file told in
+      let none = append-nil (accepted_samples state a) in
+      search rules;
   moments = λ told kept. (out.moments told kept).adds;
 }
 
@@ -184,21 +179,8 @@ goes_further tells keeps state near far all a b le out = record {
   sound = out.sound;
   file = λ told.
       let f = out.file told in
-      let around = f.around in
-      record {
-        faults = f.faults;
-        around = record {
-          stands = around.stands;
-          front = around.front;
-          out = around.out;
-          rest = drop_later near far (state b.medium).contents
-              (state a.medium).contents le around.rest;
-          grows = around.grows;
-          reach = omega (arith, around.reach, le);
-        };
-        whole = f.whole;
-        accepted = f.accepted;
-        counts = f.counts;
-      };
+      let rest = drop_later near far (state b.medium).contents
+      (state a.medium).contents le f.around.rest in
+      search rules;
   moments = out.moments;
 }

@@ -1,5 +1,5 @@
 -- A list of calls and one more.
-use Rattle.std.proofs.Common.{ℕ, MatchResult, Ok, Err, Bool, false, List, [], ◌∷◌, ◌++◌, ◌≡◌, length, Result, refl, subst, sym, ◌∙◌, ap}
+use Rattle.std.proofs.Common.{ℕ, MatchResult, Ok, Err, Bool, false, List, [], ◌∷◌, ◌++◌, ◌≡◌, length, Result, refl, rules, subst, sym, ◌∙◌, ap}
 use Rattle.std.specs.Prelude.{⊤}
 use Rattle.std.proofs.lemmas.Bool.{false≢true}
 use Rattle.hound_spec.specs.declared.error.Error.{Error}
@@ -92,15 +92,7 @@ module _ {W : Type 0} (tells keeps : Bool) (state : W → MediumState) where
   -- a flush or an end leaves its medium somewhere
   pub leaves : {at : ℕ} (answer : Result (Unit {0}) Error) (a b : WriterState W)
       → PublishesTo tells keeps state at answer a b → Does tells keeps state publish answer a b
-  leaves answer a b p = record {
-    answers = p.answers;
-    samples = p.samples;
-    publishes = p.publishes;
-    whole = p.whole;
-    accepted = p.accepted;
-    place = λ told. on_published_then answer (λ _. refl) (p.place told);
-    moments = p.moments;
-  }
+  leaves answer a b p = search (rules, on_published_then)
 
   -- the writer that an end leaves: the same but for its medium
   abbrev pub ended : WriterState W → W → WriterState W
