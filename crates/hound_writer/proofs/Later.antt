@@ -97,35 +97,19 @@ module _ {W : Type 0} (tells keeps : Bool) (state : W → MediumState) (far : �
       let end : data_end a ≤ data_end c =
       omega (arith, adds.data_start, adds.data_length, length_same) in
       record {
-        adds = record {
-          answers = accept_as memory memory asked answer b a (λ wants. wants) refl length_same
-              adds.answers;
-          refused = not_refused (c ≡ a) answer failed;
-          spec_ex = adds.spec_ex;
-          data_start = adds.data_start;
-          data_length =
-              adds.data_length
-              ∙ ap (λ n. n + length (concat (if_marked (mark_of answer) asked))) length_same;
-          kept = adds.kept;
-        };
+        adds =
+            let answers = accept_as memory memory asked answer b a (λ wants. wants) refl length_same
+            adds.answers in
+            let refused = not_refused (c ≡ a) answer failed in
+            let same = length_same in
+            search rules;
         file = λ told.
             let f = out.file told in
             let g = accepts.file told in
-            record {
-              faults = g.faults ∙ ap (faults_told answer) f.faults;
-              front = g.front ∙ f.around.front;
-              rest = unless_then answer
-                  (λ same. same
-                  ∙ drop_later far (data_end c) then first
-                  (omega (arith, near, end)) f.around.rest) g.rest;
-              reach = unless_then answer
-                  (λ le. omega (arith, le, f.around.reach, near, end)) g.reach;
-              whole = λ whole. g.whole (f.whole whole);
-              accepted =
-                  λ whole. g.accepted (f.whole whole)
-                  ∙ ap (λ l. l ++ if_marked (mark_of answer) asked) (f.accepted whole);
-              counts = λ whole. g.counts (f.whole whole);
-            };
+            let faults = ap (faults_told answer) f.faults in
+            let rest = drop_later far (data_end c) then first (omega (arith, near, end))
+            f.around.rest in
+            search (rules, unless_then);
         moments = λ told kept. at_each_later told kept (state c.medium) (accepts.moments told kept);
       }
 
@@ -146,18 +130,12 @@ pub accepts_cut : {W : Type 0} (tells keeps : Bool) (state : W → MediumState) 
     → HasRoom a (length bytes) → length bytes % a.spec_ex.bytes_per_sample ≡ 0
     → AcceptsBytes tells keeps state bytes (Err (IoError e)) a b
 accepts_cut tells keeps state far a b bytes e out room whole = record {
-  adds = record {
-    answers =
-        subst (λ fits. FitAnswer {T = Unit {0}} fits false (Err (IoError e)))
-        (sym (room_fits a bytes room whole)) tt;
-    refused = tt;
-    spec_ex = ap (λ w. w.spec_ex) out.value;
-    data_start = ap (λ w. w.data_start) out.value;
-    data_length =
-        ap (λ w. data_length w) out.value
-        ∙ (let same : data_length a ≡ data_length a + 0 = omega arith in same);
-    kept = omega (arith, ap (λ w. length w.buffer) out.value);
-  };
+  adds =
+      let answers = subst (λ fits. FitAnswer {T = Unit {0}} fits false (Err (IoError e)))
+      (sym (room_fits a bytes room whole)) tt in
+      let size = ap (λ w. data_length w) out.value in
+      let kept = ap (λ w. length w.buffer) out.value in
+      search rules;
   file = λ told.
       let f = out.file told in
       let none = append-nil (accepted_samples state a) in
