@@ -1,5 +1,5 @@
 -- Appending to an existing file.
-use Rattle.std.proofs.Common.{◌≡◌, ℕ, ◌+◌, ◌-◌, ◌%◌, ◌≤◌, Bool, true, false, cond, nat_lt, List, [], drop, Option, Some, None, inl, inr, ◌⊎◌, Result, Ok, Err, MatchResult, refl, sym, ◌∙◌, ap, subst, arith, eqb-true}
+use Rattle.std.proofs.Common.{◌≡◌, ℕ, ◌+◌, ◌-◌, ◌%◌, ◌≤◌, Bool, true, false, cond, nat_lt, List, [], drop, Option, Some, None, inl, inr, ◌⊎◌, Result, Ok, Err, MatchResult, refl, rules, sym, ◌∙◌, ap, subst, arith, eqb-true}
 use Rattle.std.proofs.lemmas.Bool.Decides.{nat_tests}
 use Rattle.hound_spec.specs.declared.error.Error.{Error}
 use Rattle.hound_spec.specs.declared.spec.WavSpecEx.{WavSpecEx}
@@ -83,21 +83,11 @@ follows state medium s len h old sound after head check goes =
 -- a walk changes only the place and the faults
 pub walk_puts_nothing : (result : Result FileHead HeadError) (old new : MediumState)
     → FindsData result old new → PutsNothing old new
-walk_puts_nothing result old new finds = record {
-  stays = record { contents = finds.contents; start = finds.start; past = finds.past };
-  flushed = finds.flushed;
-}
+walk_puts_nothing result old new finds = search rules
 
 -- two calls that put nothing, one after the other
 pub puts_nothing_then : (a b c : MediumState) → PutsNothing a b → PutsNothing b c → PutsNothing a c
-puts_nothing_then a b c first then = record {
-  stays = record {
-    contents = then.stays.contents ∙ first.stays.contents;
-    start = then.stays.start ∙ first.stays.start;
-    past = then.stays.past ∙ first.stays.past;
-  };
-  flushed = then.flushed ∙ first.flushed;
-}
+puts_nothing_then a b c first then = search rules
 
 -- a walk to the data that found a head, and then the result of a call that appends there
 appends_after : {W : Type 0} (tells : Bool) (state : W → MediumState) (head : FileHead)
@@ -110,15 +100,8 @@ appends_after tells state head old mid w finds on = record {
   file = λ told.
       let walk = finds told in
       let file = on.file told in
-      record {
-        head = subst (λ l. Head l w.spec_ex (data_length w) w.data_start) walk.contents file.head;
-        check = file.check;
-        puts = puts_nothing_then old mid (state w.medium)
-            (walk_puts_nothing (Ok head) old mid walk) file.puts;
-        place = file.place;
-        faults = file.faults ∙ walk.faults;
-        counts = file.counts;
-      };
+      let head = subst (λ l. Head l w.spec_ex (data_length w) w.data_start) walk.contents file.head in
+      search rules;
 }
 
 refused_after : (head : FileHead) (old mid new : MediumState) (e : Error)

@@ -1,5 +1,5 @@
 -- What a file is once its sizes are published.
-use Rattle.std.proofs.Common.{◌≡◌, ℕ, ◌+◌, ◌-◌, ◌/◌, ◌%◌, ◌≤◌, Bool, true, List, [], ◌++◌, Option, None, eq-eqb, length, take, drop, Result, refl, sym, ◌∙◌, ap, subst, arith, append_assoc, length-append, length-drop, take-append-drop}
+use Rattle.std.proofs.Common.{◌≡◌, ℕ, ◌+◌, ◌-◌, ◌/◌, ◌%◌, ◌≤◌, Bool, true, List, [], ◌++◌, Option, None, eq-eqb, length, take, drop, Result, refl, rules, sym, ◌∙◌, ap, subst, arith, append_assoc, length-append, length-drop, take-append-drop}
 use Rattle.std.proofs.lemmas.List.{take_at, take-take, take_all, drop-drop, length-take-le}
 use Rattle.std.specs.declared.io.Error.{Error as IoFault}
 use Rattle.std.specs.Io.{StartsWith}
@@ -312,14 +312,11 @@ pub in_medium : {W : Type 0} (tells keeps : Bool) (state : W → MediumState) (a
     → WhereTells tells (OnPublished answer ((state end).place ≡ at))
     → WhereKeeps tells keeps (PublishesAtEach state w answer end)
     → PublishesTo tells keeps state at answer w (record w { medium = end })
-in_medium tells keeps state at answer w end answers publishes place moments = record {
-  answers = answers;
-  samples = record { spec_ex = refl; data_start = refl; data_length = refl; buffer = refl };
-  publishes = publishes;
-  whole = λ told whole. omega (arith, whole, (publishes told).grows);
-  accepted = λ told whole.
-      ap (λ l. containers w.spec_ex.bytes_per_sample (sample_count w) (l ++ w.waiting))
-      ((publishes told).out whole);
-  place = place;
-  moments = moments;
-}
+in_medium tells keeps state at answer w end answers publishes place moments =
+    let whole : WhereTells tells (IsWhole state w → IsWhole state (record w { medium = end })) =
+    λ told whole. omega (arith, whole, (publishes told).grows) in
+    let accepted : WhereTells tells
+    (IsWhole state w → accepted_samples state (record w { medium = end }) ≡ accepted_samples state w) =
+    λ told whole. ap (λ l. containers w.spec_ex.bytes_per_sample (sample_count w) (l ++ w.waiting))
+    ((publishes told).out whole) in
+    search rules

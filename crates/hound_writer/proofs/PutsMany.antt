@@ -1,5 +1,5 @@
 -- The bytes of samples that are written by several calls.
-use Rattle.std.proofs.Common.{◌≡◌, ℕ, ◌+◌, ◌*◌, ◌≤◌, Bool, List, ◌++◌, length, take, drop, Result, Ok, Err, IsErr, IsOk, sym, subst, ◌∙◌, ap, arith, length-drop}
+use Rattle.std.proofs.Common.{◌≡◌, ℕ, ◌+◌, ◌*◌, ◌≤◌, Bool, List, ◌++◌, length, take, drop, Result, Ok, Err, IsErr, IsOk, rules, sym, subst, ◌∙◌, ap, arith, length-drop}
 use Rattle.std.proofs.lemmas.Bool.{false≢true}
 use Rattle.std.proofs.lemmas.List.{length-take-le, take-append-drop, take-append-le}
 use Rattle.std.proofs.Math.Nat.{mul-le-mul_left}
@@ -12,13 +12,7 @@ use Rattle.hound_sample.proofs.Joined.{have_part, joined_rest, joined_size}
 -- bytes that begin alike: the first n of the one are those of the other
 puts_front : (keeps : Bool) (a b : List ℕ) (n : ℕ) (old new : MediumState)
     → take n a ≡ take n b → PutsFirst keeps a n old new → PutsFirst keeps b n old new
-puts_front keeps a b n old new same puts = record {
-  contents = puts.contents ∙ ap (λ l. overlay old.contents (placed old.place l)) same;
-  place = puts.place;
-  start = puts.start;
-  past = λ kept. puts.past kept ∙ ap (λ l. old.past ++ placed old.place l) same;
-  flushed = puts.flushed;
-}
+puts_front keeps a b n old new same puts = search rules
 
 -- values that all have containers, each of one width, of which the first `done` were written
 module _ {V : Type 0} (container : V → Result (List ℕ) Refusal) (width : ℕ)

@@ -1,20 +1,19 @@
 -- What stays if the two sizes change, and if all before a place stays.
-use Rattle.std.proofs.Common.{◌≡◌, ℕ, ◌+◌, ◌-◌, ◌≤◌, List, length, take, drop, sym, ◌∙◌, ap, arith}
-use Rattle.std.proofs.lemmas.List.{take-take}
+use Rattle.std.proofs.Common.{◌≡◌, ℕ, ◌+◌, ◌-◌, ◌≤◌, List, length, take, drop, rules, sym, ◌∙◌, ap, arith}
 use Rattle.std.proofs.lemmas.Slice.{between_is}
 use Rattle.hound_number.specs.{number}
 use Rattle.hound_spec.specs.declared.spec.WavSpecEx.{WavSpecEx}
 use Rattle.hound_spec.specs.{data_start, header}
 use Rattle.hound_spec.proofs.HeaderLemmas.{length-header}
 use Rattle.hound_medium.specs.{placed, overlay}
+use Rattle.hound_medium.proofs.Overlays.{front_part}
 use Rattle.hound_medium.proofs.Inside.{take_before, drop_behind, same_size}
 use Rattle.hound_writer.specs.Writer.{ChangesSizesOnly, field, SameButSizes, HasHeader}
 
 -- what is before a place stays, so what is before an earlier one does
 pub take_front : (n m : ℕ) (old new : List ℕ) → n ≤ m → take m new ≡ take m old
     → take n new ≡ take n old
-take_front n m old new le same =
-    sym (take-take n m new le) ∙ ap (take n) same ∙ take-take n m old le
+take_front n m old new le same = front_part m 0 n new old (omega arith) same
 
 -- so the header does, in a file that was begun with it
 pub header_front : (s : WavSpecEx) (start : ℕ) (old new : List ℕ) → start ≡ data_start s
@@ -29,24 +28,18 @@ header_front s start old new at same (size, len, begins) = (
 -- and no size has changed
 pub sizes_front : (start : ℕ) (old new : List ℕ) → 4 ≤ start → take start new ≡ take start old
     → ChangesSizesOnly start old new
-sizes_front start old new behind same = record {
-  front = take_front 4 start old new behind same;
-  middle = ap (drop 8) (take_front (start - 4) start old new (omega arith) same);
-}
+sizes_front start old new behind same =
+    let front = take_front 4 start old new behind same in
+    let middle = ap (drop 8) (take_front (start - 4) start old new (omega arith) same) in
+    search rules
 
 pub sizes_then : (start : ℕ) (a b c : List ℕ) → ChangesSizesOnly start a b
     → ChangesSizesOnly start b c → ChangesSizesOnly start a c
-sizes_then start a b c first then =
-    record { front = then.front ∙ first.front; middle = then.middle ∙ first.middle }
+sizes_then start a b c first then = search rules
 
 pub same_transitive : (p : ℕ) (a b c : List ℕ) → SameButSizes p a b → SameButSizes p b c
     → SameButSizes p a c
-same_transitive p a b c ab bc = record {
-  front = bc.front ∙ ab.front;
-  middle = bc.middle ∙ ab.middle;
-  behind = bc.behind ∙ ab.behind;
-  long = bc.long ∙ ab.long;
-}
+same_transitive p a b c ab bc = search rules
 
 module _ (p : ℕ) (c : List ℕ) (behind : 8 ≤ p) (inside : p + 4 ≤ length c) where
   -- bytes at 4 leave the rest

@@ -1,6 +1,6 @@
 -- A writer's file between its calls: the head is there, and the data length counts no more than was
 -- accepted.
-use Rattle.std.proofs.Common.{◌≡◌, ℕ, ◌-◌, ◌≤◌, List, length, take, ap, arith}
+use Rattle.std.proofs.Common.{◌≡◌, ℕ, ◌-◌, ◌≤◌, List, length, take, ap, arith, rules}
 use Rattle.hound_number.specs.{number, mix}
 use Rattle.hound_number.proofs.Mixing.{mix_le}
 use Rattle.hound_medium.proofs.Overlays.{front_part}
@@ -39,5 +39,4 @@ module _ (s : WavSpecEx) (start n : ℕ) (old new : List ℕ) (stands : IsStandi
 -- more bytes count at least as much
 pub stands_more : (s : WavSpecEx) (start n m : ℕ) (contents : List ℕ) → n ≤ m
     → IsStanding s start n contents → IsStanding s start m contents
-stands_more s start n m contents le stands =
-    record { head = stands.head; counted = omega (arith, le, stands.counted) }
+stands_more s start n m contents le stands = search rules
