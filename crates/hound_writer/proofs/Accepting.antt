@@ -193,14 +193,7 @@ goes_beside state far all w m sound whole_out faults stays =
     ≡ take w.out (drop w.data_start (state w.medium).contents) =
     λ whole. front_part (w.data_start + w.out) w.data_start w.out (state m).contents
     (state w.medium).contents (omega arith) (stays.out whole) in
-    let accepted : IsWhole state w
-    → accepted_samples state (record w { medium = m }) ≡ accepted_samples state w =
-    λ whole. ap (λ l. containers w.spec_ex.bytes_per_sample (sample_count w) (l ++ w.waiting))
-    (same whole) in
-    let counts : IsWhole state w → IsCounted state (record w { medium = m }) =
-    λ whole. subst (λ l. Counts w.spec_ex w.data_start l (state m).contents)
-    (sym (accepted whole))
-    (counts_at state w sound whole_out (state m).contents whole stays.stands (same whole)) in
+    let counts = counts_at state w sound whole_out (state m).contents in
     search rules
 
 -- a writer with an empty block, and a medium with bytes written after its data

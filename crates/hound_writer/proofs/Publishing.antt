@@ -312,11 +312,4 @@ pub in_medium : {W : Type 0} (tells keeps : Bool) (state : W → MediumState) (a
     → WhereTells tells (OnPublished answer ((state end).place ≡ at))
     → WhereKeeps tells keeps (PublishesAtEach state w answer end)
     → PublishesTo tells keeps state at answer w (record w { medium = end })
-in_medium tells keeps state at answer w end answers publishes place moments =
-    let whole : WhereTells tells (IsWhole state w → IsWhole state (record w { medium = end })) =
-    λ told whole. omega (arith, whole, (publishes told).grows) in
-    let accepted : WhereTells tells
-    (IsWhole state w → accepted_samples state (record w { medium = end }) ≡ accepted_samples state w) =
-    λ told whole. ap (λ l. containers w.spec_ex.bytes_per_sample (sample_count w) (l ++ w.waiting))
-    ((publishes told).out whole) in
-    search rules
+in_medium tells keeps state at answer w end answers publishes place moments = search rules

@@ -18,14 +18,7 @@ use Rattle.hound_writer.proofs.Answers.{on_published_then}
 -- a writer of the same file is the same but for its memory
 pub same_but_memory : {W : Type 0} (a b : WriterState W) → IsSameFile a b
     → with_memory a b.buffer ≡ b
-same_but_memory a b same = λ i. record {
-  medium = sym same.medium i;
-  spec_ex = sym same.spec_ex i;
-  data_start = sym same.data_start i;
-  out = sym same.out i;
-  waiting = sym same.waiting i;
-  buffer = b.buffer;
-}
+same_but_memory a b same = search rules
 
 -- one call more of which this is known
 known_more : (known : List Known) (calls : List Call) (one : Known) (call : Call)
