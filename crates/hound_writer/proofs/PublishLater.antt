@@ -1,6 +1,6 @@
 -- A call that publishes: the buffered samples are written before, and the pad byte, and if that
 -- fails nothing is patched.
-use Rattle.std.proofs.Common.{◌≡◌, ℕ, ◌+◌, ◌-◌, ◌≤◌, inl, inr, Bool, true, false, IsTrue, ◌%◌, Result, Err, OnOk, List, length, take, drop, refl, sym, ◌∙◌, ap, subst, arith, length-append, length-take}
+use Rattle.std.proofs.Common.{◌≡◌, ℕ, ◌+◌, ◌-◌, ◌≤◌, inl, inr, Bool, true, false, IsTrue, ◌%◌, Result, Err, OnOk, List, length, take, drop, refl, rules, sym, ◌∙◌, ap, subst, arith, length-append, length-take}
 use Rattle.std.proofs.lemmas.Bool.{cases_lt}
 use Rattle.std.specs.List.{concat}
 use Rattle.std.specs.Io.{StartsWith}
@@ -89,11 +89,10 @@ module _ {W : Type 0} (state : W → MediumState) (a : WriterState W) (sound : I
           let same = goes.front.each k from to in
           let none : 0 ≡ k - split = omega (arith, to, later) in
           subst (λ j. IsHalfPublished a first j c) none
-          record {
-            front = sizes_of c same;
-            out = λ whole. data_of c ((goes.adds.front whole).each k from to);
-            length_is = field_of c same ∙ sym none_yet;
-          };
+          let front = sizes_of c same in
+          let bytes = data_of c in
+          let length_is = field_of c same ∙ sym none_yet in
+          search rules;
     }
 
 -- nothing is published if they aren't written
@@ -103,26 +102,10 @@ module _ {W : Type 0} (tells keeps : Bool) (state : W → MediumState) (a : Writ
   publishes_cut : IsTrue tells → Publishes state a (Err (IoError e)) m
   publishes_cut told =
       let f = out.file told in
-      let around = f.around in
-      record {
-        faults = f.faults;
-        front = sizes_of state a out.sound (state m).contents around.front;
-        out = λ whole. data_of state a out.sound (state m).contents (around.out whole);
-        rest = around.rest;
-        grows = around.grows;
-        reach = around.reach;
-        counts =
-            λ whole. subst (λ l. Counts a.spec_ex a.data_start l (state m).contents)
-            (f.accepted whole) (f.counts whole);
-        begun = header_of state a out.sound (state m).contents around.front;
-        flushed = tt;
-        riff_says = tt;
-        length_says = tt;
-        stand = λ _. tt;
-        padded = tt;
-        read = λ _. tt;
-        canonical = λ _ _. tt;
-      }
+      let front = sizes_of state a out.sound (state m).contents f.around.front in
+      let bytes = data_of state a out.sound (state m).contents in
+      let begun = header_of state a out.sound (state m).contents f.around.front in
+      search rules
 
   publishes_at_each_cut : IsTrue tells → IsTrue keeps → AreBytes (state a.medium).contents
       → PublishesAtEach state a (Err (IoError e)) m
@@ -338,13 +321,7 @@ module _ {W : Type 0} (tells keeps : Bool) (state : W → MediumState) (a : Writ
       → PublishesTo tells keeps state at answer b c → PublishesTo tells keeps state at answer a c
   published_after at answer c small g = record {
     answers = publishing_as answer b a refl same_length g.answers;
-    samples =
-        record {
-          spec_ex = g.samples.spec_ex;
-          data_start = g.samples.data_start;
-          data_length = g.samples.data_length ∙ same_length;
-          buffer = g.samples.buffer;
-        };
+    samples = let same = same_length in search rules;
     publishes = λ told. publishes_later answer c.medium told (g.publishes told);
     whole = λ told whole. g.whole told ((out.file told).whole whole);
     accepted =
