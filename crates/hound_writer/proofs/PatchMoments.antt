@@ -1,5 +1,5 @@
 -- The intermediate states of a patch, part after part, and of a call that publishes.
-use Rattle.std.proofs.Common.{◌≡◌, ℕ, ◌+◌, ◌-◌, ◌<◌, ◌≤◌, ◌^◌, inl, inr, Bool, true, false, IsTrue, Result, Ok, Err, OnOk, IsOk, List, [], ◌++◌, length, take, drop, refl, sym, ◌∙◌, ap, subst, arith, length-append, length-take}
+use Rattle.std.proofs.Common.{◌≡◌, ℕ, ◌+◌, ◌-◌, ◌<◌, ◌≤◌, ◌^◌, inl, inr, Bool, true, false, IsTrue, Result, Ok, Err, OnOk, IsOk, List, [], ◌++◌, length, take, drop, refl, rules, sym, ◌∙◌, ap, subst, arith, length-append, length-take}
 use Rattle.std.proofs.lemmas.Bool.{cases_lt, false≢true}
 use Rattle.std.proofs.lemmas.List.{take-take, length-take-le}
 use Rattle.std.proofs.lemmas.Result.{on_ok_weaker}
@@ -85,11 +85,7 @@ pub patches_none : {V F : Type 0} (p size new : ℕ) (answer : Result V F) (a b 
 patches_none p size new answer a b span all = record {
   split = length b.past;
   span = span;
-  puts = record {
-    later = omega (arith, ap length span.past, length-append a.past span.added);
-    within = omega arith;
-    first = λ longer. absurd (omega (arith, longer));
-  };
+  puts = let more = ap length span.past ∙ length-append a.past span.added in search rules;
   whole = all;
 }
 
@@ -109,11 +105,10 @@ patches_both keeps p size new result answer a b c kept first second puts all =
     record {
       split = length b.past;
       span = join (IsPatched p size a.contents new) (length b.past) a b c first second;
-      puts = record {
-        later = omega (arith, ap length first.past, length-append a.past first.added);
-        within = omega (arith, long, puts.within);
-        first = first_added b.past c.past p bytes (puts.past kept);
-      };
+      puts =
+          let more = ap length first.past ∙ length-append a.past first.added in
+          let added = first_added b.past c.past p bytes (puts.past kept) in
+          search rules;
       whole = on_ok_weaker answer
           (λ ok. let four : puts.count ≡ 4 = from_ok result ok puts.whole in omega
           (arith, long, four)) all;
@@ -130,12 +125,7 @@ patches_still p size new result answer a b c replays stays flushed all patches =
       split = patches.split;
       span = and_still (IsPatched p size a.contents new) patches.split a b c patches.span replays stays
           flushed;
-      puts = record {
-        later = patches.puts.later;
-        within = omega (arith, same, patches.puts.within);
-        first = λ longer. ap (λ l. place_of l patches.split) stays.past
-            ∙ patches.puts.first (omega (arith, longer, same));
-      };
+      puts = let place = ap (λ l. place_of l patches.split) stays.past in search rules;
       whole = on_ok_weaker answer
           (λ ok. let all_put : length b.past ≡ patches.split
           + 4 = from_ok result ok patches.whole in omega (arith, same, all_put)) all;
@@ -192,12 +182,9 @@ publishes_at_each state w none sound stands padded small end patched are_frames 
     λ c same. drop_later (p + 4) (data_end w) c old (omega (arith, start)) same in
     let half : (j : ℕ) (c : List ℕ) → IsPatched p (riff_size w.data_start w.out) old w.out j c → IsHalfPublished w old j c =
     λ j c at.
-    record {
-      front = record { front = at.same.front; middle = at.same.middle };
-      out = λ _. samples c at.same.behind;
-      length_is =
-          at.field ∙ ap (mix j (field p old)) all;
-    } in
+    let out = samples c at.same.behind in
+    let length_is = at.field ∙ ap (mix j (field p old)) all in
+    search rules in
     record {
       counts =
           λ whole.

@@ -117,11 +117,7 @@ module _ {W : Type 0} (tells keeps : Bool) (state : W → MediumState) (a : Writ
         counts = goes.adds.counts;
         split = split;
         half = half_out state a out.sound small (state m) around goes split (omega arith);
-        puts = record {
-          later = longer state a out.sound small (state m) around goes;
-          within = omega arith;
-          first = λ more. absurd (omega (arith, more));
-        };
+        puts = let later = longer state a out.sound small (state m) around goes in search rules;
         whole = tt;
         old_or_new =
             λ k from to outside.
@@ -223,9 +219,6 @@ module _ {W : Type 0} (tells keeps : Bool) (state : W → MediumState) (a : Writ
       field_same : field (a.data_start - 4) mid ≡ field (a.data_start - 4) old
       field_same = field_of state a sound mid (out.file told).around.front
 
-      before_split : length (state m).past ≤ g.split
-      before_split = g.puts.later
-
       half_later : (j : ℕ) (c : List ℕ) → IsHalfPublished b mid j c → IsHalfPublished a old j c
       half_later j c half = record {
         front = sizes_then a.data_start old mid c
@@ -293,18 +286,12 @@ module _ {W : Type 0} (tells keeps : Bool) (state : W → MediumState) (a : Writ
             split = g.split;
             half = join (IsHalfPublished a old) g.split (state a.medium) (state m) (state end)
                 (half_out state a sound small (state m)
-                (out.file told).around goes g.split before_split)
+                (out.file told).around goes g.split g.puts.later)
                 (span_weaker (IsHalfPublished b mid) (IsHalfPublished a old) g.split (state m)
                 (state end) half_later g.half);
-            puts = record {
-              later = omega (
-                arith,
-                before_split,
-                longer state a sound small (state m) (out.file told).around goes,
-              );
-              within = g.puts.within;
-              first = g.puts.first;
-            };
+            puts =
+                let sooner = longer state a sound small (state m) (out.file told).around goes in
+                search rules;
             whole = g.whole;
             old_or_new = old_or_new_later;
             padded = padded_later;

@@ -235,7 +235,7 @@ module _ {W : Type 0} (state : W → MediumState) (w : WriterState W) (none : w.
         faults =
             told_faults patched are_frames told (state w.medium).faults
             (state end).faults is patches.faults;
-        front = record { front = same.front; middle = same.middle };
+        front = search rules;
         out = λ _. ap (take w.out) samples;
         rest = drop_later (data_end w) (padded_end w) (state end).contents old (omega arith) behind;
         grows = omega (arith, same.long);
