@@ -201,8 +201,7 @@ publishes_at_each state w none sound stands padded small end patched are_frames 
       half = span_weaker (IsPatched p (riff_size w.data_start w.out) old w.out)
           (IsHalfPublished w old) split (state w.medium) (state end) half span;
       puts = patches.puts;
-      whole = published
-          (length (state end).past ≡ split + 4) patched are_frames told is patches.whole;
+      whole = published _ patched are_frames told is patches.whole;
       old_or_new = subst (λ n. IsOldOrNew p (field p old) n (state w.medium) (state end)) all
           (old_or_new p (riff_size w.data_start w.out) w.out split (state w.medium) (state end) has
           (omega (arith, sound.fits, sound.after_head, all)) span patches.puts);
@@ -271,5 +270,5 @@ module _ {W : Type 0} (tells keeps : Bool) (state : W → MediumState) (w : Writ
   publishes_to at place =
       subst (PublishesTo tells keeps state at told w) (sym same)
       (in_medium tells keeps state at told w end answers published_all
-      (λ known. published ((state end).place ≡ at) patched are_frames told is (place known))
+      (λ known. published _ patched are_frames told is (place known))
       at_each)

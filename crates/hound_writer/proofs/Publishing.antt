@@ -244,33 +244,18 @@ module _ {W : Type 0} (state : W → MediumState) (w : WriterState W) (none : w.
         begun = λ (header, at).
             begun_still w.spec_ex w.data_start old (state end).contents (sym at)
             (omega (arith, sound.after_head)) long small same header;
-        flushed =
-            published
-            ((state end).flushed ≡ length
-            (state end).past) patched are_frames told is patches.flushed;
-        riff_says =
-            published
-            (field 4 (state end).contents ≡ riff_size w.data_start
-            (data_length w)) patched are_frames told is
+        flushed = published _ patched are_frames told is patches.flushed;
+        riff_says = published _ patched are_frames told is
             (on_ok_weaker patched riff_says patches.contents);
-        length_says =
-            published
-            (field (w.data_start - 4)
-            (state end).contents ≡ data_length w) patched are_frames told is
+        length_says = published _ patched are_frames told is
             (on_ok_weaker patched (λ put. length_says put ∙ all) patches.contents);
-        stand = λ whole. published
-            (take (data_length w) (drop w.data_start (state end).contents) ≡ concat
-            (accepted_samples state w)) patched are_frames told is
-            (on_ok_weaker patched
-            (λ _. (λ i. take (sym all i) (samples i))
-            ∙ sym (concat-samples state w none sound)) patches.contents);
-        padded =
-            published (IsPadded w (state end).contents) patched are_frames told is
+        stand = λ whole. published _ patched are_frames told is
+            (on_ok patched
+            ((λ i. take (sym all i) (samples i)) ∙ sym (concat-samples state w none sound)));
+        padded = published _ patched are_frames told is
             (on_ok patched
             (subst (λ l. StartsWith l (padding (data_length w))) (sym behind) padded));
-        read = λ whole. told_ok
-            (ReadsAs w.spec_ex w.data_start (accepted_samples state w)
-            (state end).contents) patched are_frames told is
+        read = λ whole. told_ok _ patched are_frames told is
             (λ yes. on_ok_weaker patched
             (λ put. reads_all w.spec_ex w.data_start w.out (accepted_samples state w)
             (state end).contents (whole_out state w none sound)
@@ -278,9 +263,7 @@ module _ {W : Type 0} (state : W → MediumState) (w : WriterState W) (none : w.
             (length-samples state w none sound) (length_says put)
             (counts whole)) patches.contents);
         canonical =
-            λ whole begun. published
-            (StartsWith (state end).contents
-            (canonical w.spec_ex (accepted_samples state w))) patched are_frames told is
+            λ whole begun. published _ patched are_frames told is
             (on_ok_weaker patched (λ put. is_canonical put whole begun) patches.contents);
       }
 
