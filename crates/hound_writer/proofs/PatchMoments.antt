@@ -12,7 +12,7 @@ use Rattle.hound_medium.specs.{placed, overlay, moment, MediumState, Stays, Wher
 use Rattle.hound_spec.specs.{riff_size, padding}
 use Rattle.hound_medium.proofs.Outcomes.{from_ok}
 use Rattle.hound_medium.proofs.Overlays.{length-placed}
-use Rattle.hound_medium.proofs.Spans.{span_puts, span_weaker, join, and_still}
+use Rattle.hound_medium.proofs.Spans.{span_puts, span_end_zero, span_weaker, join, and_still}
 use Rattle.hound_medium.proofs.Torn.{number_at_small}
 use Rattle.hound_spec.specs.declared.error.Error.{Error}
 use Rattle.hound_writer.specs.Writer.{Counts, field, WriterState, AreFrames, IsPadded, IsSound, IsWhole, accepted_samples, data_length, data_end}
@@ -23,7 +23,7 @@ use Rattle.hound_durable.proofs.Ascending.{length_put, place_after}
 use Rattle.hound_writer.specs.Publishing.{PublishesTo, Publishes, IsHalfPublished, IsOldOrNew, PublishesAtEach, PutsLast}
 use Rattle.hound_writer.proofs.Answers.{published}
 use Rattle.hound_writer.proofs.Later.{drop_later}
-use Rattle.hound_writer.proofs.Patching.{has_size, patched_field, patched_riff}
+use Rattle.hound_writer.proofs.Patching.{has_size, patched_field, patched_riff, riff_put}
 use Rattle.hound_writer.proofs.Publishing.{in_medium, publishes}
 use Rattle.hound_writer.proofs.Storing.{stored_same}
 use Rattle.hound_writer.proofs.Samples.{concat-samples, counts_at, length_out, whole_out}
@@ -90,27 +90,34 @@ patches_none p size new answer a b span all = record {
 }
 
 -- both parts, one after the other
-pub patches_both : {T E V F : Type 0} (keeps : Bool) (p size new : ℕ) (result : Result T E)
-    (answer : Result V F) (a b c : MediumState) → IsTrue keeps
-    → Span (IsPatched p size a.contents new) (length b.past) a b
-    → Span (IsPatched p size a.contents new) (length b.past) b c
-    → PutsAt keeps p (bytes_of 4 new) result b c → OnOk answer (IsOk result)
+pub patches_both : {T E U F V G : Type 0} (keeps : Bool) (p size new : ℕ) (r : Result T E)
+    (s : Result U F) (answer : Result V G) (a b c : MediumState) → IsTrue keeps
+    → a.contents ≡ overlay a.start a.past → b.contents ≡ overlay b.start b.past
+    → HasSize p a.contents → AreBytes b.contents
+    → (first : PutsAt keeps 4 (bytes_of 4 size) r a b) → first.count ≡ 4 → size < 2 ^ 32
+    → PutsAt keeps p (bytes_of 4 new) s b c → OnOk answer (IsOk s)
     → PatchesAtEach p size new answer a c
-patches_both keeps p size new result answer a b c kept first second puts all =
-    let bytes = take puts.count (bytes_of 4 new) in
-    let long : length c.past ≡ length b.past + puts.count =
-    ap length (puts.past kept) ∙ length-append b.past (placed p bytes)
+patches_both keeps p size new r s answer a b c kept replays then has small first four fits second
+    all =
+    let riff = riff_span keeps p size new r a b kept replays has first in
+    let field = field_span keeps p size new s b c kept then a.contents has small
+    (span_end_zero (IsPatched p size a.contents new) a b then riff)
+    (riff_put keeps p size new r a b has first four fits) second in
+    let bytes = take second.count (bytes_of 4 new) in
+    let long : length c.past ≡ length b.past + second.count =
+    ap length (second.past kept) ∙ length-append b.past (placed p bytes)
     ∙ ap (λ k. length b.past + k)
-    (length-placed p bytes ∙ length-take-le puts.count (bytes_of 4 new) puts.within) in
+    (length-placed p bytes ∙ length-take-le second.count (bytes_of 4 new) second.within) in
     record {
       split = length b.past;
-      span = join (IsPatched p size a.contents new) (length b.past) a b c first second;
+      span = join (IsPatched p size a.contents new) (length b.past) a b c riff field;
       puts =
-          let more = ap length first.past ∙ length-append a.past first.added in
-          let added = first_added b.past c.past p bytes (puts.past kept) in
+          let more = ap length riff.past ∙ length-append a.past riff.added in
+          let added = first_added b.past c.past p bytes (second.past kept) in
+          let few = second.within in
           search rules;
       whole = on_ok_weaker answer
-          (λ ok. let four : puts.count ≡ 4 = from_ok result ok puts.whole in omega
+          (λ ok. let four : second.count ≡ 4 = from_ok s ok second.whole in omega
           (arith, long, four)) all;
     }
 

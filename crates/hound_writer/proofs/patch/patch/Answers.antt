@@ -55,60 +55,31 @@ returns-in_err-put_size-clause-moments g c tells keeps =
 pub returns-in_err-put_size-2-clause-moments :
     goal.returns-in_err-put_size-2-clause-moments
 returns-in_err-put_size-2-clause-moments g c tells keeps =
-    let p = c.args.data_len_offset in
-    let size = c.args.riff_size in
-    let n = c.args.data_length in
-    let old = g.M.Placed.state c.args.medium.now in
-    let mid = g.M.Placed.state c.put_size.new.medium in
-    let has = has_size p old.contents c.requires.behind (c.requires.inside tells)
-    (g.met.M.Placed.bytes c.args.medium.now tells) in
-    let fits : c.args.riff_size < 2 ^ 32 = search rules in
-    let puts = c.in_ok-put_size.ensures tells in
-    let first =
-    riff_span g.M.Placed.keeps p size n c.put_size.result old mid keeps
-    (g.met.M.Medium.replays c.args.medium.now tells keeps) has (c.put_size.ensures tells) in
-    let so_far =
-    span_end_zero (IsPatched p size old.contents n) old mid
-    (g.met.M.Medium.replays c.put_size.new.medium tells keeps) first in
-    let second =
-    field_span g.M.Placed.keeps p size n c.put_size-2.result _ _ keeps
-    (g.met.M.Medium.replays c.put_size.new.medium tells keeps) old.contents has
-    (g.met.M.Placed.bytes c.put_size.new.medium tells) so_far
-    (riff_put g.M.Placed.keeps p size n _ old mid has puts puts.whole fits) (c.put_size-2.ensures tells) in
-    patches_both g.M.Placed.keeps p size n c.put_size-2.result
-    c.from_residual-in_err-put_size-2.result old mid
-    (g.M.Placed.state c.put_size-2.new.medium) keeps first second
-    (c.put_size-2.ensures tells) (search rules)
+    let bytes = g.met.M.Placed.bytes in
+    let replays = g.met.M.Medium.replays in
+    let has = has_size c.args.data_len_offset _ c.requires.behind (c.requires.inside tells)
+    (bytes c.args.medium.now tells) in
+    let first = c.in_ok-put_size.ensures tells in
+    patches_both g.M.Placed.keeps c.args.data_len_offset c.args.riff_size c.args.data_length _ _
+    c.from_residual-in_err-put_size-2.result _ _ _ keeps
+    (replays c.args.medium.now tells keeps) (replays c.put_size.new.medium tells keeps) has
+    (bytes c.put_size.new.medium tells) first first.whole (search rules)
+    (c.in_err-put_size-2.ensures tells) (search rules)
 
 pub returns-clause-moments : goal.returns-clause-moments
 returns-clause-moments g c tells keeps =
-    let p = c.args.data_len_offset in
-    let size = c.args.riff_size in
-    let n = c.args.data_length in
-    let old = g.M.Placed.state c.args.medium.now in
-    let mid = g.M.Placed.state c.put_size.new.medium in
-    let done = g.M.Placed.state c.put_size-2.new.medium in
-    let has = has_size p old.contents c.requires.behind (c.requires.inside tells)
-    (g.met.M.Placed.bytes c.args.medium.now tells) in
-    let fits : c.args.riff_size < 2 ^ 32 = search rules in
-    let puts_first = c.in_ok-put_size.ensures tells in
-    let first =
-    riff_span g.M.Placed.keeps p size n c.put_size.result old mid keeps
-    (g.met.M.Medium.replays c.args.medium.now tells keeps) has (c.put_size.ensures tells) in
-    let so_far =
-    span_end_zero (IsPatched p size old.contents n) old mid
-    (g.met.M.Medium.replays c.put_size.new.medium tells keeps) first in
-    let second =
-    field_span g.M.Placed.keeps p size n c.put_size-2.result _ _ keeps
-    (g.met.M.Medium.replays c.put_size.new.medium tells keeps) old.contents has
-    (g.met.M.Placed.bytes c.put_size.new.medium tells) so_far
-    (riff_put g.M.Placed.keeps p size n _ old mid has puts_first puts_first.whole fits) (c.put_size-2.ensures tells) in
-    let puts = c.in_ok-put_size-2.ensures tells in
-    let sizes =
-    patches_both g.M.Placed.keeps p size n _ c.flush.result old mid done keeps first second puts
-    (on_ok c.flush.result refl) in
+    let bytes = g.met.M.Placed.bytes in
+    let replays = g.met.M.Medium.replays in
+    let has = has_size c.args.data_len_offset _ c.requires.behind (c.requires.inside tells)
+    (bytes c.args.medium.now tells) in
+    let first = c.in_ok-put_size.ensures tells in
+    let second = c.in_ok-put_size-2.ensures tells in
     let flush = c.flush.ensures tells in
-    patches_still p size n c.flush.result c.flush.result old done _
-    (g.met.M.Medium.replays c.put_size-2.new.medium tells keeps) flush.stays
-    (flushed_since c.flush.result done _ flush)
-    (on_ok_self c.flush.result) sizes
+    patches_still c.args.data_len_offset c.args.riff_size c.args.data_length c.flush.result
+    c.flush.result _ _ _ (replays c.put_size-2.new.medium tells keeps) flush.stays
+    (flushed_since c.flush.result _ _ flush) (on_ok_self c.flush.result)
+    (patches_both g.M.Placed.keeps c.args.data_len_offset c.args.riff_size c.args.data_length _ _
+    c.flush.result _ _ _ keeps
+    (replays c.args.medium.now tells keeps) (replays c.put_size.new.medium tells keeps) has
+    (bytes c.put_size.new.medium tells) first first.whole (search rules) second
+    (on_ok c.flush.result refl))
