@@ -123,26 +123,6 @@ cut p size data_length k (Ok x) a d err le half faults = absurd (false≢true er
 cut p size data_length k (Err e) a d err le half faults =
     record { contents = tt; half = (k, le, half); flushed = tt; faults = faults }
 
--- a patch whose RIFF size met a fault
-pub cut_first : {T E V F : Type 0} (keeps : Bool) (p size data_length : ℕ) (r : Result T E)
-    (answer : Result V F) (a b : MediumState) → IsErr answer → HasSize p a.contents
-    → PutsAt keeps 4 (bytes_of 4 size) r a b → b.faults ≡ one_more a.faults
-    → Patches p size data_length answer a b
-cut_first keeps p size data_length r answer a b err has first faults =
-    cut p size data_length 0 answer a b err (omega arith)
-    (first_half keeps p size data_length r a b has first) faults
-
--- a patch whose data length met a fault
-pub cut_second : {T E V F X Y : Type 0} (keeps : Bool) (p size data_length : ℕ) (r : Result T E)
-    (s : Result V F) (answer : Result X Y) (a b c : MediumState) → IsErr answer
-    → HasSize p a.contents → AreBytes b.contents
-    → (first : PutsAt keeps 4 (bytes_of 4 size) r a b) → first.count ≡ 4 → size < 2 ^ 32
-    → PutsAt keeps p (bytes_of 4 data_length) s b c
-    → c.faults ≡ one_more a.faults → Patches p size data_length answer a c
-cut_second keeps p size data_length r s answer a b c err has small first all fits second faults =
-    cut p size data_length second.count answer a c err second.within
-    (second_half keeps p size data_length r a b has first s c small all fits second) faults
-
 -- a patch whose writes were Ok
 pub patched : {T E V F X Y : Type 0} (keeps : Bool) (p size data_length : ℕ) (r : Result T E)
     (s : Result V F) (flush : Result X Y) (a b c d : MediumState) → HasSize p a.contents

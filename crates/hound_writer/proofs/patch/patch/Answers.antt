@@ -1,9 +1,9 @@
-use Rattle.std.proofs.Common.{◌<◌, ◌^◌, rules, ◌∙◌, ap, refl}
+use Rattle.std.proofs.Common.{◌<◌, ◌^◌, arith, rules, ◌∙◌, ap, refl}
 use Rattle.hound_medium.specs.{one_more}
 use Rattle.hound_medium.proofs.Outcomes.{on_ok, on_ok_self}
 use Rattle.hound_medium.proofs.Spans.{span_end_zero, flushed_since}
 use Rattle.hound_writer.specs.Parts.{IsPatched}
-use Rattle.hound_writer.proofs.Patching.{cut_first, cut_second, has_size, patched, riff_put}
+use Rattle.hound_writer.proofs.Patching.{cut, first_half, has_size, patched, second_half}
 use Rattle.hound_writer.proofs.PatchMoments.{field_span, patches_none, patches_both, patches_still, riff_span}
 use Rattle.hound_writer.proofs.patch.patch.Goals as goal
 
@@ -12,8 +12,8 @@ returns-in_err-put_size-clause-patches g c tells =
     let first = c.in_err-put_size.ensures tells in
     let has = has_size c.args.data_len_offset _ c.requires.behind (c.requires.inside tells)
     (g.met.M.Placed.bytes c.args.medium.now tells) in
-    cut_first g.M.Placed.keeps c.args.data_len_offset c.args.riff_size c.args.data_length _
-    c.from_residual.result _ _ c.from_residual.ensures.0 has first first.faults
+    cut _ _ _ 0 _ _ _ c.from_residual.ensures.0 (omega arith)
+    (first_half g.M.Placed.keeps _ _ c.args.data_length _ _ _ has first) first.faults
 
 pub returns-in_err-put_size-2-clause-patches :
     goal.returns-in_err-put_size-2-clause-patches
@@ -22,11 +22,9 @@ returns-in_err-put_size-2-clause-patches g c tells =
     let second = c.in_err-put_size-2.ensures tells in
     let has = has_size c.args.data_len_offset _ c.requires.behind (c.requires.inside tells)
     (g.met.M.Placed.bytes c.args.medium.now tells) in
-    let fits : c.args.riff_size < 2 ^ 32 = search rules in
-    cut_second g.M.Placed.keeps c.args.data_len_offset c.args.riff_size c.args.data_length _ _
-    c.from_residual-in_err-put_size-2.result _ _ _
-    c.from_residual-in_err-put_size-2.ensures.0 has
-    (g.met.M.Placed.bytes c.put_size.new.medium tells) first first.whole fits second
+    cut _ _ _ second.count _ _ _ c.from_residual-in_err-put_size-2.ensures.0 second.within
+    (second_half g.M.Placed.keeps _ _ c.args.data_length _ _ _ has first _ _
+    (g.met.M.Placed.bytes c.put_size.new.medium tells) first.whole (search rules) second)
     (second.faults ∙ ap one_more first.faults)
 
 pub returns-clause-patches : goal.returns-clause-patches
@@ -35,10 +33,9 @@ returns-clause-patches g c tells =
     let second = c.in_ok-put_size-2.ensures tells in
     let has = has_size c.args.data_len_offset _ c.requires.behind (c.requires.inside tells)
     (g.met.M.Placed.bytes c.args.medium.now tells) in
-    let fits : c.args.riff_size < 2 ^ 32 = search rules in
     patched g.M.Placed.keeps c.args.data_len_offset c.args.riff_size c.args.data_length _ _
     c.flush.result _ _ _ _ has (g.met.M.Placed.bytes c.put_size.new.medium tells)
-    first second first.whole second.whole fits (second.faults ∙ first.faults)
+    first second first.whole second.whole (search rules) (second.faults ∙ first.faults)
     (c.flush.ensures tells)
 
 pub returns-in_err-put_size-clause-moments : goal.returns-in_err-put_size-clause-moments
