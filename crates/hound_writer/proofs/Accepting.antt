@@ -10,7 +10,7 @@ use Rattle.hound_medium.proofs.Spans.{span_puts, span_still}
 use Rattle.hound_spec.specs.declared.error.Error.{Error}
 use Rattle.hound_spec.specs.declared.error.Error.TheVariants.{IoError, OutOfMemory}
 use Rattle.hound_spec.specs.{riff_size, greatest_u32}
-use Rattle.hound_sample.specs.{Refusal, containers, IsEncoded}
+use Rattle.hound_sample.specs.{Refusal, containers, error_of, too_wide, unsupported, IsEncoded}
 use Rattle.hound_writer.specs.Accepting.{AcceptsBytes, Accepts, AddsAtEach, AcceptAnswer, FitAnswer, IsIoError, OnRefused, faults_told, if_marked, mark_of}
 use Rattle.hound_writer.specs.Parts.{all_out, GoesToFile, PutsAt, IsStanding, StaysAround}
 use Rattle.hound_writer.specs.Writer.{Counts, WriterState, HasRoom, IsCounted, IsSound, IsWhole, accepted_samples, data_length, sample_count}
@@ -88,6 +88,17 @@ accepts_refused tells keeps state w memory asked e counts replays mark faults an
       file = λ told. let same = faults old.faults in search (rules, unless_failed);
       moments = λ told kept. adds_nothing state w (counts told) (replays told kept);
     }
+
+-- the type has no container
+pub type_refuses : {W : Type 0} (tells keeps : Bool) (state : W → MediumState) (w : WriterState W)
+    (refusal : Refusal) → WhereTells tells (IsWhole state w → IsCounted state w)
+    → WhereKeeps tells keeps
+    ((state w.medium).contents ≡ overlay (state w.medium).start (state w.medium).past)
+    → Accepts tells keeps state false (Err refusal) (Err (error_of refusal)) w w
+type_refuses tells keeps state w too_wide counts replays =
+    accepts_refused tells keeps state w false _ _ counts replays refl (λ _. refl) refl
+type_refuses tells keeps state w unsupported counts replays =
+    accepts_refused tells keeps state w false _ _ counts replays refl (λ _. refl) refl
 
 -- whole containers for which there is room fit
 pub room_fits : {W : Type 0} (w : WriterState W) (bytes : List ℕ) → HasRoom w (length bytes)

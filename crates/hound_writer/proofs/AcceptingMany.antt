@@ -7,7 +7,7 @@ use Rattle.std.specs.declared.io.Error.{Error as IoFault}
 use Rattle.hound_medium.specs.{overlay, MediumState, WhereKeeps}
 use Rattle.hound_sample.specs.{Refusal, too_wide, unsupported, containers}
 use Rattle.hound_spec.specs.declared.error.Error.{Error}
-use Rattle.hound_spec.specs.declared.error.Error.TheVariants.{TooLong, TooWide, Unsupported}
+use Rattle.hound_spec.specs.declared.error.Error.TheVariants.{TooLong}
 use Rattle.hound_spec.specs.declared.spec.WavSpecEx.{WavSpecEx}
 use Rattle.hound_spec.specs.{greatest_u32}
 use Rattle.hound_writer.specs.Accepting.{AcceptsBytes, whole_containers, Accepts, IsIoError, containers_in, outcome_of, sample_bytes}
@@ -15,7 +15,7 @@ use Rattle.hound_writer.specs.Parts.{GoesOut, result_of, IsConsistent}
 use Rattle.hound_writer.specs.Writer.{WriterState, HasRoom, IsValid, data_end}
 use Rattle.hound_writer.specs.declared.outcome.Outcome.{Outcome}
 use Rattle.hound_writer.specs.declared.outcome.Outcome.TheVariants.{Accepted}
-use Rattle.hound_writer.proofs.Accepting.{accepts_refused}
+use Rattle.hound_writer.proofs.Accepting.{type_refuses}
 use Rattle.hound_sample.proofs.Joined.{joined, joined_size}
 use Rattle.hound_writer.proofs.Later.{accepts_later}
 use Rattle.hound_writer.proofs.Samples.{valid_seen}
@@ -96,68 +96,73 @@ module _ {V : Type 0} (container : V → ℕ → ℕ → Result (List ℕ) Refus
           ((all.bytes ∙ sym (append-nil (concat list))) i)) ∙ all.back [])
           ∙ sym is
 
-  pub many_asked : {W : Type 0} (tells keeps : Bool) (state : W → MediumState)
-      (answer : Result (Unit {0}) Error) (w new : WriterState W) → 1 ≤ w.spec_ex.bytes_per_sample
-      → IsOk (containers_in container w.spec_ex values)
-      → AcceptsAll tells keeps state answer w new
-      → Accepts tells keeps state false (containers_in container w.spec_ex values) answer w new
-  many_asked tells keeps state answer w new some have =
-      subst (λ asked. Accepts tells keeps state false asked answer w new)
-      (asked_is w.spec_ex some have)
-
   -- for a writer by its fields and by its value
   module _ {W : Type 0} (tells keeps : Bool) (state : W → MediumState) (may_have_moved : Bool)
       (limit : ℕ) (a w : WriterState W) (same : a ≡ w)
-      (consistent : IsConsistent tells state a may_have_moved limit)
-      (replays : WhereKeeps tells keeps
-      ((state w.medium).contents ≡ overlay (state w.medium).start (state w.medium).past)) where
+      (consistent : IsConsistent tells state a may_have_moved limit) where
     valid : IsValid tells state w
     valid = valid_seen tells state may_have_moved limit a w same consistent
 
-    -- one of them has no container
-    pub many_refused : (outcome : Outcome) (fault : IoFault)
-        → outcome ≡ outcome_of (containers_in container w.spec_ex values)
-        → (outcome ≡ Accepted → ⊥)
-        → Accepts tells keeps state false (containers_in container w.spec_ex values)
-        (result_of outcome fault) w w
-    many_refused outcome fault is other =
-        go (containers_in container w.spec_ex values) is
-      where
-        go : (asked : Result (List (List ℕ)) Refusal) → outcome ≡ outcome_of asked
-            → Accepts tells keeps state false asked (result_of outcome fault) w w
-        go (Ok list) is = absurd (other is)
-        go (Err too_wide) is =
-            subst (λ o. Accepts tells keeps state false (Err too_wide) (result_of o fault) w w)
-            (sym is)
-            (accepts_refused tells keeps state w false (Err too_wide) TooWide valid.counts replays refl
-            (λ _. refl) refl)
-        go (Err unsupported) is =
-            subst (λ o. Accepts tells keeps state false (Err unsupported) (result_of o fault) w w)
-            (sym is)
-            (accepts_refused tells keeps state w false (Err unsupported) Unsupported valid.counts replays
-            refl (λ _. refl) refl)
+    still_have : IsOk (containers_in container a.spec_ex values)
+        → IsOk (containers_in container w.spec_ex values)
+    still_have = subst (λ v. IsOk (containers_in container v.spec_ex values)) same
 
-    -- the file has no room for all of them
-    pub many_too_long : IsOk (containers_in container w.spec_ex values)
-        → (HasRoom w (w.spec_ex.bytes_per_sample * length values) → ⊥)
-        → Accepts tells keeps state false (containers_in container w.spec_ex values)
-        (Err TooLong) w w
-    many_too_long have none =
-        let size = size_of w.spec_ex have in
-        many_asked tells keeps state (Err TooLong) w w valid.sound.width have
-        (bytes_too_long tells keeps state w (sample_bytes container w.spec_ex values) valid.counts
-        replays
-        (ap (λ n. n % w.spec_ex.bytes_per_sample) size
-        ∙ mul-mod_right w.spec_ex.bytes_per_sample (length values))
-        (λ room. none (subst (HasRoom w) size room)))
+    pub many_asked : (answer : Result (Unit {0}) Error) (new : WriterState W)
+        → IsOk (containers_in container a.spec_ex values)
+        → AcceptsAll tells keeps state answer w new
+        → Accepts tells keeps state false (containers_in container w.spec_ex values) answer w new
+    many_asked answer new have =
+        subst (λ asked. Accepts tells keeps state false asked answer w new)
+        (asked_is w.spec_ex valid.sound.width (still_have have))
 
-    -- a sample takes a byte at least
-    pub too_many : greatest_u32 < length values
-        → HasRoom w (w.spec_ex.bytes_per_sample * length values) → ⊥
-    too_many many room =
-        let wide : 1 * length values ≤ w.spec_ex.bytes_per_sample * length values =
-        mul-le-mul_right (length values) valid.sound.width in
-        omega (arith, many, room, wide)
+    module _
+        (replays : WhereKeeps tells keeps
+        ((state w.medium).contents ≡ overlay (state w.medium).start (state w.medium).past)) where
+      -- one of them has no container
+      pub many_refused : (outcome : Outcome) (fault : IoFault)
+          → outcome ≡ outcome_of (containers_in container a.spec_ex values)
+          → (outcome ≡ Accepted → ⊥)
+          → Accepts tells keeps state false (containers_in container w.spec_ex values)
+          (result_of outcome fault) w w
+      many_refused outcome fault is other =
+          go (containers_in container w.spec_ex values)
+          (subst (λ v. outcome ≡ outcome_of (containers_in container v.spec_ex values)) same is)
+        where
+          go : (asked : Result (List (List ℕ)) Refusal) → outcome ≡ outcome_of asked
+              → Accepts tells keeps state false asked (result_of outcome fault) w w
+          go (Ok list) is = absurd (other is)
+          go (Err too_wide) is =
+              subst (λ o. Accepts tells keeps state false (Err too_wide) (result_of o fault) w w)
+              (sym is) (type_refuses tells keeps state w too_wide valid.counts replays)
+          go (Err unsupported) is =
+              subst (λ o. Accepts tells keeps state false (Err unsupported) (result_of o fault) w w)
+              (sym is) (type_refuses tells keeps state w unsupported valid.counts replays)
+
+      -- the file has no room for all of them
+      pub many_too_long : IsOk (containers_in container a.spec_ex values)
+          → (HasRoom w (length values * a.spec_ex.bytes_per_sample) → ⊥)
+          → Accepts tells keeps state false (containers_in container w.spec_ex values)
+          (Err TooLong) w w
+      many_too_long have none =
+          let size = size_of w.spec_ex (still_have have) in
+          let long : length (sample_bytes container w.spec_ex values)
+          ≡ length values * a.spec_ex.bytes_per_sample =
+          omega (arith, size, ap (λ v. v.spec_ex.bytes_per_sample * length values) same) in
+          many_asked (Err TooLong) w have
+          (bytes_too_long tells keeps state w (sample_bytes container w.spec_ex values) valid.counts
+          replays
+          (ap (λ n. n % w.spec_ex.bytes_per_sample) size
+          ∙ mul-mod_right w.spec_ex.bytes_per_sample (length values))
+          (λ room. none (subst (HasRoom w) long room)))
+
+      -- a sample takes a byte at least
+      pub too_many : IsOk (containers_in container a.spec_ex values) → greatest_u32 < length values
+          → Accepts tells keeps state false (containers_in container w.spec_ex values)
+          (Err TooLong) w w
+      too_many have many =
+          let wide : 1 * length values ≤ a.spec_ex.bytes_per_sample * length values =
+          mul-le-mul_right (length values) consistent.sound.width in
+          many_too_long have (λ room. omega (arith, many, room, wide))
 
 -- the outcome of samples whose containers were checked
 pub looked_at : {T : Type 0} (asked : Result T Refusal) → Accepted ≡ outcome_of asked → IsOk asked

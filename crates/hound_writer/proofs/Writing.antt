@@ -6,11 +6,11 @@ use Rattle.hound_medium.specs.{overlay, MediumState, WhereTells, WhereKeeps}
 use Rattle.hound_spec.specs.declared.error.Error.{Error}
 use Rattle.hound_spec.specs.declared.error.Error.TheVariants.{TooLong, TooWide, Unsupported}
 use Rattle.hound_spec.specs.{riff_size, greatest_u32}
-use Rattle.hound_sample.specs.{Refusal, too_wide, unsupported, containers, IsEncoded}
+use Rattle.hound_sample.specs.{Refusal, error_of, too_wide, unsupported, containers, IsEncoded}
 use Rattle.hound_writer.specs.Accepting.{AcceptsBytes, Accepts, FitAnswer, one}
 use Rattle.hound_writer.specs.Parts.{IsConsistent}
 use Rattle.hound_writer.specs.Writer.{WriterState, HasRoom, IsCounted, IsValid, IsWhole, data_length}
-use Rattle.hound_writer.proofs.Accepting.{accepts_refused}
+use Rattle.hound_writer.proofs.Accepting.{accepts_refused, type_refuses}
 use Rattle.hound_writer.proofs.Containers.{container_alone, joined_bytes}
 use Rattle.hound_writer.proofs.Samples.{valid_seen}
 
@@ -73,16 +73,10 @@ module _ {W : Type 0} (tells keeps : Bool) (state : W → MediumState)
         go : (asked : Result (List ℕ) Refusal) → IsEncoded asked (Err e)
             → Accepts tells keeps state false (one asked) (Err e) w w
         go (Ok c) is = cc
-        go (Err too_wide) is =
-            let e_is : e ≡ TooWide = cc in
-            subst (λ x. Accepts tells keeps state false (Err too_wide) (Err x) w w) (sym e_is)
-            (accepts_refused tells keeps state w false (Err too_wide) TooWide valid.counts replays refl
-            (λ _. refl) refl)
-        go (Err unsupported) is =
-            let e_is : e ≡ Unsupported = cc in
-            subst (λ x. Accepts tells keeps state false (Err unsupported) (Err x) w w) (sym e_is)
-            (accepts_refused tells keeps state w false
-            (Err unsupported) Unsupported valid.counts replays refl (λ _. refl) refl)
+        go (Err refusal) is =
+            let same : e ≡ error_of refusal = cc in
+            subst (λ x. Accepts tells keeps state false (Err refusal) (Err x) w w) (sym same)
+            (type_refuses tells keeps state w refusal valid.counts replays)
 
   -- the call was for its container
   pub sample_accepts : (c bytes : List ℕ) (answer : Result (Unit {0}) Error) (new : WriterState W)

@@ -10,82 +10,52 @@ pub returns-then-not-have_containers-clause-accepts :
     goal.returns-then-not-have_containers-clause-accepts
 returns-then-not-have_containers-clause-accepts g c =
     let W = g.W.Placed in
-    let w = c.args.self.now in
     let outcome = c.first_outcome in
     many_refused g.S.Sample.container g.met.S.Sample.in_width c.args.samples.now W.tells
-    W.keeps W.state _ _ _ w c.self.view_is c.self.invariant
-    (λ tells keeps. g.met.W.Medium.replays w.medium tells keeps) outcome.result c.args.fault.now
-    (subst (λ v. outcome.result
-    ≡ outcome_of (containers_in g.S.Sample.container v.spec_ex c.args.samples.now))
-    c.self.view_is outcome.ensures)
+    W.keeps W.state _ _ _ _ c.self.view_is c.self.invariant
+    (λ tells keeps. g.met.W.Medium.replays c.args.self.now.medium tells keeps) outcome.result
+    c.args.fault.now outcome.ensures
     (λ is. false≢true (sym c.if-not-have_containers.true ∙ c.have_containers.ensures
     ∙ looked_at _ (sym is ∙ outcome.ensures)))
 
 pub returns-then-len-samples-clause-accepts : goal.returns-then-len-samples-clause-accepts
 returns-then-len-samples-clause-accepts g c =
     let W = g.W.Placed in
-    let w = c.args.self.now in
-    let have : IsOk (containers_in g.S.Sample.container w.spec_ex c.args.samples.now) =
-    subst (λ v. IsOk (containers_in g.S.Sample.container v.spec_ex c.args.samples.now)) c.self.view_is
-    (sym c.have_containers.ensures ∙ c.if-not-have_containers.false) in
     many_asked g.S.Sample.container g.met.S.Sample.in_width c.args.samples.now W.tells W.keeps
-    W.state (Ok tt) w c.accept_samples_in_block.new.self
-    (subst (λ v. 1 ≤ v.spec_ex.bytes_per_sample) c.self.view_is c.self.invariant.sound.width)
-    have c.accept_samples_in_block.ensures.accepts
+    W.state _ _ _ _ c.self.view_is c.self.invariant (Ok tt) _
+    (sym c.have_containers.ensures ∙ c.if-not-have_containers.false)
+    c.accept_samples_in_block.ensures.accepts
 
 pub returns-then-samples-clause-accepts : goal.returns-then-samples-clause-accepts
 returns-then-samples-clause-accepts g c =
     let W = g.W.Placed in
-    let w = c.args.self.now in
-    let have : IsOk (containers_in g.S.Sample.container w.spec_ex c.args.samples.now) =
-    subst (λ v. IsOk (containers_in g.S.Sample.container v.spec_ex c.args.samples.now)) c.self.view_is
-    (sym c.have_containers.ensures ∙ c.if-not-have_containers.false) in
-    many_too_long g.S.Sample.container g.met.S.Sample.in_width c.args.samples.now W.tells
-    W.keeps W.state _ _ _ w c.self.view_is c.self.invariant
-    (λ tells keeps. g.met.W.Medium.replays w.medium tells keeps) have
-    (too_many g.S.Sample.container g.met.S.Sample.in_width c.args.samples.now W.tells
-    W.keeps W.state _ _ _ w c.self.view_is c.self.invariant
-    (λ tells keeps. g.met.W.Medium.replays w.medium tells keeps) c.if-samples.true)
+    too_many g.S.Sample.container g.met.S.Sample.in_width c.args.samples.now W.tells W.keeps
+    W.state _ _ _ _ c.self.view_is c.self.invariant
+    (λ tells keeps. g.met.W.Medium.replays c.args.self.now.medium tells keeps)
+    (sym c.have_containers.ensures ∙ c.if-not-have_containers.false) c.if-samples.true
 
 pub returns-then-not-has_room-clause-accepts : goal.returns-then-not-has_room-clause-accepts
 returns-then-not-has_room-clause-accepts g c =
     let W = g.W.Placed in
-    let w = c.args.self.now in
-    let values = c.args.samples.now in
-    let have : IsOk (containers_in g.S.Sample.container w.spec_ex values) =
-    subst (λ v. IsOk (containers_in g.S.Sample.container v.spec_ex values)) c.self.view_is
-    (sym c.have_containers.ensures ∙ c.if-not-have_containers.false) in
-    let width : w.spec_ex.bytes_per_sample ≡ c.self.inside.spec_ex.bytes_per_sample =
-    ap (λ v. v.spec_ex.bytes_per_sample) (sym c.self.view_is) in
-    many_too_long g.S.Sample.container g.met.S.Sample.in_width values W.tells
-    W.keeps W.state _ _ _ w c.self.view_is c.self.invariant
-    (λ tells keeps. g.met.W.Medium.replays w.medium tells keeps) have
-    (λ room.
-    absurd (false≢true (sym c.if-not-has_room.true
-    ∙ c.has_room.ensures.room.1
-    (subst (HasRoom w) (let e : w.spec_ex.bytes_per_sample * length values
-    ≡ length values * c.self.inside.spec_ex.bytes_per_sample = omega
-    (arith, ap (λ n. n * length values) width) in e) room))))
+    many_too_long g.S.Sample.container g.met.S.Sample.in_width c.args.samples.now W.tells W.keeps
+    W.state _ _ _ _ c.self.view_is c.self.invariant
+    (λ tells keeps. g.met.W.Medium.replays c.args.self.now.medium tells keeps)
+    (sym c.have_containers.ensures ∙ c.if-not-have_containers.false)
+    (λ room. false≢true (sym c.if-not-has_room.true ∙ c.has_room.ensures.room.1 room))
 
 pub returns-then-not-accept_encoded-clause-accepts :
     goal.returns-then-not-accept_encoded-clause-accepts
 returns-then-not-accept_encoded-clause-accepts g c =
     let W = g.W.Placed in
-    let w = c.args.self.now in
-    let have : IsOk (containers_in g.S.Sample.container w.spec_ex c.args.samples.now) =
-    subst (λ v. IsOk (containers_in g.S.Sample.container v.spec_ex c.args.samples.now)) c.self.view_is
-    (sym c.have_containers.ensures ∙ c.if-not-have_containers.false) in
     many_asked g.S.Sample.container g.met.S.Sample.in_width c.args.samples.now W.tells W.keeps
-    W.state (Err (IoError c.accept_encoded.new.fault)) w c.accept_encoded.new.self
-    c.has_room.ensures.valid.sound.width have c.if-not-accept_encoded.ensures.accepts
+    W.state _ _ _ _ c.self.view_is c.self.invariant (Err (IoError c.accept_encoded.new.fault)) _
+    (sym c.have_containers.ensures ∙ c.if-not-have_containers.false)
+    c.if-not-accept_encoded.ensures.accepts
 
 pub returns-clause-accepts : goal.returns-clause-accepts
 returns-clause-accepts g c =
     let W = g.W.Placed in
-    let w = c.args.self.now in
-    let have : IsOk (containers_in g.S.Sample.container w.spec_ex c.args.samples.now) =
-    subst (λ v. IsOk (containers_in g.S.Sample.container v.spec_ex c.args.samples.now)) c.self.view_is
-    (sym c.have_containers.ensures ∙ c.if-not-have_containers.false) in
     many_asked g.S.Sample.container g.met.S.Sample.in_width c.args.samples.now W.tells W.keeps
-    W.state (Ok tt) w c.accept_encoded.new.self
-    c.has_room.ensures.valid.sound.width have c.if-not-accept_encoded.ensures.accepts
+    W.state _ _ _ _ c.self.view_is c.self.invariant (Ok tt) _
+    (sym c.have_containers.ensures ∙ c.if-not-have_containers.false)
+    c.if-not-accept_encoded.ensures.accepts
