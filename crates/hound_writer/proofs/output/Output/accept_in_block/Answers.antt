@@ -8,19 +8,13 @@ use Rattle.hound_writer.proofs.output.Output.accept_in_block.Goals as goal
 pub invariant_of-self : goal.invariant_of-self
 invariant_of-self g c =
     let W = g.W.Placed in
-    let i = c.self.inside in
-    consistent_seen W.tells W.state _ _ _ _ _
-    (sym (λ j. of_fields i.writer i.spec_ex i.data_start i.data_bytes_written (c.extend.ensures j)
-    (bytes_kept (λ buffer. buffer.items) i.buffer))) refl
+    rw c.extend.ensures
     (consistent_longer W.tells W.keeps W.state _ _ _ c.self.invariant c.args.bytes.now
     (search rules) (search rules) (search rules))
 
 pub returns-clause-accepts : goal.returns-clause-accepts
 returns-clause-accepts g c =
     let W = g.W.Placed in
-    let i = c.self.inside in
-    accepts_seen W.tells W.keeps W.state c.args.bytes.now _ _ _ _ _ c.self.view_is
-    (λ j. of_fields i.writer i.spec_ex i.data_start i.data_bytes_written (c.extend.ensures j)
-    (bytes_kept (λ buffer. buffer.items) i.buffer))
+    rw (c.extend.ensures, ← c.self.view_is)
     (accepts_waiting W.tells W.keeps W.state _ _ _ c.self.invariant c.args.bytes.now (search rules)
-    (search rules) (λ tells keeps. g.met.W.Medium.replays i.writer tells keeps))
+    (search rules) (g.met.W.Medium.replays _))
