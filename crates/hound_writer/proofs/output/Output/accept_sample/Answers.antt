@@ -19,8 +19,7 @@ returns-after-refusal-clause-accepts g c =
     let refused =
     sample_refused W.tells W.keeps W.state
     (g.S.Sample.container c.args.sample) _ _ _ _ c.self.view_is c.self.invariant
-    (λ tells keeps.
-    g.met.W.Medium.replays w.medium tells keeps) c.in-Err.refusal c.in-Err.ensures in
+    (g.met.W.Medium.replays w.medium) c.in-Err.refusal c.in-Err.ensures in
     elim c.match-refusal.branch [
       | in-TooWide b ↦
           subst (λ o. Accepts W.tells W.keeps W.state false asked
@@ -65,7 +64,7 @@ returns-then-len-self-clause-accepts g c =
       known.room.block,
       known.room.file (omega (arith, c.if-len-self.true)),
     ))
-    (one_whole _ _ size) (λ tells keeps. g.met.W.Medium.replays i.writer tells keeps)))
+    (one_whole _ _ size) (g.met.W.Medium.replays i.writer)))
 
 pub returns-else-len-self-clause-accepts : goal.returns-else-len-self-clause-accepts
 returns-else-len-self-clause-accepts g c =

@@ -13,7 +13,7 @@ returns-then-not-have_containers-clause-accepts g c =
     let outcome = c.first_outcome in
     many_refused g.S.Sample.container g.met.S.Sample.in_width c.args.samples.now W.tells
     W.keeps W.state _ _ _ _ c.self.view_is c.self.invariant
-    (λ tells keeps. g.met.W.Medium.replays c.args.self.now.medium tells keeps) outcome.result
+    (g.met.W.Medium.replays c.args.self.now.medium) outcome.result
     c.args.fault.now outcome.ensures
     (λ is. false≢true (sym c.if-not-have_containers.true ∙ c.have_containers.ensures
     ∙ looked_at _ (sym is ∙ outcome.ensures)))
@@ -31,7 +31,7 @@ returns-then-samples-clause-accepts g c =
     let W = g.W.Placed in
     too_many g.S.Sample.container g.met.S.Sample.in_width c.args.samples.now W.tells W.keeps
     W.state _ _ _ _ c.self.view_is c.self.invariant
-    (λ tells keeps. g.met.W.Medium.replays c.args.self.now.medium tells keeps)
+    (g.met.W.Medium.replays c.args.self.now.medium)
     (sym c.have_containers.ensures ∙ c.if-not-have_containers.false) c.if-samples.true
 
 pub returns-then-not-has_room-clause-accepts : goal.returns-then-not-has_room-clause-accepts
@@ -39,7 +39,7 @@ returns-then-not-has_room-clause-accepts g c =
     let W = g.W.Placed in
     many_too_long g.S.Sample.container g.met.S.Sample.in_width c.args.samples.now W.tells W.keeps
     W.state _ _ _ _ c.self.view_is c.self.invariant
-    (λ tells keeps. g.met.W.Medium.replays c.args.self.now.medium tells keeps)
+    (g.met.W.Medium.replays c.args.self.now.medium)
     (sym c.have_containers.ensures ∙ c.if-not-have_containers.false)
     (λ room. false≢true (sym c.if-not-has_room.true ∙ c.has_room.ensures.room.1 room))
 

@@ -40,7 +40,7 @@ returns-then-not-put_samples_at_end-clause-accepts g c =
     (accepts_none W.tells W.keeps W.state _ none known.sound known.stands new.medium
     (sample_bytes g.S.Sample.container i.spec_ex values) fits.room fits.whole new.fault
     c.if-not-put_samples_at_end.ensures.puts
-    (λ tells keeps. g.met.W.Medium.replays i.writer tells keeps))
+    (g.met.W.Medium.replays i.writer))
 
 pub invariant_of-self-2 : goal.invariant_of-self-2
 invariant_of-self-2 g c =
@@ -83,4 +83,4 @@ returns-clause-accepts g c =
     ((c.clear-2.ensures ∙ sym none) j) (bytes_kept (λ buffer. buffer.items) i.buffer))
     (accepts_all W.tells W.keeps W.state _ none known.sound known.stands new.medium bytes
     fits.room fits.whole c.if-not-put_samples_at_end.ensures.puts
-    (λ tells keeps. g.met.W.Medium.replays i.writer tells keeps))
+    (g.met.W.Medium.replays i.writer))

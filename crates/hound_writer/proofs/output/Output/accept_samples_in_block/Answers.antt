@@ -13,12 +13,8 @@ invariant_of-self g c =
     let values = c.args.samples.now in
     let fits = fit g.S.Sample.container g.met.S.Sample.in_width values _ _ c.self.view_is
     c.requires.have c.requires.room in
-    let few : length i.block + i.spec_ex.bytes_per_sample * length values ≤ block_length =
-    subst (λ w. length w.waiting + w.spec_ex.bytes_per_sample * length values ≤ block_length)
-    (sym c.self.view_is) c.requires.few in
-    consistent_seen W.tells W.state _ _ _ _ _
-    (sym (λ j. of_fields i.writer i.spec_ex i.data_start i.data_bytes_written
-    (c.extend_by.ensures j) (bytes_kept (λ buffer. buffer.items) i.buffer))) refl
+    let few = rw (← c.self.view_is) at c.requires.few in
+    rw c.extend_by.ensures
     (consistent_longer W.tells W.keeps W.state _ _ _ c.self.invariant
     (sample_bytes g.S.Sample.container i.spec_ex values) fits.room fits.whole
     (omega (arith, few, fits.size)))
@@ -30,10 +26,7 @@ returns-clause-accepts g c =
     let values = c.args.samples.now in
     let fits = fit g.S.Sample.container g.met.S.Sample.in_width values _ _ c.self.view_is
     c.requires.have c.requires.room in
-    many_seen g.S.Sample.container g.met.S.Sample.in_width values W.tells W.keeps W.state (Ok tt)
-    _ _ _ _ c.self.view_is
-    (λ j. of_fields i.writer i.spec_ex i.data_start i.data_bytes_written (c.extend_by.ensures j)
-    (bytes_kept (λ buffer. buffer.items) i.buffer))
+    rw (c.extend_by.ensures, ← c.self.view_is)
     (accepts_waiting W.tells W.keeps W.state _ _ _ c.self.invariant
     (sample_bytes g.S.Sample.container i.spec_ex values) fits.room fits.whole
-    (λ tells keeps. g.met.W.Medium.replays i.writer tells keeps))
+    (g.met.W.Medium.replays i.writer))

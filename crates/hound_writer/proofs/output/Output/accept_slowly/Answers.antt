@@ -15,7 +15,7 @@ returns-then-not-has_room-clause-accepts g c =
     ap (λ w. w.spec_ex.bytes_per_sample) (sym c.self.view_is) in
     let size : length (take wide c.args.container) ≡ wide = search rules in
     bytes_too_long W.tells W.keeps W.state w (take wide c.args.container) c.has_room.ensures.valid.counts
-    (λ tells keeps. g.met.W.Medium.replays w.medium tells keeps) (one_whole _ _ size)
+    (g.met.W.Medium.replays w.medium) (one_whole _ _ size)
     (λ room.
     absurd (false≢true (sym c.if-not-has_room.true
     ∙ c.has_room.ensures.room.1 (omega (arith, room, size, same)))))

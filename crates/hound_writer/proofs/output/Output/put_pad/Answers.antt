@@ -10,7 +10,7 @@ returns-then-self-eq0-clause-goes g c =
     let W = g.W.Placed in
     subst (λ w. GoesOut W.tells W.keeps W.state (padded_end w) true w w) c.self.view_is
     (goes_out_nothing W.tells W.keeps W.state _ _ _ _ c.self.invariant
-    (λ tells keeps. g.met.W.Medium.replays c.self.inside.writer tells keeps) (search rules))
+    (g.met.W.Medium.replays c.self.inside.writer) (search rules))
 
 pub invariant_of-self : goal.invariant_of-self
 invariant_of-self g c =
@@ -24,8 +24,7 @@ returns-clause-goes g c =
     let W = g.W.Placed in
     let put = c.put_at_end-is_put in
     goes_padded W.tells W.keeps W.state _ _ _ c.self.invariant (search rules)
-    (λ tells keeps.
-    g.met.W.Medium.replays c.self.inside.writer tells keeps) c.if-self-eq0.false put.new.medium
+    (g.met.W.Medium.replays c.self.inside.writer) c.if-self-eq0.false put.new.medium
     put.result put.ensures.puts c.args.self.now c.self.view_is
 
 pub returns-clause-padded : goal.returns-clause-padded
@@ -33,6 +32,5 @@ returns-clause-padded g c =
     let W = g.W.Placed in
     let put = c.put_at_end-is_put in
     padded_odd W.tells W.keeps W.state _ _ _ c.self.invariant (search rules)
-    (λ tells keeps.
-    g.met.W.Medium.replays c.self.inside.writer tells keeps) c.if-self-eq0.false put.new.medium
+    (g.met.W.Medium.replays c.self.inside.writer) c.if-self-eq0.false put.new.medium
     put.result put.ensures.puts
