@@ -239,23 +239,6 @@ goes_out_nothing tells keeps state far w moved limit known replays none =
       };
     }
 
--- the same bytes were written
-pub puts_same : {T E : Type 0} (tells keeps : Bool) (at : ℕ) (bytes same : List ℕ)
-    (result : Result T E) (old new : MediumState) → bytes ≡ same
-    → WhereTells tells (PutsAt keeps at bytes result old new)
-    → WhereTells tells (PutsAt keeps at same result old new)
-puts_same tells keeps at bytes same result old new is puts told =
-    subst (λ l. PutsAt keeps at l result old new) is (puts told)
-
--- the same for writers as contracts see them
-pub goes_out_seen : {W : Type 0} (tells keeps : Bool) (state : W → MediumState) (all : Bool)
-    (a w new : WriterState W) (m : W) → a ≡ w → new ≡ after_out all m a
-    → GoesOut tells keeps state (data_end a) all a (after_out all m a)
-    → GoesOut tells keeps state (data_end w) all w new
-goes_out_seen tells keeps state all a w new m same is out =
-    subst (GoesOut tells keeps state (data_end w) all w) (sym is)
-    (subst (λ v. GoesOut tells keeps state (data_end v) all v (after_out all m a)) same out)
-
 -- containers are written at once, if nothing is buffered
 module _ {W : Type 0} (tells keeps : Bool) (state : W → MediumState) (w : WriterState W)
     (moved : Bool) (limit : ℕ) (known : IsConsistent tells state w moved limit)

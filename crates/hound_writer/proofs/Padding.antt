@@ -18,12 +18,7 @@ put_stands (suc p) b (x ∷ c) = put_stands p b c
 
 -- an odd number leaves one
 one_left : (n : ℕ) → (n % 2 ≡ 0 → ⊥) → n % 2 ≡ 1
-one_left n odd =
-    elim (cases_lt 0 (n % 2)) [
-      | inl some ↦ omega (arith, some)
-      | inr none ↦ absurd
-          (odd (omega (arith, none)))
-    ]
+one_left n odd = omega arith
 
 -- a writer with an empty block, whose data have an odd length, and a byte written after them
 module _ {W : Type 0} (tells keeps : Bool) (state : W → MediumState) (w : WriterState W)
@@ -59,7 +54,7 @@ module _ {W : Type 0} (tells keeps : Bool) (state : W → MediumState) (w : Writ
     value true = λ i. record w { medium = m; out = sym size i; waiting = none i }
     value false = refl
 
-    goes_out : GoesOut tells keeps state (padded_end w) all w (record w { medium = m })
+    pub goes_out : GoesOut tells keeps state (padded_end w) all w (record w { medium = m })
     goes_out = record {
       value = value all;
       sound = known.sound;
@@ -77,12 +72,6 @@ module _ {W : Type 0} (tells keeps : Bool) (state : W → MediumState) (w : Writ
             ((puts told).past kept);
       };
     }
-
-    -- the same for a writer as contracts see it
-    pub goes_padded : (seen : WriterState W) → w ≡ seen
-        → GoesOut tells keeps state (padded_end seen) all seen (record w { medium = m })
-    goes_padded seen same =
-        subst (λ v. GoesOut tells keeps state (padded_end v) all v new) same goes_out
 
     -- once it is written it is there
     pub padded_odd : WhereTells tells (IsTrue all → IsPadded w (state m).contents)

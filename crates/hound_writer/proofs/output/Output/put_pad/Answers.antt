@@ -2,13 +2,13 @@ use Rattle.std.proofs.Common.{true, rules, subst}
 use Rattle.hound_writer.specs.Parts.{GoesOut}
 use Rattle.hound_writer.specs.Writer.{padded_end}
 use Rattle.hound_writer.proofs.Blocks.{cut_at_once, goes_out_nothing}
-use Rattle.hound_writer.proofs.Padding.{goes_padded, padded_odd}
+use Rattle.hound_writer.proofs.Padding.{goes_out, padded_odd}
 use Rattle.hound_writer.proofs.output.Output.put_pad.Goals as goal
 
 pub returns-then-self-eq0-clause-goes : goal.returns-then-self-eq0-clause-goes
 returns-then-self-eq0-clause-goes g c =
     let W = g.W.Placed in
-    subst (λ w. GoesOut W.tells W.keeps W.state (padded_end w) true w w) c.self.view_is
+    rw (← c.self.view_is)
     (goes_out_nothing W.tells W.keeps W.state _ _ _ _ c.self.invariant
     (g.met.W.Medium.replays c.self.inside.writer) (search rules))
 
@@ -23,14 +23,13 @@ pub returns-clause-goes : goal.returns-clause-goes
 returns-clause-goes g c =
     let W = g.W.Placed in
     let put = c.put_at_end-is_put in
-    goes_padded W.tells W.keeps W.state _ _ _ c.self.invariant (search rules)
-    (g.met.W.Medium.replays c.self.inside.writer) c.if-self-eq0.false put.new.medium
-    put.result put.ensures.puts c.args.self.now c.self.view_is
+    rw (← c.self.view_is)
+    (goes_out W.tells W.keeps W.state _ _ _ c.self.invariant (search rules)
+    (g.met.W.Medium.replays _) c.if-self-eq0.false put.new.medium put.result put.ensures.puts)
 
 pub returns-clause-padded : goal.returns-clause-padded
 returns-clause-padded g c =
     let W = g.W.Placed in
     let put = c.put_at_end-is_put in
     padded_odd W.tells W.keeps W.state _ _ _ c.self.invariant (search rules)
-    (g.met.W.Medium.replays c.self.inside.writer) c.if-self-eq0.false put.new.medium
-    put.result put.ensures.puts
+    (g.met.W.Medium.replays _) c.if-self-eq0.false put.new.medium put.result put.ensures.puts
