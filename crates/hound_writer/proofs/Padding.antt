@@ -16,10 +16,6 @@ put_stands zero b (x ∷ c) = refl
 put_stands (suc p) b [] = put_stands p b []
 put_stands (suc p) b (x ∷ c) = put_stands p b c
 
--- an odd number leaves one
-one_left : (n : ℕ) → (n % 2 ≡ 0 → ⊥) → n % 2 ≡ 1
-one_left n odd = omega arith
-
 -- a writer with an empty block, whose data have an odd length, and a byte written after them
 module _ {W : Type 0} (tells keeps : Bool) (state : W → MediumState) (w : WriterState W)
     (moved : Bool) (limit : ℕ) (known : IsConsistent tells state w moved limit)
@@ -47,7 +43,7 @@ module _ {W : Type 0} (tells keeps : Bool) (state : W → MediumState) (w : Writ
     size = omega (arith, ap length none)
 
     odd_size : data_length w % 2 ≡ 1
-    odd_size = ap (λ n. n % 2) size ∙ one_left w.out odd
+    odd_size = omega (arith, size)
 
     -- nothing buffered is no less than all of it
     value : (all : Bool) → record w { medium = m } ≡ after_out all m w

@@ -13,12 +13,8 @@ invariant_of-self g c =
     let W = g.W.Placed in
     let i = c.self.inside in
     let none : i.block ≡ [] = search rules in
-    let new = c.put_samples_at_end.new in
-    consistent_seen W.tells W.state _ _ _ _ _
-    (λ j. of_fields new.medium i.spec_ex i.data_start i.data_bytes_written
-    ((none ∙ sym c.clear.ensures) j) (bytes_kept (λ buffer. buffer.items) i.buffer))
-    (sym c.if-not-put_samples_at_end.ensures.moved)
-    (cut_at_once W.tells W.keeps W.state _ _ _ c.self.invariant none new.medium
+    rw (c.clear.ensures, ← none, c.if-not-put_samples_at_end.ensures.moved)
+    (cut_at_once W.tells W.keeps W.state _ _ _ c.self.invariant none _
     (sample_bytes g.S.Sample.container i.spec_ex c.args.samples.now) false
     c.if-not-put_samples_at_end.ensures.puts)
 
@@ -29,39 +25,28 @@ returns-then-not-put_samples_at_end-clause-accepts g c =
     let i = c.self.inside in
     let known = c.self.invariant in
     let none : i.block ≡ [] = search rules in
-    let new = c.put_samples_at_end.new in
     let values = c.args.samples.now in
     let fits = fit g.S.Sample.container g.met.S.Sample.in_width values _ _ c.self.view_is
     c.requires.have c.requires.room in
-    many_seen g.S.Sample.container g.met.S.Sample.in_width values W.tells W.keeps W.state
-    (Err (IoError new.fault)) _ _ _ _ c.self.view_is
-    (λ j. of_fields new.medium i.spec_ex i.data_start i.data_bytes_written
-    ((c.clear.ensures ∙ sym none) j) (bytes_kept (λ buffer. buffer.items) i.buffer))
-    (accepts_none W.tells W.keeps W.state _ none known.sound known.stands new.medium
-    (sample_bytes g.S.Sample.container i.spec_ex values) fits.room fits.whole new.fault
-    c.if-not-put_samples_at_end.ensures.puts
-    (g.met.W.Medium.replays i.writer))
+    rw (c.clear.ensures, ← none, ← c.self.view_is)
+    (accepts_none W.tells W.keeps W.state _ none known.sound known.stands _
+    (sample_bytes g.S.Sample.container i.spec_ex values) fits.room fits.whole _
+    c.if-not-put_samples_at_end.ensures.puts (g.met.W.Medium.replays _))
 
 pub invariant_of-self-2 : goal.invariant_of-self-2
 invariant_of-self-2 g c =
     let W = g.W.Placed in
     let i = c.self.inside in
     let none : i.block ≡ [] = search rules in
-    let new = c.put_samples_at_end.new in
     let values = c.args.samples.now in
     let fits = fit g.S.Sample.container g.met.S.Sample.in_width values _ _ c.self.view_is
     c.requires.have c.requires.room in
     let bytes = sample_bytes g.S.Sample.container i.spec_ex values in
-    let more : length bytes ≡ length values * i.spec_ex.bytes_per_sample = omega
+    let more : length values * i.spec_ex.bytes_per_sample ≡ length bytes = omega
     (arith, fits.size) in
-    consistent_seen W.tells W.state _ _ _ _ _
-    (λ j. of_fields new.medium i.spec_ex i.data_start (i.data_bytes_written + more j)
-    ((none ∙ sym c.clear-2.ensures) j) (bytes_kept (λ buffer. buffer.items) i.buffer))
-    (sym c.if-not-put_samples_at_end.ensures.moved)
-    (kept_at_once W.tells W.keeps W.state _ _ _ c.self.invariant none new.medium bytes
-    c.fast_path_limit_of-self-inside.result
-    (subst (λ n. IsLimit i.data_start (i.data_bytes_written + n) c.fast_path_limit_of-self-inside.result)
-    (sym more) c.fast_path_limit_of-self-inside.ensures.room) fits.room fits.whole
+    rw (c.clear-2.ensures, ← none, more, c.if-not-put_samples_at_end.ensures.moved)
+    (kept_at_once W.tells W.keeps W.state _ _ _ c.self.invariant none _ bytes _
+    (rw more at c.fast_path_limit_of-self-inside.ensures.room) fits.room fits.whole
     c.if-not-put_samples_at_end.ensures.puts)
 
 pub returns-clause-accepts : goal.returns-clause-accepts
@@ -70,17 +55,12 @@ returns-clause-accepts g c =
     let i = c.self.inside in
     let known = c.self.invariant in
     let none : i.block ≡ [] = search rules in
-    let new = c.put_samples_at_end.new in
     let values = c.args.samples.now in
     let fits = fit g.S.Sample.container g.met.S.Sample.in_width values _ _ c.self.view_is
     c.requires.have c.requires.room in
     let bytes = sample_bytes g.S.Sample.container i.spec_ex values in
-    let more : length bytes ≡ length values * i.spec_ex.bytes_per_sample = omega
+    let more : length values * i.spec_ex.bytes_per_sample ≡ length bytes = omega
     (arith, fits.size) in
-    many_seen g.S.Sample.container g.met.S.Sample.in_width values W.tells W.keeps W.state
-    (Ok tt) _ _ _ _ c.self.view_is
-    (λ j. of_fields new.medium i.spec_ex i.data_start (i.data_bytes_written + sym more j)
-    ((c.clear-2.ensures ∙ sym none) j) (bytes_kept (λ buffer. buffer.items) i.buffer))
-    (accepts_all W.tells W.keeps W.state _ none known.sound known.stands new.medium bytes
-    fits.room fits.whole c.if-not-put_samples_at_end.ensures.puts
-    (g.met.W.Medium.replays i.writer))
+    rw (c.clear-2.ensures, ← none, more, ← c.self.view_is)
+    (accepts_all W.tells W.keeps W.state _ none known.sound known.stands _ bytes
+    fits.room fits.whole c.if-not-put_samples_at_end.ensures.puts (g.met.W.Medium.replays _))
