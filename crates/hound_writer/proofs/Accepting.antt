@@ -401,26 +401,6 @@ module _ {W : Type 0} (tells keeps : Bool) (state : W → MediumState) (w : Writ
           λ told kept. at_each m bytes (all_out true) told (puts told) kept (replays told kept);
     }
 
--- the container that was encoded
-pub record EncodedAs (sample : Result (List ℕ) Refusal) (array : List ℕ) : Type 0 where
-  pub container : List ℕ
-  pub is : sample ≡ Ok container
-  pub padded : array ≡ container ++ replicate (4 - length container) 0
-
-pub encoded : (sample : Result (List ℕ) Refusal) (array : List ℕ) → IsEncoded sample (Ok array)
-    → EncodedAs sample array
-encoded (Ok container) array e = record { container = container; is = refl; padded = cc }
-encoded (Err refusal) array e = cc
-
--- a call for bytes, for a writer as contracts see it
-pub accepts_seen : {W : Type 0} (tells keeps : Bool) (state : W → MediumState) (bytes : List ℕ)
-    (answer : Result (Unit {0}) Error) (a b new seen : WriterState W) → a ≡ b → seen ≡ new
-    → AcceptsBytes tells keeps state bytes answer a new
-    → AcceptsBytes tells keeps state bytes answer b seen
-accepts_seen tells keeps state bytes answer a b new seen same is accepts =
-    subst (λ w. AcceptsBytes tells keeps state bytes answer w seen) same
-    (subst (λ w. AcceptsBytes tells keeps state bytes answer a w) (sym is) accepts)
-
 pub not_refused : {T : Type 0} (P : Type 0) (answer : Result T Error) → IfErr answer IsIoError
     → OnRefused answer P
 not_refused P (Ok x) failed = tt

@@ -14,7 +14,7 @@ use Rattle.hound_writer.proofs.Containers.{joined_bytes, none_whole, whole_more,
 use Rattle.hound_writer.proofs.Counted.{counts_more}
 use Rattle.hound_writer.proofs.Keeping.{consistent_moved, sound_with}
 use Rattle.hound_writer.proofs.PutsFrom.{puts_from}
-use Rattle.hound_writer.proofs.Samples.{counts_at, samples_more, samples_parts, valid_seen}
+use Rattle.hound_writer.proofs.Samples.{counts_at, samples_more, samples_parts, valid_of}
 use Rattle.hound_writer.proofs.Standing.{stands_more}
 use Rattle.hound_writer.proofs.Storing.{joined_samples, puts_stored}
 
@@ -68,7 +68,7 @@ module _ {W : Type 0} (tells keeps : Bool) (state : W → MediumState) (w : Writ
             let counts = counts_at state longer sound_longer known.whole_out old.contents in
             search rules;
         moments = λ told kept. adds_nothing state w
-            ((valid_seen tells state moved limit w w refl known).counts told) (replays told kept);
+            ((valid_of tells state moved limit w known).counts told) (replays told kept);
       }
 
 -- the buffered samples are written after the bytes in the medium
@@ -222,7 +222,7 @@ pub goes_out_nothing : {W : Type 0} (tells keeps : Bool) (state : W → MediumSt
     → length w.waiting ≡ 0 → GoesOut tells keeps state far true w w
 goes_out_nothing tells keeps state far w moved limit known replays none =
     let old = state w.medium in
-    let counts = (valid_seen tells state moved limit w w refl known).counts in
+    let counts = (valid_of tells state moved limit w known).counts in
     record {
       value = λ i.
           record w {

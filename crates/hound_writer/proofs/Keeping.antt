@@ -6,14 +6,6 @@ use Rattle.hound_medium.specs.{MediumState, WhereTells}
 use Rattle.hound_writer.specs.Parts.{IsConsistent, IsStanding}
 use Rattle.hound_writer.specs.Writer.{WriterState, IsSound}
 
--- it holds for a writer that is the same
-pub consistent_seen : {W : Type 0} (tells : Bool) (state : W → MediumState) (moved moved_now : Bool)
-    (limit : ℕ) (a b : WriterState W) → a ≡ b → moved ≡ moved_now
-    → IsConsistent tells state a moved limit → IsConsistent tells state b moved_now limit
-consistent_seen tells state moved moved_now limit a b same is known =
-    subst (λ m. IsConsistent tells state b m limit) is
-    (subst (λ v. IsConsistent tells state v moved limit) same known)
-
 -- a writer of the same file is sound with other whole samples whose size fits, over any medium
 pub sound_with : {W : Type 0} (w : WriterState W) (medium : W) (out : ℕ) (waiting : List ℕ)
     → IsSound w → (out + length waiting) % w.spec_ex.bytes_per_sample ≡ 0

@@ -115,14 +115,15 @@ module _ {W : Type 0} (tells keeps : Bool) (state : W → MediumState) (far : �
 
 -- containers that are accepted once the buffered samples are written
 pub accepts_later : {W : Type 0} (tells keeps : Bool) (state : W → MediumState)
-    (a b c : WriterState W) (bytes : List ℕ) (answer : Result (Unit {0}) Error)
+    (a b c : WriterState W) (asked : Result (List (List ℕ)) Refusal)
+    (answer : Result (Unit {0}) Error)
     → GoesOut tells keeps state (data_end a) true a b → IfErr answer IsIoError
-    → AcceptsBytes tells keeps state bytes answer b c → AcceptsBytes tells keeps state bytes answer a c
-accepts_later tells keeps state a b c bytes answer out failed accepts =
+    → Accepts tells keeps state false asked answer (after_out true b.medium a) c
+    → Accepts tells keeps state false asked answer a c
+accepts_later tells keeps state a b c asked answer out failed accepts =
     accepts_after tells keeps state (data_end a) a b.medium
     (subst (GoesOut tells keeps state (data_end a) true a) out.value out) (omega arith) false
-    (whole_containers a.spec_ex bytes) answer c failed
-    (subst (λ v. AcceptsBytes tells keeps state bytes answer v c) out.value accepts)
+    asked answer c failed accepts
 
 -- containers that aren't, since those weren't written
 pub accepts_cut : {W : Type 0} (tells keeps : Bool) (state : W → MediumState) (far : ℕ)

@@ -8,7 +8,6 @@ use Rattle.hound_writer.specs.Writer.{Counts, WriterState, IsSound, IsValid, IsW
 use Rattle.hound_writer.specs.Parts.{IsConsistent, IsStanding}
 use Rattle.hound_sample.proofs.Containers.{containers_front, length-containers}
 use Rattle.hound_writer.proofs.Containers.{concat-containers, containers_cut, containers_join, count_bytes}
-use Rattle.hound_writer.proofs.Keeping.{consistent_seen}
 use Rattle.hound_writer.proofs.Counted.{counts_standing, counts_more}
 
 -- this many of the bytes are there
@@ -131,13 +130,11 @@ module _ {W : Type 0} (state : W → MediumState) (w : WriterState W) (none : w.
         ap concat samples_out ∙ concat-containers width (w.out / width) bytes
         ∙ ap (λ k. take k bytes) (count_bytes w.out width whole_out)
 
--- what holds of a writer by its fields, as contracts see it
-pub valid_seen : {W : Type 0} (tells : Bool) (state : W → MediumState) (moved : Bool) (limit : ℕ)
-    (a w : WriterState W) → a ≡ w → IsConsistent tells state a moved limit → IsValid tells state w
-valid_seen tells state moved limit a w same consistent =
-    let known = consistent_seen tells state moved moved limit a w same refl consistent in
-    record {
-      sound = known.sound;
-      counts = λ told whole. counts_at state w known.sound known.whole_out
-          (state w.medium).contents whole (known.stands told) refl;
-    }
+-- what a writer keeps true is what holds of it
+pub valid_of : {W : Type 0} (tells : Bool) (state : W → MediumState) (moved : Bool) (limit : ℕ)
+    (w : WriterState W) → IsConsistent tells state w moved limit → IsValid tells state w
+valid_of tells state moved limit w known = record {
+  sound = known.sound;
+  counts = λ told whole. counts_at state w known.sound known.whole_out
+      (state w.medium).contents whole (known.stands told) refl;
+}

@@ -1,8 +1,6 @@
 use Rattle.std.proofs.Common.{refl, sym, rules}
 use Rattle.hound_writer.specs.Parts.{bytes_kept, of_fields}
-use Rattle.hound_writer.proofs.Accepting.{accepts_seen}
 use Rattle.hound_writer.proofs.Blocks.{accepts_waiting, consistent_longer}
-use Rattle.hound_writer.proofs.Keeping.{consistent_seen}
 use Rattle.hound_writer.proofs.output.Output.accept_in_block.Goals as goal
 
 pub invariant_of-self : goal.invariant_of-self

@@ -11,51 +11,58 @@ pub returns-then-not-have_containers-clause-accepts :
 returns-then-not-have_containers-clause-accepts g c =
     let W = g.W.Placed in
     let outcome = c.first_outcome in
-    many_refused g.S.Sample.container g.met.S.Sample.in_width c.args.samples.now W.tells
-    W.keeps W.state _ _ _ _ c.self.view_is c.self.invariant
-    (g.met.W.Medium.replays c.args.self.now.medium) outcome.result
+    rw (← c.self.view_is)
+    (many_refused g.S.Sample.container g.met.S.Sample.in_width c.args.samples.now W.tells
+    W.keeps W.state _ _ _ c.self.invariant
+    (g.met.W.Medium.replays _) outcome.result
     c.args.fault.now outcome.ensures
     (λ is. false≢true (sym c.if-not-have_containers.true ∙ c.have_containers.ensures
-    ∙ looked_at _ (sym is ∙ outcome.ensures)))
+    ∙ looked_at _ (sym is ∙ outcome.ensures))))
 
 pub returns-then-len-samples-clause-accepts : goal.returns-then-len-samples-clause-accepts
 returns-then-len-samples-clause-accepts g c =
     let W = g.W.Placed in
-    many_asked g.S.Sample.container g.met.S.Sample.in_width c.args.samples.now W.tells W.keeps
-    W.state _ _ _ _ c.self.view_is c.self.invariant (Ok tt) _
+    rw (← c.self.view_is)
+    (many_asked g.S.Sample.container g.met.S.Sample.in_width c.args.samples.now W.tells W.keeps
+    W.state _ _ _ c.self.invariant (Ok tt) _
     (sym c.have_containers.ensures ∙ c.if-not-have_containers.false)
-    c.accept_samples_in_block.ensures.accepts
+    (rw (← c.self.view_is) at c.accept_samples_in_block.ensures.accepts))
 
 pub returns-then-samples-clause-accepts : goal.returns-then-samples-clause-accepts
 returns-then-samples-clause-accepts g c =
     let W = g.W.Placed in
-    too_many g.S.Sample.container g.met.S.Sample.in_width c.args.samples.now W.tells W.keeps
-    W.state _ _ _ _ c.self.view_is c.self.invariant
-    (g.met.W.Medium.replays c.args.self.now.medium)
-    (sym c.have_containers.ensures ∙ c.if-not-have_containers.false) c.if-samples.true
+    rw (← c.self.view_is)
+    (too_many g.S.Sample.container g.met.S.Sample.in_width c.args.samples.now W.tells W.keeps
+    W.state _ _ _ c.self.invariant
+    (g.met.W.Medium.replays _)
+    (sym c.have_containers.ensures ∙ c.if-not-have_containers.false) c.if-samples.true)
 
 pub returns-then-not-has_room-clause-accepts : goal.returns-then-not-has_room-clause-accepts
 returns-then-not-has_room-clause-accepts g c =
     let W = g.W.Placed in
-    many_too_long g.S.Sample.container g.met.S.Sample.in_width c.args.samples.now W.tells W.keeps
-    W.state _ _ _ _ c.self.view_is c.self.invariant
-    (g.met.W.Medium.replays c.args.self.now.medium)
+    let fits = rw (← c.self.view_is) at c.has_room.ensures.room in
+    rw (← c.self.view_is)
+    (many_too_long g.S.Sample.container g.met.S.Sample.in_width c.args.samples.now W.tells W.keeps
+    W.state _ _ _ c.self.invariant
+    (g.met.W.Medium.replays _)
     (sym c.have_containers.ensures ∙ c.if-not-have_containers.false)
-    (λ room. false≢true (sym c.if-not-has_room.true ∙ c.has_room.ensures.room.1 room))
+    (λ room. false≢true (sym c.if-not-has_room.true ∙ fits.1 room)))
 
 pub returns-then-not-accept_encoded-clause-accepts :
     goal.returns-then-not-accept_encoded-clause-accepts
 returns-then-not-accept_encoded-clause-accepts g c =
     let W = g.W.Placed in
-    many_asked g.S.Sample.container g.met.S.Sample.in_width c.args.samples.now W.tells W.keeps
-    W.state _ _ _ _ c.self.view_is c.self.invariant (Err (IoError c.accept_encoded.new.fault)) _
+    rw (← c.self.view_is)
+    (many_asked g.S.Sample.container g.met.S.Sample.in_width c.args.samples.now W.tells W.keeps
+    W.state _ _ _ c.self.invariant (Err (IoError c.accept_encoded.new.fault)) _
     (sym c.have_containers.ensures ∙ c.if-not-have_containers.false)
-    c.if-not-accept_encoded.ensures.accepts
+    (rw (← c.self.view_is) at c.if-not-accept_encoded.ensures.accepts))
 
 pub returns-clause-accepts : goal.returns-clause-accepts
 returns-clause-accepts g c =
     let W = g.W.Placed in
-    many_asked g.S.Sample.container g.met.S.Sample.in_width c.args.samples.now W.tells W.keeps
-    W.state _ _ _ _ c.self.view_is c.self.invariant (Ok tt) _
+    rw (← c.self.view_is)
+    (many_asked g.S.Sample.container g.met.S.Sample.in_width c.args.samples.now W.tells W.keeps
+    W.state _ _ _ c.self.invariant (Ok tt) _
     (sym c.have_containers.ensures ∙ c.if-not-have_containers.false)
-    c.if-not-accept_encoded.ensures.accepts
+    (rw (← c.self.view_is) at c.if-not-accept_encoded.ensures.accepts))

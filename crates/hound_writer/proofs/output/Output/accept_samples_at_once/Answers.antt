@@ -3,9 +3,8 @@ use Rattle.hound_spec.specs.declared.error.Error.TheVariants.{IoError}
 use Rattle.hound_writer.specs.Parts.{IsLimit, bytes_kept, of_fields}
 use Rattle.hound_writer.specs.Accepting.{sample_bytes}
 use Rattle.hound_writer.proofs.Accepting.{accepts_all, accepts_none}
-use Rattle.hound_writer.proofs.AcceptingMany.{fit, many_seen}
+use Rattle.hound_writer.proofs.AcceptingMany.{fit}
 use Rattle.hound_writer.proofs.Blocks.{cut_at_once, kept_at_once}
-use Rattle.hound_writer.proofs.Keeping.{consistent_seen}
 use Rattle.hound_writer.proofs.output.Output.accept_samples_at_once.Goals as goal
 
 pub invariant_of-self : goal.invariant_of-self
@@ -26,8 +25,8 @@ returns-then-not-put_samples_at_end-clause-accepts g c =
     let known = c.self.invariant in
     let none : i.block ≡ [] = search rules in
     let values = c.args.samples.now in
-    let fits = fit g.S.Sample.container g.met.S.Sample.in_width values _ _ c.self.view_is
-    c.requires.have c.requires.room in
+    let fits = rw (← c.self.view_is) at (fit g.S.Sample.container g.met.S.Sample.in_width values
+    c.args.self.now c.requires.have c.requires.room) in
     rw (c.clear.ensures, ← none, ← c.self.view_is)
     (accepts_none W.tells W.keeps W.state _ none known.sound known.stands _
     (sample_bytes g.S.Sample.container i.spec_ex values) fits.room fits.whole _
@@ -39,8 +38,8 @@ invariant_of-self-2 g c =
     let i = c.self.inside in
     let none : i.block ≡ [] = search rules in
     let values = c.args.samples.now in
-    let fits = fit g.S.Sample.container g.met.S.Sample.in_width values _ _ c.self.view_is
-    c.requires.have c.requires.room in
+    let fits = rw (← c.self.view_is) at (fit g.S.Sample.container g.met.S.Sample.in_width values
+    c.args.self.now c.requires.have c.requires.room) in
     let bytes = sample_bytes g.S.Sample.container i.spec_ex values in
     let more : length values * i.spec_ex.bytes_per_sample ≡ length bytes = omega
     (arith, fits.size) in
@@ -56,8 +55,8 @@ returns-clause-accepts g c =
     let known = c.self.invariant in
     let none : i.block ≡ [] = search rules in
     let values = c.args.samples.now in
-    let fits = fit g.S.Sample.container g.met.S.Sample.in_width values _ _ c.self.view_is
-    c.requires.have c.requires.room in
+    let fits = rw (← c.self.view_is) at (fit g.S.Sample.container g.met.S.Sample.in_width values
+    c.args.self.now c.requires.have c.requires.room) in
     let bytes = sample_bytes g.S.Sample.container i.spec_ex values in
     let more : length values * i.spec_ex.bytes_per_sample ≡ length bytes = omega
     (arith, fits.size) in

@@ -1,9 +1,8 @@
 use Rattle.std.proofs.Common.{◌+◌, ◌*◌, ◌≤◌, Ok, arith, length, refl, subst, sym}
 use Rattle.hound_writer.specs.Parts.{block_length, bytes_kept, of_fields}
 use Rattle.hound_writer.specs.Accepting.{sample_bytes}
-use Rattle.hound_writer.proofs.AcceptingMany.{fit, many_seen}
+use Rattle.hound_writer.proofs.AcceptingMany.{fit}
 use Rattle.hound_writer.proofs.Blocks.{accepts_waiting, consistent_longer}
-use Rattle.hound_writer.proofs.Keeping.{consistent_seen}
 use Rattle.hound_writer.proofs.output.Output.accept_samples_in_block.Goals as goal
 
 pub invariant_of-self : goal.invariant_of-self
@@ -11,8 +10,8 @@ invariant_of-self g c =
     let W = g.W.Placed in
     let i = c.self.inside in
     let values = c.args.samples.now in
-    let fits = fit g.S.Sample.container g.met.S.Sample.in_width values _ _ c.self.view_is
-    c.requires.have c.requires.room in
+    let fits = rw (← c.self.view_is) at (fit g.S.Sample.container g.met.S.Sample.in_width values
+    c.args.self.now c.requires.have c.requires.room) in
     let few = rw (← c.self.view_is) at c.requires.few in
     rw c.extend_by.ensures
     (consistent_longer W.tells W.keeps W.state _ _ _ c.self.invariant
@@ -24,8 +23,8 @@ returns-clause-accepts g c =
     let W = g.W.Placed in
     let i = c.self.inside in
     let values = c.args.samples.now in
-    let fits = fit g.S.Sample.container g.met.S.Sample.in_width values _ _ c.self.view_is
-    c.requires.have c.requires.room in
+    let fits = rw (← c.self.view_is) at (fit g.S.Sample.container g.met.S.Sample.in_width values
+    c.args.self.now c.requires.have c.requires.room) in
     rw (c.extend_by.ensures, ← c.self.view_is)
     (accepts_waiting W.tells W.keeps W.state _ _ _ c.self.invariant
     (sample_bytes g.S.Sample.container i.spec_ex values) fits.room fits.whole

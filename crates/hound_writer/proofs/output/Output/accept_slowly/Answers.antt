@@ -23,9 +23,7 @@ returns-then-not-has_room-clause-accepts g c =
 pub returns-clause-accepts : goal.returns-clause-accepts
 returns-clause-accepts g c =
     let W = g.W.Placed in
-    let w = c.args.self.now in
-    accepts_later W.tells W.keeps W.state w _ _ (take w.spec_ex.bytes_per_sample c.args.container)
-    (Ok tt) c.if-not-put_block.ensures tt
-    (subst (λ n. AcceptsBytes W.tells W.keeps W.state (take n c.args.container) (Ok tt)
-    c.put_block.new.self c.accept_in_block-2.new.self)
-    (ap (λ w. w.spec_ex.bytes_per_sample) c.self.view_is) c.accept_in_block-2.ensures.accepts)
+    let out = rw (← c.self.view_is) at c.if-not-put_block.ensures in
+    rw (← c.self.view_is)
+    (accepts_later W.tells W.keeps W.state _ _ _ _ (Ok tt) out tt
+    (rw out.value at c.accept_in_block-2.ensures.accepts))

@@ -1,16 +1,13 @@
 use Rattle.std.proofs.Common.{◌≡◌, ◌+◌, ◌%◌, [], ap, sym, ◌∙◌, refl, arith}
 use Rattle.hound_writer.specs.Parts.{of_fields}
 use Rattle.hound_writer.proofs.Containers.{none_whole}
-use Rattle.hound_writer.proofs.Keeping.{consistent_seen}
 use Rattle.hound_writer.proofs.output.Output.at_end.Goals as goal
 
 pub invariant_of-result : goal.invariant_of-result
 invariant_of-result g c =
     let a = c.args in
     let width = a.spec_ex.bytes_per_sample in
-    consistent_seen g.W.Placed.tells g.W.Placed.state _ _ _ _ _
-    (λ j. of_fields a.writer a.spec_ex a.data_start a.data_length (sym c.new.ensures j) []) refl
-    record {
+    rw c.new.ensures record {
       sound = c.requires.sound;
       whole_out =
           ap (λ n. n % width) (let e : a.data_length ≡ a.data_length + 0 = omega arith in e)

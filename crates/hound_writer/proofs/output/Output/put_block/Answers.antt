@@ -1,8 +1,7 @@
 use Rattle.std.proofs.Common.{◌+◌, true, false, subst, refl, sym, rules}
 use Rattle.hound_writer.specs.Parts.{GoesOut, IsLimit, bytes_kept, of_fields}
 use Rattle.hound_writer.specs.Writer.{data_end}
-use Rattle.hound_writer.proofs.Blocks.{consistent_cut, consistent_out, goes_out, goes_out_nothing, goes_out_seen, puts_same}
-use Rattle.hound_writer.proofs.Keeping.{consistent_seen}
+use Rattle.hound_writer.proofs.Blocks.{consistent_cut, consistent_out, goes_out, goes_out_nothing}
 use Rattle.hound_writer.proofs.output.Output.put_block.Goals as goal
 
 pub returns-then-len-eq0 : goal.returns-then-len-eq0
