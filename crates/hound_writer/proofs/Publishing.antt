@@ -278,16 +278,6 @@ consistent_patched tells state w end may_have_moved limit riff result keeps patc
     (λ told. let half = (patches told).half in stands_patched w.spec_ex w.data_start w.out
     (state w.medium).contents (state end).contents (keeps.stands told) half.0 half.2.same half.2.field)
 
--- what a patch of a writer's fields does, P, as contracts see it
-pub patch_seen : {W : Type 0} (P : ℕ → ℕ → ℕ → MediumState → MediumState → Type 0)
-    (state : W → MediumState) (a b : WriterState W) (riff : ℕ) (end : MediumState) → a ≡ b
-    → riff ≡ riff_size a.data_start a.out
-    → P (a.data_start - 4) riff a.out (state a.medium) end
-    → P (b.data_start - 4) (riff_size b.data_start b.out) b.out (state b.medium) end
-patch_seen P state a b riff end same is patches =
-    subst (λ w. P (w.data_start - 4) (riff_size w.data_start w.out) w.out (state w.medium) end)
-    same (subst (λ n. P (a.data_start - 4) n a.out (state a.medium) end) is patches)
-
 -- a call that publishes, of a writer of which only the medium changes
 pub in_medium : {W : Type 0} (tells keeps : Bool) (state : W → MediumState) (at : ℕ)
     (answer : Result (Unit {0}) Error) (w : WriterState W) (end : W) → IsPublishing answer w
