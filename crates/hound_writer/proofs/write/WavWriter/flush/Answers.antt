@@ -8,11 +8,10 @@ pub returns-clause-recorded : goal.returns-clause-recorded
 returns-clause-recorded g c s file known so_far =
     let W = g.W.Placed in
     recorded_flush W.tells W.keeps W.state (made publish) c.publish_all.result s file known
-    c.args.self.now c.publish_all.new.self (refl, tt) so_far (search rules)
+    _ _ (refl, tt) so_far (search rules)
 
 pub returns-clause-marked : goal.returns-clause-marked
 returns-clause-marked g c s file known so_far =
     let W = g.W.Placed in
     recorded_flush W.tells W.keeps W.state (marked publish (mark_of c.publish_all.result))
-    c.publish_all.result s file known c.args.self.now c.publish_all.new.self (refl, refl) so_far
-    (search rules)
+    c.publish_all.result s file known _ _ (refl, refl) so_far (search rules)
