@@ -14,7 +14,7 @@ use Rattle.std.proofs.lemmas.Bool.{not-false}
 use Rattle.std.specs.declared.io.Error.{Error as IoFault}
 use Rattle.hound_writer.specs.Accepting.{IsIoError}
 use Rattle.hound_writer.specs.Parts.{of_fields, IsStanding}
-use Rattle.hound_writer.specs.Writer.{field, WriterState, IsSound, data_length}
+use Rattle.hound_writer.specs.Writer.{field, WriterState, IsSound, IsWhole, data_length}
 use Rattle.hound_writer.specs.Appending.{AppendFault, Appends, FollowsData, IsAppendFault, NamesFault, by_bytes, head_fault, IsNotAppended, PutsNothing}
 use Rattle.hound_writer.proofs.Heads.{head_field}
 use Rattle.hound_writer.proofs.Samples.{counts_at, whole_out}
@@ -68,17 +68,13 @@ pub follows : {W : Type 0} (state : W → MediumState) (medium : W) (s : WavSpec
 follows state medium s len h old sound after head check goes =
     let w = of_fields medium s h len [] [] in
     let all : len ≡ len + 0 = omega arith in
-    record {
-      head = subst (λ n. Head old.contents s n h) all head;
-      check = ap (λ n. head_fault s n h) (sym all) ∙ check;
-      puts = record { stays = goes.stays; flushed = goes.flushed };
-      place = goes.place ∙ ap (λ n. h + n) all;
-      faults = goes.faults;
-      counts = λ whole. let sounds = sound_head medium s len h sound after check in
-          counts_at state w sounds (whole_out state w refl sounds) (state medium).contents whole
-          (stands_on s len h old.contents
-          (state medium).contents head goes.stays.contents) refl;
-    }
+    let longer = subst (λ n. Head old.contents s n h) all head in
+    let none = ap (λ n. head_fault s n h) all in
+    let sounds = sound_head medium s len h sound after check in
+    let counts = λ (whole : IsWhole state w).
+    counts_at state w sounds (whole_out state w refl sounds) (state medium).contents whole
+    (stands_on s len h old.contents (state medium).contents head goes.stays.contents) refl in
+    search rules
 
 -- a walk changes only the place and the faults
 pub walk_puts_nothing : (result : Result FileHead HeadError) (old new : MediumState)
@@ -107,7 +103,7 @@ appends_after tells state head old mid w finds on = record {
 refused_after : (head : FileHead) (old mid new : MediumState) (e : Error)
     → FindsData (Ok head) old mid → IsNotAppended mid new e → IsNotAppended old new e
 refused_after head old mid new e finds refused = record {
-  puts = puts_nothing_then old mid new (walk_puts_nothing (Ok head) old mid finds) refused.puts;
+  puts = search rules;
   why = elim refused.why [
     | inl (fault, is, names, faults) ↦
         inl (
@@ -153,7 +149,7 @@ no_head IsFault (Refused cause) e old new by_cause begins told finds =
 pub walk_fails : (error : HeadError) (e : Error) (old new : MediumState) → old.place ≡ 0
     → ReportsError error e → FindsData (Err error) old new → IsNotAppended old new e
 walk_fails error e old new begins told finds = record {
-  puts = walk_puts_nothing (Err error) old new finds;
+  puts = search rules;
   why = no_head (IsAppendFault old.contents) error e old new (λ cause is. inl (cause, refl, is))
       begins told finds;
 }

@@ -1,5 +1,5 @@
 -- A file that begins: its header is written, and nothing else.
-use Rattle.std.proofs.Common.{◌≡◌, ℕ, ◌+◌, ◌-◌, ◌≤◌, Bool, List, [], ◌++◌, length, take, drop, Result, Ok, Err, refl, sym, subst, ◌∙◌, ap, arith, append_assoc, length-append}
+use Rattle.std.proofs.Common.{◌≡◌, ℕ, ◌+◌, ◌-◌, ◌≤◌, Bool, List, [], ◌++◌, length, take, drop, Result, Ok, Err, refl, rules, sym, subst, ◌∙◌, ap, arith, append_assoc, length-append}
 use Rattle.std.proofs.lemmas.List.{take_at, take_all, drop_at}
 use Rattle.hound_number.specs.{bytes_of, number}
 use Rattle.hound_medium.specs.{placed, overlay, MediumState, PutsFirst, PutsAll}
@@ -39,15 +39,12 @@ field-header s p rest at =
 -- a writer of a writable spec that has accepted nothing
 pub sound_begin : {W : Type 0} (medium : W) (s : WavSpecEx) (start : ℕ) → IsWritable s
     → start ≡ data_start s → IsSound (of_fields medium s start 0 [] [])
-sound_begin medium s start writable is = record {
-  pair = writable.pair;
-  channels = writable.channels;
-  width = (pair_facts s.spec.sample_format s.spec.bits_per_sample s.bytes_per_sample
-      writable.pair).some;
-  whole = none_whole s.bytes_per_sample;
-  after_head = omega (arith, is, data_start_least s);
-  fits = omega (arith, is, data_start_most s);
-}
+sound_begin medium s start writable is =
+    let facts = pair_facts s.spec.sample_format s.spec.bits_per_sample s.bytes_per_sample writable.pair in
+    let least = data_start_least s in
+    let most = data_start_most s in
+    let whole = none_whole s.bytes_per_sample in
+    search rules
 
 module _ {T E : Type 0} (keeps : Bool) (s : WavSpecEx) (bytes : List ℕ) (result : Result T E)
     (old new : MediumState) (is : bytes ≡ header s 0 0) (begins : old.place ≡ 0)
@@ -118,24 +115,16 @@ header_file keeps state s bytes old medium is begins writable puts =
     let at : length bytes ≡ data_start s = ap length is ∙ length-header s 0 0 in
     let w = of_fields medium s (length bytes) 0 [] [] in
     let sound = sound_begin medium s (length bytes) writable at in
-    let whole : IsWhole state w =
-    omega (
-      arith,
-      at,
-      whole_begins keeps s bytes ok old (state medium) is begins puts puts.whole,
-    ) in
+    let all = whole_begins keeps s bytes ok old (state medium) is begins puts puts.whole in
+    let whole : IsWhole state w = omega arith in
     let stands =
     stands_begin keeps s bytes ok old (state medium) is begins puts puts.whole writable
     (length bytes) at in
-    record {
-      puts = header_put keeps s bytes ok old (state medium) is begins puts puts.whole;
-      faults = puts.faults;
-      header = header_begins keeps s bytes ok old (state medium) is begins puts puts.whole;
-      whole = whole;
-      counts =
-          counts_at state w sound (whole_out state w refl sound)
-          (state medium).contents whole stands refl;
-    }
+    let put = header_put keeps s bytes ok old (state medium) is begins puts puts.whole in
+    let header = header_begins keeps s bytes ok old (state medium) is begins puts puts.whole in
+    let counts = counts_at state w sound (whole_out state w refl sound)
+    (state medium).contents whole stands refl in
+    search rules
 
 -- a beginning of the header, as callers see it
 pub header_cut : (keeps : Bool) (bytes all : List ℕ) (x : IoFault) (e : Error)
