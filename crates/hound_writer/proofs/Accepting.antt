@@ -12,12 +12,13 @@ use Rattle.hound_spec.specs.declared.error.Error.TheVariants.{IoError, OutOfMemo
 use Rattle.hound_spec.specs.{riff_size, greatest_u32}
 use Rattle.hound_sample.specs.{Refusal, containers, error_of, too_wide, unsupported, IsEncoded}
 use Rattle.hound_writer.specs.Accepting.{AcceptsBytes, Accepts, AddsAtEach, AcceptAnswer, FitAnswer, IsIoError, OnRefused, faults_told, if_marked, mark_of}
-use Rattle.hound_writer.specs.Parts.{all_out, GoesToFile, PutsAt, IsStanding, StaysAround}
+use Rattle.hound_writer.specs.Parts.{all_out, GoesAtEach, GoesToFile, PutsAt, IsStanding, StaysAround}
 use Rattle.hound_writer.specs.Writer.{Counts, WriterState, HasRoom, IsCounted, IsSound, IsWhole, accepted_samples, data_length, sample_count}
 use Rattle.hound_writer.proofs.Answers.{accept_as, on_refused, refused_then, unless_failed}
 use Rattle.hound_sample.proofs.Containers.{containers_append, containers_front}
 use Rattle.hound_writer.proofs.Containers.{count_append, count_bytes, joined_bytes, whole_more}
 use Rattle.hound_writer.proofs.Keeping.{sound_with}
+use Rattle.hound_writer.proofs.PutsFrom.{puts_from}
 use Rattle.hound_writer.proofs.Storing.{stored_same, stored_still}
 use Rattle.hound_writer.proofs.Samples.{concat-samples, counts_at, samples_out, samples_same, whole_out}
 use Rattle.hound_writer.proofs.Standing.{inside, stands_front, stands_more}
@@ -171,16 +172,18 @@ module _ {W : Type 0} (tells keeps : Bool) (state : W → MediumState) (w : Writ
     length-take puts.count bytes,
   )
 
-  pub front_at_each : IsTrue keeps → was ≡ overlay (state w.medium).start (state w.medium).past
-      → Span (λ _ c. take w.data_start c ≡ take w.data_start (state w.medium).contents) 0
-      (state w.medium) (state m)
-  front_at_each kept replays =
+  pub goes_at_each : IsTrue keeps → was ≡ overlay (state w.medium).start (state w.medium).past
+      → AddsAtEach state w (state m) → GoesAtEach state w (state m)
+  goes_at_each kept replays adds =
       let bs = take puts.count bytes in
-      span_puts
-      (λ _ c. take w.data_start c ≡ take w.data_start was) 0 (state w.medium) (state m) at bs replays
-      puts.start (puts.past kept) (inl puts.flushed)
-      (λ k within. take_overlay_before (take k bs) w.data_start at was
-      (omega arith) there)
+      let old = state w.medium in
+      record {
+        adds = adds;
+        front = span_puts (λ _ c. take w.data_start c ≡ take w.data_start was) 0 old (state m) at bs
+            replays puts.start (puts.past kept) (inl puts.flushed)
+            (λ k within. take_overlay_before (take k bs) w.data_start at was (omega arith) there);
+        behind = puts_from w.data_start at bs old (state m) (omega arith) (puts.past kept);
+      }
 
   pub around : (far : ℕ) → w.data_start + w.out + length bytes ≡ far
       → StaysAround state far w (state m)

@@ -9,11 +9,10 @@ use Rattle.hound_sample.specs.{containers}
 use Rattle.hound_writer.specs.Accepting.{AcceptsBytes, AddsAtEach, FitAnswer, KeepsStored}
 use Rattle.hound_writer.specs.Parts.{GoesAtEach, GoesOut, IsLimit, StaysAround, after_out, all_out, block_length, IsConsistent, IsStanding, PutsAt}
 use Rattle.hound_writer.specs.Writer.{Counts, WriterState, HasRoom, IsSound, IsWhole, accepted_samples, data_length, data_end}
-use Rattle.hound_writer.proofs.Accepting.{accepts_all, adds_nothing, around, at_each, front_at_each, goes_beside, room_fits, sound_more, still}
+use Rattle.hound_writer.proofs.Accepting.{accepts_all, adds_nothing, around, at_each, goes_at_each, goes_beside, room_fits, sound_more, still}
 use Rattle.hound_writer.proofs.Containers.{joined_bytes, none_whole, whole_more, zero_div}
 use Rattle.hound_writer.proofs.Counted.{counts_more}
 use Rattle.hound_writer.proofs.Keeping.{consistent_moved, sound_with}
-use Rattle.hound_writer.proofs.PutsFrom.{puts_from}
 use Rattle.hound_writer.proofs.Samples.{counts_at, samples_more, samples_parts, valid_of}
 use Rattle.hound_writer.proofs.Standing.{stands_more}
 use Rattle.hound_writer.proofs.Storing.{joined_samples, puts_stored}
@@ -145,16 +144,12 @@ module _ {W : Type 0} (tells keeps : Bool) (state : W → MediumState) (w : Writ
           size ((puts told).past kept))
 
       moments_out : WhereKeeps tells keeps (GoesAtEach state w (state m))
-      moments_out told kept = record {
-        adds = moments (stored_out told kept)
-            (at_each tells keeps state shorter refl sound_shorter stands m w.waiting
-            (all_out all) told (puts told) kept (replays told kept));
-        front = front_at_each tells keeps state w stands m w.waiting
-            (all_out all) told (puts told) kept (replays told kept);
-        behind =
-            puts_from w.data_start end (take (puts told).count w.waiting) old (state m)
-            (omega arith) ((puts told).past kept);
-      }
+      moments_out told kept =
+          goes_at_each tells keeps state w stands m w.waiting (all_out all) told (puts told) kept
+          (replays told kept)
+          (moments (stored_out told kept)
+          (at_each tells keeps state shorter refl sound_shorter stands m w.waiting
+          (all_out all) told (puts told) kept (replays told kept)))
 
       stays_around : IsTrue tells → StaysAround state (data_end w) w (state m)
       stays_around told =

@@ -6,8 +6,7 @@ use Rattle.std.specs.Io.{StartsWith}
 use Rattle.hound_medium.specs.{overlay, placed, put_at, MediumState, WhereTells, WhereKeeps}
 use Rattle.hound_writer.specs.Parts.{GoesOut, after_out, all_out, IsConsistent, PutsAt}
 use Rattle.hound_writer.specs.Writer.{WriterState, IsPadded, data_length, padded_end}
-use Rattle.hound_writer.proofs.Accepting.{around, at_each, front_at_each, goes_beside}
-use Rattle.hound_writer.proofs.PutsFrom.{puts_from}
+use Rattle.hound_writer.proofs.Accepting.{around, at_each, goes_at_each, goes_beside}
 
 -- a byte that was written is at its place
 put_stands : (p b : ℕ) (c : List ℕ) → take 1 (drop p (put_at p b c)) ≡ b ∷ []
@@ -58,15 +57,11 @@ module _ {W : Type 0} (tells keeps : Bool) (state : W → MediumState) (w : Writ
           goes_beside state (padded_end w) all w m known.sound known.whole_out (puts told).faults
           (around tells keeps state w known.stands m pad (all_out all) told (puts told)
           (padded_end w) (omega (arith, size, odd_size)));
-      moments = λ told kept. record {
-        adds = at_each tells keeps state w none known.sound known.stands m pad (all_out all) told
-            (puts told) kept (replays told kept);
-        front = front_at_each tells keeps state w known.stands m pad
-            (all_out all) told (puts told) kept (replays told kept);
-        behind =
-            puts_from w.data_start end (take (puts told).count pad) old (state m) (omega arith)
-            ((puts told).past kept);
-      };
+      moments = λ told kept.
+          goes_at_each tells keeps state w known.stands m pad (all_out all) told (puts told) kept
+          (replays told kept)
+          (at_each tells keeps state w none known.sound known.stands m pad (all_out all) told
+          (puts told) kept (replays told kept));
     }
 
     -- once it is written it is there
