@@ -22,33 +22,8 @@ use Rattle.hound_writer.proofs.PutsFrom.{puts_from}
 use Rattle.hound_writer.proofs.Storing.{stored_same, stored_still}
 use Rattle.hound_writer.proofs.Samples.{concat-samples, counts_at, samples_out, samples_same, whole_out}
 use Rattle.hound_writer.proofs.Standing.{inside, stands_front, stands_more}
-use Rattle.hound_writer.proofs.Sizes.{take_front}
-
--- bytes at a place reach no further than the old end or their own
-pub length_overlay_max : (bs : List ℕ) (p : ℕ) (c : List ℕ)
-    → length (overlay c (placed p bs)) ≤ max (length c) (p + length bs)
-length_overlay_max [] p c = omega arith
-length_overlay_max (b ∷ bs) p c =
-    omega (arith, length_overlay_max bs (suc p) (put_at p b c), length-put_at p b c)
-
--- what comes after them stays
-drop_none : (n : ℕ) → drop {A = ℕ} n [] ≡ []
-drop_none zero = refl
-drop_none (suc n) = refl
-
-drop_put : (n p b : ℕ) (c : List ℕ) → p + 1 ≤ n → drop n (put_at p b c) ≡ drop n c
-drop_put zero p b c after = absurd (omega (arith, after))
-drop_put (suc n) zero b [] after = drop_none n
-drop_put (suc n) zero b (x ∷ c) after = refl
-drop_put (suc n) (suc p) b [] after = drop_put n p b [] (omega (arith, after)) ∙ drop_none n
-drop_put (suc n) (suc p) b (x ∷ c) after = drop_put n p b c (omega (arith, after))
-
-pub drop_overlay_after : (bs : List ℕ) (n p : ℕ) (c : List ℕ) → p + length bs ≤ n
-    → drop n (overlay c (placed p bs)) ≡ drop n c
-drop_overlay_after [] n p c after = refl
-drop_overlay_after (b ∷ bs) n p c after =
-    drop_overlay_after bs n (suc p) (put_at p b c) (omega (arith, after))
-    ∙ drop_put n p b c (omega (arith, after))
+use Rattle.hound_writer.proofs.Sizes.{drop_overlay_after, take_front}
+pub use Rattle.hound_writer.proofs.Sizes.{length_overlay_max}
 
 -- a call that writes nothing
 pub adds_nothing : {W : Type 0} (state : W → MediumState) (w : WriterState W)

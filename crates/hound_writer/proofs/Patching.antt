@@ -9,12 +9,11 @@ use Rattle.hound_number.proofs.Mixing.{mix_all, mix_none}
 use Rattle.hound_spec.proofs.FmtLemmas.{number-bytes_of}
 use Rattle.hound_medium.specs.{placed, overlay, MediumState, Flushes, faults_after, one_more}
 use Rattle.hound_medium.proofs.Outcomes.{on_ok}
-use Rattle.hound_medium.proofs.Overlays.{overlay_is}
-use Rattle.hound_medium.proofs.Inside.{drop_behind, same_size}
+use Rattle.hound_medium.proofs.Overlays.{length_overlay_le, overlay_is}
 use Rattle.hound_medium.proofs.Torn.{number_at_small, number_at_mix}
 use Rattle.hound_writer.specs.Parts.{HasSize, IsPatched, PutsAt, Patches}
 use Rattle.hound_writer.specs.Writer.{with_sizes, field}
-use Rattle.hound_writer.proofs.Sizes.{same_transitive, same_riff, field_riff, same_length, riff_length}
+use Rattle.hound_writer.proofs.Sizes.{drop_overlay_after, same_transitive, same_riff, field_riff, same_length, riff_length}
 
 pub has_size : (p : ℕ) (contents : List ℕ) → 8 ≤ p → p + 4 ≤ length contents → AreBytes contents
     → HasSize p contents
@@ -29,7 +28,7 @@ unfolding with_sizes
 sizes_put p size data_length c behind inside =
     let bs = bytes_of 4 size in
     let d = overlay c (placed 4 bs) in
-    let same = same_size c 4 bs (omega arith) in
+    let long = length_overlay_le bs 4 c in
     let split : d ≡ (take 4 c ++ bs) ++ drop 8 c =
     overlay_is c 4 bs (omega arith) ∙ sym (append_assoc (take 4 c) bs (drop 8 c)) in
     let eight : length (take 4 c ++ bs) ≡ 8 =
@@ -43,7 +42,7 @@ sizes_put p size data_length c behind inside =
     ∙ append_assoc (take 4 c) bs (drop 8 (take p c)) in
     overlay_is d p (bytes_of 4 data_length) (omega arith)
     ∙ (λ i. front i ++
-    (bytes_of 4 data_length ++ drop_behind c 4 bs (omega arith) (p + 4) (omega arith) i))
+    (bytes_of 4 data_length ++ drop_overlay_after bs (p + 4) 4 c (omega arith) i))
     ∙ append_assoc (take 4 c) (bs ++ drop 8 (take p c)) (bytes_of 4 data_length ++ drop (p + 4) c)
     ∙ ap (λ l. take 4 c ++ l)
     (append_assoc bs (drop 8 (take p c)) (bytes_of 4 data_length ++ drop (p + 4) c))

@@ -1,13 +1,13 @@
 -- What stays if the two sizes change, and if all before a place stays.
-use Rattle.std.proofs.Common.{◌≡◌, ℕ, ◌+◌, ◌-◌, ◌≤◌, List, length, take, drop, rules, sym, ◌∙◌, ap, arith}
+use Rattle.std.proofs.Common.{◌≡◌, ℕ, zero, suc, ◌+◌, ◌-◌, ◌≤◌, max, List, [], ◌∷◌, refl, length, take, drop, rules, sym, ◌∙◌, ap, arith}
 use Rattle.std.proofs.lemmas.Slice.{between_is}
+use Rattle.std.proofs.Math.Seq.{drop-nil}
 use Rattle.hound_number.specs.{number}
 use Rattle.hound_spec.specs.declared.spec.WavSpecEx.{WavSpecEx}
 use Rattle.hound_spec.specs.{data_start, header}
 use Rattle.hound_spec.proofs.HeaderLemmas.{length-header}
-use Rattle.hound_medium.specs.{placed, overlay}
-use Rattle.hound_medium.proofs.Overlays.{front_part}
-use Rattle.hound_medium.proofs.Inside.{take_before, drop_behind, same_size}
+use Rattle.hound_medium.specs.{placed, overlay, put_at}
+use Rattle.hound_medium.proofs.Overlays.{front_part, length-put_at, length_overlay_le, take_overlay_before}
 use Rattle.hound_writer.specs.Writer.{ChangesSizesOnly, field, SameButSizes, HasHeader}
 
 -- what is before a place stays, so what is before an earlier one does
@@ -41,42 +41,53 @@ pub same_transitive : (p : ℕ) (a b c : List ℕ) → SameButSizes p a b → Sa
     → SameButSizes p a c
 same_transitive p a b c ab bc = search rules
 
-module _ (p : ℕ) (c : List ℕ) (behind : 8 ≤ p) (inside : p + 4 ≤ length c) where
+-- bytes at a place reach no further than the old end or their own
+pub length_overlay_max : (bs : List ℕ) (p : ℕ) (c : List ℕ)
+    → length (overlay c (placed p bs)) ≤ max (length c) (p + length bs)
+length_overlay_max [] p c = omega arith
+length_overlay_max (b ∷ bs) p c =
+    omega (arith, length_overlay_max bs (suc p) (put_at p b c), length-put_at p b c)
+
+-- what comes after them stays
+drop_put : (n p b : ℕ) (c : List ℕ) → p + 1 ≤ n → drop n (put_at p b c) ≡ drop n c
+drop_put zero p b c after = absurd (omega (arith, after))
+drop_put (suc n) zero b [] after = drop-nil n
+drop_put (suc n) zero b (x ∷ c) after = refl
+drop_put (suc n) (suc p) b [] after = drop_put n p b [] (omega (arith, after)) ∙ drop-nil n
+drop_put (suc n) (suc p) b (x ∷ c) after = drop_put n p b c (omega (arith, after))
+
+pub drop_overlay_after : (bs : List ℕ) (n p : ℕ) (c : List ℕ) → p + length bs ≤ n
+    → drop n (overlay c (placed p bs)) ≡ drop n c
+drop_overlay_after [] n p c after = refl
+drop_overlay_after (b ∷ bs) n p c after =
+    drop_overlay_after bs n (suc p) (put_at p b c) (omega (arith, after))
+    ∙ drop_put n p b c (omega (arith, after))
+
+module _ (p : ℕ) (c : List ℕ) (behind : 8 ≤ p) (inside : p + 4 ≤ length c) (bs : List ℕ)
+    (few : length bs ≤ 4) where
   -- bytes at 4 leave the rest
-  module _ (bs : List ℕ) (few : length bs ≤ 4) where
-    fits_front : 4 + length bs ≤ length c
-    fits_front = omega (arith, few, behind, inside)
+  pub same_riff : SameButSizes p c (overlay c (placed 4 bs))
+  same_riff = record {
+    front = take_overlay_before bs 4 4 c (omega arith) (omega arith);
+    middle = sym (between_is (overlay c (placed 4 bs)) 8 p)
+        ∙ ap (take (p - 8)) (drop_overlay_after bs 8 4 c (omega arith)) ∙ between_is c 8 p;
+    behind = drop_overlay_after bs (p + 4) 4 c (omega arith);
+    long = omega (arith, length_overlay_max bs 4 c, length_overlay_le bs 4 c);
+  }
 
-    pub same_riff : SameButSizes p c (overlay c (placed 4 bs))
-    same_riff = record {
-      front = take_before c 4 bs fits_front 4 (omega arith);
-      middle =
-          sym (between_is (overlay c (placed 4 bs)) 8 p)
-          ∙ ap (take (p - 8)) (drop_behind c 4 bs fits_front 8 (omega (arith, few)))
-          ∙ between_is c 8 p;
-      behind = drop_behind c 4 bs fits_front (p + 4) (omega (arith, few, behind));
-      long = same_size c 4 bs fits_front;
-    }
-
-    pub field_riff : field p (overlay c (placed 4 bs)) ≡ field p c
-    field_riff =
-        ap (λ l. number (take 4 l)) (drop_behind c 4 bs fits_front p (omega (arith, few, behind)))
+  pub field_riff : field p (overlay c (placed 4 bs)) ≡ field p c
+  field_riff = ap (λ l. number (take 4 l)) (drop_overlay_after bs p 4 c (omega arith))
 
   -- bytes at p leave the rest
-  module _ (bs : List ℕ) (few : length bs ≤ 4) where
-    fits : p + length bs ≤ length c
-    fits = omega (arith, few, inside)
+  pub same_length : SameButSizes p c (overlay c (placed p bs))
+  same_length = record {
+    front = take_overlay_before bs 4 p c (omega arith) (omega arith);
+    middle = ap (drop 8) (take_overlay_before bs p p c (omega arith) (omega arith));
+    behind = drop_overlay_after bs (p + 4) p c (omega arith);
+    long = omega (arith, length_overlay_max bs p c, length_overlay_le bs p c);
+  }
 
-    pub same_length : SameButSizes p c (overlay c (placed p bs))
-    same_length = record {
-      front = take_before c p bs fits 4 (omega (arith, behind));
-      middle = ap (drop 8) (take_before c p bs fits p (omega arith));
-      behind = drop_behind c p bs fits (p + 4) (omega (arith, few));
-      long = same_size c p bs fits;
-    }
-
-    pub riff_length : field 4 (overlay c (placed p bs)) ≡ field 4 c
-    riff_length =
-        ap number
-        (between_is (overlay c (placed p bs)) 4 8
-        ∙ ap (drop 4) (take_before c p bs fits 8 behind) ∙ sym (between_is c 4 8))
+  pub riff_length : field 4 (overlay c (placed p bs)) ≡ field 4 c
+  riff_length =
+      ap number (front_part 8 4 4 (overlay c (placed p bs)) c (omega arith)
+      (take_overlay_before bs 8 p c behind (omega arith)))
