@@ -18,6 +18,12 @@ length-out state w whole =
     length-take-le w.out data_now
     (omega (arith, whole, length-drop w.data_start (state w.medium).contents))
 
+pub length-accepted : {W : Type 0} (state : W → MediumState) (w : WriterState W) → IsWhole state w
+    → length (accepted_bytes state w) ≡ data_length w
+length-accepted state w whole =
+    length-append (take w.out (drop w.data_start (state w.medium).contents)) w.waiting
+    ∙ ap (λ n. n + length w.waiting) (length-out state w whole)
+
 -- whole samples are in the medium
 module _ {W : Type 0} (state : W → MediumState) (w : WriterState W) (sound : IsSound w)
     (whole_out : w.out % w.spec_ex.bytes_per_sample ≡ 0) where
@@ -34,9 +40,7 @@ module _ {W : Type 0} (state : W → MediumState) (w : WriterState W) (sound : I
       (record w { waiting = w.waiting ++ bytes }) ≡ accepted_samples state w
       ++ containers w.spec_ex.bytes_per_sample (length bytes / w.spec_ex.bytes_per_sample) bytes
   samples_more bytes whole samples =
-      let size : length (accepted_bytes state w) ≡ data_length w =
-      length-append first w.waiting
-      ∙ ap (λ n. n + length w.waiting) (length-out state w whole) in
+      let size = length-accepted state w whole in
       let all : w.out + length (w.waiting ++ bytes) ≡ length
       (accepted_bytes state w) + length bytes =
       omega (arith, length-append w.waiting bytes, size) in

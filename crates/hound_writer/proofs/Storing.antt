@@ -1,17 +1,18 @@
 -- Bytes that stay stored, call after call.
 use Rattle.std.proofs.Common.{◌≡◌, ℕ, zero, suc, ◌+◌, ◌-◌, ◌/◌, ◌%◌, ◌<◌, ◌≤◌, inl, inr, List, [], ◌∷◌, ◌++◌, length, get_or, take, drop, refl, sym, ◌∙◌, ap, subst, arith, length-append, length-drop, length-take}
 use Rattle.std.proofs.lemmas.Bool.{cases_lt}
-use Rattle.std.proofs.lemmas.List.{drop-drop, length-take-le, get_or-take, get_or-drop, get_or-append-add}
+use Rattle.std.proofs.lemmas.List.{drop-drop, length-take-le, take-append-le, get_or-take, get_or-drop, get_or-append-add}
 use Rattle.std.proofs.Math.Seq.{get_or-append_right}
 use Rattle.std.specs.List.{concat}
 use Rattle.hound_medium.specs.{moment, placed, put_at, MediumState}
-use Rattle.hound_medium.proofs.Overlays.{front_part}
+use Rattle.hound_medium.proofs.Overlays.{front_part, overlay_more}
 use Rattle.hound_medium.proofs.Spans.{moment_before}
 use Rattle.hound_sample.specs.{containers}
 use Rattle.hound_durable.specs.{place_of}
 use Rattle.hound_writer.specs.Accepting.{IsStored, KeepsStored, StaysTrue}
 use Rattle.hound_writer.specs.Writer.{WriterState, IsSound, IsWhole, accepted_bytes, accepted_samples, data_length}
 use Rattle.hound_writer.proofs.Containers.{joined_bytes}
+use Rattle.hound_writer.proofs.Samples.{length-accepted}
 use Rattle.hound_durable.proofs.Ascending.{length_put, place_after}
 
 -- the byte with this number among all bytes written
@@ -44,18 +45,10 @@ same_at (suc p) zero b (x ∷ xs) (y ∷ c) right here = here
 same_at (suc p) (suc q) b (x ∷ xs) (y ∷ c) right here =
     same_at p q b (x ∷ xs) c (λ i at few. right i (omega (arith, at)) few) here
 
--- an intermediate state, and the byte written next
-moment_next : (start : List ℕ) (past : List (ℕ × ℕ)) (k : ℕ) → k < length past
-    → moment start past (suc k) ≡ put_at (place_of past k) (byte_of past k) (moment start past k)
-moment_next start [] k few = absurd (omega (arith, few))
-moment_next start (e ∷ past) zero few = refl
-moment_next start (e ∷ past) (suc k) few =
-    moment_next (put_at e.0 e.1 start) past k (omega (arith, few))
-
 -- what each byte written keeps true stays true
 steps_stay : (P : List ℕ → Type 0) (old new : MediumState)
     → ((k : ℕ) → length old.past ≤ k → k < length new.past → P (moment new.start new.past k)
-    → P (moment new.start new.past (suc k)))
+    → P (put_at (place_of new.past k) (byte_of new.past k) (moment new.start new.past k)))
     → StaysTrue P old new
 steps_stay P old new step k m from le to here =
     let at : k + (m - k) ≡ m = omega (arith, le) in
@@ -67,9 +60,11 @@ steps_stay P old new step k m from le to here =
         let e : k ≡ k + 0 = omega arith in
         subst (λ j. P (moment new.start new.past j)) e here
     go (suc n) k from to here =
-        let e : suc k + n ≡ k + suc n = omega arith in
+        let e : k + 1 + n ≡ k + suc n = omega arith in
+        let few : k < length new.past = omega (arith, to) in
         subst (λ j. P (moment new.start new.past j)) e
-        (go n (suc k) (omega (arith, from)) (omega (arith, to)) (step k from (omega (arith, to)) here))
+        (go n (k + 1) (omega (arith, from)) (omega (arith, to))
+        (rw (overlay_more new.start new.past k (0, 0) few) (step k from few here)))
 
 byte_placed : (at : ℕ) (bytes : List ℕ) (j : ℕ) → j < length bytes
     → byte_of (placed at bytes) j ≡ get_or bytes j 0
@@ -112,14 +107,11 @@ puts_stored start at before bytes count old new is past a len within =
     let same : a + i ≡ length before + j = omega (arith, here, place, is) in
     get_or-take len (drop a all) i 0 (omega (arith, inside, size)) ∙ get_or-drop a all i 0
     ∙ ap (λ n. get_or all n 0) same ∙ get_or-append-add before bytes j 0 ∙ sym byte in
-    let next : take (length xs) (drop (start + a)
-    (put_at (place_of new.past k) (byte_of new.past k) (moment new.start new.past k))) ≡ xs =
-    same_at (start + a) (place_of new.past k) (byte_of new.past k) xs
+    subst (λ n. take n (drop (start + a)
+    (put_at (place_of new.past k) (byte_of new.past k) (moment new.start new.past k))) ≡ xs) size
+    (same_at (start + a) (place_of new.past k) (byte_of new.past k) xs
     (moment new.start new.past k) right
-    (subst (λ n. take n (drop (start + a) (moment new.start new.past k)) ≡ xs) (sym size) here) in
-    subst (λ n. take n (drop (start + a) (moment new.start new.past (suc k))) ≡ xs) size
-    (subst (λ c. take (length xs) (drop (start + a) c) ≡ xs)
-    (sym (moment_next new.start new.past k to)) next))
+    (subst (λ n. take n (drop (start + a) (moment new.start new.past k)) ≡ xs) (sym size) here)))
 
 -- bytes stay stored if the contents at their places don't change
 pub stored_same : (start n : ℕ) (bytes first : List ℕ) (old new : MediumState) → length bytes ≤ n
@@ -177,24 +169,16 @@ pub stored_fewer : (start : ℕ) (xs ys : List ℕ) (old new : MediumState)
     → KeepsStored start (xs ++ ys) old new → KeepsStored start xs old new
 stored_fewer start xs ys old new all a len within k m from le to here =
     let same : take len (drop a (xs ++ ys)) ≡ take len (drop a xs) =
-    front_part (length xs) a len (xs ++ ys) xs within (front xs) in
+    front_part (length xs) a len (xs ++ ys) xs within (take-append-le (length xs) xs ys (omega arith))
+    in
     all a len (omega (arith, within, length-append xs ys)) k m from le to (here ∙ sym same) ∙ same
-  where
-    front : (xs : List ℕ) → take (length xs) (xs ++ ys) ≡ take (length xs) xs
-    front [] = refl
-    front (x ∷ xs) = ap (λ (l : List ℕ). x ∷ l) (front xs)
 
 -- the accepted samples, joined, are the accepted bytes
 pub joined_samples : {W : Type 0} (state : W → MediumState) (w : WriterState W) → IsSound w
     → IsWhole state w → concat (accepted_samples state w) ≡ accepted_bytes state w
 joined_samples state w sound whole =
-    let held = drop w.data_start (state w.medium).contents in
     let bytes = accepted_bytes state w in
     let width = w.spec_ex.bytes_per_sample in
-    let size : length bytes ≡ data_length w =
-    length-append (take w.out held) w.waiting
-    ∙ ap (λ n. n + length w.waiting)
-    (length-take-le w.out held
-    (omega (arith, whole, length-drop w.data_start (state w.medium).contents))) in
+    let size = length-accepted state w whole in
     (λ i. concat (containers width (sym size i / width) bytes))
     ∙ joined_bytes width bytes (ap (λ n. n % width) size ∙ sound.whole)
