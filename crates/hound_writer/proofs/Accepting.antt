@@ -1,7 +1,7 @@
 -- What bytes after the accepted ones change.
 use Rattle.std.proofs.Common.{◌≡◌, ℕ, zero, suc, ◌+◌, ◌*◌, ◌-◌, ◌/◌, ◌%◌, ◌≤◌, max, nat_le, Bool, true, false, List, [], ◌∷◌, ◌++◌, length, take, drop, replicate, Result, Ok, Err, IfErr, IsTrue, inl, refl, rules, sym, subst, ◌∙◌, ap, arith, length-append, length-take, le-leb}
 use Rattle.std.proofs.lemmas.List.{take_at, take_all, drop_at, drop-drop, append-nil, length-take-le}
-use Rattle.std.proofs.lemmas.Bool.{false≢true}
+use Rattle.std.proofs.Math.Seq.{take-add}
 use Rattle.std.specs.List.{concat}
 use Rattle.std.specs.declared.io.Error.{Error as IoFault}
 use Rattle.hound_medium.specs.{put_at, placed, overlay, moment, faults_after, MediumState, WhereTells, WhereKeeps, Span}
@@ -20,7 +20,7 @@ use Rattle.hound_writer.proofs.Containers.{count_append, count_bytes, joined_byt
 use Rattle.hound_writer.proofs.Keeping.{sound_with}
 use Rattle.hound_writer.proofs.PutsFrom.{puts_from}
 use Rattle.hound_writer.proofs.Storing.{stored_same, stored_still}
-use Rattle.hound_writer.proofs.Samples.{concat-samples, counts_at, samples_out, samples_same, whole_out}
+use Rattle.hound_writer.proofs.Samples.{concat-samples, counts_at, samples_append, whole_out}
 use Rattle.hound_writer.proofs.Standing.{inside, stands_front, stands_more}
 use Rattle.hound_writer.proofs.Sizes.{drop_overlay_after, take_front}
 pub use Rattle.hound_writer.proofs.Sizes.{length_overlay_max}
@@ -342,21 +342,15 @@ module _ {W : Type 0} (tells keeps : Bool) (state : W → MediumState) (w : Writ
           let more : IsWhole state w
           → accepted_samples state last ≡ accepted_samples state w ++ list =
           λ whole.
-          samples_out state last none sound_more
-          ∙ ap (λ k. containers width k samples)
-          (count_append w.out (length bytes) width sound.width (whole_out state w none sound))
-          ∙ containers_append width (w.out / width) (length bytes / width) samples
-          ∙ (λ i. samples_same state w none sound (state m).contents
-          (data_stays tells keeps state w stands m bytes (all_out true) told p whole) i
-          ++ containers width (length bytes / width)
-          (drop (count_bytes w.out width (whole_out state w none sound) i) samples))
-          ∙ ap (λ l. accepted_samples state w ++ l)
-          (containers_front width (length bytes / width) (drop w.out samples) bytes
-          (ap (λ k. take k (drop w.out samples)) (count_bytes (length bytes) width whole_bytes)
-          ∙ ap (take (length bytes)) (drop-drop w.out w.data_start (state m).contents)
-          ∙ bytes_stand m bytes (all_out true) told p p.whole whole
-          ∙ sym (take_all (length bytes / width * width) bytes
-          (omega (arith, count_bytes (length bytes) width whole_bytes))))) in
+          samples_append state w m (w.out + length bytes) w.waiting bytes sound whole
+          (omega (arith, ap length none))
+          (ap (λ l. l ++ w.waiting) (take-add w.out (length bytes) samples)
+          ∙ (λ i. (data_stays tells keeps state w stands m bytes (all_out true) told p whole i
+          ++ (ap (take (length bytes)) (drop-drop w.out w.data_start (state m).contents)
+          ∙ bytes_stand m bytes (all_out true) told p p.whole whole) i) ++ none i)
+          ∙ append-nil (take w.out (drop w.data_start old.contents) ++ bytes)
+          ∙ ap (λ l. l ++ bytes) (sym (append-nil (take w.out (drop w.data_start old.contents)))
+          ∙ ap (λ l. take w.out (drop w.data_start old.contents) ++ l) (sym none))) in
           let stands_now =
           stands_more w.spec_ex w.data_start w.out (w.out + length bytes) (state m).contents
           (omega arith) (still tells keeps state w stands m bytes (all_out true) told p) in

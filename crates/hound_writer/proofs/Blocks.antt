@@ -1,6 +1,6 @@
 -- What the block of accepted samples changes: samples that join it, and its samples when it is
 -- written.
-use Rattle.std.proofs.Common.{◌≡◌, ℕ, ◌+◌, ◌/◌, ◌%◌, ◌≤◌, Bool, true, false, IsTrue, List, [], ◌++◌, length, take, drop, Result, Ok, inl, refl, rules, sym, subst, ◌∙◌, ap, arith, length-append, length-drop}
+use Rattle.std.proofs.Common.{◌≡◌, ℕ, ◌+◌, ◌/◌, ◌%◌, ◌≤◌, Bool, true, false, IsTrue, List, [], ◌++◌, length, take, drop, Result, Ok, inl, refl, rules, sym, subst, ◌∙◌, ap, arith, append_assoc, length-append, length-drop}
 use Rattle.std.proofs.lemmas.List.{append-nil, length-take-le, nil_from_length}
 use Rattle.std.specs.List.{concat}
 use Rattle.hound_medium.specs.{overlay, MediumState, WhereTells, WhereKeeps}
@@ -13,7 +13,7 @@ use Rattle.hound_writer.proofs.Accepting.{accepts_all, adds_nothing, around, at_
 use Rattle.hound_writer.proofs.Containers.{joined_bytes, none_whole, whole_more, zero_div}
 use Rattle.hound_writer.proofs.Counted.{counts_more}
 use Rattle.hound_writer.proofs.Keeping.{consistent_moved, sound_with}
-use Rattle.hound_writer.proofs.Samples.{counts_at, samples_more, samples_parts, valid_of}
+use Rattle.hound_writer.proofs.Samples.{counts_at, samples_append, valid_of}
 use Rattle.hound_writer.proofs.Standing.{stands_more}
 use Rattle.hound_writer.proofs.Storing.{joined_samples, puts_stored}
 
@@ -63,7 +63,9 @@ module _ {W : Type 0} (tells keeps : Bool) (state : W → MediumState) (w : Writ
             let longer = more in
             search rules;
         file = λ told.
-            let more = samples_more state w sound known.whole_out bytes in
+            let more = λ (whole : IsWhole state w).
+            samples_append state w w.medium w.out (w.waiting ++ bytes) bytes sound whole more
+            (sym (append_assoc (take w.out (drop w.data_start old.contents)) w.waiting bytes)) in
             let counts = counts_at state longer sound_longer known.whole_out old.contents in
             search rules;
         moments = λ told kept. adds_nothing state w
@@ -103,12 +105,9 @@ module _ {W : Type 0} (tells keeps : Bool) (state : W → MediumState) (w : Writ
       → accepted_samples state w ≡ accepted_samples state shorter ++ containers wide
       (length w.waiting / wide) w.waiting
   samples_first whole =
-      let none : containers wide (0 / wide) [] ≡ [] = λ i. containers wide (zero_div wide i) [] in
-      samples_parts state w known.sound known.whole_out whole
-      ∙ ap (λ l. l ++ containers wide (length w.waiting / wide) w.waiting)
-      (sym (samples_parts state shorter sound_shorter known.whole_out whole
-      ∙ ap (λ l. containers wide (w.out / wide) (drop w.data_start old.contents) ++ l) none
-      ∙ append-nil (containers wide (w.out / wide) (drop w.data_start old.contents))))
+      samples_append state shorter w.medium w.out w.waiting w.waiting sound_shorter whole
+      (omega arith)
+      (ap (λ l. l ++ w.waiting) (sym (append-nil (take w.out (drop w.data_start old.contents)))))
 
   moments : (IsWhole state w
       → KeepsStored w.data_start (concat (accepted_samples state w)) (state w.medium) (state m))

@@ -24,6 +24,23 @@ length-accepted state w whole =
     length-append (take w.out (drop w.data_start (state w.medium).contents)) w.waiting
     ∙ ap (λ n. n + length w.waiting) (length-out state w whole)
 
+-- if more whole samples follow the accepted bytes they are accepted
+pub samples_append : {W : Type 0} (state : W → MediumState) (w : WriterState W) (m : W) (out : ℕ)
+    (waiting bytes : List ℕ) → IsSound w → IsWhole state w
+    → out + length waiting ≡ data_length w + length bytes
+    → take out (drop w.data_start (state m).contents) ++ waiting ≡ accepted_bytes state w ++ bytes
+    → accepted_samples state (record w { medium = m; out = out; waiting = waiting })
+    ≡ accepted_samples state w ++ containers w.spec_ex.bytes_per_sample
+    (length bytes / w.spec_ex.bytes_per_sample) bytes
+samples_append state w m out waiting bytes sound whole more is =
+    let wide = w.spec_ex.bytes_per_sample in
+    let size = length-accepted state w whole in
+    (λ i. containers wide ((more ∙ ap (λ n. n + length bytes) (sym size)) i / wide) (is i))
+    ∙ containers_join wide (accepted_bytes state w) bytes sound.width
+    (ap (λ n. n % wide) size ∙ sound.whole)
+    ∙ (λ i. containers wide (size i / wide) (accepted_bytes state w) ++ containers wide
+    (length bytes / wide) bytes)
+
 -- whole samples are in the medium
 module _ {W : Type 0} (state : W → MediumState) (w : WriterState W) (sound : IsSound w)
     (whole_out : w.out % w.spec_ex.bytes_per_sample ≡ 0) where
@@ -32,23 +49,6 @@ module _ {W : Type 0} (state : W → MediumState) (w : WriterState W) (sound : I
 
   abbrev first : List ℕ
   first = take w.out (drop w.data_start (state w.medium).contents)
-
-  -- more whole samples in the writer are more accepted ones
-  pub samples_more : (bytes : List ℕ) → IsWhole state w
-      → data_length w % w.spec_ex.bytes_per_sample ≡ 0
-      → accepted_samples state
-      (record w { waiting = w.waiting ++ bytes }) ≡ accepted_samples state w
-      ++ containers w.spec_ex.bytes_per_sample (length bytes / w.spec_ex.bytes_per_sample) bytes
-  samples_more bytes whole samples =
-      let size = length-accepted state w whole in
-      let all : w.out + length (w.waiting ++ bytes) ≡ length
-      (accepted_bytes state w) + length bytes =
-      omega (arith, length-append w.waiting bytes, size) in
-      (λ i. containers wide (all i / wide) (sym (append_assoc first w.waiting bytes) i))
-      ∙ containers_join wide (accepted_bytes state w) bytes sound.width
-      (ap (λ n. n % wide) size ∙ samples)
-      ∙ (λ i. containers wide (size i / wide) (accepted_bytes state w) ++ containers wide
-      (length bytes / wide) bytes)
 
   -- those in the medium, and the buffered ones
   pub samples_parts : IsWhole state w
@@ -104,22 +104,6 @@ module _ {W : Type 0} (state : W → MediumState) (w : WriterState W) (none : w.
         (λ i. containers width (length_out i / width)
         ((ap (λ l. bytes ++ l) none ∙ append-nil bytes) i))
         ∙ containers_cut w.out width (drop w.data_start (state w.medium).contents) whole_out
-
-    -- for any contents with the same data
-    pub samples_same : (c : List ℕ)
-        → take w.out (drop w.data_start c) ≡ take w.out
-        (drop w.data_start (state w.medium).contents)
-        → containers w.spec_ex.bytes_per_sample (w.out / w.spec_ex.bytes_per_sample)
-        (drop w.data_start c) ≡ accepted_samples state w
-    samples_same c same =
-        containers_front width (w.out / width) (drop w.data_start c)
-        (drop w.data_start (state w.medium).contents)
-        (first c ∙ same ∙ sym (first (state w.medium).contents))
-        ∙ sym samples_out
-      where
-        first : (c : List ℕ)
-            → take (w.out / width * width) (drop w.data_start c) ≡ take w.out (drop w.data_start c)
-        first c = ap (λ k. take k (drop w.data_start c)) (count_bytes w.out width whole_out)
 
     pub length-samples : length (accepted_samples state w) ≡ w.out / w.spec_ex.bytes_per_sample
     length-samples =
