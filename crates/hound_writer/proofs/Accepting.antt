@@ -344,13 +344,14 @@ module _ {W : Type 0} (tells keeps : Bool) (state : W → MediumState) (w : Writ
           λ whole.
           samples_append state w m (w.out + length bytes) w.waiting bytes sound whole
           (omega (arith, ap length none))
-          (ap (λ l. l ++ w.waiting) (take-add w.out (length bytes) samples)
-          ∙ (λ i. (data_stays tells keeps state w stands m bytes (all_out true) told p whole i
-          ++ (ap (take (length bytes)) (drop-drop w.out w.data_start (state m).contents)
-          ∙ bytes_stand m bytes (all_out true) told p p.whole whole) i) ++ none i)
-          ∙ append-nil (take w.out (drop w.data_start old.contents) ++ bytes)
-          ∙ ap (λ l. l ++ bytes) (sym (append-nil (take w.out (drop w.data_start old.contents)))
-          ∙ ap (λ l. take w.out (drop w.data_start old.contents) ++ l) (sym none))) in
+          (cc (
+            take-add w.out (length bytes) samples,
+            data_stays tells keeps state w stands m bytes (all_out true) told p whole,
+            drop-drop w.out w.data_start (state m).contents,
+            bytes_stand m bytes (all_out true) told p p.whole whole,
+            append-nil (take w.out (drop w.data_start old.contents) ++ bytes),
+            append-nil (take w.out (drop w.data_start old.contents)),
+          )) in
           let stands_now =
           stands_more w.spec_ex w.data_start w.out (w.out + length bytes) (state m).contents
           (omega arith) (still tells keeps state w stands m bytes (all_out true) told p) in
