@@ -355,21 +355,17 @@ module _ {W : Type 0} (tells keeps : Bool) (state : W → MediumState) (w : Writ
           let stands_now =
           stands_more w.spec_ex w.data_start w.out (w.out + length bytes) (state m).contents
           (omega arith) (still tells keeps state w stands m bytes (all_out true) told p) in
-          record {
-            faults = p.faults;
-            front = front tells keeps state w stands m bytes (all_out true) told p;
-            rest = let at : end + length bytes ≡ w.data_start +
-                (w.out + length bytes + length w.waiting) = omega (arith, ap length none) in
-                subst (λ n. drop n (state m).contents ≡ drop n old.contents) at
-                (rest tells keeps state w stands m bytes (all_out true) told p);
-            reach = omega (arith, reach tells keeps state w stands m bytes (all_out true) told p);
-            whole = λ whole. bytes_inside m bytes (all_out true) told p p.whole whole;
-            accepted = more;
-            counts =
-                λ whole. counts_at state last sound_more (whole_out state last none sound_more)
-                (state m).contents
-                (bytes_inside m bytes (all_out true) told p p.whole whole) stands_now refl;
-          };
+          let inside = bytes_inside m bytes (all_out true) told p p.whole in
+          let counts = counts_at state last sound_more (whole_out state last none sound_more)
+          (state m).contents in
+          let before = front tells keeps state w stands m bytes (all_out true) told p in
+          let long = reach tells keeps state w stands m bytes (all_out true) told p in
+          let size = ap length none in
+          let at : end + length bytes ≡ w.data_start + (w.out + length bytes + length w.waiting) =
+          omega (arith, size) in
+          let behind = subst (λ n. drop n (state m).contents ≡ drop n old.contents) at
+          (rest tells keeps state w stands m bytes (all_out true) told p) in
+          search rules;
       moments =
           λ told kept. at_each m bytes (all_out true) told (puts told) kept (replays told kept);
     }
