@@ -300,8 +300,7 @@ module _ {W : Type 0} (tells keeps : Bool) (state : W → MediumState) (w : Writ
         → AcceptsBytes tells keeps state bytes (Err (IoError e)) w (after_put m w.out)
     accepts_none e puts replays = record {
       adds =
-          let answers = subst (λ b. FitAnswer {T = Unit {0}} b false (Err (IoError e)))
-          (sym (room_fits w bytes room whole_bytes)) tt in
+          let fits = room_fits w bytes room whole_bytes in
           search rules;
       file = λ told.
           let p = puts told in
@@ -331,8 +330,7 @@ module _ {W : Type 0} (tells keeps : Bool) (state : W → MediumState) (w : Writ
         → AcceptsBytes tells keeps state bytes (Ok tt) w (after_put m (w.out + length bytes))
     accepts_all puts replays = record {
       adds =
-          let answers = subst (λ b. FitAnswer {T = Unit {0}} b false (Ok tt))
-          (sym (room_fits w bytes room whole_bytes)) tt in
+          let fits = room_fits w bytes room whole_bytes in
           let size = ap length (joined_bytes width bytes whole_bytes) in
           search rules;
       file = λ told.

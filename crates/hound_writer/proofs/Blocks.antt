@@ -57,8 +57,7 @@ module _ {W : Type 0} (tells keeps : Bool) (state : W → MediumState) (w : Writ
       let old = state w.medium in
       record {
         adds =
-            let answers = subst (λ b. FitAnswer {T = Unit {0}} b false (Ok tt))
-            (sym (room_fits w bytes room whole_bytes)) tt in
+            let fits = room_fits w bytes room whole_bytes in
             let size = ap length (joined_bytes width bytes whole_bytes) in
             let longer = more in
             search rules;

@@ -132,8 +132,7 @@ pub accepts_cut : {W : Type 0} (tells keeps : Bool) (state : W → MediumState) 
     → AcceptsBytes tells keeps state bytes (Err (IoError e)) a b
 accepts_cut tells keeps state far a b bytes e out room whole = record {
   adds =
-      let answers = subst (λ fits. FitAnswer {T = Unit {0}} fits false (Err (IoError e)))
-      (sym (room_fits a bytes room whole)) tt in
+      let fits = room_fits a bytes room whole in
       let size = ap (λ w. data_length w) out.value in
       let kept = ap (λ w. length w.buffer) out.value in
       search rules;
