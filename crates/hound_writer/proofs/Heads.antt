@@ -14,28 +14,22 @@ pub in_parts : (p : ℕ) (c : List ℕ) → 8 ≤ p
     → c ≡ take 4 c ++
     (take 4 (drop 4 c) ++ (drop 8 (take p c) ++ (take 4 (drop p c) ++ drop (p + 4) c)))
 in_parts p c behind =
-    let at_8 : drop 4 (drop 4 c) ≡ drop 8 c = drop-drop 4 4 c in
     let at_p : drop (p - 8) (drop 8 c) ≡ drop p c =
     drop-drop (p - 8) 8 c ∙ ap (λ n. drop n c) (let e : 8 + (p - 8) ≡ p = omega arith in e) in
-    let at_data : drop 4 (drop p c) ≡ drop (p + 4) c = drop-drop 4 p c in
-    sym (take-append-drop 4 c)
-    ∙ ap (λ l. take 4 c ++ l) (sym (take-append-drop 4 (drop 4 c))
-    ∙ ap (λ l. take 4 (drop 4 c) ++ l)
-    (at_8 ∙ sym (take-append-drop (p - 8) (drop 8 c)) ∙ (λ i. between_is c 8 p i ++ at_p i)
-    ∙ ap (λ l. drop 8 (take p c) ++ l)
-    (sym (take-append-drop 4 (drop p c)) ∙ ap (λ l. take 4 (drop p c) ++ l) at_data)))
+    cc (
+      take-append-drop 4 c,
+      take-append-drop 4 (drop 4 c),
+      drop-drop 4 4 c,
+      take-append-drop (p - 8) (drop 8 c),
+      between_is c 8 p,
+      take-append-drop 4 (drop p c),
+      drop-drop 4 p c,
+    )
 
 module _ (old : List ℕ) (s : WavSpecEx) (len h : ℕ) (head : Head old s len h) where
   split : old ≡ (riff_tag ++ (head.walk.size ++ (wave_tag ++ (joined head.chunks ++ data_tag)))) ++
       (head.size ++ head.rest)
-  split =
-      let z = head.size ++ head.rest in
-      let j = joined head.chunks in
-      head.walk.whole
-      ∙ ap (λ l. riff_tag ++ (head.walk.size ++ (wave_tag ++ l))) (sym (append_assoc j data_tag z))
-      ∙ ap (λ l. riff_tag ++ (head.walk.size ++ l)) (sym (append_assoc wave_tag (j ++ data_tag) z))
-      ∙ ap (λ l. riff_tag ++ l) (sym (append_assoc head.walk.size (wave_tag ++ (j ++ data_tag)) z))
-      ∙ sym (append_assoc riff_tag (head.walk.size ++ (wave_tag ++ (j ++ data_tag))) z)
+  split = simp append_assoc head.walk.whole
 
   long : length (riff_tag ++ (head.walk.size ++ (wave_tag ++ (joined head.chunks ++ data_tag)))) + 4
       ≡ h
@@ -82,9 +76,6 @@ module _ (old : List ℕ) (s : WavSpecEx) (len h : ℕ) (head : Head old s len h
       let f = head.walk.size ++ (wave_tag ++ (joined head.chunks ++ data_tag)) in
       ap (λ l. drop 8 (take (h - 4) l)) split
       ∙ ap (drop 8) (take_at (riff_tag ++ f) (head.size ++ head.rest) (h - 4) (omega (arith, long)))
-      ∙ ap (drop 8)
-      (sym (append_assoc riff_tag head.walk.size
-      (wave_tag ++ (joined head.chunks ++ data_tag))))
       ∙ drop_at (riff_tag ++ head.walk.size) (wave_tag ++ (joined head.chunks ++ data_tag)) 8
       (omega (arith, head.walk.four, length-append riff_tag head.walk.size))
 
@@ -99,9 +90,7 @@ module _ (old : List ℕ) (s : WavSpecEx) (len h : ℕ) (head : Head old s len h
       let whole : new ≡ riff_tag ++ (take 4 (drop 4 new) ++ (wave_tag ++ (j ++ (data_tag ++ z)))) =
       in_parts p new (omega (arith, head.place))
       ∙ (λ i. (same_front ∙ begins) i ++ (take 4 (drop 4 new) ++ ((same_middle ∙ between) i ++ z)))
-      ∙ ap (λ l. riff_tag ++ (take 4 (drop 4 new) ++ l))
-      (append_assoc wave_tag (j ++ data_tag) z
-      ∙ ap (λ l. wave_tag ++ l) (append_assoc j data_tag z)) in
+      ∙ simp append_assoc in
       record {
         chunks = head.chunks;
         size = take 4 (drop p new);
