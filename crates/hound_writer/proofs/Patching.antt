@@ -1,7 +1,7 @@
 -- The two sizes of a file, and what they leave.
-use Rattle.std.proofs.Common.{◌≡◌, ℕ, ◌+◌, ◌-◌, ◌^◌, ◌<◌, ◌≤◌, Bool, List, ◌++◌, length, take, drop, Result, Ok, Err, IsErr, OnOk, MatchResult, sym, ◌∙◌, ap, subst, arith, append_assoc, length-append, length-drop, length-take}
+use Rattle.std.proofs.Common.{◌≡◌, ℕ, ◌+◌, ◌-◌, ◌^◌, ◌<◌, ◌≤◌, Bool, List, ◌++◌, length, take, drop, Result, Ok, Err, IsErr, OnOk, MatchResult, refl, sym, ◌∙◌, ap, subst, arith, append_assoc, length-append, length-drop, length-take}
 use Rattle.std.proofs.lemmas.Bool.{false≢true}
-use Rattle.std.proofs.lemmas.List.{drop_at, length-take-le, take_all}
+use Rattle.std.proofs.lemmas.List.{drop_at, length-take-le, take_all, take_at}
 use Rattle.std.proofs.lemmas.Slice.{between_is}
 use Rattle.std.proofs.Math.Seq.{take-append-add}
 use Rattle.hound_number.specs.{number, bytes_of, mix, AreBytes}
@@ -9,10 +9,12 @@ use Rattle.hound_number.proofs.Mixing.{mix_all, mix_none}
 use Rattle.hound_spec.proofs.FmtLemmas.{number-bytes_of}
 use Rattle.hound_medium.specs.{placed, overlay, MediumState, Flushes, faults_after, one_more}
 use Rattle.hound_medium.proofs.Outcomes.{on_ok}
-use Rattle.hound_medium.proofs.Overlays.{length_overlay_le, overlay_is}
+use Rattle.hound_medium.proofs.Inside.{drop_to}
+use Rattle.hound_medium.proofs.Overlays.{front_part, take_overlay_before}
 use Rattle.hound_medium.proofs.Torn.{number_at_small, number_at_mix}
 use Rattle.hound_writer.specs.Parts.{HasSize, IsPatched, PutsAt, Patches}
 use Rattle.hound_writer.specs.Writer.{with_sizes, field}
+use Rattle.hound_writer.proofs.Heads.{in_parts}
 use Rattle.hound_writer.proofs.Sizes.{drop_overlay_after, same_transitive, same_riff, field_riff, same_length, riff_length}
 
 pub has_size : (p : ℕ) (contents : List ℕ) → 8 ≤ p → p + 4 ≤ length contents → AreBytes contents
@@ -27,25 +29,20 @@ pub sizes_put : (p size data_length : ℕ) (c : List ℕ) → 8 ≤ p → p + 4 
 unfolding with_sizes
 sizes_put p size data_length c behind inside =
     let bs = bytes_of 4 size in
+    let ls = bytes_of 4 data_length in
     let d = overlay c (placed 4 bs) in
-    let long = length_overlay_le bs 4 c in
-    let split : d ≡ (take 4 c ++ bs) ++ drop 8 c =
-    overlay_is c 4 bs (omega arith) ∙ sym (append_assoc (take 4 c) bs (drop 8 c)) in
-    let eight : length (take 4 c ++ bs) ≡ 8 =
-    length-append (take 4 c) bs ∙ ap (λ n. n + 4) (length-take-le 4 c (omega arith)) in
-    let front : take p d ≡ take 4 c ++ (bs ++ drop 8 (take p c)) =
-    ap (take p) split
-    ∙ ap (λ n. take n ((take 4 c ++ bs) ++ drop 8 c))
-    (let e : p ≡ length (take 4 c ++ bs) + (p - 8) = omega arith in e)
-    ∙ take-append-add (take 4 c ++ bs) (drop 8 c) (p - 8)
-    ∙ ap (λ l. (take 4 c ++ bs) ++ l) (between_is c 8 p)
-    ∙ append_assoc (take 4 c) bs (drop 8 (take p c)) in
-    overlay_is d p (bytes_of 4 data_length) (omega arith)
-    ∙ (λ i. front i ++
-    (bytes_of 4 data_length ++ drop_overlay_after bs (p + 4) 4 c (omega arith) i))
-    ∙ append_assoc (take 4 c) (bs ++ drop 8 (take p c)) (bytes_of 4 data_length ++ drop (p + 4) c)
-    ∙ ap (λ l. take 4 c ++ l)
-    (append_assoc bs (drop 8 (take p c)) (bytes_of 4 data_length ++ drop (p + 4) c))
+    let first = same_riff p c behind inside bs (omega arith) in
+    let long : p + 4 ≤ length d = omega (arith, first.long) in
+    let then = same_length p d behind long ls (omega arith) in
+    cc (
+      in_parts p (overlay d (placed p ls)) behind,
+      drop_to c 4 bs (omega arith),
+      take_at bs (drop (4 + 4) c) 4 refl,
+      front_part 8 4 4 (overlay d (placed p ls)) d (omega arith)
+          (take_overlay_before ls 8 p d behind (omega arith)),
+      drop_to d p ls (omega arith),
+      take_at ls (drop (p + 4) d) 4 refl,
+    )
 
 -- the contents while two sizes are written over a base
 module _ (p size new : ℕ) (base : List ℕ) (has : HasSize p base) where

@@ -74,22 +74,16 @@ pub canonical_begins : (s : WavSpecEx) (containers : List (List ℕ)) (n start :
 canonical_begins s containers n start samples contents is_start enough joined padded is =
     let size : length (concat containers) ≡ n =
     ap length joined ∙ length-take-le n samples enough in
-    let pad = padding n in
-    let rest = drop (length pad) (drop n samples) in
-    let behind : drop n samples ≡ pad ++ rest =
-    sym (take-append-drop (length pad) (drop n samples)) ∙ ap (λ l. l ++ rest) padded in
-    let data_now : samples ≡ (concat containers ++ pad) ++ rest =
-    sym (take-append-drop n samples) ∙ (λ i. sym joined i ++ behind i)
-    ∙ sym (append_assoc (concat containers) pad rest) in
+    let rest = drop (length (padding n)) (drop n samples) in
+    let data_now = concat containers ++ padding (length (concat containers)) in
     let file : contents ≡ canonical s containers ++ rest =
-    is
-    ∙ (λ i. header s (riff_size (sym is_start i) (sym size i)) (sym size i) ++ data_now i)
-    ∙ ap (λ k. header s (riff_size (data_start s) (length (concat containers)))
-    (length (concat containers)) ++ ((concat containers ++ padding k) ++ rest)) (sym size)
-    ∙ sym (append_assoc
-    (header s (riff_size (data_start s) (length (concat containers)))
-    (length (concat containers)))
-    (concat containers ++ padding (length (concat containers))) rest) in
+    cc (
+      size,
+      take-append-drop n samples,
+      take-append-drop (length (padding n)) (drop n samples),
+      append_assoc (concat containers) (padding n) rest,
+      append_assoc (header s (riff_size start n) n) data_now rest,
+    ) in
     ap (take (length (canonical s containers))) file
     ∙ take_at (canonical s containers) rest (length (canonical s containers)) refl
 
