@@ -178,7 +178,7 @@ publishes_at_each state w none sound stands padded small end patched are_frames 
     (omega (arith, start, inside w.spec_ex w.data_start w.out old old stands)) small in
     let samples : (c : List ℕ) → drop (p + 4) c ≡ drop (p + 4) old
     → take w.out (drop w.data_start c) ≡ take w.out (drop w.data_start old) =
-    λ c same. ap (take w.out) ((λ i. drop (sym start i) c) ∙ same ∙ (λ i. drop (start i) old)) in
+    λ c same. ap (take w.out) (rw start at same) in
     let counts : IsWhole state w → (j : ℕ) (c : List ℕ) → IsPatched p (riff_size w.data_start w.out) old w.out j c
     → Counts w.spec_ex w.data_start (accepted_samples state w) c =
     λ whole j c at. counts_at state w sound (whole_out state w none sound) c whole

@@ -132,9 +132,7 @@ pub reads_all : (s : WavSpecEx) (start n : ℕ) (samples : List (List ℕ)) (con
     → Counts s start samples contents → ReadsAs s start samples contents
 reads_all s start n samples contents whole frames size says counts =
     let count = n / s.bytes_per_sample in
-    let reads : ReadsFirst None s start n samples contents =
-    subst (λ (x : Option Cause × ℕ). ReadsFirst x.0 s start x.1 samples contents)
-    (λ i. ((ap (data_fault s) says ∙ frames_sound s n whole frames) i, says i)) counts.reads in
+    let reads = rw (says, frames_sound s n whole frames) at counts.reads in
     record {
       readable = subst (λ k. Readable contents s k start) (sym size) reads.0;
       containers =
@@ -209,9 +207,7 @@ module _ {W : Type 0} (state : W → MediumState) (w : WriterState W) (none : w.
       let same = half.same in
       let long : w.data_start ≤ length (state end).contents =
       omega (arith, before, there, same.long) in
-      let samples : drop w.data_start (state end).contents ≡ drop w.data_start old =
-      (λ i. drop (sym before i) (state end).contents) ∙ same.behind
-      ∙ (λ i. drop (before i) old) in
+      let samples = rw before at same.behind in
       let still =
       stands_patched w.spec_ex w.data_start w.out old
       (state end).contents stands patches.half.0 same half.field in
@@ -219,12 +215,7 @@ module _ {W : Type 0} (state : W → MediumState) (w : WriterState W) (none : w.
       → Counts w.spec_ex w.data_start (accepted_samples state w) (state end).contents =
       λ whole. counts_at state w sound (whole_out state w none sound)
       (state end).contents whole still (ap (take w.out) samples) in
-      let data_after : (c : List ℕ)
-      → drop (data_end w) c ≡ drop (data_length w) (drop w.data_start c) =
-      λ c. sym (drop-drop (data_length w) w.data_start c) in
-      let behind : drop (data_end w) (state end).contents ≡ drop (data_end w) old =
-      data_after (state end).contents ∙ ap (drop (data_length w)) samples
-      ∙ sym (data_after old) in
+      let behind = drop_later w.data_start (data_end w) (state end).contents old (omega arith) samples in
       record {
         faults =
             told_faults patched are_frames told (state w.medium).faults

@@ -70,12 +70,10 @@ module _ {W : Type 0} (state : W → MediumState) (w : WriterState W) (sound : I
       → Counts w.spec_ex w.data_start (accepted_samples state w) c
   counts_at c whole stands same =
       let data_now = drop w.data_start (state w.medium).contents in
-      let cut : (l : List ℕ) → take (w.out / wide * wide) l ≡ take w.out l =
-      λ l. ap (λ k. take k l) (count_bytes w.out wide whole_out) in
-      let out_same : containers wide (w.out / wide) (drop w.data_start c) ≡ containers wide
-      (w.out / wide) data_now =
-      containers_front wide (w.out / wide) (drop w.data_start c) data_now
-      (cut (drop w.data_start c) ∙ same ∙ sym (cut data_now)) in
+      let out_same : containers wide (w.out / wide) (drop w.data_start c)
+      ≡ containers wide (w.out / wide) data_now =
+      sym (containers_cut w.out wide (drop w.data_start c) whole_out)
+      ∙ ap (containers wide (w.out / wide)) same ∙ containers_cut w.out wide data_now whole_out in
       let waiting = containers wide (length w.waiting / wide) w.waiting in
       subst (λ l. Counts w.spec_ex w.data_start l c)
       (ap (λ l. l ++ waiting) out_same ∙ sym (samples_parts whole))
