@@ -41,13 +41,6 @@ module _ {W : Type 0} (tells keeps : Bool) (state : W → MediumState) (far : �
   abbrev reach_out : ℕ
   reach_out = a.data_start + a.out
 
-  -- what counts in a later state
-  pub counts_later : (told : IsTrue tells) → IsWhole state a → (c : List ℕ)
-      → Counts a.spec_ex a.data_start (accepted_samples state b) c
-      → Counts a.spec_ex a.data_start (accepted_samples state a) c
-  counts_later told whole c =
-      subst (λ l. Counts a.spec_ex a.data_start l c) ((out.file told).accepted whole)
-
   -- what was up to the end of the bytes in the medium at first
   front_later : (told : IsTrue tells) → IsWhole state a → (c : List ℕ)
       → take (a.data_start + data_length a) c ≡ take (a.data_start + data_length a) then
@@ -61,14 +54,10 @@ module _ {W : Type 0} (tells keeps : Bool) (state : W → MediumState) (far : �
   at_each_later told kept new at_each =
       let before = (out.moments told kept).adds in
       let f = out.file told in
-      let of_a : ℕ → List ℕ → Type 0 =
-      λ _ c. Counts a.spec_ex a.data_start (accepted_samples state a) c in
-      let of_b : ℕ → List ℕ → Type 0 =
-      λ _ c. Counts a.spec_ex a.data_start (accepted_samples state b) c in
       record {
-        counts = λ whole. join of_a 0 (state a.medium) (state m) new (before.counts whole)
-            (span_weaker of_b of_a 0 (state m) new (λ j c counts. counts_later told whole c counts)
-            (at_each.counts (f.whole whole)));
+        counts = λ whole. join (λ _. Counts a.spec_ex a.data_start (accepted_samples state a)) 0
+            (state a.medium) (state m) new (before.counts whole)
+            (rw (f.accepted whole) at (at_each.counts (f.whole whole)));
         front = λ whole. join (λ _ c. take reach_out c ≡ take reach_out first) 0 (state a.medium)
             (state m) new (before.front whole)
             (span_weaker
@@ -83,8 +72,7 @@ module _ {W : Type 0} (tells keeps : Bool) (state : W → MediumState) (far : �
             stored_join a.data_start (concat (accepted_samples state a)) (state a.medium) (state m)
             new out_span.added new_span.added out_span.past new_span.start new_span.past
             (before.stored whole)
-            (subst (λ l. KeepsStored a.data_start (concat l) (state m) new)
-            (f.accepted whole) (at_each.stored (f.whole whole)));
+            (rw (f.accepted whole) at (at_each.stored (f.whole whole)));
       }
 
   accepts_after : far ≤ data_end a

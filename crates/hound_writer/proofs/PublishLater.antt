@@ -21,7 +21,7 @@ use Rattle.hound_durable.specs.{place_of}
 use Rattle.hound_durable.proofs.Ascending.{place_before}
 use Rattle.hound_writer.specs.Publishing.{PublishesTo, Finishes, IsHalfPublished, IsOldOrNew, OncePutBefore, Publishes, PublishesAtEach, ReadsAs}
 use Rattle.hound_writer.proofs.Answers.{on_published_then, publishing_as}
-use Rattle.hound_writer.proofs.Later.{counts_later, goes_further, length_same}
+use Rattle.hound_writer.proofs.Later.{goes_further, length_same}
 use Rattle.hound_writer.proofs.Publishing.{in_medium}
 use Rattle.hound_writer.proofs.Sizes.{header_front, sizes_front, sizes_then, take_front}
 use Rattle.hound_writer.proofs.Standing.{inside}
@@ -164,11 +164,6 @@ module _ {W : Type 0} (tells keeps : Bool) (state : W → MediumState) (a : Writ
   same_length : data_length b ≡ data_length a
   same_length = length_same tells keeps state (padded_end a) a m out
 
-  -- the pad byte of as many bytes
-  padded_as_first : (c : List ℕ) → IsPadded b c → IsPadded a c
-  padded_as_first c here =
-      subst (λ n. StartsWith (drop (a.data_start + n) c) (padding n)) same_length here
-
   module _ (answer : Result (Unit {0}) Error) (end : W) where
     abbrev new : List ℕ
     new = (state end).contents
@@ -186,29 +181,18 @@ module _ {W : Type 0} (tells keeps : Bool) (state : W → MediumState) (a : Writ
           out = λ whole. take_front a.out (data_length a) (drop a.data_start mid)
               (drop a.data_start new) (omega arith) (g.out (f.whole whole))
               ∙ data_of state a sound mid (around.out whole);
-          rest = subst
-              (λ n. drop (a.data_start + padded n) new ≡ drop
-              (a.data_start + padded n) mid) same_length g.rest ∙ around.rest;
+          rest = (rw same_length at g.rest) ∙ around.rest;
           grows = omega (arith, around.grows, g.grows);
           reach = omega (arith, around.reach, g.reach, ap (λ n. n % 2) same_length);
-          counts =
-              λ whole. counts_later tells keeps state (padded_end a) a m out told whole new
-              (g.counts (f.whole whole));
+          counts = λ whole. rw (f.accepted whole) at (g.counts (f.whole whole));
           begun = λ is. g.begun (begun is);
           flushed = g.flushed;
-          riff_says =
-              on_published_then answer
-              (λ e. e ∙ ap (riff_size a.data_start) same_length) g.riff_says;
-          length_says = on_published_then answer (λ e. e ∙ same_length) g.length_says;
-          stand = λ whole. on_published_then answer
-              (λ e. (λ i. take (sym same_length i) (drop a.data_start new)) ∙ e
-              ∙ ap concat (f.accepted whole)) (g.stand (f.whole whole));
-          padded = on_published_then answer (padded_as_first new) g.padded;
-          read = λ whole. subst (λ l. OnOk answer (ReadsAs a.spec_ex a.data_start l new))
-              (f.accepted whole) (g.read (f.whole whole));
-          canonical =
-              λ whole is. subst (λ l. OnPublished answer (StartsWith new (canonical a.spec_ex l)))
-              (f.accepted whole) (g.canonical (f.whole whole) (begun is));
+          riff_says = rw same_length at g.riff_says;
+          length_says = rw same_length at g.length_says;
+          stand = λ whole. rw (f.accepted whole, same_length) at (g.stand (f.whole whole));
+          padded = rw same_length at g.padded;
+          read = λ whole. rw (f.accepted whole) at (g.read (f.whole whole));
+          canonical = λ whole is. rw (f.accepted whole) at (g.canonical (f.whole whole) (begun is));
         }
 
     module _ (told : IsTrue tells) (kept : IsTrue keeps)
@@ -248,11 +232,8 @@ module _ {W : Type 0} (tells keeps : Bool) (state : W → MediumState) (a : Writ
           let sooner = longer state a sound small (state m) (out.file told).around goes in
           elim (cases_lt (length (state m).past) k) [
             | inl later ↦
-                elim (g.old_or_new k (omega (arith, later)) to
-                (λ i low high. outside i (omega (arith, low, sooner)) high)) [
-                  | inl is ↦ inl (is ∙ field_same)
-                  | inr is ↦ inr (is ∙ same_length)
-                ]
+                (rw (field_same, same_length) at g.old_or_new) k (omega (arith, later)) to
+                (λ i low high. outside i (omega (arith, low, sooner)) high)
             | inr before ↦ inl (at_first k from before)
           ]
 
@@ -265,24 +246,17 @@ module _ {W : Type 0} (tells keeps : Bool) (state : W → MediumState) (a : Writ
                 ap (λ l. place_of l i) g.half.past
                 ∙ place_before (state m).past g.half.added i sooner in
                 absurd (omega (arith, before, same, goes.behind i from sooner))
-            | inr then ↦
-                padded_as_first (moment (state end).start (state end).past k)
-                (g.padded i k then to before later last)
+            | inr then ↦ rw same_length at (g.padded i k then to before later last)
           ]
 
       publishes_at_each_later : PublishesAtEach state a answer end
       publishes_at_each_later =
-          let of_a : ℕ → List ℕ → Type 0 =
-          λ _ c. Counts a.spec_ex a.data_start (accepted_samples state a) c in
-          let of_b : ℕ → List ℕ → Type 0 =
-          λ _ c. Counts a.spec_ex a.data_start (accepted_samples state b) c in
+          let f = out.file told in
           record {
             counts =
-                λ whole. join of_a 0 (state a.medium) (state m) (state end) (goes.adds.counts whole)
-                (span_weaker of_b of_a 0 (state m) (state end)
-                (λ j c counts.
-                counts_later tells keeps state (padded_end a) a m out told whole c counts)
-                (g.counts ((out.file told).whole whole)));
+                λ whole. join (λ _. Counts a.spec_ex a.data_start (accepted_samples state a)) 0
+                (state a.medium) (state m) (state end) (goes.adds.counts whole)
+                (rw (f.accepted whole) at (g.counts (f.whole whole)));
             split = g.split;
             half = join (IsHalfPublished a old) g.split (state a.medium) (state m) (state end)
                 (half_out state a sound small (state m)
@@ -299,8 +273,7 @@ module _ {W : Type 0} (tells keeps : Bool) (state : W → MediumState) (a : Writ
                 λ whole. stored_join a.data_start (concat (accepted_samples state a))
                 (state a.medium) (state m) (state end) goes.front.added g.half.added goes.front.past
                 g.half.start g.half.past (goes.adds.stored whole)
-                (subst (λ l. KeepsStored a.data_start (concat l) (state m) (state end))
-                ((out.file told).accepted whole) (g.stored ((out.file told).whole whole)));
+                (rw (f.accepted whole) at (g.stored (f.whole whole)));
           }
 
   published_after : (at : ℕ) (answer : Result (Unit {0}) Error) (c : WriterState W)
