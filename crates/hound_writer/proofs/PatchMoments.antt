@@ -39,17 +39,12 @@ module _ {T E : Type 0} (keeps : Bool) (p size new : ℕ) (result : Result T E)
       let bytes = take puts.count (bytes_of 4 size) in
       let size_of : length bytes ≡ puts.count =
       length-take-le puts.count (bytes_of 4 size) puts.within in
-      let long : length b.past ≡ length a.past + length bytes =
-      ap length (puts.past kept) ∙ length-append a.past (placed 4 bytes)
-      ∙ ap (λ k. length a.past + k) (length-placed 4 bytes) in
+      let long = ap length (puts.past kept) ∙ length_put a.past 4 bytes in
       span_puts (IsPatched p size a.contents new) (length b.past) a b 4 bytes replays puts.start
       (puts.past kept) (inl puts.flushed)
-      (λ k within. let none : 0 ≡ length a.past + k - length b.past = omega (arith, within, long) in
-      let first : take k (bytes_of 4 size) ≡ take k bytes =
-      sym (take-take k puts.count (bytes_of 4 size) (omega (arith, within, size_of))) in
-      subst (λ j. IsPatched p size a.contents new j (overlay a.contents (placed 4 (take k bytes)))) none
-      (subst (λ l. IsPatched p size a.contents new 0 (overlay a.contents (placed 4 l))) first
-      (patched_riff p size new a.contents has k (omega (arith, within, size_of, puts.within)))))
+      (λ k within. let none : length a.past + k - length b.past ≡ 0 = omega (arith, within, long) in
+      rw (none, take-take k puts.count (bytes_of 4 size) (omega (arith, within, size_of)))
+      (patched_riff p size new a.contents has k (omega (arith, within, size_of, puts.within))))
 
   -- the field is written
   pub field_span : (base : List ℕ) → HasSize p base → AreBytes a.contents
@@ -62,13 +57,10 @@ module _ {T E : Type 0} (keeps : Bool) (p size new : ℕ) (result : Result T E)
       length-take-le puts.count (bytes_of 4 new) puts.within in
       span_puts (IsPatched p size base new) (length a.past) a b p bytes replays puts.start
       (puts.past kept) (inl puts.flushed)
-      (λ k within. let level : k ≡ length a.past + k - length a.past = omega arith in
-      let first : take k (bytes_of 4 new) ≡ take k bytes =
-      sym (take-take k puts.count (bytes_of 4 new) (omega (arith, within, long))) in
-      subst (λ j. IsPatched p size base new j (overlay a.contents (placed p (take k bytes)))) level
-      (subst (λ l. IsPatched p size base new k (overlay a.contents (placed p l))) first
+      (λ k within. let level : length a.past + k - length a.past ≡ k = omega arith in
+      rw (level, take-take k puts.count (bytes_of 4 new) (omega (arith, within, long)))
       (patched_field p size new base has a.contents small so_far riff k
-      (omega (arith, within, long, puts.within)))))
+      (omega (arith, within, long, puts.within))))
 
 -- the byte that begins what was added
 first_added : (old new : List (ℕ × ℕ)) (p : ℕ) (bytes : List ℕ) → new ≡ old ++ placed p bytes
@@ -105,9 +97,8 @@ patches_both keeps p size new r s answer a b c kept replays then has small first
     (riff_put keeps p size new r a b has first four fits) second in
     let bytes = take second.count (bytes_of 4 new) in
     let long : length c.past ≡ length b.past + second.count =
-    ap length (second.past kept) ∙ length-append b.past (placed p bytes)
-    ∙ ap (λ k. length b.past + k)
-    (length-placed p bytes ∙ length-take-le second.count (bytes_of 4 new) second.within) in
+    ap length (second.past kept) ∙ length_put b.past p bytes
+    ∙ ap (λ k. length b.past + k) (length-take-le second.count (bytes_of 4 new) second.within) in
     record {
       split = length b.past;
       span = join (IsPatched p size a.contents new) (length b.past) a b c riff field;
