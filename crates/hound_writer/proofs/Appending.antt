@@ -55,7 +55,7 @@ stands_on s len h contents new head same =
     let says : field (h - 4) new ≡ len =
     ap (field (h - 4)) same ∙ head_field contents s len h head in
     record {
-      head = subst (λ (x : List ℕ × ℕ). Head x.0 s x.1 h) (λ i. (sym same i, sym says i)) head;
+      head = rw (says, same) head;
       counted = omega (arith, says);
     }
 
@@ -68,7 +68,7 @@ pub follows : {W : Type 0} (state : W → MediumState) (medium : W) (s : WavSpec
 follows state medium s len h old sound after head check goes =
     let w = of_fields medium s h len [] [] in
     let all : len ≡ len + 0 = omega arith in
-    let longer = subst (λ n. Head old.contents s n h) all head in
+    let longer = rw all at head in
     let none = ap (λ n. head_fault s n h) all in
     let sounds = sound_head medium s len h sound after check in
     let counts = λ (whole : IsWhole state w).
@@ -96,7 +96,7 @@ appends_after tells state head old mid w finds on = record {
   file = λ told.
       let walk = finds told in
       let file = on.file told in
-      let head = subst (λ l. Head l w.spec_ex (data_length w) w.data_start) walk.contents file.head in
+      let head = rw walk.contents at file.head in
       search rules;
 }
 
@@ -108,7 +108,7 @@ refused_after head old mid new e finds refused = record {
     | inl (fault, is, names, faults) ↦
         inl (
           fault,
-          subst (λ l. IsAppendFault l fault) finds.contents is,
+          rw finds.contents at is,
           names,
           faults
               ∙ finds.faults,

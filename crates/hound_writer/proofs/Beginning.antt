@@ -73,9 +73,7 @@ module _ {T E : Type 0} (keeps : Bool) (s : WavSpecEx) (bytes : List ℕ) (resul
       let none : field p new.contents ≡ 0 =
       ap (field p) contents_begin ∙ field-header s p rest four in
       record {
-        head = subst (λ (x : List ℕ × (ℕ × ℕ)). Head x.0 s x.1.0 x.1.1)
-            (λ i. (sym contents_begin i, (sym none i, sym at i)))
-            (header_head s 0 0 rest writable (omega arith));
+        head = rw (none, contents_begin, at) (header_head s 0 0 rest writable (omega arith));
         counted = omega (arith, none);
       }
 

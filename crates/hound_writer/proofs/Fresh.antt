@@ -32,7 +32,7 @@ pub begun_front : {M : Type 0} (state : M → MediumState) (old new : WriterStat
     (state old.medium).contents
     → IsBegun state old → IsBegun state new
 begun_front state old new spec start front (has, at) = (
-  subst (λ s. HasHeader s (state new.medium).contents) (sym spec)
+  rw spec
       (header_front old.spec_ex old.data_start (state old.medium).contents
       (state new.medium).contents at front has),
   start ∙ at ∙ ap data_start (sym spec),
@@ -78,8 +78,7 @@ module _ {W : Type 0} (tells keeps : Bool) (state : W → MediumState) (told : I
       let begun = begun_front state first last accepts.adds.spec_ex accepts.adds.data_start a.front
       (f.header, b.start ∙ ap data_start (sym b.spec)) in
       let starts : StartsWith (state end).contents (canonical s list) =
-      subst (λ x. StartsWith (state end).contents x) (λ i. canonical (spec i) (samples i))
-      (p.canonical whole begun) in
+      rw (samples, spec) at (p.canonical whole begun) in
       let nothing : data_length first ≡ 0 =
       (λ i. b.none_out i + length (b.none_waits i)) in
       sym (take_all (length (canonical s list)) (state end).contents

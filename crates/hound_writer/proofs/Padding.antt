@@ -67,11 +67,10 @@ module _ {W : Type 0} (tells keeps : Bool) (state : W → MediumState) (w : Writ
     -- once it is written it is there
     pub padded_odd : WhereTells tells (IsTrue all → IsPadded w (state m).contents)
     padded_odd told done =
-        let p = subst (λ b. PutsAt keeps end pad (all_out b) old (state m)) done (puts told) in
+        let p = rw done at (puts told) in
         let one : take p.count pad ≡ pad = take_all p.count pad (omega (arith, p.whole)) in
         let stands : take 1 (drop end (state m).contents) ≡ pad =
         ap (λ l. take 1 (drop end l)) p.contents
         ∙ ap (λ bytes. take 1 (drop end (overlay old.contents (placed end bytes)))) one
         ∙ put_stands end 0 old.contents in
-        subst (λ (x : ℕ × ℕ). StartsWith (drop (w.data_start + x.0) (state m).contents)
-        (replicate x.1 0)) (λ i. (sym size i, sym odd_size i)) stands
+        rw (odd_size, size) stands

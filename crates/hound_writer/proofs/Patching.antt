@@ -92,8 +92,7 @@ module _ {T E : Type 0} (keeps : Bool) (p size new : ℕ) (r : Result T E) (a b 
     (has : HasSize p a.contents) (first : PutsAt keeps 4 (bytes_of 4 size) r a b) where
   pub first_half : IsPatched p size a.contents new 0 b.contents
   first_half =
-      subst (IsPatched p size a.contents new 0) (sym first.contents)
-      (patched_riff p size new a.contents has first.count first.within)
+      rw first.contents (patched_riff p size new a.contents has first.count first.within)
 
   pub riff_put : first.count ≡ 4 → size < 2 ^ 32 → field 4 b.contents ≡ size
   riff_put all fits =
@@ -107,7 +106,7 @@ module _ {T E : Type 0} (keeps : Bool) (p size new : ℕ) (r : Result T E) (a b 
       (second : PutsAt keeps p (bytes_of 4 new) s b c) where
     pub second_half : IsPatched p size a.contents new second.count c.contents
     second_half =
-        subst (IsPatched p size a.contents new second.count) (sym second.contents)
+        rw second.contents
         (patched_field p size new a.contents has b.contents small first_half
         (riff_put all fits) second.count second.within)
 
@@ -145,7 +144,7 @@ patched keeps p size data_length r s flush a b c d has small first second all_fi
       half = (
         second.count,
         second.within,
-        subst (IsPatched p size a.contents data_length second.count) (sym same)
+        rw same
             (second_half keeps p size data_length r a b has first s c small all_first fits second),
       );
       flushed =
@@ -186,9 +185,7 @@ module _ (p size data_length : ℕ) (c : List ℕ) (behind : 8 ≤ p) (inside : 
       (bytes_of 4 data_length ++ drop (p + 4) c)
   unfolding with_sizes
   at_length =
-      let rest = bytes_of 4 data_length ++ drop (p + 4) c in
-      ap (λ l. take 4 c ++ l) (sym (append_assoc (bytes_of 4 size) (drop 8 (take p c)) rest))
-      ∙ sym (append_assoc (take 4 c) (bytes_of 4 size ++ drop 8 (take p c)) rest)
+      simp append_assoc
 
   pub riff_size_of_sizes : size < 2 ^ 32 → field 4 (with_sizes p size data_length c) ≡ size
   unfolding with_sizes

@@ -19,8 +19,7 @@ at_end-requires-clause-stands g c tells =
 pub returns : goal.returns
 returns g c =
     let head = c.args.head in
-    subst (Appends g.W.Placed.tells g.W.Placed.state (g.W.Placed.state c.args.writer))
-    (sym (c.over.ensures ∙ c.at_end.ensures))
+    rw (c.over.ensures, c.at_end.ensures)
     record {
       sound = sound_head _ head.spec_ex head.data_length head.data_start c.requires.sound
           c.requires.start.0 c.in_default.ensures;

@@ -10,7 +10,7 @@ pub returns-clause-finishes : goal.returns-clause-finishes
 returns-clause-finishes g c =
     let W = g.W.Placed in
     let publish = c.publish_all-result in
-    subst (Finishes W.tells W.keeps W.state c.args.self publish.result) (sym c.into_medium.ensures)
+    rw c.into_medium.ensures
     (finishes_of W.tells W.keeps W.state publish.result c.args.self publish.new.self (search rules))
 
 pub returns-clause-left : goal.returns-clause-left

@@ -9,8 +9,7 @@ returns-in-Ok-clause-appends g c =
     let old = g.W.Placed.state c.args.writer in
     let mid = g.W.Placed.state c.find_data-writer.result.0 in
     answer_after g.W.Placed.tells g.W.Placed.state c.in-Ok.head old mid _
-    (λ tells. subst (λ r. FindsData r old mid) c.in-Ok.is
-    (c.find_data-writer.ensures.finds tells)) c.append_at.ensures
+    (rw c.in-Ok.is at c.find_data-writer.ensures.finds) c.append_at.ensures
 
 pub returns-in-Ok-clause-recorded : goal.returns-in-Ok-clause-recorded
 returns-in-Ok-clause-recorded g c =
@@ -23,4 +22,4 @@ returns-in-Err-clause-appends g c tells =
     let old = g.W.Placed.state c.args.writer in
     let mid = g.W.Placed.state c.find_data-writer.result.0 in
     walk_fails c.in-Err.error c.error_of.result old mid (c.requires tells) c.error_of.ensures
-    (subst (λ r. FindsData r old mid) c.in-Err.is (c.find_data-writer.ensures.finds tells))
+    (rw c.in-Err.is at (c.find_data-writer.ensures.finds tells))

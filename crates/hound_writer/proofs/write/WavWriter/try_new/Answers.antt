@@ -27,8 +27,7 @@ returns-in-Ok-clause-begins g c =
     let s = c.args.spec_ex in
     let is = c.as_slice-bytes.ensures ∙ c.header_of-header.ensures in
     let writable : IsWritable s = search rules in
-    subst (Begins g.W.Placed.tells g.W.Placed.keeps g.W.Placed.state s
-    (g.W.Placed.state c.args.writer)) (sym (c.over.ensures ∙ c.at_end.ensures))
+    rw (c.over.ensures, c.at_end.ensures)
     record {
       begun = record {
         writable = writable;
