@@ -1,22 +1,21 @@
 -- What bytes after the accepted ones change.
-use Rattle.std.proofs.Common.{◌≡◌, ℕ, zero, suc, ◌+◌, ◌*◌, ◌-◌, ◌/◌, ◌%◌, ◌≤◌, max, nat_le, Bool, true, false, List, [], ◌∷◌, ◌++◌, length, take, drop, replicate, Result, Ok, Err, IfErr, IsTrue, inl, refl, rules, sym, subst, ◌∙◌, ap, arith, length-append, length-take, le-leb}
+use Rattle.std.proofs.Common.{◌≡◌, ℕ, ◌+◌, ◌/◌, ◌%◌, ◌≤◌, max, nat_le, Bool, true, false, List, [], ◌++◌, length, take, drop, Result, Ok, Err, IfErr, IsTrue, inl, refl, rules, subst, ◌∙◌, ap, arith, length-append, length-take, le-leb}
 use Rattle.std.proofs.lemmas.List.{take_at, take_all, drop_at, drop-drop, append-nil, length-take-le}
 use Rattle.std.proofs.Math.Seq.{take-add}
 use Rattle.std.specs.List.{concat}
 use Rattle.std.specs.declared.io.Error.{Error as IoFault}
-use Rattle.hound_medium.specs.{put_at, placed, overlay, moment, faults_after, MediumState, WhereTells, WhereKeeps, Span}
-use Rattle.hound_medium.proofs.Overlays.{overlay_is, length-put_at, take_overlay_before, length_overlay_le, front_part}
+use Rattle.hound_medium.specs.{placed, overlay, moment, faults_after, MediumState, WhereTells, WhereKeeps, Span}
+use Rattle.hound_medium.proofs.Overlays.{overlay_is, take_overlay_before, length_overlay_le, front_part}
 use Rattle.hound_medium.proofs.Spans.{span_puts, span_still}
 use Rattle.hound_spec.specs.declared.error.Error.{Error}
-use Rattle.hound_spec.specs.declared.error.Error.TheVariants.{IoError, OutOfMemory}
+use Rattle.hound_spec.specs.declared.error.Error.TheVariants.{IoError}
 use Rattle.hound_spec.specs.{riff_size, greatest_u32}
-use Rattle.hound_sample.specs.{Refusal, containers, error_of, too_wide, unsupported, IsEncoded}
-use Rattle.hound_writer.specs.Accepting.{AcceptsBytes, Accepts, AddsAtEach, AcceptAnswer, FitAnswer, IsIoError, OnRefused, faults_told, if_marked, mark_of}
+use Rattle.hound_sample.specs.{Refusal, containers, error_of, too_wide, unsupported}
+use Rattle.hound_writer.specs.Accepting.{AcceptsBytes, Accepts, AddsAtEach, AcceptAnswer, IsIoError, OnRefused, faults_told, if_marked, mark_of}
 use Rattle.hound_writer.specs.Parts.{all_out, GoesAtEach, GoesToFile, PutsAt, IsStanding, StaysAround}
-use Rattle.hound_writer.specs.Writer.{Counts, WriterState, HasRoom, IsCounted, IsSound, IsWhole, accepted_samples, data_length, sample_count}
+use Rattle.hound_writer.specs.Writer.{Counts, WriterState, HasRoom, IsCounted, IsSound, IsWhole, accepted_samples, data_length}
 use Rattle.hound_writer.proofs.Answers.{accept_as, on_refused, refused_then, unless_failed}
-use Rattle.hound_sample.proofs.Containers.{containers_append, containers_front}
-use Rattle.hound_writer.proofs.Containers.{count_append, count_bytes, joined_bytes, whole_more}
+use Rattle.hound_writer.proofs.Containers.{joined_bytes, whole_more}
 use Rattle.hound_writer.proofs.Keeping.{sound_with}
 use Rattle.hound_writer.proofs.PutsFrom.{puts_from}
 use Rattle.hound_writer.proofs.Storing.{stored_same, stored_still}

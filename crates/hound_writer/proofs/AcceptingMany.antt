@@ -1,5 +1,5 @@
 -- Many samples that a writer shall accept, by the bytes of their containers.
-use Rattle.std.proofs.Common.{◌≡◌, ℕ, ◌*◌, ◌/◌, ◌%◌, ◌≤◌, ◌<◌, Bool, true, false, List, [], length, Result, Ok, Err, IfErr, IsOk, refl, sym, subst, ◌∙◌, ap, arith}
+use Rattle.std.proofs.Common.{◌≡◌, ℕ, ◌*◌, ◌/◌, ◌%◌, ◌≤◌, ◌<◌, Bool, false, List, [], length, Result, Ok, Err, IsOk, refl, sym, subst, ◌∙◌, ap, arith}
 use Rattle.std.proofs.lemmas.List.{append-nil}
 use Rattle.std.proofs.Math.Nat.{mul-div_cancel_left, mul-le-mul_right, mul-mod_right}
 use Rattle.std.specs.List.{concat}
@@ -10,8 +10,8 @@ use Rattle.hound_spec.specs.declared.error.Error.{Error}
 use Rattle.hound_spec.specs.declared.error.Error.TheVariants.{TooLong}
 use Rattle.hound_spec.specs.declared.spec.WavSpecEx.{WavSpecEx}
 use Rattle.hound_spec.specs.{greatest_u32}
-use Rattle.hound_writer.specs.Accepting.{AcceptsBytes, whole_containers, Accepts, IsIoError, containers_in, outcome_of, sample_bytes}
-use Rattle.hound_writer.specs.Parts.{GoesOut, result_of, IsConsistent}
+use Rattle.hound_writer.specs.Accepting.{AcceptsBytes, whole_containers, Accepts, containers_in, outcome_of, sample_bytes}
+use Rattle.hound_writer.specs.Parts.{result_of, IsConsistent}
 use Rattle.hound_writer.specs.Writer.{WriterState, HasRoom, IsCounted, IsWhole}
 use Rattle.hound_writer.specs.declared.outcome.Outcome.{Outcome}
 use Rattle.hound_writer.specs.declared.outcome.Outcome.TheVariants.{Accepted}

@@ -1,5 +1,5 @@
 -- A file that begins: its header is written, and nothing else.
-use Rattle.std.proofs.Common.{◌≡◌, ℕ, ◌+◌, ◌-◌, ◌≤◌, Bool, List, [], ◌++◌, length, take, drop, Result, Ok, Err, refl, rules, sym, subst, ◌∙◌, ap, arith, append_assoc, length-append}
+use Rattle.std.proofs.Common.{◌≡◌, ℕ, ◌+◌, ◌-◌, ◌≤◌, Bool, List, [], ◌++◌, length, take, drop, Result, Ok, Err, refl, rules, subst, ◌∙◌, ap, arith, append_assoc, length-append}
 use Rattle.std.proofs.lemmas.List.{take_at, take_all, drop_at}
 use Rattle.hound_number.specs.{bytes_of, number}
 use Rattle.hound_medium.specs.{placed, overlay, MediumState, PutsFirst, PutsAll}
@@ -8,7 +8,6 @@ use Rattle.hound_spec.specs.declared.spec.WavSpecEx.{WavSpecEx}
 use Rattle.hound_spec.specs.{riff_tag, data_start, header, IsWritable}
 use Rattle.hound_spec.proofs.HeaderLemmas.{described, header-parts, length-header, length-described, data_start_least, data_start_most}
 use Rattle.hound_spec.proofs.WritableLemmas.{pair_facts}
-use Rattle.hound_reader.specs.{Head}
 use Rattle.hound_reader.proofs.WrittenLemmas.{header_head}
 use Rattle.std.specs.declared.io.Error.{Error as IoFault}
 use Rattle.hound_spec.specs.declared.error.Error.{Error}

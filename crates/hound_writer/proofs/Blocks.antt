@@ -1,16 +1,16 @@
 -- What the block of accepted samples changes: samples that join it, and its samples when it is
 -- written.
-use Rattle.std.proofs.Common.{◌≡◌, ℕ, ◌+◌, ◌/◌, ◌%◌, ◌≤◌, Bool, true, false, IsTrue, List, [], ◌++◌, length, take, drop, Result, Ok, inl, refl, rules, sym, subst, ◌∙◌, ap, arith, append_assoc, length-append, length-drop}
+use Rattle.std.proofs.Common.{◌≡◌, ℕ, ◌+◌, ◌/◌, ◌%◌, ◌≤◌, Bool, true, false, IsTrue, List, [], ◌++◌, length, take, drop, Ok, inl, refl, rules, sym, subst, ◌∙◌, ap, arith, append_assoc, length-append, length-drop}
 use Rattle.std.proofs.lemmas.List.{append-nil, length-take-le, nil_from_length}
 use Rattle.std.specs.List.{concat}
 use Rattle.hound_medium.specs.{overlay, MediumState, WhereTells, WhereKeeps}
 use Rattle.hound_medium.proofs.Spans.{span_still, span_weaker}
 use Rattle.hound_sample.specs.{containers}
-use Rattle.hound_writer.specs.Accepting.{AcceptsBytes, AddsAtEach, FitAnswer, KeepsStored}
+use Rattle.hound_writer.specs.Accepting.{AcceptsBytes, AddsAtEach, KeepsStored}
 use Rattle.hound_writer.specs.Parts.{GoesAtEach, GoesOut, IsLimit, StaysAround, after_out, all_out, block_length, IsConsistent, IsStanding, PutsAt}
 use Rattle.hound_writer.specs.Writer.{Counts, WriterState, HasRoom, IsSound, IsWhole, accepted_samples, data_length, data_end}
 use Rattle.hound_writer.proofs.Accepting.{accepts_all, adds_nothing, around, at_each, goes_at_each, goes_beside, room_fits, sound_more, still}
-use Rattle.hound_writer.proofs.Containers.{joined_bytes, none_whole, whole_more, zero_div}
+use Rattle.hound_writer.proofs.Containers.{joined_bytes, none_whole, whole_more}
 use Rattle.hound_writer.proofs.Counted.{counts_more}
 use Rattle.hound_writer.proofs.Keeping.{consistent_moved, sound_with}
 use Rattle.hound_writer.proofs.Samples.{counts_at, samples_append, valid_of}

@@ -1,5 +1,5 @@
 -- A call that continues once the buffered samples are written.
-use Rattle.std.proofs.Common.{◌≡◌, ℕ, ◌+◌, ◌-◌, ◌≤◌, ◌%◌, Bool, true, false, IsTrue, Result, Err, IfErr, List, ◌++◌, length, take, drop, refl, rules, sym, ◌∙◌, ap, subst, arith}
+use Rattle.std.proofs.Common.{◌≡◌, ℕ, ◌+◌, ◌-◌, ◌≤◌, ◌%◌, Bool, true, false, IsTrue, Result, Err, IfErr, List, length, take, drop, refl, rules, ◌∙◌, ap, subst, arith}
 use Rattle.std.proofs.lemmas.List.{append-nil}
 use Rattle.std.specs.List.{concat}
 use Rattle.std.specs.declared.io.Error.{Error as IoFault}
@@ -9,7 +9,7 @@ use Rattle.hound_spec.specs.declared.error.Error.{Error}
 use Rattle.hound_spec.specs.declared.error.Error.TheVariants.{IoError}
 use Rattle.hound_sample.specs.{Refusal}
 use Rattle.hound_sample.proofs.Many.{drop_further}
-use Rattle.hound_writer.specs.Accepting.{AcceptsBytes, whole_containers, Accepts, AddsAtEach, FitAnswer, IsIoError, faults_told, if_marked, mark_of, KeepsStored}
+use Rattle.hound_writer.specs.Accepting.{AcceptsBytes, Accepts, AddsAtEach, IsIoError, faults_told}
 use Rattle.hound_writer.specs.Parts.{GoesOut, after_out, or_fault}
 use Rattle.hound_writer.specs.Writer.{Counts, WriterState, HasRoom, IsWhole, accepted_samples, data_length, data_end}
 use Rattle.hound_writer.proofs.Accepting.{not_refused, room_fits}

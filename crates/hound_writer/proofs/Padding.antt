@@ -1,8 +1,6 @@
 -- The pad byte after the accepted data.
-use Rattle.std.proofs.Common.{◌≡◌, ℕ, zero, suc, ◌+◌, ◌%◌, inl, inr, Bool, true, false, IsTrue, List, [], ◌∷◌, length, take, drop, replicate, refl, sym, subst, ◌∙◌, ap, arith}
-use Rattle.std.proofs.lemmas.Bool.{cases_lt}
+use Rattle.std.proofs.Common.{◌≡◌, ℕ, zero, suc, ◌+◌, ◌%◌, Bool, true, false, IsTrue, List, [], ◌∷◌, length, take, drop, refl, sym, ◌∙◌, ap, arith}
 use Rattle.std.proofs.lemmas.List.{take_all}
-use Rattle.std.specs.Io.{StartsWith}
 use Rattle.hound_medium.specs.{overlay, placed, put_at, MediumState, WhereTells, WhereKeeps}
 use Rattle.hound_writer.specs.Parts.{GoesOut, after_out, all_out, IsConsistent, PutsAt}
 use Rattle.hound_writer.specs.Writer.{WriterState, IsPadded, data_length, padded_end}

@@ -11,7 +11,6 @@ use Rattle.hound_number.proofs.Mixing.{mix_none, mix_all}
 use Rattle.hound_medium.specs.{placed, overlay, moment, MediumState, Stays, WhereTells, WhereKeeps, Span, FlushedSince}
 use Rattle.hound_spec.specs.{riff_size, padding}
 use Rattle.hound_medium.proofs.Outcomes.{from_ok}
-use Rattle.hound_medium.proofs.Overlays.{length-placed}
 use Rattle.hound_medium.proofs.Spans.{span_puts, span_end_zero, span_weaker, join, and_still}
 use Rattle.hound_medium.proofs.Torn.{number_at_small}
 use Rattle.hound_spec.specs.declared.error.Error.{Error}

@@ -1,9 +1,7 @@
 -- The two sizes of a file, and what they leave.
-use Rattle.std.proofs.Common.{◌≡◌, ℕ, ◌+◌, ◌-◌, ◌^◌, ◌<◌, ◌≤◌, Bool, List, ◌++◌, length, take, drop, Result, Ok, Err, IsErr, OnOk, MatchResult, refl, sym, ◌∙◌, ap, subst, arith, append_assoc, length-append, length-drop, length-take}
+use Rattle.std.proofs.Common.{◌≡◌, ℕ, ◌+◌, ◌^◌, ◌<◌, ◌≤◌, Bool, List, ◌++◌, length, take, drop, Result, Ok, Err, IsErr, OnOk, MatchResult, refl, sym, ◌∙◌, ap, arith, append_assoc, length-append, length-drop, length-take}
 use Rattle.std.proofs.lemmas.Bool.{false≢true}
 use Rattle.std.proofs.lemmas.List.{drop_at, length-take-le, take_all, take_at}
-use Rattle.std.proofs.lemmas.Slice.{between_is}
-use Rattle.std.proofs.Math.Seq.{take-append-add}
 use Rattle.hound_number.specs.{number, bytes_of, mix, AreBytes}
 use Rattle.hound_number.proofs.Mixing.{mix_all, mix_none}
 use Rattle.hound_spec.proofs.FmtLemmas.{number-bytes_of}
@@ -15,7 +13,7 @@ use Rattle.hound_medium.proofs.Torn.{number_at_small, number_at_mix}
 use Rattle.hound_writer.specs.Parts.{HasSize, IsPatched, PutsAt, Patches}
 use Rattle.hound_writer.specs.Writer.{with_sizes, field}
 use Rattle.hound_writer.proofs.Heads.{in_parts}
-use Rattle.hound_writer.proofs.Sizes.{drop_overlay_after, same_transitive, same_riff, field_riff, same_length, riff_length}
+use Rattle.hound_writer.proofs.Sizes.{same_transitive, same_riff, field_riff, same_length, riff_length}
 
 pub has_size : (p : ℕ) (contents : List ℕ) → 8 ≤ p → p + 4 ≤ length contents → AreBytes contents
     → HasSize p contents

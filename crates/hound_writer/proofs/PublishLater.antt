@@ -1,9 +1,8 @@
 -- A call that publishes: the buffered samples are written before, and the pad byte, and if that
 -- fails nothing is patched.
-use Rattle.std.proofs.Common.{◌≡◌, ℕ, ◌+◌, ◌-◌, ◌≤◌, inl, inr, Bool, true, false, IsTrue, ◌%◌, Result, Err, OnOk, List, length, take, drop, refl, rules, sym, ◌∙◌, ap, subst, arith, length-append, length-take}
+use Rattle.std.proofs.Common.{◌≡◌, ℕ, ◌+◌, ◌-◌, ◌≤◌, inl, inr, Bool, true, false, IsTrue, ◌%◌, Result, Err, List, length, take, drop, refl, rules, sym, ◌∙◌, ap, subst, arith, length-append, length-take}
 use Rattle.std.proofs.lemmas.Bool.{cases_lt}
 use Rattle.std.specs.List.{concat}
-use Rattle.std.specs.Io.{StartsWith}
 use Rattle.std.specs.declared.io.Error.{Error as IoFault}
 use Rattle.hound_number.specs.{AreBytes, mix, number}
 use Rattle.hound_number.proofs.Mixing.{mix_none}
@@ -13,14 +12,13 @@ use Rattle.hound_medium.proofs.Spans.{join, moment_before, span_weaker}
 use Rattle.hound_medium.proofs.Torn.{number_at_small}
 use Rattle.hound_spec.specs.declared.error.Error.{Error}
 use Rattle.hound_spec.specs.declared.error.Error.TheVariants.{IoError}
-use Rattle.hound_spec.specs.{canonical, padded, padding, riff_size}
-use Rattle.hound_writer.specs.Accepting.{OnPublished, faults_told, KeepsStored}
+use Rattle.hound_writer.specs.Accepting.{OnPublished, faults_told}
 use Rattle.hound_writer.specs.Parts.{GoesAtEach, GoesOut, StaysAround, after_out}
 use Rattle.hound_writer.specs.Writer.{Counts, ChangesSizesOnly, field, WriterState, IsBegun, IsPadded, IsSound, HasHeader, accepted_samples, data_length, padded_end}
 use Rattle.hound_durable.specs.{place_of}
 use Rattle.hound_durable.proofs.Ascending.{place_before}
-use Rattle.hound_writer.specs.Publishing.{PublishesTo, Finishes, IsHalfPublished, IsOldOrNew, OncePutBefore, Publishes, PublishesAtEach, ReadsAs}
-use Rattle.hound_writer.proofs.Answers.{on_published_then, publishing_as}
+use Rattle.hound_writer.specs.Publishing.{PublishesTo, Finishes, IsHalfPublished, IsOldOrNew, OncePutBefore, Publishes, PublishesAtEach}
+use Rattle.hound_writer.proofs.Answers.{publishing_as}
 use Rattle.hound_writer.proofs.Later.{goes_further, length_same}
 use Rattle.hound_writer.proofs.Publishing.{in_medium}
 use Rattle.hound_writer.proofs.Sizes.{header_front, sizes_front, sizes_then, take_front}

@@ -1,5 +1,5 @@
 -- What a file is once its sizes are published.
-use Rattle.std.proofs.Common.{◌≡◌, ℕ, ◌+◌, ◌-◌, ◌/◌, ◌%◌, ◌≤◌, Bool, true, List, [], ◌++◌, Option, None, eq-eqb, length, take, drop, Result, refl, rules, sym, ◌∙◌, ap, subst, arith, append_assoc, length-append, length-drop, take-append-drop}
+use Rattle.std.proofs.Common.{◌≡◌, ℕ, ◌+◌, ◌-◌, ◌/◌, ◌%◌, ◌≤◌, Bool, true, List, [], ◌++◌, None, eq-eqb, length, take, drop, Result, refl, rules, sym, ◌∙◌, ap, subst, arith, append_assoc, length-append, length-drop, take-append-drop}
 use Rattle.std.proofs.lemmas.List.{take_at, take-take, take_all, drop-drop, length-take-le}
 use Rattle.std.specs.declared.io.Error.{Error as IoFault}
 use Rattle.std.specs.Io.{StartsWith}
@@ -15,14 +15,13 @@ use Rattle.hound_spec.specs.{riff_tag, data_start, header, riff_size, padding, c
 use Rattle.hound_spec.proofs.HeaderLemmas.{described, header-parts, length-header, length-described}
 use Rattle.hound_sample.specs.{containers}
 use Rattle.hound_writer.specs.Parts.{IsConsistent, IsPublishResult, Patches, IsStanding}
-use Rattle.hound_writer.specs.Writer.{SameButSizes, with_sizes, field, Counts, ReadsFirst, WriterState, AreFrames, IsPadded, IsSound, IsWhole, IsBegun, HasHeader, accepted_samples, data_length, data_end, padded_end, sample_count}
+use Rattle.hound_writer.specs.Writer.{SameButSizes, with_sizes, field, Counts, WriterState, AreFrames, IsPadded, IsSound, IsWhole, IsBegun, HasHeader, accepted_samples, data_length, data_end, padded_end}
 use Rattle.hound_writer.specs.Accepting.{IsPublishing, OnPublished}
 use Rattle.hound_writer.specs.Publishing.{Publishes, PublishesAtEach, PublishesTo, ReadsAs}
 use Rattle.hound_writer.proofs.Answers.{published, told_faults, told_ok}
 use Rattle.hound_writer.proofs.Keeping.{consistent_moved}
 use Rattle.hound_writer.proofs.Later.{drop_later}
 use Rattle.hound_writer.proofs.Samples.{concat-samples, counts_at, length-samples, length_out, whole_out}
-use Rattle.hound_reader.specs.declared.cause.Cause.{Cause}
 use Rattle.hound_reader.specs.{Readable, data_fault}
 use Rattle.hound_writer.proofs.Patching.{riff_size_of_sizes, data_length_of_sizes}
 use Rattle.hound_writer.proofs.Heads.{in_parts}

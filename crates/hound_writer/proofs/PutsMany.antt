@@ -4,7 +4,7 @@ use Rattle.std.proofs.lemmas.Bool.{false≢true}
 use Rattle.std.proofs.lemmas.List.{length-take-le, take-append-drop, take-append-le}
 use Rattle.std.proofs.Math.Nat.{mul-le-mul_left}
 use Rattle.std.proofs.lemmas.Grind.{flat_map-append}
-use Rattle.hound_medium.specs.{placed, overlay, MediumState, PutsAll, PutsFirst, one_more}
+use Rattle.hound_medium.specs.{MediumState, PutsAll, PutsFirst, one_more}
 use Rattle.hound_medium.proofs.Taking.{takes_more}
 use Rattle.hound_sample.specs.{Refusal, all_containers, bytes_in, joined_containers}
 use Rattle.hound_sample.proofs.Joined.{have_part, joined_rest, joined_size}

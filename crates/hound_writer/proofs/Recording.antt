@@ -1,5 +1,5 @@
 -- A list of calls and one more.
-use Rattle.std.proofs.Common.{ℕ, MatchResult, Ok, Err, Bool, false, List, [], ◌∷◌, ◌++◌, ◌≡◌, length, Result, refl, rules, subst, sym, ◌∙◌, ap}
+use Rattle.std.proofs.Common.{ℕ, MatchResult, Ok, Err, Bool, false, List, [], ◌∷◌, ◌++◌, ◌≡◌, length, Result, refl, rules, subst, ◌∙◌, ap}
 use Rattle.std.specs.Prelude.{⊤}
 use Rattle.std.proofs.lemmas.Bool.{false≢true}
 use Rattle.hound_spec.specs.declared.error.Error.{Error}

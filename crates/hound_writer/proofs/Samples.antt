@@ -1,12 +1,12 @@
 -- The accepted samples of a writer: those in the medium, and the buffered ones.
-use Rattle.std.proofs.Common.{◌≡◌, Bool, refl, ℕ, ◌+◌, ◌*◌, ◌/◌, ◌%◌, List, [], ◌++◌, length, take, drop, sym, ◌∙◌, ap, subst, arith, append_assoc, length-append, length-drop}
+use Rattle.std.proofs.Common.{◌≡◌, Bool, refl, ℕ, ◌+◌, ◌/◌, ◌%◌, List, [], ◌++◌, length, take, drop, sym, ◌∙◌, ap, subst, arith, length-append, length-drop}
 use Rattle.std.proofs.lemmas.List.{append-nil, length-take-le}
 use Rattle.std.specs.List.{concat}
 use Rattle.hound_medium.specs.{MediumState}
 use Rattle.hound_sample.specs.{containers}
 use Rattle.hound_writer.specs.Writer.{Counts, WriterState, IsSound, IsValid, IsWhole, accepted_bytes, accepted_samples, data_length}
 use Rattle.hound_writer.specs.Parts.{IsConsistent, IsStanding}
-use Rattle.hound_sample.proofs.Containers.{containers_front, length-containers}
+use Rattle.hound_sample.proofs.Containers.{length-containers}
 use Rattle.hound_writer.proofs.Containers.{concat-containers, containers_cut, containers_join, count_bytes}
 use Rattle.hound_writer.proofs.Counted.{counts_standing, counts_more}
 

@@ -10,7 +10,7 @@ use Rattle.hound_medium.proofs.Spans.{moment_before}
 use Rattle.hound_sample.specs.{containers}
 use Rattle.hound_durable.specs.{place_of}
 use Rattle.hound_writer.specs.Accepting.{IsStored, KeepsStored, StaysTrue}
-use Rattle.hound_writer.specs.Writer.{WriterState, IsSound, IsWhole, accepted_bytes, accepted_samples, data_length}
+use Rattle.hound_writer.specs.Writer.{WriterState, IsSound, IsWhole, accepted_bytes, accepted_samples}
 use Rattle.hound_writer.proofs.Containers.{joined_bytes}
 use Rattle.hound_writer.proofs.Samples.{length-accepted}
 use Rattle.hound_durable.proofs.Ascending.{length_put, place_after}

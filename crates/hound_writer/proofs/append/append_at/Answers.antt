@@ -1,5 +1,4 @@
-use Rattle.std.proofs.Common.{subst, sym, rules, ◌∙◌}
-use Rattle.hound_writer.specs.Appending.{Appends}
+use Rattle.std.proofs.Common.{rules}
 use Rattle.hound_writer.proofs.Appending.{sound_head, stands_on, follows}
 use Rattle.hound_writer.proofs.append.append_at.Goals as goal
 

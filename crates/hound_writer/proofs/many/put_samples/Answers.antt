@@ -1,6 +1,4 @@
-use Rattle.std.proofs.Common.{◌≡◌, ◌+◌, ◌*◌, ◌-◌, ◌≤◌, ◌++◌, Ok, Err, length, take, drop, ap, subst, ◌∙◌, arith, rules}
-use Rattle.hound_medium.specs.{PutsAll}
-use Rattle.hound_sample.specs.{joined_containers}
+use Rattle.std.proofs.Common.{◌≡◌, ◌+◌, ◌*◌, ◌-◌, length, ap, ◌∙◌, arith, rules}
 use Rattle.hound_sample.proofs.Joined.{have_part, joined_size}
 use Rattle.hound_writer.proofs.PutsMany.{piece_cut, piece_out}
 use Rattle.hound_writer.proofs.many.put_samples.Goals as goal

@@ -1,10 +1,9 @@
-use Rattle.std.proofs.Common.{◌<◌, ◌^◌, arith, rules, ◌∙◌, ap, refl}
+use Rattle.std.proofs.Common.{arith, rules, ◌∙◌, ap, refl}
 use Rattle.hound_medium.specs.{one_more}
 use Rattle.hound_medium.proofs.Outcomes.{on_ok, on_ok_self}
-use Rattle.hound_medium.proofs.Spans.{span_end_zero, flushed_since}
-use Rattle.hound_writer.specs.Parts.{IsPatched}
+use Rattle.hound_medium.proofs.Spans.{flushed_since}
 use Rattle.hound_writer.proofs.Patching.{cut, first_half, has_size, patched, second_half}
-use Rattle.hound_writer.proofs.PatchMoments.{field_span, patches_none, patches_both, patches_still, riff_span}
+use Rattle.hound_writer.proofs.PatchMoments.{patches_none, patches_both, patches_still, riff_span}
 use Rattle.hound_writer.proofs.patch.patch.Goals as goal
 
 pub returns-in_err-put_size-clause-patches : goal.returns-in_err-put_size-clause-patches

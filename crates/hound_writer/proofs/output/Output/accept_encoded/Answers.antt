@@ -1,5 +1,4 @@
-use Rattle.std.proofs.Common.{Ok, ap}
-use Rattle.hound_writer.specs.Parts.{or_fault}
+use Rattle.std.proofs.Common.{Ok}
 use Rattle.hound_writer.specs.Accepting.{sample_bytes}
 use Rattle.hound_writer.proofs.AcceptingMany.{fit}
 use Rattle.hound_writer.proofs.Later.{accepts_cut, accepts_later, kept_fails}

@@ -1,5 +1,4 @@
-use Rattle.std.proofs.Common.{refl, sym, rules}
-use Rattle.hound_writer.specs.Parts.{bytes_kept, of_fields}
+use Rattle.std.proofs.Common.{rules}
 use Rattle.hound_writer.proofs.Blocks.{accepts_waiting, consistent_longer}
 use Rattle.hound_writer.proofs.output.Output.accept_in_block.Goals as goal
 

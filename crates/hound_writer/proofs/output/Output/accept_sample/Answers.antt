@@ -1,6 +1,4 @@
-use Rattle.std.proofs.Common.{Ok, Err, false, arith, sym, subst, ap, length, take, ◌≡◌, ◌∙◌}
-use Rattle.hound_writer.specs.Accepting.{Accepts, one}
-use Rattle.hound_writer.specs.Parts.{result_of, bytes_kept, of_fields}
+use Rattle.std.proofs.Common.{Ok, arith, take}
 use Rattle.hound_sample.proofs.Joined.{encoded_bytes}
 use Rattle.hound_writer.proofs.Blocks.{accepts_waiting}
 use Rattle.hound_writer.proofs.Containers.{one_whole}

@@ -1,8 +1,6 @@
-use Rattle.std.proofs.Common.{◌≡◌, ◌*◌, ◌≤◌, ◌∙◌, Ok, Err, IsOk, length, subst, sym, arith, ap}
+use Rattle.std.proofs.Common.{◌∙◌, Ok, Err, sym}
 use Rattle.std.proofs.lemmas.Bool.{false≢true}
 use Rattle.hound_spec.specs.declared.error.Error.TheVariants.{IoError}
-use Rattle.hound_writer.specs.Accepting.{containers_in, outcome_of}
-use Rattle.hound_writer.specs.Writer.{HasRoom}
 use Rattle.hound_writer.proofs.AcceptingMany.{looked_at, many_asked, many_refused, many_too_long, too_many}
 use Rattle.hound_writer.proofs.output.Output.accept_samples.Goals as goal
 

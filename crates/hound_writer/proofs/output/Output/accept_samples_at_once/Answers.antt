@@ -1,6 +1,4 @@
-use Rattle.std.proofs.Common.{◌≡◌, ◌+◌, ◌*◌, ◌∙◌, [], Ok, Err, false, arith, length, rules, subst, sym}
-use Rattle.hound_spec.specs.declared.error.Error.TheVariants.{IoError}
-use Rattle.hound_writer.specs.Parts.{IsLimit, bytes_kept, of_fields}
+use Rattle.std.proofs.Common.{◌≡◌, ◌*◌, [], false, arith, length, rules}
 use Rattle.hound_writer.specs.Accepting.{sample_bytes}
 use Rattle.hound_writer.proofs.Accepting.{accepts_all, accepts_none}
 use Rattle.hound_writer.proofs.AcceptingMany.{fit}

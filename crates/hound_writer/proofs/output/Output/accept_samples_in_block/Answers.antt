@@ -1,5 +1,4 @@
-use Rattle.std.proofs.Common.{◌+◌, ◌*◌, ◌≤◌, Ok, arith, length, refl, subst, sym}
-use Rattle.hound_writer.specs.Parts.{block_length, bytes_kept, of_fields}
+use Rattle.std.proofs.Common.{arith}
 use Rattle.hound_writer.specs.Accepting.{sample_bytes}
 use Rattle.hound_writer.proofs.AcceptingMany.{fit}
 use Rattle.hound_writer.proofs.Blocks.{accepts_waiting, consistent_longer}

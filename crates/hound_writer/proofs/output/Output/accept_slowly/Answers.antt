@@ -1,6 +1,5 @@
-use Rattle.std.proofs.Common.{◌≡◌, Ok, ap, arith, rules, subst, sym, ◌∙◌, length, take}
+use Rattle.std.proofs.Common.{◌≡◌, Ok, ap, arith, rules, sym, ◌∙◌, length, take}
 use Rattle.std.proofs.lemmas.Bool.{false≢true}
-use Rattle.hound_writer.specs.Accepting.{AcceptsBytes}
 use Rattle.hound_writer.proofs.Containers.{one_whole}
 use Rattle.hound_writer.proofs.Later.{accepts_later}
 use Rattle.hound_writer.proofs.Writing.{bytes_too_long}

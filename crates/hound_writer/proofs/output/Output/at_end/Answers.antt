@@ -1,5 +1,4 @@
-use Rattle.std.proofs.Common.{◌≡◌, ◌+◌, ◌%◌, [], ap, sym, ◌∙◌, refl, arith}
-use Rattle.hound_writer.specs.Parts.{of_fields}
+use Rattle.std.proofs.Common.{◌≡◌, ◌+◌, ◌%◌, ap, ◌∙◌, arith}
 use Rattle.hound_writer.proofs.Containers.{none_whole}
 use Rattle.hound_writer.proofs.output.Output.at_end.Goals as goal
 

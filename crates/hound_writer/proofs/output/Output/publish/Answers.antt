@@ -1,8 +1,6 @@
-use Rattle.std.proofs.Common.{◌-◌, ◌∙◌, Ok, ap, arith, inl, refl, subst, sym}
+use Rattle.std.proofs.Common.{◌∙◌, Ok, ap, inl, refl}
 use Rattle.std.proofs.lemmas.Bool.{true≢false}
-use Rattle.std.specs.declared.io.Error.{Error as IoFault}
 use Rattle.hound_medium.specs.{one_more}
-use Rattle.hound_writer.specs.Parts.{IsPatched, Patches, PatchesAtEach}
 use Rattle.hound_writer.proofs.Keeping.{consistent_gone}
 use Rattle.hound_writer.proofs.PatchMoments.{patches_still}
 use Rattle.hound_writer.proofs.Patching.{cut}

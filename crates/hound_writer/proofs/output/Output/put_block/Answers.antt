@@ -1,6 +1,4 @@
-use Rattle.std.proofs.Common.{◌+◌, true, false, subst, refl, sym, rules}
-use Rattle.hound_writer.specs.Parts.{GoesOut, IsLimit, bytes_kept, of_fields}
-use Rattle.hound_writer.specs.Writer.{data_end}
+use Rattle.std.proofs.Common.{true, false, rules}
 use Rattle.hound_writer.proofs.Blocks.{consistent_cut, consistent_out, goes_out, goes_out_nothing}
 use Rattle.hound_writer.proofs.output.Output.put_block.Goals as goal
 

@@ -1,6 +1,4 @@
-use Rattle.std.proofs.Common.{true, rules, subst}
-use Rattle.hound_writer.specs.Parts.{GoesOut}
-use Rattle.hound_writer.specs.Writer.{padded_end}
+use Rattle.std.proofs.Common.{rules}
 use Rattle.hound_writer.proofs.Blocks.{cut_at_once, goes_out_nothing}
 use Rattle.hound_writer.proofs.Padding.{goes_out, padded_odd}
 use Rattle.hound_writer.proofs.output.Output.put_pad.Goals as goal

@@ -1,7 +1,6 @@
-use Rattle.std.proofs.Common.{refl, rules, subst, sym}
+use Rattle.std.proofs.Common.{refl, rules}
 use Rattle.hound_writer.specs.Accepting.{mark_of}
 use Rattle.hound_writer.specs.Calls.{made, marked, publish}
-use Rattle.hound_writer.specs.Publishing.{Finishes}
 use Rattle.hound_writer.proofs.PublishLater.{finishes_of}
 use Rattle.hound_writer.proofs.Recording.{left_by}
 use Rattle.hound_writer.proofs.write.WavWriter.finalize_into.Goals as goal

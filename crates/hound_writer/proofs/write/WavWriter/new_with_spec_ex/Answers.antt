@@ -1,5 +1,3 @@
-use Rattle.std.proofs.Common.{subst, MatchResult}
-use Rattle.hound_writer.specs.Beginning.{Begins, IsNotBegun}
 use Rattle.hound_writer.proofs.write.WavWriter.new_with_spec_ex.Goals as goal
 
 pub returns-in-Ok-clause-begins : goal.returns-in-Ok-clause-begins

@@ -1,5 +1,3 @@
-use Rattle.std.proofs.Common.{subst}
-use Rattle.hound_reader.specs.{FindsData}
 use Rattle.hound_writer.proofs.Appending.{answer_after, walk_fails}
 use Rattle.hound_writer.proofs.Recording.{recorded_appended}
 use Rattle.hound_writer.proofs.write.WavWriter.try_append.Goals as goal
