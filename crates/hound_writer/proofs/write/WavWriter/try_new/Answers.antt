@@ -7,18 +7,16 @@ use Rattle.hound_writer.proofs.write.WavWriter.try_new.Goals as goal
 
 pub at_end-requires : goal.at_end-requires
 at_end-requires g c =
+    let W = g.W.Placed in
     let s = c.args.spec_ex in
     let is = c.as_slice-bytes.ensures ∙ c.header_of-header.ensures in
-    let at : length c.as_slice-bytes.result.now ≡ data_start s =
-    ap length is ∙ length-header s 0 0 in
     let writable : IsWritable s = search rules in
     record {
-      sound = sound_begin c.put_all.new.medium s _ writable at;
-      stands = λ tells. let puts = c.in-Ok.ensures tells in
-          stands_begin g.W.Placed.keeps s _ _ _ _ is
-          (c.requires tells) puts puts.whole writable _ at;
-      place = λ tells. let puts = c.in-Ok.ensures tells in
-          place_begins g.W.Placed.keeps s _ _ _ _ is (c.requires tells) puts puts.whole;
+      sound = rw is (sound_begin _ s _ writable (length-header s 0 0));
+      stands = λ tells. rw is (stands_begin W.keeps W.state s _ _ writable (c.requires tells)
+          (rw is at (c.in-Ok.ensures tells)));
+      place = λ tells. rw is (place_begins W.keeps W.state s _ _ writable (c.requires tells)
+          (rw is at (c.in-Ok.ensures tells)));
     }
 
 pub returns-in-Ok-clause-begins : goal.returns-in-Ok-clause-begins
@@ -26,21 +24,14 @@ returns-in-Ok-clause-begins g c =
     let s = c.args.spec_ex in
     let is = c.as_slice-bytes.ensures ∙ c.header_of-header.ensures in
     let writable : IsWritable s = search rules in
-    rw (c.over.ensures, c.at_end.ensures)
+    rw (c.over.ensures, c.at_end.ensures, is)
     record {
-      begun = record {
-        writable = writable;
-        sound = sound_begin c.put_all.new.medium s _ writable
-            (ap length is ∙ length-header s 0 0);
-        spec = refl;
-        start =
-            ap length is ∙ length-header s 0 0;
-        none_out = refl;
-        none_waits = refl;
-        buffer = refl;
-      };
-      file = λ tells. header_file g.W.Placed.keeps g.W.Placed.state s _ _ _ is
-          (c.requires tells) writable (c.in-Ok.ensures tells);
+      begun =
+          let start = length-header s 0 0 in
+          let sound = sound_begin c.put_all.new.medium s _ writable start in
+          search rules;
+      file = λ tells. header_file g.W.Placed.keeps g.W.Placed.state s _ _ writable
+          (c.requires tells) (rw is at (c.in-Ok.ensures tells));
     }
 
 pub returns-in-Ok-clause-recorded : goal.returns-in-Ok-clause-recorded
@@ -56,6 +47,6 @@ returns-in-Err-clause-begins g c =
       writable,
       tt,
       λ tells.
-          header_cut g.W.Placed.keeps _ _ _ _ _ _
-          (c.as_slice-bytes.ensures ∙ c.header_of-header.ensures) (c.in-Err.ensures tells),
+          header_cut g.W.Placed.keeps _ _ _ _ _
+          (rw (c.as_slice-bytes.ensures, c.header_of-header.ensures) at (c.in-Err.ensures tells)),
     )
