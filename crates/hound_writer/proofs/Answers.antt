@@ -44,26 +44,25 @@ on_published_then (Err e) then here = tt
 pub published : (P : Type 0) (patched : Result (Unit {0}) IoFault) (are_frames : Bool)
     (told : Result (Unit {0}) Error) → IsPublishResult patched are_frames told → OnOk patched P
     → OnPublished told P
-published P (Err e) are_frames told is here = subst (λ t. OnPublished t P) (sym is) tt
-published P (Ok x) true told is here = subst (λ t. OnPublished t P) (sym is) here
-published P (Ok x) false told is here = subst (λ t. OnPublished t P) (sym is) here
+published P (Err e) are_frames told is here = rw is tt
+published P (Ok x) true told is here = rw is here
+published P (Ok x) false told is here = rw is here
 
 -- an Ok is returned only for whole frames
 pub told_ok : (P : Type 0) (patched : Result (Unit {0}) IoFault) (are_frames : Bool)
     (told : Result (Unit {0}) Error) → IsPublishResult patched are_frames told
     → (are_frames ≡ true → OnOk patched P) → OnOk told P
-told_ok P (Err e) are_frames told is here = subst (λ t. OnOk t P) (sym is) tt
-told_ok P (Ok x) true told is here = subst (λ t. OnOk t P) (sym is) (here refl)
-told_ok P (Ok x) false told is here = subst (λ t. OnOk t P) (sym is) tt
+told_ok P (Err e) are_frames told is here = rw is tt
+told_ok P (Ok x) true told is here = rw is (here refl)
+told_ok P (Ok x) false told is here = rw is tt
 
 -- the faults that a result reports are those of the patch
 pub told_faults : (patched : Result (Unit {0}) IoFault) (are_frames : Bool)
     (told : Result (Unit {0}) Error) (old new : ℕ) → IsPublishResult patched are_frames told
     → new ≡ faults_after patched old → new ≡ faults_told told old
-told_faults (Err e) are_frames told old new is here =
-    subst (λ t. new ≡ faults_told t old) (sym is) here
-told_faults (Ok x) true told old new is here = subst (λ t. new ≡ faults_told t old) (sym is) here
-told_faults (Ok x) false told old new is here = subst (λ t. new ≡ faults_told t old) (sym is) here
+told_faults (Err e) are_frames told old new is here = rw is here
+told_faults (Ok x) true told old new is here = rw is here
+told_faults (Ok x) false told old new is here = rw is here
 
 -- a result that may lack memory may do so if more may lack it
 pub fit_as : (fits memory more : Bool) (answer : Result (Unit {0}) Error)

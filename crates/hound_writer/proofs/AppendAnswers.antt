@@ -5,6 +5,8 @@ use Rattle.hound_spec.specs.{greatest_u32, riff_size, IsWritable}
 use Rattle.hound_reader.specs.{Answer, readable, unreadable, Answers, HasOneAnswer, Head, data_fault}
 use Rattle.hound_reader.specs.declared.cause.Cause.TheVariants.{Format}
 use Rattle.hound_reader.specs.declared.cause.Reason.TheVariants.{DataLength, FrameLength}
+use Rattle.std.proofs.lemmas.Bool.{not-false}
+use Rattle.hound_writer.proofs.Appending.{none_behind}
 use Rattle.hound_writer.specs.Appending.{AppendFault, by_bytes, head_fault, AppendAnswer, appendable, faulty, AnswersAppend, HasOneAppendAnswer}
 
 abbrev fault_of : Answer → Option AppendFault
@@ -51,18 +53,11 @@ pub no_head_fault : (s : WavSpecEx) (len h : ℕ) → IsWritable s → data_faul
     → riff_size h len ≤ greatest_u32 → head_fault s len h ≡ None
 unfolding head_fault
 no_head_fault s len h writable none fits =
-    let both =
-    go (eqb (len % s.bytes_per_sample) 0)
-    (eqb (len / s.bytes_per_sample % s.spec.channels) 0) none in
-    let a = both.0 in
+    let samples = none_behind (not (eqb (len % s.bytes_per_sample) 0)) _ _ none in
+    let frames = none_behind (not (eqb (len / s.bytes_per_sample % s.spec.channels) 0)) _ _
+    samples.1 in
+    let a = not-false _ samples.0 in
     let b = writable.pair in
-    let c = both.1 in
+    let c = not-false _ frames.0 in
     let d = le-ltb greatest_u32 (riff_size h len) fits in
     rw (a, b, c, d) refl
-  where
-    go : (a b : Bool)
-        → cond (not a) (Some (Format DataLength))
-        (cond (not b) (Some (Format FrameLength)) None) ≡ None → (a ≡ true) × (b ≡ true)
-    go true true e = (refl, refl)
-    go true false e = cc
-    go false b e = cc

@@ -20,7 +20,7 @@ use Rattle.hound_writer.proofs.Heads.{head_field}
 use Rattle.hound_writer.proofs.Samples.{counts_at, whole_out}
 
 -- if a row of a table isn't met, the rows after it decide
-none_behind : {A : Type 0} (b : Bool) (x : A) (rest : Option A) → cond b (Some x) rest ≡ None
+pub none_behind : {A : Type 0} (b : Bool) (x : A) (rest : Option A) → cond b (Some x) rest ≡ None
     → (b ≡ false) × (rest ≡ None)
 none_behind true x rest e = cc
 none_behind false x rest e = (refl, e)

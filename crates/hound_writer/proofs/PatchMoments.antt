@@ -237,7 +237,7 @@ module _ {W : Type 0} (tells keeps : Bool) (state : W → MediumState) (w : Writ
     (state w.medium) (state end))) where
   frames : (IsTrue are_frames → AreFrames w) × (AreFrames w → IsTrue are_frames)
   frames =
-      subst (λ v. (IsTrue are_frames → AreFrames v) × (AreFrames v → IsTrue are_frames)) same of_new
+      rw same at of_new
 
   answers : IsPublishing told w
   answers = go patched are_frames told is frames
@@ -246,10 +246,9 @@ module _ {W : Type 0} (tells keeps : Bool) (state : W → MediumState) (w : Writ
           (told : Result (Unit {0}) Error) → IsPublishResult patched are_frames told
           → (IsTrue are_frames → AreFrames w) × (AreFrames w → IsTrue are_frames)
           → IsPublishing told w
-      go (Err e) are_frames told is frames = subst (λ t. IsPublishing t w) (sym is) tt
-      go (Ok x) true told is frames = subst (λ t. IsPublishing t w) (sym is) (frames.0 refl)
-      go (Ok x) false told is frames =
-          subst (λ t. IsPublishing t w) (sym is) (λ are. absurd (false≢true (frames.1 are)))
+      go (Err e) are_frames told is frames = rw is tt
+      go (Ok x) true told is frames = rw is (frames.0 refl)
+      go (Ok x) false told is frames = rw is (λ are. absurd (false≢true (frames.1 are)))
 
   published_all : WhereTells tells (Publishes state w told end)
   published_all known =
@@ -265,7 +264,7 @@ module _ {W : Type 0} (tells keeps : Bool) (state : W → MediumState) (w : Writ
   pub publishes_to : (at : ℕ) → WhereTells tells (OnOk patched ((state end).place ≡ at))
       → PublishesTo tells keeps state at told w new
   publishes_to at place =
-      subst (PublishesTo tells keeps state at told w) (sym same)
+      rw same
       (in_medium tells keeps state at told w end answers published_all
       (λ known. published _ patched are_frames told is (place known))
       at_each)

@@ -144,8 +144,7 @@ module _ {W : Type 0} (tells keeps : Bool) (state : W → MediumState) where
     first = r.first;
     calls = r.calls;
     opens = r.opens;
-    lead = subst (Lead tells keeps state r.calls r.first) (same_but_memory a b same)
-        (lead_same r.calls r.first a b.buffer r.lead);
+    lead = rw (← same_but_memory a b same) (lead_same r.calls r.first a b.buffer r.lead);
     are_known = r.are_known;
   }
 
