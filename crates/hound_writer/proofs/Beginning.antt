@@ -75,9 +75,6 @@ module _ {W : Type 0} (keeps : Bool) (state : W → MediumState) (s : WavSpecEx)
           counted = omega (arith, none);
         }
 
-    pub place_begins : (state medium).place ≡ length (header s 0 0) + 0
-    place_begins = omega (arith, puts.takes.place, begins, puts.whole)
-
     pub header_file : PutsHeader keeps state old (of_fields medium s (length (header s 0 0)) 0 [] [])
     header_file =
         let h = header s 0 0 in
@@ -91,16 +88,3 @@ module _ {W : Type 0} (keeps : Bool) (state : W → MediumState) (s : WavSpecEx)
         let counts = counts_at state w sound (whole_out state w refl sound)
         (state medium).contents whole stands_begin refl in
         search rules
-
--- a beginning of the header, as callers see it
-pub header_cut : (keeps : Bool) (bytes : List ℕ) (x : IoFault) (e : Error) (old new : MediumState)
-    → PutsAll {T = Unit {0}} keeps bytes (Err x) old new
-    → PutsAll {T = Unit {0}} keeps bytes (Err e) old new
-header_cut keeps bytes x e old new puts = record {
-  count = puts.count;
-  within = puts.within;
-  whole = tt;
-  part = puts.part;
-  takes = puts.takes;
-  faults = puts.faults;
-}

@@ -2,13 +2,6 @@ use Rattle.std.proofs.Common.{rules}
 use Rattle.hound_writer.proofs.Blocks.{accepts_waiting, consistent_longer}
 use Rattle.hound_writer.proofs.output.Output.accept_in_block.Goals as goal
 
-pub invariant_of-self : goal.invariant_of-self
-invariant_of-self g c =
-    let W = g.W.Placed in
-    rw c.extend.ensures
-    (consistent_longer W.tells W.keeps W.state _ _ _ c.self.invariant c.args.bytes.now
-    (search rules) (search rules) (search rules))
-
 pub returns-clause-accepts : goal.returns-clause-accepts
 returns-clause-accepts g c =
     let W = g.W.Placed in

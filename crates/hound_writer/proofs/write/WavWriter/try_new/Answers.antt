@@ -2,7 +2,7 @@ use Rattle.std.proofs.Common.{◌≡◌, length, ◌∙◌, ap, rules, refl, inr
 use Rattle.hound_spec.proofs.HeaderLemmas.{length-header}
 use Rattle.hound_spec.specs.{data_start, IsWritable}
 use Rattle.hound_writer.proofs.Recording.{recorded_new}
-use Rattle.hound_writer.proofs.Beginning.{sound_begin, stands_begin, place_begins, header_file, header_cut}
+use Rattle.hound_writer.proofs.Beginning.{sound_begin, stands_begin, header_file}
 use Rattle.hound_writer.proofs.write.WavWriter.try_new.Goals as goal
 
 pub at_end-requires : goal.at_end-requires
@@ -15,8 +15,7 @@ at_end-requires g c =
       sound = rw is (sound_begin _ s _ writable (length-header s 0 0));
       stands = λ tells. rw is (stands_begin W.keeps W.state s _ _ writable (c.requires tells)
           (rw is at (c.in-Ok.ensures tells)));
-      place = λ tells. rw is (place_begins W.keeps W.state s _ _ writable (c.requires tells)
-          (rw is at (c.in-Ok.ensures tells)));
+      place = search rules;
     }
 
 pub returns-in-Ok-clause-begins : goal.returns-in-Ok-clause-begins
@@ -39,14 +38,3 @@ returns-in-Ok-clause-recorded g c =
     let W = g.W.Placed in
     recorded_new W.tells W.keeps W.state c.args.spec_ex (W.state c.args.writer) c.over.result
     (returns-in-Ok-clause-begins g c)
-
-pub returns-in-Err-clause-begins : goal.returns-in-Err-clause-begins
-returns-in-Err-clause-begins g c =
-    let writable : IsWritable c.args.spec_ex = search rules in
-    inr (
-      writable,
-      tt,
-      λ tells.
-          header_cut g.W.Placed.keeps _ _ _ _ _
-          (rw (c.as_slice-bytes.ensures, c.header_of-header.ensures) at (c.in-Err.ensures tells)),
-    )
