@@ -1,8 +1,8 @@
 -- A file that begins: its header is written, and nothing else.
-use Rattle.std.proofs.Common.{◌≡◌, ℕ, ◌+◌, ◌-◌, ◌≤◌, Bool, List, [], ◌++◌, length, take, drop, Result, Ok, Err, refl, rules, subst, ◌∙◌, ap, arith, append_assoc, length-append}
+use Rattle.std.proofs.Common.{◌≡◌, ℕ, ◌+◌, ◌-◌, Bool, List, [], ◌++◌, length, take, drop, Ok, refl, rules, ◌∙◌, ap, arith, append_assoc, length-append}
 use Rattle.std.proofs.lemmas.List.{take_at, take_all, drop_at}
 use Rattle.hound_number.specs.{bytes_of, number}
-use Rattle.hound_medium.specs.{placed, overlay, MediumState, PutsFirst, PutsAll}
+use Rattle.hound_medium.specs.{placed, overlay, MediumState, PutsAll}
 use Rattle.hound_medium.proofs.Overlays.{overlay_is}
 use Rattle.hound_spec.specs.declared.spec.WavSpecEx.{WavSpecEx}
 use Rattle.hound_spec.specs.{riff_tag, data_start, header, IsWritable}
@@ -10,7 +10,6 @@ use Rattle.hound_spec.proofs.HeaderLemmas.{described, header-parts, length-heade
 use Rattle.hound_spec.proofs.WritableLemmas.{pair_facts}
 use Rattle.hound_reader.proofs.WrittenLemmas.{header_head}
 use Rattle.std.specs.declared.io.Error.{Error as IoFault}
-use Rattle.hound_spec.specs.declared.error.Error.{Error}
 use Rattle.hound_writer.specs.Beginning.{PutsHeader}
 use Rattle.hound_writer.specs.Parts.{of_fields, IsStanding}
 use Rattle.hound_writer.specs.Writer.{field, IsSound, IsWhole, HasHeader}

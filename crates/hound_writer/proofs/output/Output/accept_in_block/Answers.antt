@@ -1,5 +1,5 @@
 use Rattle.std.proofs.Common.{rules}
-use Rattle.hound_writer.proofs.Blocks.{accepts_waiting, consistent_longer}
+use Rattle.hound_writer.proofs.Blocks.{accepts_waiting}
 use Rattle.hound_writer.proofs.output.Output.accept_in_block.Goals as goal
 
 pub returns-clause-accepts : goal.returns-clause-accepts

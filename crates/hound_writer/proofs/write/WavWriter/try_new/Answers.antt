@@ -1,6 +1,6 @@
-use Rattle.std.proofs.Common.{◌≡◌, length, ◌∙◌, ap, rules, refl, inr}
+use Rattle.std.proofs.Common.{◌∙◌, rules}
 use Rattle.hound_spec.proofs.HeaderLemmas.{length-header}
-use Rattle.hound_spec.specs.{data_start, IsWritable}
+use Rattle.hound_spec.specs.{IsWritable}
 use Rattle.hound_writer.proofs.Recording.{recorded_new}
 use Rattle.hound_writer.proofs.Beginning.{sound_begin, stands_begin, header_file}
 use Rattle.hound_writer.proofs.write.WavWriter.try_new.Goals as goal
