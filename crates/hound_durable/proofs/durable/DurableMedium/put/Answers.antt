@@ -21,7 +21,6 @@ pub invariant_of-self-2-clause-covered : goal.invariant_of-self-2-clause-covered
 invariant_of-self-2-clause-covered g c tells keeps =
     let d = c.args.self.now in
     let old = g.M.Placed.state d.inner in
-    let new = g.M.Placed.state c.put.new.self in
     let puts = (rw c.in_ok-n.ensures.same at c.put.ensures.puts) tells in
     let bytes = take c.in_ok-n.n c.args.bytes.now in
     let end : old.place + length bytes ≡ d.place + c.in_ok-n.n =
@@ -30,13 +29,9 @@ invariant_of-self-2-clause-covered g c tells keeps =
       d.is_there tells,
       length-take-le c.in_ok-n.n c.args.bytes.now (rw c.in_ok-n.ensures.same at c.put.ensures.bound).1,
     ) in
-    subst (λ e. IsBelow e new.past new.flushed) end
-    (subst (λ past. IsBelow (old.place + length bytes) past new.flushed)
-    (sym (puts.takes.past keeps))
-    (subst (λ f. IsBelow (old.place + length bytes) (old.past ++ placed old.place bytes) f)
-    (sym puts.takes.flushed)
+    rw (← end, puts.takes.past keeps, puts.takes.flushed)
     (below_more old.past old.place d.end old.flushed bytes (d.covered tells keeps)
-    (omega (arith, d.after, d.is_there tells)))))
+    (omega (arith, d.after, d.is_there tells)))
 
 pub invariant_of-self-2-clause-last : goal.invariant_of-self-2-clause-last
 invariant_of-self-2-clause-last g c tells keeps before =
@@ -63,11 +58,7 @@ pub invariant_of-self-2-clause-ascends : goal.invariant_of-self-2-clause-ascends
 invariant_of-self-2-clause-ascends g c tells keeps =
     let d = c.args.self.now in
     let old = g.M.Placed.state d.inner in
-    let new = g.M.Placed.state c.put.new.self in
     let puts = (rw c.in_ok-n.ensures.same at c.put.ensures.puts) tells in
-    let bytes = take c.in_ok-n.n c.args.bytes.now in
-    subst (λ past. Ascends past new.flushed (length past)) (sym (puts.takes.past keeps))
-    (subst (λ f. let past = old.past ++ placed old.place bytes in Ascends past f (length past))
-    (sym puts.takes.flushed)
-    (ascends_more old.past old.place d.end old.flushed bytes (d.covered tells keeps)
-    (omega (arith, d.after, d.is_there tells)) (d.ascends tells keeps)))
+    rw (puts.takes.past keeps, puts.takes.flushed)
+    (ascends_more old.past old.place d.end old.flushed (take c.in_ok-n.n c.args.bytes.now)
+    (d.covered tells keeps) (omega (arith, d.after, d.is_there tells)) (d.ascends tells keeps))
