@@ -1,6 +1,5 @@
-use Rattle.std.proofs.Common.{◌≡◌, ◌++◌, ◌∙◌, ap, sym, ◌+◌, ◌-◌, length, take, arith, subst, length-take-le}
-use Rattle.hound_medium.specs.{placed}
-use Rattle.hound_durable.specs.Losses.{Ascends, place_of, IsBelow}
+use Rattle.std.proofs.Common.{◌≡◌, ◌∙◌, ap, ◌+◌, ◌-◌, length, take, arith, length-take-le}
+use Rattle.hound_durable.specs.Losses.{place_of}
 use Rattle.hound_durable.proofs.Ascending.{length_put, below_more, ascends_more, place_after}
 use Rattle.hound_durable.proofs.durable.DurableMedium.put.Goals as goal
 
