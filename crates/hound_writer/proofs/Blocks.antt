@@ -115,7 +115,7 @@ module _ {W : Type 0} (tells keeps : Bool) (state : W → MediumState) (w : Writ
     counts =
         λ whole. span_weaker (λ _. Counts w.spec_ex w.data_start (accepted_samples state shorter))
         (λ _. Counts w.spec_ex w.data_start (accepted_samples state w)) 0 old (state m)
-        (λ j c counts. subst (λ l. Counts w.spec_ex w.data_start l c) (sym (samples_first whole))
+        (λ j c counts. rw (samples_first whole)
         (counts_more w.spec_ex w.data_start (accepted_samples state shorter)
         (containers wide (length w.waiting / wide) w.waiting) c known.sound.width counts))
         (at_each.counts whole);
@@ -136,8 +136,7 @@ module _ {W : Type 0} (tells keeps : Bool) (state : W → MediumState) (w : Writ
           ap (λ n. w.data_start + n)
           (length-take-le w.out held
           (omega (arith, whole, length-drop w.data_start old.contents))) in
-          subst (λ l. KeepsStored w.data_start l old (state m))
-          (sym (joined_samples state w known.sound whole))
+          rw (joined_samples state w known.sound whole)
           (puts_stored w.data_start end (take w.out held) w.waiting (puts told).count old (state m)
           size ((puts told).past kept))
 
@@ -189,17 +188,12 @@ module _ {W : Type 0} (tells keeps : Bool) (state : W → MediumState) (w : Writ
       (PutsAt keeps (w.data_start + w.out) w.waiting (all_out true) (state w.medium) (state m))
       → IsConsistent tells state (after_out true m w) false next
   consistent_out next room puts =
-      record {
-        sound = sound_out;
-        whole_out = known.sound.whole;
-        whole_waiting = none_whole wide;
-        block = omega arith;
-        room = room;
-        stands =
-            λ told. stands_more w.spec_ex w.data_start w.out (data_length w) (state m).contents
-            (omega arith) (stays_around true puts told).stands;
-        place = λ told _. omega (arith, (puts told).place);
-      }
+      let sound = sound_out in
+      let none = none_whole wide in
+      let stands = λ (told : IsTrue tells).
+      stands_more w.spec_ex w.data_start w.out (data_length w) (state m).contents (omega arith)
+      (stays_around true puts told).stands in
+      search rules
 
   pub consistent_cut : WhereTells tells
       (PutsAt keeps (w.data_start + w.out) w.waiting (all_out false) (state w.medium) (state m))
@@ -217,18 +211,17 @@ goes_out_nothing tells keeps state far w moved limit known replays none =
     let old = state w.medium in
     let counts = (valid_of tells state moved limit w known).counts in
     record {
-      value = λ i.
-          record w {
-            out = (let e : w.out ≡ data_length w = omega (arith, none) in e i);
-            waiting = nil_from_length w.waiting none i;
-          };
+      value =
+          let out : w.out ≡ data_length w = omega (arith, none) in
+          let waiting = nil_from_length w.waiting none in
+          search rules;
       sound = known.sound;
       file = search rules;
       moments = λ told kept. record {
         adds = adds_nothing state w (counts told) (replays told kept);
         front = span_still (λ _ c. take w.data_start c ≡ take w.data_start old.contents) 0 old old
             (replays told kept) refl refl (inl refl) refl;
-        behind = λ i from to. absurd (omega (arith, from, to));
+        behind = search rules;
       };
     }
 
@@ -253,17 +246,9 @@ module _ {W : Type 0} (tells keeps : Bool) (state : W → MediumState) (w : Writ
       → IsConsistent tells state
       (record w { medium = m; out = w.out + length bytes }) false next
   kept_at_once next limit_next room whole puts =
-      record {
-        sound = sound_more tells keeps state w none known.sound known.stands m bytes room whole;
-        whole_out =
-            whole_more w.out (length bytes) w.spec_ex.bytes_per_sample known.whole_out whole;
-        whole_waiting = known.whole_waiting;
-        block = known.block;
-        room = limit_next;
-        stands =
-            λ told. stands_more w.spec_ex w.data_start w.out (w.out + length bytes)
-            (state m).contents (omega arith)
-            (still tells keeps state w known.stands m bytes (all_out true) told
-            (puts told));
-        place = λ told _. omega (arith, (puts told).place);
-      }
+      let sound = sound_more tells keeps state w none known.sound known.stands m bytes room whole in
+      let both = whole_more w.out (length bytes) w.spec_ex.bytes_per_sample known.whole_out whole in
+      let stands = λ (told : IsTrue tells).
+      stands_more w.spec_ex w.data_start w.out (w.out + length bytes) (state m).contents (omega arith)
+      (still tells keeps state w known.stands m bytes (all_out true) told (puts told)) in
+      search rules
