@@ -60,17 +60,12 @@ pub batch_accepted : {W : Type 0} (tells keeps : Bool) (state : W → MediumStat
     (record b { buffer = memory })
 batch_accepted tells keeps state answer a b values memory short bits width accepts =
     let s = a.spec_ex in
-    let have : IsOk (containers_in int_container s values) =
-    subst (λ n. IsOk (all_containers (λ v. int_container v n s.bytes_per_sample) values)) (sym bits)
-    (subst (λ n. IsOk (all_containers (λ v. int_container v 16 n) values)) (sym width) short) in
+    let have : IsOk (containers_in int_container s values) = rw (bits, width) short in
     let bytes : sample_bytes int_container s values ≡ short_bytes values =
-    (λ i. joined_containers (λ v. int_container v (bits i) (width i)) values)
-    ∙ joined_short values short in
+    rw (bits, width) (joined_short values short) in
     let some : 1 ≤ s.bytes_per_sample = omega (arith, width) in
     accepts_beside tells keeps state _ answer a b memory
-    (subst (λ bytes. AcceptsBytes tells keeps state bytes answer a b) bytes
-    (subst (λ asked. Accepts tells keeps state false asked answer a b)
-    (sym (asked_is int_container int_container-in_width values s some have)) accepts))
+    (rw (← bytes, asked_is int_container int_container-in_width values s some have) accepts)
 
 -- the memory that is kept for batches, or a new one
 pub kept_or_new : {V : Type 0} (items : V → List ℤ) (kept taken : Option V) (new memory : V)

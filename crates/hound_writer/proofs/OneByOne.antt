@@ -1,5 +1,5 @@
 -- Samples of a block, and the same ones written one by one.
-use Rattle.std.proofs.Common.{◌≡◌, ℕ, ◌+◌, Bool, false, IsTrue, List, [], ◌∷◌, ◌++◌, length, Result, Ok, Err, refl, sym, ◌∙◌, ap, arith, append_assoc, length-append}
+use Rattle.std.proofs.Common.{◌≡◌, ℕ, ◌+◌, Bool, false, IsTrue, List, [], ◌∷◌, ◌++◌, length, Result, Ok, Err, refl, rules, sym, ◌∙◌, ap, arith, append_assoc, length-append}
 use Rattle.std.proofs.lemmas.List.{append-nil}
 use Rattle.std.specs.List.{concat}
 use Rattle.hound_medium.specs.{MediumState}
@@ -33,15 +33,8 @@ module _ {V W : Type 0} (tells keeps : Bool) (state : W → MediumState)
       → AcceptsEach tells keeps state container values old new
       → (list : List (List ℕ)) × (containers_in container old.spec_ex values ≡ Ok list)
       × HasMore state list old new
-  each_accepted [] old new whole same = (
-    [],
-    refl,
-    record {
-      samples = ap (accepted_samples state) same ∙ sym (append-nil (accepted_samples state old));
-      size = ap data_length same
-          ∙ (let e : data_length old ≡ data_length old + 0 = omega arith in e);
-    },
-  )
+  each_accepted [] old new whole same =
+      let none = append-nil (accepted_samples state old) in ([], refl, search rules)
   each_accepted (value ∷ values) old new whole (mid, accepts, each) =
       go (container value old.spec_ex.spec.bits_per_sample old.spec_ex.bytes_per_sample) refl accepts
       (each_accepted values mid new ((accepts.file told).whole whole) each)
@@ -59,18 +52,11 @@ module _ {V W : Type 0} (tells keeps : Bool) (state : W → MediumState)
         c ∷ list,
         (λ i. and_more (is i) ((ap (λ s. containers_in container s values)
             (sym accepts.adds.spec_ex) ∙ list_is) i)),
-        record {
-          samples = more.samples
-              ∙ ap (λ l. l ++ list) ((accepts.file told).accepted whole)
-              ∙ append_assoc (accepted_samples state old) (c ∷ []) list;
-          size = omega (
-            arith,
-            more.size,
-            accepts.adds.data_length,
-            length-append c [],
-            length-append c (concat list),
-          );
-        },
+        let samples = append_assoc (accepted_samples state old) (c ∷ []) list in
+            let one = length-append c [] in
+            let all = length-append c (concat list) in
+            let accepted = (accepts.file told).accepted whole in
+            search rules,
       )
 
   pub block_is_samples : (values : List V) (a b c : WriterState W) → IsWhole state a

@@ -85,12 +85,11 @@ module _ {W : Type 0} (state : W → MediumState) (a : WriterState W) (sound : I
       each = λ k from to.
           let c = moment m.start m.past k in
           let same = goes.front.each k from to in
-          let none : 0 ≡ k - split = omega (arith, to, later) in
-          subst (λ j. IsHalfPublished a first j c) none
+          let none : k - split ≡ 0 = omega (arith, to, later) in
           let front = sizes_of c same in
           let bytes = data_of c in
           let length_is = field_of c same ∙ sym none_yet in
-          search rules;
+          rw none (search rules);
     }
 
 -- nothing is published if they aren't written

@@ -144,8 +144,7 @@ stored_join start bytes a b c earlier later was begins past first then p len wit
     omega (arith, ap length was, length-append a.past earlier) in
     let same : (j : ℕ) → j ≤ length b.past
     → moment b.start b.past j ≡ moment c.start c.past j =
-    λ j before. sym (moment_before b.start b.past later j before)
-    ∙ (λ i. moment (sym begins i) (sym past i) j) in
+    λ j before. rw (begins, past) (sym (moment_before b.start b.past later j before)) in
     let late : (j : ℕ) → length b.past ≤ j → j ≤ m → P (moment c.start c.past j)
     → P (moment c.start c.past m) =
     λ j low high there. then p len within j m low high to there in

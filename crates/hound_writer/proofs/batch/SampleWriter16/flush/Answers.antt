@@ -23,9 +23,7 @@ returns-clause-accepts g c =
     (sym c.parent.view_is ∙ sym (λ j. (c.parent-inside.view_is j).output)))
     (batch_accepted W.tells W.keeps W.state write.result w write.new.self
     (take batch.written items) (short_bytes items) batch.short batch.bits batch.width
-    (subst (λ values. Accepts W.tells W.keeps W.state false
-    (containers_in int_container w.spec_ex (take batch.written values)) write.result w
-    write.new.self) same write.ensures.accepts))
+    (rw same at write.ensures.accepts))
 
 pub returns-clause-recorded : goal.returns-clause-recorded
 returns-clause-recorded g c s file known so_far =
