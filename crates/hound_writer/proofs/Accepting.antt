@@ -165,7 +165,7 @@ module _ {W : Type 0} (tells keeps : Bool) (state : W → MediumState) (w : Writ
     stands = still;
     front = front;
     out = λ whole. front_stays at (omega arith) whole;
-    rest = subst (λ n. drop n now ≡ drop n was) is rest;
+    rest = rw is at rest;
     grows = grows;
     reach = omega (arith, reach, is);
   }

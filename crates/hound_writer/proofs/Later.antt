@@ -110,8 +110,7 @@ pub accepts_later : {W : Type 0} (tells keeps : Bool) (state : W → MediumState
     → Accepts tells keeps state false asked answer a c
 accepts_later tells keeps state a b c asked answer out failed accepts =
     accepts_after tells keeps state (data_end a) a b.medium
-    (subst (GoesOut tells keeps state (data_end a) true a) out.value out) (omega arith) false
-    asked answer c failed accepts
+    (rw out.value at out) (omega arith) false asked answer c failed accepts
 
 -- containers that aren't, since those weren't written
 pub accepts_cut : {W : Type 0} (tells keeps : Bool) (state : W → MediumState) (far : ℕ)

@@ -199,13 +199,11 @@ publishes_at_each state w none sound stands padded small end patched are_frames 
           (IsHalfPublished w old) split (state w.medium) (state end) half span;
       puts = patches.puts;
       whole = published _ patched are_frames told is patches.whole;
-      old_or_new = subst (λ n. IsOldOrNew p (field p old) n (state w.medium) (state end)) all
+      old_or_new = rw all at
           (old_or_new p (riff_size w.data_start w.out) w.out split (state w.medium) (state end) has
           (omega (arith, sound.fits, sound.after_head, all)) span patches.puts);
-      padded = λ i k from more before later to. let c =
-          moment (state end).start (state end).past k in
-          subst (λ l. StartsWith l (padding (data_length w)))
-          (sym (behind c (span.each k (omega (arith, from, later)) to).same.behind)) padded;
+      padded = λ i k from more before later to.
+          rw (behind _ (span.each k (omega (arith, from, later)) to).same.behind) padded;
       stored =
           λ whole. stored_same w.data_start w.out (concat (accepted_samples state w)) old
           (state w.medium) (state end)

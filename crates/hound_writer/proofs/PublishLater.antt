@@ -139,9 +139,7 @@ pub published_cut : {W : Type 0} (tells keeps : Bool) (state : W → MediumState
     → PublishesTo tells keeps state at (Err (IoError e)) a b
 published_cut tells keeps state far at a b e within out small =
     let further = goes_further tells keeps state far (padded_end a) false a b within out in
-    subst (PublishesTo tells keeps state at (Err (IoError e)) a) (sym out.value)
-    (published_of tells keeps state a b.medium
-    (subst (GoesOut tells keeps state (padded_end a) false a) out.value further) e at small)
+    rw out.value (published_of tells keeps state a b.medium (rw out.value at further) e at small)
 
 -- what is published once all is written
 module _ {W : Type 0} (tells keeps : Bool) (state : W → MediumState) (a : WriterState W) (m : W)
@@ -297,9 +295,8 @@ pub published_later : {W : Type 0} (tells keeps : Bool) (state : W → MediumSta
     → PublishesTo tells keeps state at answer b c → PublishesTo tells keeps state at answer a c
 published_later tells keeps state far at a b c answer within out small g =
     let further = goes_further tells keeps state far (padded_end a) true a b within out in
-    published_after tells keeps state a b.medium
-    (subst (GoesOut tells keeps state (padded_end a) true a) out.value further) at answer c small
-    (subst (λ v. PublishesTo tells keeps state at answer v c) out.value g)
+    published_after tells keeps state a b.medium (rw out.value at further) at answer c small
+    (rw out.value at g)
 
 -- the same as the end of a writer
 pub finishes_of : {W : Type 0} (tells keeps : Bool) (state : W → MediumState)

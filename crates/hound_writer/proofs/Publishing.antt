@@ -133,7 +133,7 @@ reads_all s start n samples contents whole frames size says counts =
     let count = n / s.bytes_per_sample in
     let reads = rw (says, frames_sound s n whole frames) at counts.reads in
     record {
-      readable = subst (λ k. Readable contents s k start) (sym size) reads.0;
+      readable = rw size reads.0;
       containers =
           ap (λ k. containers s.bytes_per_sample k (drop start contents)) size ∙ reads.1
           ∙ take_all count samples (omega (arith, size));
@@ -178,8 +178,7 @@ module _ {W : Type 0} (state : W → MediumState) (w : WriterState W) (none : w.
 
     -- the pad byte, seen from the first data byte on
     pad_stands : StartsWith (drop w.out (drop w.data_start old)) (padding w.out)
-    pad_stands = subst (λ l. StartsWith l (padding w.out)) (sym (drop-drop w.out w.data_start old))
-        (subst (λ n. StartsWith (drop (w.data_start + n) old) (padding n)) (sym all) padded)
+    pad_stands = rw (drop-drop w.out w.data_start old, all) padded
 
     is_canonical : IsWhole state w → IsBegun state w
         → StartsWith (state end).contents (canonical w.spec_ex (accepted_samples state w))
@@ -236,9 +235,7 @@ module _ {W : Type 0} (state : W → MediumState) (w : WriterState W) (none : w.
         stand = λ whole. published _ patched are_frames told is
             (on_ok patched
             ((λ i. take (sym all i) (samples i)) ∙ sym (concat-samples state w none sound)));
-        padded = published _ patched are_frames told is
-            (on_ok patched
-            (subst (λ l. StartsWith l (padding (data_length w))) (sym behind) padded));
+        padded = published _ patched are_frames told is (on_ok patched (rw behind padded));
         read = λ whole. told_ok _ patched are_frames told is
             (λ yes. on_ok_weaker patched
             (λ put. reads_all w.spec_ex w.data_start w.out (accepted_samples state w)
