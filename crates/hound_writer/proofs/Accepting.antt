@@ -360,8 +360,7 @@ module _ {W : Type 0} (tells keeps : Bool) (state : W → MediumState) (w : Writ
           let size = ap length none in
           let at : end + length bytes ≡ w.data_start + (w.out + length bytes + length w.waiting) =
           omega (arith, size) in
-          let behind = subst (λ n. drop n (state m).contents ≡ drop n old.contents) at
-          (rest tells keeps state w stands m bytes (all_out true) told p) in
+          let behind = rw at at (rest tells keeps state w stands m bytes (all_out true) told p) in
           search rules;
       moments =
           λ told kept. at_each m bytes (all_out true) told (puts told) kept (replays told kept);

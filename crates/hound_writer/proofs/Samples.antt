@@ -75,8 +75,7 @@ module _ {W : Type 0} (state : W → MediumState) (w : WriterState W) (sound : I
       sym (containers_cut w.out wide (drop w.data_start c) whole_out)
       ∙ ap (containers wide (w.out / wide)) same ∙ containers_cut w.out wide data_now whole_out in
       let waiting = containers wide (length w.waiting / wide) w.waiting in
-      subst (λ l. Counts w.spec_ex w.data_start l c)
-      (ap (λ l. l ++ waiting) out_same ∙ sym (samples_parts whole))
+      rw (samples_parts whole, ← out_same)
       (counts_more w.spec_ex w.data_start
       (containers wide (w.out / wide) (drop w.data_start c)) waiting c sound.width
       (counts_standing w.spec_ex w.data_start w.out c sound.width whole_out stands.head

@@ -33,9 +33,8 @@ bytes_too_long tells keeps state w bytes counts replays whole none =
     let width = w.spec_ex.bytes_per_sample in
     let list = containers width (length bytes / width) bytes in
     accepts_refused tells keeps state w false (Ok list) TooLong counts replays refl (λ _. refl)
-    (subst (λ b. FitAnswer {T = Unit {0}} b false (Err TooLong))
-    (sym (no_room w (length (concat list))
-    (λ room. none (omega (arith, room, ap length (joined_bytes width bytes whole)))))) refl)
+    (rw (no_room w (length (concat list))
+    (λ room. none (omega (arith, room, ap length (joined_bytes width bytes whole))))) refl)
 
 -- an error of the type that isn't `TooWide`
 pub else_unsupported : (asked : Result (List ℕ) Refusal) (e : Error) → IsEncoded asked (Err e)
