@@ -1,5 +1,5 @@
 -- The accepted samples of a writer: those in the medium, and the buffered ones.
-use Rattle.std.proofs.Common.{◌≡◌, Bool, refl, ℕ, ◌+◌, ◌/◌, ◌%◌, List, [], ◌++◌, length, take, drop, sym, ◌∙◌, ap, subst, arith, length-append, length-drop}
+use Rattle.std.proofs.Common.{◌≡◌, Bool, refl, ℕ, ◌+◌, ◌/◌, ◌%◌, List, [], ◌++◌, length, take, drop, sym, ◌∙◌, ap, arith, length-append, length-drop}
 use Rattle.std.proofs.lemmas.List.{append-nil, length-take-le}
 use Rattle.std.specs.List.{concat}
 use Rattle.hound_medium.specs.{MediumState}

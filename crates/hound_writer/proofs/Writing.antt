@@ -1,5 +1,5 @@
 -- A sample that a writer shall accept.
-use Rattle.std.proofs.Common.{◌≡◌, ℕ, ◌+◌, ◌/◌, ◌%◌, ◌≤◌, nat_le, Bool, false, List, length, Result, Ok, Err, refl, sym, subst, ap, arith}
+use Rattle.std.proofs.Common.{◌≡◌, ℕ, ◌+◌, ◌/◌, ◌%◌, ◌≤◌, nat_le, Bool, false, List, length, Result, Ok, Err, refl, ap, arith}
 use Rattle.std.proofs.lemmas.Bool.Decides.{nat_tests}
 use Rattle.std.specs.List.{concat}
 use Rattle.hound_medium.specs.{overlay, MediumState, WhereTells, WhereKeeps}
@@ -7,7 +7,7 @@ use Rattle.hound_spec.specs.declared.error.Error.{Error}
 use Rattle.hound_spec.specs.declared.error.Error.TheVariants.{TooLong, TooWide, Unsupported}
 use Rattle.hound_spec.specs.{riff_size, greatest_u32}
 use Rattle.hound_sample.specs.{Refusal, error_of, too_wide, unsupported, containers, IsEncoded}
-use Rattle.hound_writer.specs.Accepting.{AcceptsBytes, Accepts, FitAnswer, one}
+use Rattle.hound_writer.specs.Accepting.{AcceptsBytes, Accepts, one}
 use Rattle.hound_writer.specs.Parts.{IsConsistent}
 use Rattle.hound_writer.specs.Writer.{WriterState, HasRoom, IsCounted, IsWhole, data_length}
 use Rattle.hound_writer.proofs.Accepting.{accepts_refused, type_refuses}

@@ -1,6 +1,5 @@
 use Rattle.std.proofs.Common.{◌∙◌, ap, false, refl, subst, sym, take}
-use Rattle.hound_sample.specs.{int_container}
-use Rattle.hound_writer.specs.Accepting.{Accepts, containers_in, mark_of, short_bytes, whole_containers}
+use Rattle.hound_writer.specs.Accepting.{Accepts, mark_of, short_bytes, whole_containers}
 use Rattle.hound_writer.specs.Batch.{batch_bytes, batch_writer}
 use Rattle.hound_writer.specs.Calls.{made, marked}
 use Rattle.hound_writer.specs.Writer.{WriterState}
