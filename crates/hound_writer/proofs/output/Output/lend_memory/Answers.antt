@@ -6,12 +6,11 @@ use Rattle.hound_writer.proofs.output.Output.lend_memory.Goals as goal
 
 pub returns-then-len-num_samples-clause-length : goal.returns-then-len-num_samples-clause-length
 returns-then-len-num_samples-clause-length g c =
-    let memory = c.unwrap_or-memory in
-    let kept = kept_or_new (λ m. m.items) c.self.inside.buffer c.take.result c.new.result
-    memory.result c.take.ensures.value memory.ensures c.new.ensures.items in
+    let kept = kept_or_new (λ m. m.items) c.self.inside.buffer _ _ _ c.take.ensures.value
+    c.unwrap_or-memory.ensures c.new.ensures.items in
     omega (
       arith,
-      length-short_bytes memory.result.items,
+      length-short_bytes c.unwrap_or-memory.result.items,
       ap length kept,
       ap (λ w. length w.buffer) c.self.view_is,
       c.len.ensures,
@@ -20,12 +19,11 @@ returns-then-len-num_samples-clause-length g c =
 
 pub returns-in-Ok-clause-length : goal.returns-in-Ok-clause-length
 returns-in-Ok-clause-length g c =
-    let memory = c.unwrap_or-memory in
-    let kept = kept_or_new (λ m. m.items) c.self.inside.buffer c.take.result c.new.result
-    memory.result c.take.ensures.value memory.ensures c.new.ensures.items in
+    let kept = kept_or_new (λ m. m.items) c.self.inside.buffer _ _ _ c.take.ensures.value
+    c.unwrap_or-memory.ensures c.new.ensures.items in
     omega (
       arith,
-      length-short_bytes memory.result.items,
+      length-short_bytes c.unwrap_or-memory.result.items,
       length-short_bytes c.resize.new.self.items,
       ap length kept,
       ap (λ w. length w.buffer) c.self.view_is,
@@ -36,16 +34,13 @@ returns-in-Ok-clause-length g c =
 
 pub returns-in-Err-clause-refused : goal.returns-in-Err-clause-refused
 returns-in-Err-clause-refused g c =
-    let i = c.self.inside in
-    let memory = c.unwrap_or-memory in
-    let kept = kept_or_new (λ m. m.items) i.buffer c.take.result c.new.result memory.result
-    c.take.ensures.value memory.ensures c.new.ensures.items in (
+    let kept = kept_or_new (λ m. m.items) c.self.inside.buffer _ _ _ c.take.ensures.value
+    c.unwrap_or-memory.ensures c.new.ensures.items in (
       c.from.ensures,
-      (λ j. of_fields i.writer i.spec_ex i.data_start i.data_bytes_written i.block
-          ((ap short_bytes c.in-Err.ensures.items ∙ kept) j)) ∙ c.self.view_is,
+      rw (c.in-Err.ensures.items, kept) c.self.view_is,
       omega (
         arith,
-        length-short_bytes memory.result.items,
+        length-short_bytes c.unwrap_or-memory.result.items,
         ap length kept,
         ap (λ w. length w.buffer) c.self.view_is,
         c.len.ensures,
