@@ -1,6 +1,4 @@
-use Rattle.std.proofs.Common.{◌∙◌, ap, arith, length}
-use Rattle.hound_writer.specs.Accepting.{short_bytes}
-use Rattle.hound_writer.specs.Parts.{of_fields}
+use Rattle.std.proofs.Common.{ap, arith, length}
 use Rattle.hound_writer.proofs.Batches.{kept_or_new, length-short_bytes}
 use Rattle.hound_writer.proofs.output.Output.lend_memory.Goals as goal
 
