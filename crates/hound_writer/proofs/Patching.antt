@@ -157,12 +157,6 @@ patched keeps p size data_length r s flush a b c d has small first second all_fi
 
 -- the contents with two sizes, part by part
 module _ (p size data_length : ℕ) (c : List ℕ) (behind : 8 ≤ p) (inside : p + 4 ≤ length c) where
-  abbrev front : List ℕ
-  front = take 4 c
-
-  abbrev middle : List ℕ
-  middle = drop 8 (take p c)
-
   length-front : length (take 4 c) ≡ 4
   length-front = length-take-le 4 c (omega arith)
 

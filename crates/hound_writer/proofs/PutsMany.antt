@@ -55,7 +55,8 @@ module _ {V : Type 0} (container : V → Result (List ℕ) Refusal) (width : ℕ
   more : (n : ℕ) → n ≤ length piece → PutsFirst keeps piece n mid new
       → PutsFirst keeps all (width * done + n) old new
   more n few puts =
-      takes_more keeps all (width * done) n old mid new (omega (arith, size_next, mul-le-mul_left width inside, size_all)) so_far
+      takes_more keeps all (width * done) n old mid new
+      (omega (arith, size_next, mul-le-mul_left width inside, size_all)) so_far
       (puts_front keeps piece (drop (width * done) all) n mid new
       (sym (take-append-le n piece (joined_containers container (drop count (drop done values))) few)
       ∙ ap (take n) (sym rest_is)) puts)
