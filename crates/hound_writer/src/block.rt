@@ -32,6 +32,7 @@ impl Model for Block {
 
 impl Block {
     /// An empty block.
+    #[inline(always)]
     pub(crate) fn new() -> Block
         ensures { result ≡ [] }
     {

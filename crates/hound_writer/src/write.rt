@@ -1,4 +1,10 @@
 // The writer of samples.
+ghost use Rattle.std.specs.Prelude.{◌≡◌, ◌+◌, [], IfOk, MatchResult};
+ghost use Rattle.hound_medium.specs.{WhereTells};
+ghost use Rattle.hound_writer.specs.Beginning.{Begins, IsNotBegun};
+ghost use Rattle.hound_writer.specs.Calls.{Recorded, new_file};
+ghost use Rattle.hound_writer.specs.Parts.{IsStanding, of_fields};
+
 use crate::outcome::{Outcome, error_of_outcome};
 use crate::output::Output;
 use hound_medium::{Medium, put_all};
@@ -43,6 +49,29 @@ impl<W: Medium> Model for WavWriter<W> {
     ghost view = { λ w. w.output };
 }
 
+// Writes the header with both sizes 0, and returns where the data begin.
+#[inline(always)]
+fn begin<W: Medium>(writer: &mut W, spec_ex: WavSpecEx) -> Result<u64>
+    requires { WhereTells W.tells ((W.state writer.old).place ≡ 0) }
+    ensures begins { MatchResult result
+        (λ start. Begins W.tells W.keeps W.state spec_ex (W.state writer.old) (of_fields writer.new spec_ex start 0 [] []))
+        (λ e. IsNotBegun W.tells W.keeps W.state spec_ex writer.old writer.new e) }
+    ensures recorded { IfOk result (λ start. Recorded W.tells W.keeps W.state spec_ex new_file []
+        (of_fields writer.new spec_ex start 0 [] [])) }
+    ensures stands { IfOk result (λ start. WhereTells W.tells
+        (IsStanding spec_ex start 0 (W.state writer.new).contents)) }
+    ensures place { IfOk result (λ start. WhereTells W.tells
+        ((W.state writer.new).place ≡ start + 0)) }
+{
+    if !spec_ex.is_writable() {
+        return Err(Error::Unsupported);
+    }
+    let header = header_of(spec_ex, 0, 0);
+    let bytes = header.as_slice();
+    put_all(writer, bytes)?;
+    Ok(bytes.len() as u64)
+}
+
 impl<W: Medium> WavWriter<W> {
     ghost use Rattle.std.specs.Prelude.{◌≡◌, ◌+◌, ◌-◌, ◌/◌, ⊤, [], false, Ok, Err, Result, MatchResult};
     ghost use Rattle.hound_spec.specs.declared.error.Error.{Error};
@@ -80,10 +109,9 @@ impl<W: Medium> WavWriter<W> {
         ensures recorded { MatchResult result
             (Recorded W.tells W.keeps W.state spec_ex new_file []) (λ _. ⊤) }
     {
-        match WavWriter::try_new(writer, spec_ex) {
-            Ok(writer) => Ok(writer),
-            Err((_, error)) => Err(error),
-        }
+        let mut writer = writer;
+        let data_start = begin(&mut writer, spec_ex)?;
+        Ok(WavWriter::over(Output::at_end(writer, spec_ex, data_start, 0)))
     }
 
     /// Begins a file of this spec in a medium that is at its beginning, writes the header with
@@ -102,20 +130,15 @@ impl<W: Medium> WavWriter<W> {
         ensures recorded { MatchResult result
             (Recorded W.tells W.keeps W.state spec_ex new_file []) (λ _. ⊤) }
     {
-        if !spec_ex.is_writable() {
-            return Err((writer, Error::Unsupported));
-        }
         let mut writer = writer;
-        let header = header_of(spec_ex, 0, 0);
-        let bytes = header.as_slice();
-        let data_start = bytes.len() as u64;
-        match put_all(&mut writer, bytes) {
-            Ok(()) => Ok(WavWriter::over(Output::at_end(writer, spec_ex, data_start, 0))),
-            Err(error) => Err((writer, Error::IoError(error))),
+        match begin(&mut writer, spec_ex) {
+            Ok(data_start) => Ok(WavWriter::over(Output::at_end(writer, spec_ex, data_start, 0))),
+            Err(error) => Err((writer, error)),
         }
     }
 
     // A writer of this file, whose medium had no fault yet.
+    #[inline(always)]
     pub(crate) fn over(output: Output<W>) -> WavWriter<W>
         ensures { result ≡ output }
     {

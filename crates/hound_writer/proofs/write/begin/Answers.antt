@@ -1,0 +1,36 @@
+use Rattle.std.proofs.Common.{◌∙◌, rules}
+use Rattle.hound_spec.proofs.HeaderLemmas.{length-header}
+use Rattle.hound_spec.specs.{IsWritable}
+use Rattle.hound_writer.proofs.Beginning.{sound_begin, stands_begin, header_file}
+use Rattle.hound_writer.proofs.Recording.{recorded_new}
+use Rattle.hound_writer.proofs.write.begin.Goals as goal
+
+pub returns-clause-begins : goal.returns-clause-begins
+returns-clause-begins g c =
+    let s = c.args.spec_ex in
+    let is = c.as_slice-bytes.ensures ∙ c.header_of-header.ensures in
+    let writable : IsWritable s = search rules in
+    rw is
+    record {
+      begun =
+          let start = length-header s 0 0 in
+          let sound = sound_begin c.put_all.new.medium s _ writable start in
+          search rules;
+      file = λ tells. header_file g.W.Placed.keeps g.W.Placed.state s _ _ writable
+          (c.requires tells) (rw is at (c.in_ok-put_all.ensures tells));
+    }
+
+pub returns-clause-recorded : goal.returns-clause-recorded
+returns-clause-recorded g c =
+    let W = g.W.Placed in
+    recorded_new W.tells W.keeps W.state c.args.spec_ex (W.state c.args.writer.now) _
+    (returns-clause-begins g c)
+
+pub returns-clause-stands : goal.returns-clause-stands
+returns-clause-stands g c tells =
+    let W = g.W.Placed in
+    let s = c.args.spec_ex in
+    let is = c.as_slice-bytes.ensures ∙ c.header_of-header.ensures in
+    let writable : IsWritable s = search rules in
+    rw is (stands_begin W.keeps W.state s _ _ writable (c.requires tells)
+    (rw is at (c.in_ok-put_all.ensures tells)))
