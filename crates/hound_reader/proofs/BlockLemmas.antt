@@ -7,14 +7,15 @@ use Rattle.std.specs.Prelude.{IsSome}
 use Rattle.std.specs.declared.io.Error.{Error as IoFault}
 use Rattle.hound_number.specs.{WhereKnown}
 use Rattle.hound_spec.specs.declared.error.Error.{Error}
-use Rattle.hound_spec.specs.declared.error.Error.TheVariants.{IoError, FormatError, TooWide, UnfinishedSample, Unsupported, InvalidSampleFormat, TooLong, OutOfMemory}
+use Rattle.hound_spec.specs.declared.error.Error.TheVariants.{IoError}
 use Rattle.hound_spec.specs.declared.spec.SampleFormat.{SampleFormat}
-use Rattle.hound_sample.specs.{ReadsEach, ReadRefusal, other_format, wider, other_pair, Reads, error_of_read, ReadsItem, reason_of, error_of_item}
+use Rattle.hound_sample.specs.{FillsFront, items_of, answer_of, ReadsEach, ReadRefusal, other_format, Reads, error_of_read, ReadsItem, reason_of, error_of_item}
 use Rattle.hound_number.proofs.KnownSteps.{known_both}
-use Rattle.hound_reader.specs.Reader.{GivesItemsOfBytes, over_bytes, HasGiven, taken_without, GivesItems, ReaderState, IsNext, AreTaken, TookBytes, CountsTaken, refusal_at, meaning_at, samples_left}
+use Rattle.std.proofs.lemmas.Nat.{mul-le}
+use Rattle.hound_reader.specs.Reader.{ReadsBlock, requested, GivesItemsOfBytes, over_bytes, HasGiven, taken_without, GivesItems, ReaderState, IsNext, AreTaken, TookBytes, CountsTaken, refusal_at, meaning_at, samples_left}
 use Rattle.hound_sample.specs.declared.item.ItemError.{ItemError}
-use Rattle.hound_sample.specs.declared.item.ItemError.TheVariants.{Failed, OtherFormat, Wider, OtherPair}
-use Rattle.hound_reader.proofs.ItemLemmas.{a_container_is_taken}
+use Rattle.hound_sample.specs.declared.item.ItemError.TheVariants.{Failed}
+use Rattle.hound_reader.proofs.ItemLemmas.{a_container_is_taken, later}
 
 -- an Ok of a type that doesn't read the samples
 no_value : {A : Type 0} {P : Type 0} (value : A) (error : Error)
@@ -25,8 +26,7 @@ no_value value error is = cc
 refusal_by_reason : (refusal : ReadRefusal) (fault : IoFault)
     → error_of_item (reason_of (error_of_read refusal)) fault ≡ error_of_read refusal
 refusal_by_reason other_format fault = refl
-refusal_by_reason wider fault = refl
-refusal_by_reason other_pair fault = refl
+refusal_by_reason _ fault = refl
 
 same_Err : {A : Type 0} (d e : Error) → (let answer : Result A Error = Err d in answer) ≡ Err e
     → d ≡ e
@@ -42,13 +42,7 @@ error_by_reason (Some refusal) meaning width old new e fault (is, same) = (
   same,
 )
 error_by_reason None meaning width old new (IoError e) fault read = read
-error_by_reason None meaning width old new (FormatError s) fault read = absurd read
-error_by_reason None meaning width old new TooWide fault read = absurd read
-error_by_reason None meaning width old new UnfinishedSample fault read = absurd read
-error_by_reason None meaning width old new Unsupported fault read = absurd read
-error_by_reason None meaning width old new InvalidSampleFormat fault read = absurd read
-error_by_reason None meaning width old new TooLong fault read = absurd read
-error_by_reason None meaning width old new OutOfMemory fault read = absurd read
+error_by_reason None meaning width old new _ fault read = absurd read
 
 pub each_by_reason : {A : Type 0} (refusal : Option ReadRefusal) (meaning : List ℕ → A) (width : ℕ)
     (values : List A) (e : Error) (reason : ItemError) (fault : IoFault) (old new : Option (List ℕ))
@@ -70,13 +64,7 @@ unknown_read : {A : Type 0} (meaning : List ℕ → A) (width : ℕ) (item : Res
     → Reads None meaning width None new item
 unknown_read meaning width (Ok value) old new read = tt
 unknown_read meaning width (Err (IoError e)) old new read = tt
-unknown_read meaning width (Err (FormatError s)) old new read = absurd read
-unknown_read meaning width (Err TooWide) old new read = absurd read
-unknown_read meaning width (Err UnfinishedSample) old new read = absurd read
-unknown_read meaning width (Err Unsupported) old new read = absurd read
-unknown_read meaning width (Err InvalidSampleFormat) old new read = absurd read
-unknown_read meaning width (Err TooLong) old new read = absurd read
-unknown_read meaning width (Err OutOfMemory) old new read = absurd read
+unknown_read meaning width (Err _) old new read = absurd read
 
 unknown_each : {A : Type 0} (meaning : List ℕ → A) (width : ℕ) (values : List A)
     → ReadsEach None meaning width (map Ok values) None None
@@ -137,8 +125,7 @@ no_refusal : {A : Type 0} (fault : IoFault) (refusal : ReadRefusal)
     → (let answer : Result A Error = Err (IoError fault) in answer) ≡ Err (error_of_read refusal)
     → ⊥
 no_refusal fault other_format is = cc
-no_refusal fault wider is = cc
-no_refusal fault other_pair is = cc
+no_refusal fault _ is = cc
 
 torn_after : {A : Type 0} (refusal : Option ReadRefusal) (meaning : List ℕ → A) (width count : ℕ)
     (reason : ItemError) (fault : IoFault) (given : ℕ) (xs ms ys : List ℕ)
@@ -148,20 +135,14 @@ torn_after : {A : Type 0} (refusal : Option ReadRefusal) (meaning : List ℕ →
     → AreTaken (taken_without reason (given - count * width) width) ms ys
 torn_after (Some refusal) meaning width count Failed fault given xs ms ys enough size few has read =
     absurd (no_refusal fault refusal read.0)
-torn_after (Some refusal) meaning width count OtherFormat fault given xs ms ys enough size few has read =
-    (omega arith, same_Some _ _ read.1)
-torn_after (Some refusal) meaning width count Wider fault given xs ms ys enough size few has read =
-    (omega arith, same_Some _ _ read.1)
-torn_after (Some refusal) meaning width count OtherPair fault given xs ms ys enough size few has read =
+torn_after (Some refusal) meaning width count _ fault given xs ms ys enough size few has read =
     (omega arith, same_Some _ _ read.1)
 torn_after None meaning width count Failed fault given xs ms ys enough size few has (m, part, within, is) =
     let left = ap length is ∙ length-drop m ms in
     let same : min (given - count * width) width ≡ m =
     omega (arith, few, has, left, size, enough, part, within) in
     (omega (arith, same, within), is ∙ ap (λ n. drop n ms) (sym same))
-torn_after None meaning width count OtherFormat fault given xs ms ys enough size few has read = absurd read
-torn_after None meaning width count Wider fault given xs ms ys enough size few has read = absurd read
-torn_after None meaning width count OtherPair fault given xs ms ys enough size few has read = absurd read
+torn_after None meaning width count _ fault given xs ms ys enough size few has read = absurd read
 
 -- an item without a sample took as many bytes as were given after the samples
 pub torn_takes : {A : Type 0} (refusal : Option ReadRefusal) (meaning : List ℕ → A) (width : ℕ)
@@ -191,15 +172,11 @@ took_of_reason : (A : Type 0) (reason : ItemError) (fault : IoFault) (given widt
     → TookBytes {A = A} width (Err (error_of_item reason fault)) old
     (old + taken_without reason given width)
 took_of_reason A Failed fault given width old = (omega arith, omega arith)
-took_of_reason A OtherFormat fault given width old = omega arith
-took_of_reason A Wider fault given width old = omega arith
-took_of_reason A OtherPair fault given width old = omega arith
+took_of_reason A _ fault given width old = omega arith
 
 pub taken_few : (reason : ItemError) (given width : ℕ) → taken_without reason given width ≤ width
 taken_few Failed given width = omega arith
-taken_few OtherFormat given width = omega arith
-taken_few Wider given width = omega arith
-taken_few OtherPair given width = omega arith
+taken_few _ given width = omega arith
 
 -- an error of the type leaves the bytes
 refused_stays : {A : Type 0} (refusal : Option ReadRefusal) (meaning : List ℕ → A) (width : ℕ)
@@ -213,14 +190,7 @@ pub no_sample_is_given : {R A : Type 0} (left : R → Option (List ℕ))
     (refusal : SampleFormat → ℕ → ℕ → Option ReadRefusal) (meaning : SampleFormat → ℕ → ℕ → List ℕ → A)
     (old new : ReaderState R) (reason : ItemError) (given : ℕ)
     → old.samples_read < old.num_samples → old.spec_ex.bytes_per_sample < 2 ^ 64
-    → new ≡ record {
-      reader = new.reader;
-      spec_ex = old.spec_ex;
-      num_samples = old.num_samples;
-      samples_read = old.samples_read + 1;
-      bytes_read =
-          old.bytes_read + taken_without reason given old.spec_ex.bytes_per_sample;
-    }
+    → new ≡ later old 1 (taken_without reason given old.spec_ex.bytes_per_sample) new.reader
     → ReadsItem (refusal_at refusal old.spec_ex) (meaning_at meaning old.spec_ex)
     old.spec_ex.bytes_per_sample (left old.reader) (left new.reader) (Err reason)
     → (IsSome (refusal_at refusal old.spec_ex) → new.reader ≡ old.reader)
@@ -250,32 +220,20 @@ no_sample_is_given {A = A} left refusal meaning old new reason given inside smal
       num_samples = ap (λ (r : ReaderState _). r.num_samples) is;
     }
 
--- this many samples and bytes later
-abbrev pub later : ReaderState (Option (List ℕ)) → ℕ → ℕ → Option (List ℕ) → ReaderState (Option (List ℕ))
-later reading samples bytes left = record {
-  reader = left;
-  spec_ex = reading.spec_ex;
-  num_samples = reading.num_samples;
-  samples_read = reading.samples_read + samples;
-  bytes_read = reading.bytes_read + bytes;
-}
-
 module _ {A : Type 0} (refusal : SampleFormat → ℕ → ℕ → Option ReadRefusal)
     (meaning : SampleFormat → ℕ → ℕ → List ℕ → A) where
   abbrev Gives : List (Result A Error) → ReaderState (Option (List ℕ)) → ReaderState (Option (List ℕ)) → Type 0
   Gives items old new = GivesItems (λ (bytes : Option (List ℕ)). bytes) refusal meaning items old new
 
   -- samples that were read are items
-  pub samples_are_items : (values : List A) (old : ReaderState (Option (List ℕ)))
+  samples_are_items : (values : List A) (old : ReaderState (Option (List ℕ)))
       (new : Option (List ℕ)) → length values ≤ samples_left old
       → ReadsEach (refusal_at refusal old.spec_ex) (meaning_at meaning old.spec_ex)
       old.spec_ex.bytes_per_sample (map Ok values) old.reader new
       → Gives (map Ok values) old
       (later old (length values) (length values * old.spec_ex.bytes_per_sample) new)
-  samples_are_items [] old new few same = λ i. record {
+  samples_are_items [] old new few same = λ i. record old {
     reader = same i;
-    spec_ex = old.spec_ex;
-    num_samples = old.num_samples;
     samples_read = (let e : old.samples_read + 0 ≡ old.samples_read = omega arith in e i);
     bytes_read =
         (let e : old.bytes_read + 0 * old.spec_ex.bytes_per_sample ≡ old.bytes_read = omega arith in e i);
@@ -295,10 +253,8 @@ module _ {A : Type 0} (refusal : SampleFormat → ℕ → ℕ → Option ReadRef
           num_samples = refl;
         },
         subst (Gives (map Ok values) next)
-            (λ i. record {
+            (λ i. record old {
               reader = new;
-              spec_ex = old.spec_ex;
-              num_samples = old.num_samples;
               samples_read = (let e : old.samples_read + 1 + length values ≡ old.samples_read + suc (length values) = omega arith in e i);
               bytes_read = (let e : old.bytes_read + width + length values * width ≡ old.bytes_read + suc (length values) * width = omega arith in e i);
             })
@@ -316,7 +272,7 @@ module _ {A : Type 0} (refusal : SampleFormat → ℕ → ℕ → Option ReadRef
       (next, given, items_more items item next mid new before step)
 
   -- samples that were read, and the error that ended them, are items
-  pub error_is_item : (values : List A) (reason : ItemError) (fault : IoFault) (given : ℕ)
+  error_is_item : (values : List A) (reason : ItemError) (fault : IoFault) (given : ℕ)
       (old : ReaderState (Option (List ℕ))) (new : Option (List ℕ))
       → length values < samples_left old
       → length values * old.spec_ex.bytes_per_sample + old.spec_ex.bytes_per_sample < 2 ^ 64
@@ -339,10 +295,8 @@ module _ {A : Type 0} (refusal : SampleFormat → ℕ → ℕ → Option ReadRef
       let next = later old k (k * width) mid in
       let last : ReaderState (Option (List ℕ)) = later next 1 torn new in
       subst (Gives (map Ok values ++ (Err (error_of_item reason fault) ∷ [])) old)
-      (λ i. record {
+      (λ i. record old {
         reader = new;
-        spec_ex = old.spec_ex;
-        num_samples = old.num_samples;
         samples_read = (let e : old.samples_read + k + 1 ≡ old.samples_read + (k + 1) = omega arith in e i);
         bytes_read = (let e : old.bytes_read + k * width + torn ≡ old.bytes_read + (k * width + torn) = omega arith in e i);
       })
@@ -359,39 +313,8 @@ module _ {A : Type 0} (refusal : SampleFormat → ℕ → ℕ → Option ReadRef
         num_samples = refl;
       }))
 
-  -- the same if a slice is as long as them
-  pub block_of_samples : (values : List A) (count : ℕ) (old : ReaderState (Option (List ℕ)))
-      (new : Option (List ℕ)) → length values ≡ count → count ≤ samples_left old
-      → ReadsEach (refusal_at refusal old.spec_ex) (meaning_at meaning old.spec_ex)
-      old.spec_ex.bytes_per_sample (map Ok values) old.reader new
-      → Gives (map Ok values) old (later old count (count * old.spec_ex.bytes_per_sample) new)
-  block_of_samples values count old new size few each =
-      subst (λ n. Gives (map Ok values) old (later old n (n * old.spec_ex.bytes_per_sample) new)) size
-      (samples_are_items values old new (omega (arith, size, few)) each)
-
-  pub block_of_error : (values : List A) (count : ℕ) (reason : ItemError) (fault : IoFault)
-      (given : ℕ) (old : ReaderState (Option (List ℕ))) (new : Option (List ℕ))
-      → length values ≡ count → count < samples_left old
-      → count * old.spec_ex.bytes_per_sample + old.spec_ex.bytes_per_sample < 2 ^ 64
-      → HasGiven old.reader given new
-      → ReadsEach (refusal_at refusal old.spec_ex) (meaning_at meaning old.spec_ex)
-      old.spec_ex.bytes_per_sample
-      (map Ok values ++ (Err (error_of_item reason fault) ∷ [])) old.reader new
-      → Gives (map Ok values ++ (Err (error_of_item reason fault) ∷ [])) old
-      (later old (count + 1)
-      (count * old.spec_ex.bytes_per_sample
-      + taken_without reason (given - count * old.spec_ex.bytes_per_sample)
-      old.spec_ex.bytes_per_sample) new)
-  block_of_error values count reason fault given old new size few small has each =
-      let width = old.spec_ex.bytes_per_sample in
-      let e : length values * width ≡ count * width = ap (λ n. n * width) size in
-      subst (λ n. Gives (map Ok values ++ (Err (error_of_item reason fault) ∷ [])) old
-      (later old (n + 1) (n * width + taken_without reason (given - n * width) width) new)) size
-      (error_is_item values reason fault given old new (omega (arith, size, few))
-      (omega (arith, e, small)) has each)
-
 -- a front of a slice that was filled to a place: the slice before that place, and after it
-pub front_filled : {A : Type 0} (count wanted : ℕ) (xs ys : List A) → wanted ≤ length xs
+front_filled : {A : Type 0} (count wanted : ℕ) (xs ys : List A) → wanted ≤ length xs
     → length ys ≡ length (take wanted xs) → count ≤ length ys
     → drop count ys ≡ drop count (take wanted xs)
     → (take count (ys ++ drop wanted xs) ≡ take count ys)
@@ -406,8 +329,82 @@ front_filled count wanted xs ys within size few rest =
       length-append ys (drop wanted xs) ∙ omega (arith, size, front, within, length-drop wanted xs),
     )
 
+-- how many bytes a block took: its containers, and what was taken for an item without a sample
+abbrev pub block_bytes : {T : Type 0} → ℕ → ℕ → ℕ → Result T ItemError → ℕ
+block_bytes count width given (Ok done) = count * width
+block_bytes count width given (Err reason) =
+    count * width + taken_without reason (given - count * width) width
+
 module _ {R A : Type 0} (left : R → Option (List ℕ))
     (refusal : SampleFormat → ℕ → ℕ → Option ReadRefusal) (meaning : SampleFormat → ℕ → ℕ → List ℕ → A) where
+  -- samples that were read into the front of a slice, and the error that ended them, are a block
+  pub is_block : (count wanted given : ℕ) (told answer : Result (Unit {0}) ItemError)
+      (fault : IoFault) (xs ys : List A) (old new : ReaderState R) → told ≡ answer
+      → wanted ≡ min (length xs) (samples_left old) → length ys ≡ length (take wanted xs)
+      → old.num_samples < 2 ^ 32 → old.spec_ex.bytes_per_sample ≤ 2 ^ 16
+      → FillsFront count told (take wanted xs) ys
+      → ReadsEach (refusal_at refusal old.spec_ex) (meaning_at meaning old.spec_ex)
+      old.spec_ex.bytes_per_sample (items_of (take count ys) (answer_of told fault)) (left old.reader)
+      (left new.reader)
+      → HasGiven (left old.reader) given (left new.reader)
+      → (IsSome (refusal_at refusal old.spec_ex) → new.reader ≡ old.reader)
+      → over_bytes left new
+      ≡ later (over_bytes left old) (requested count answer)
+      (block_bytes count old.spec_ex.bytes_per_sample given answer) (left new.reader)
+      → ReadsBlock left refusal meaning count (answer_of answer fault) xs (ys ++ drop wanted xs) old new
+  is_block count wanted given told (Ok done) fault xs ys old new shown is size small narrow fills each has untouched after =
+      let begin = over_bytes left old in
+      let width = old.spec_ex.bytes_per_sample in
+      let front = subst (λ a. FillsFront count a (take wanted xs) ys) shown fills in
+      let (taken, rest, long) =
+      front_filled count wanted xs ys (omega (arith, is)) size front.within front.rest in
+      let wide = length-take-le wanted xs (omega (arith, is)) in
+      let all = length-take-le count ys front.within in
+      record {
+        within = omega (arith, front.full, size, wide, is, long);
+        all = omega (arith, front.full, size, wide, is, long);
+        part = tt;
+        items = subst (λ (x : List A × ReaderState (Option (List ℕ))). Gives refusal meaning (map Ok x.0) begin x.1)
+            (λ i. (sym taken i, (ap (λ n. later begin n (n * width) (left new.reader)) all ∙ sym after) i))
+            (samples_are_items refusal meaning (take count ys) begin (left new.reader)
+            (omega (arith, all, front.full, size, wide, is))
+            (subst (λ a. ReadsEach (refusal_at refusal old.spec_ex) (meaning_at meaning old.spec_ex) width
+            (items_of (take count ys) (answer_of a fault)) (left old.reader) (left new.reader)) shown each));
+        counted = omega (arith, ap (λ (s : ReaderState _). samples_left s) after);
+        rest = rest;
+        untouched = untouched;
+      }
+  is_block count wanted given told (Err reason) fault xs ys old new shown is size small narrow fills each has untouched after =
+      let begin = over_bytes left old in
+      let width = old.spec_ex.bytes_per_sample in
+      let front = subst (λ a. FillsFront count a (take wanted xs) ys) shown fills in
+      let (taken, rest, long) =
+      front_filled count wanted xs ys (omega (arith, is)) size front.within front.rest in
+      let wide = length-take-le wanted xs (omega (arith, is)) in
+      let all = length-take-le count ys front.within in
+      let error = error_of_item reason fault in
+      let bytes = mul-le (length (take count ys) + 1) width (2 ^ 32) (2 ^ 16)
+      (omega (arith, all, front.part, size, wide, is, small)) narrow in
+      record {
+        within = omega (arith, front.part, size, wide, is, long);
+        all = tt;
+        part = omega (arith, front.part, size, wide, is, long);
+        items = subst (λ (x : List A × ReaderState (Option (List ℕ))).
+            Gives refusal meaning (map Ok x.0 ++ (Err error ∷ [])) begin x.1)
+            (λ i. (
+              sym taken i,
+              (ap (λ n. later begin (n + 1) (n * width + taken_without reason (given - n * width) width) (left new.reader)) all
+                  ∙ sym after) i,
+            ))
+            (error_is_item refusal meaning (take count ys) reason fault given begin (left new.reader)
+            (omega (arith, all, front.part, size, wide, is)) (omega (arith, bytes)) has
+            (subst (λ a. ReadsEach (refusal_at refusal old.spec_ex) (meaning_at meaning old.spec_ex) width
+            (items_of (take count ys) (answer_of a fault)) (left old.reader) (left new.reader)) shown each));
+        counted = omega (arith, ap (λ (s : ReaderState _). samples_left s) after);
+        rest = rest;
+        untouched = untouched;
+      }
+
   -- the items of the iterator are items of the bytes that are left
   pub items_of_bytes : (items : List (Result A Error)) (old new : ReaderState R)
       → GivesItems left refusal meaning items old new

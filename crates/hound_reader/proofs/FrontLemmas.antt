@@ -91,11 +91,7 @@ told (Refused c) (errors.IoError e) xs ys r f t =
 told (Refused c) (errors.FormatError s) xs ys (reason, is, words) f t =
     (reason, (f ∙ ap Some is, subst (λ d. AreTaken (front_taken d xs) xs ys) is t), words)
 told (Refused c) errors.Unsupported xs ys r f t = no_unsupported xs (f ∙ ap Some r)
-told (Refused c) errors.TooWide xs ys r f t = r
-told (Refused c) errors.UnfinishedSample xs ys r f t = r
-told (Refused c) errors.InvalidSampleFormat xs ys r f t = r
-told (Refused c) errors.TooLong xs ys r f t = r
-told (Refused c) errors.OutOfMemory xs ys r f t = r
+told (Refused c) _ xs ys r f t = r
 
 pub front_told : (e : HeadError) (error : Error) (o n : Option (List ℕ)) → ReportsError e error
     → Refuses e (λ c. WhereKnown o n (λ xs ys. front_fault xs ≡ Some c)) → WhereKnown o n (TakesFront e)

@@ -5,7 +5,7 @@ use Rattle.std.specs.Prelude.{IfSome, IsSome}
 use Rattle.std.specs.declared.io.Error.{Error as IoFault}
 use Rattle.hound_number.specs.{WhereKnown}
 use Rattle.hound_spec.specs.declared.error.Error.{Error}
-use Rattle.hound_spec.specs.declared.error.Error.TheVariants.{IoError, FormatError, TooWide, UnfinishedSample, Unsupported, InvalidSampleFormat, TooLong, OutOfMemory}
+use Rattle.hound_spec.specs.declared.error.Error.TheVariants.{IoError}
 use Rattle.hound_spec.specs.declared.spec.SampleFormat.{SampleFormat}
 use Rattle.hound_spec.specs.declared.spec.WavSpecEx.{WavSpecEx}
 use Rattle.hound_sample.specs.{ReadRefusal, Reads, answer_of}
@@ -22,19 +22,20 @@ a_container_is_taken None meaning width None new value read = tt
 a_container_is_taken None meaning width (Some xs) None value read = absurd read
 a_container_is_taken None meaning width (Some xs) (Some ys) value read = (read.0, read.2)
 
+-- this many samples and bytes later
+abbrev pub later : {R : Type 0} → ReaderState R → ℕ → ℕ → R → ReaderState R
+later reading samples bytes reader = record reading {
+  reader = reader;
+  samples_read = reading.samples_read + samples;
+  bytes_read = reading.bytes_read + bytes;
+}
+
 -- a sample was given, as `read` of its type does it
 pub a_sample_is_given : {R A : Type 0} (left : R → Option (List ℕ))
     (refusal : SampleFormat → ℕ → ℕ → Option ReadRefusal) (meaning : SampleFormat → ℕ → ℕ → List ℕ → A)
     (old new : ReaderState R) (answer : Result A ItemError) (fault : IoFault) (value : A)
     → old.samples_read < old.num_samples
-    → new ≡ record {
-      reader = new.reader;
-      spec_ex = old.spec_ex;
-      num_samples = old.num_samples;
-      samples_read = old.samples_read + 1;
-      bytes_read =
-          old.bytes_read + old.spec_ex.bytes_per_sample;
-    }
+    → new ≡ later old 1 old.spec_ex.bytes_per_sample new.reader
     → Reads (refusal_at refusal old.spec_ex)
     (meaning_at meaning old.spec_ex) old.spec_ex.bytes_per_sample (left old.reader)
     (left new.reader) (answer_of answer fault)
@@ -84,13 +85,7 @@ item_more None meaning width (Some bytes) None (Ok value) items read rest = absu
 item_more None meaning width (Some bytes) (Some behind) (Ok value) items read rest =
     (read.0, read.1, subst (λ bytes. AreItems None meaning width bytes items) read.2 rest)
 item_more None meaning width (Some bytes) new (Err (IoError e)) items read rest = tt
-item_more None meaning width (Some bytes) new (Err (FormatError s)) items read rest = read
-item_more None meaning width (Some bytes) new (Err TooWide) items read rest = read
-item_more None meaning width (Some bytes) new (Err UnfinishedSample) items read rest = read
-item_more None meaning width (Some bytes) new (Err Unsupported) items read rest = read
-item_more None meaning width (Some bytes) new (Err InvalidSampleFormat) items read rest = read
-item_more None meaning width (Some bytes) new (Err TooLong) items read rest = read
-item_more None meaning width (Some bytes) new (Err OutOfMemory) items read rest = read
+item_more None meaning width (Some bytes) new (Err _) items read rest = read
 
 module _ {R A : Type 0} (left : R → Option (List ℕ))
     (refusal : SampleFormat → ℕ → ℕ → Option ReadRefusal) (meaning : SampleFormat → ℕ → ℕ → List ℕ → A) where

@@ -87,11 +87,7 @@ refusal_is : (e : Error) (cause : Cause) (P : Cause → Type 0) → Names e caus
 refusal_is (errors.IoError e) cause P n p = tt
 refusal_is (errors.FormatError s) cause P (reason, e, t) p = (reason, subst P e p, t)
 refusal_is errors.Unsupported cause P n p = subst P n p
-refusal_is errors.TooWide cause P n p = n
-refusal_is errors.UnfinishedSample cause P n p = n
-refusal_is errors.InvalidSampleFormat cause P n p = n
-refusal_is errors.TooLong cause P n p = n
-refusal_is errors.OutOfMemory cause P n p = n
+refusal_is _ cause P n p = n
 
 if_some : (o : Option (List ℕ)) (Q : List ℕ → Type 0) → ((xs : List ℕ) → Q xs) → IfSome o Q
 if_some None Q f = tt
@@ -130,13 +126,7 @@ opens_ok o n spec samples place k =
 
 names_fails : (e : Error) (c : Cause) → Names e c → FailsAs e c
 names_fails (errors.IoError e) c n = tt
-names_fails (errors.FormatError s) c n = n
-names_fails errors.Unsupported c n = n
-names_fails errors.TooWide c n = n
-names_fails errors.UnfinishedSample c n = n
-names_fails errors.InvalidSampleFormat c n = n
-names_fails errors.TooLong c n = n
-names_fails errors.OutOfMemory c n = n
+names_fails _ c n = n
 
 pub no_fault_ok : (o n : Option (List ℕ)) (spec : WavSpecEx) (samples place : ℕ)
     → WhereKnown o n (λ xs ys. Readable xs spec samples place × (ys ≡ drop place xs))

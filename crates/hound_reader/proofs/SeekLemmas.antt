@@ -4,7 +4,7 @@ use Rattle.std.proofs.Math.Nat.{mul_assoc, mul-le-mul, mul-le-mul_right, div-zer
 use Rattle.std.proofs.lemmas.Int.{ints}
 use Rattle.std.proofs.lemmas.List.{length-drop, drop-drop}
 use Rattle.hound_spec.specs.declared.error.Error.{Error}
-use Rattle.hound_spec.specs.declared.error.Error.TheVariants.{IoError, FormatError, TooWide, UnfinishedSample, Unsupported, InvalidSampleFormat, TooLong, OutOfMemory}
+use Rattle.hound_spec.specs.declared.error.Error.TheVariants.{IoError}
 use Rattle.hound_spec.specs.declared.spec.SampleFormat.{SampleFormat}
 use Rattle.hound_sample.specs.{ReadRefusal, Reads}
 use Rattle.hound_medium.specs.{MediumState, Shifts, IsMoved}
@@ -97,13 +97,7 @@ reads_first : {A : Type 0} (meaning : List ℕ → A) (width : ℕ) (bytes : Lis
 reads_first meaning width bytes None (Ok value) read = absurd read
 reads_first meaning width bytes (Some behind) (Ok value) read = read.1
 reads_first meaning width bytes new (Err (IoError e)) read = tt
-reads_first meaning width bytes new (Err (FormatError s)) read = read
-reads_first meaning width bytes new (Err TooWide) read = read
-reads_first meaning width bytes new (Err UnfinishedSample) read = read
-reads_first meaning width bytes new (Err Unsupported) read = read
-reads_first meaning width bytes new (Err InvalidSampleFormat) read = read
-reads_first meaning width bytes new (Err TooLong) read = read
-reads_first meaning width bytes new (Err OutOfMemory) read = read
+reads_first meaning width bytes new (Err _) read = read
 
 module _ {R A : Type 0} (state : R → MediumState) (left : R → Option (List ℕ))
     (refusal : SampleFormat → ℕ → ℕ → Option ReadRefusal) (meaning : SampleFormat → ℕ → ℕ → List ℕ → A) where

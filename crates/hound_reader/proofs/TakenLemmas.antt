@@ -1,7 +1,6 @@
 -- How many bytes are taken if the bytes are rejected, piece after piece.
-use Rattle.std.proofs.Common.{◌≡◌, ℕ, ◌+◌, ◌*◌, ◌%◌, ◌<◌, ◌≤◌, Bool, true, false, not, ◌||◌, if◌then◌else◌, List, [], ◌++◌, length, take, drop, refl, sym, ap, ◌∙◌, subst, arith, inl, inr, slice_range, append_assoc, drop_at, le-ltb, length-append, length-drop, Option, None, Some, Result, Ok, Err, ◌==◌, nat_lt}
+use Rattle.std.proofs.Common.{◌≡◌, ℕ, ◌+◌, ◌*◌, ◌%◌, ◌≤◌, Bool, true, false, not, ◌||◌, if◌then◌else◌, List, ◌++◌, length, take, drop, refl, sym, ap, ◌∙◌, subst, arith, inl, inr, slice_range, append_assoc, drop_at, le-ltb, length-append, length-drop, Option, None, Some, Result, Ok, Err, ◌==◌, nat_lt}
 use Rattle.std.proofs.lemmas.List.{drop-append-le, drop-drop, take-append-le}
-use Rattle.std.proofs.Math.Seq.{drop-length}
 use Rattle.std.specs.Io.KnownBytes.{Consumes}
 use Rattle.hound_number.specs.{WhereKnown, number}
 use Rattle.hound_number.proofs.KnownSteps.{known_both, known_from, known_then, known_weaker}
@@ -15,7 +14,7 @@ use Rattle.hound_reader.specs.Fmt.{by_subformat, spec_of, wave_format, width_of,
 use Rattle.hound_spec.specs.declared.spec.SampleFormat.TheVariants.{Int, Float}
 use Rattle.hound_spec.specs.declared.spec.WavSpecEx.{WavSpecEx}
 use Rattle.hound_reader.specs.declared.cause.Cause.{Cause}
-use Rattle.hound_reader.specs.declared.cause.Cause.TheVariants.{Ended, Format, Unsupported}
+use Rattle.hound_reader.specs.declared.cause.Cause.TheVariants.{Format, Unsupported}
 use Rattle.hound_reader.specs.declared.cause.Reason.TheVariants.{ZeroChannels, BitsExceedWidth, Inconsistent, BitsNotWholeBytes, ZeroBits}
 use Rattle.hound_reader.specs.declared.cause.HeadError.{HeadError}
 use Rattle.hound_reader.specs.declared.cause.HeadError.TheVariants.{Failed, Refused}
@@ -39,18 +38,6 @@ takes_after h o m n f g P (Refused c) taken is same t =
     known_then h o m n (λ xs ys. AreTaken (f c xs) xs ys) (λ xs ys. AreTaken (g c xs) xs ys) taken t
     (λ ys zs p. subst (λ i. AreTaken i (h ++ ys) zs) (sym (same c ys is))
     (taken_then h ys zs (f c ys) p))
-
--- h was taken, and then all that was left, at an early end
-pub takes_end : (h : List ℕ) (k : ℕ) (o m n : Option (List ℕ)) (g : Cause → List ℕ → ℕ)
-    (e : HeadError) → Consumes o m h
-    → Refuses e (λ c. (c ≡ Ended) × WhereKnown m n (λ xs ys. (length xs < k) × (ys ≡ [])))
-    → ((ys : List ℕ) → g Ended (h ++ ys) ≡ length (h ++ ys)) → TakesFor o n g e
-takes_end h k o m n g (Failed e) taken end all = tt
-takes_end h k o m n g (Refused c) taken end all =
-    subst (λ d. WhereKnown o n (λ xs ys. AreTaken (g d xs) xs ys)) (sym end.0)
-    (known_then h o m n _ (λ xs ys. AreTaken (g Ended xs) xs ys) taken end.1
-    (λ ys zs p. subst (λ i. AreTaken i (h ++ ys) zs) (sym (all ys))
-    (omega arith, p.1 ∙ sym (drop-length (h ++ ys)))))
 
 -- exactly h was taken
 pub takes_these : (h : List ℕ) (o n : Option (List ℕ)) (g : Cause → List ℕ → ℕ) (c : Cause)
@@ -199,10 +186,3 @@ length_takes o n spec len h c fault head =
       inr (spec, len, p.0, fault),
       (head_is_there xs spec len h p.0, p.1),
     ))
-
--- no head
-pub walk_fails : (o n : Option (List ℕ)) (e : HeadError) → TakesAll RefusedAfter o n e
-    → TakesAll UnreadableAfter o n e
-walk_fails o n (Failed e) t = tt
-walk_fails o n (Refused c) t =
-    known_weaker o n _ _ t (λ xs ys (k, after, are). (k, inl after, are))
