@@ -251,8 +251,7 @@ some_answer bytes = elim (fault_or_none (front_fault bytes)) [
 pub same_answer : (bytes : List ℕ) (a b : Answer) → Answers bytes a → Answers bytes b → b ≡ a
 same_answer bytes (readable s m h) (readable t n k) a b = let e =
     heads_agree bytes s t m n h k a b in
-    ap (λ x. readable x n k) (sym e.0) ∙ ap (λ x. readable s x k) (sym e.1)
-    ∙ ap (λ x. readable s m x) (sym e.2)
+    cc (e.0, e.1, e.2)
 same_answer bytes (readable s m h) (unreadable c) a b = absurd (head_no_fault bytes s m h c a b)
 same_answer bytes (unreadable c) (readable s m h) a b = absurd (head_no_fault bytes s m h c b a)
 same_answer bytes (unreadable c) (unreadable d) a b = ap unreadable (faults_agree bytes d c b a)

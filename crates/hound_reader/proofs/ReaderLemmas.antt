@@ -66,8 +66,7 @@ same_file_answer : (bytes : List ℕ) (a b : Answer) → AnswersFile bytes a →
     → b ≡ a
 same_file_answer bytes (readable s m h) (readable t n k) a b = let e =
     readable_one bytes s t m n h k a b in
-    ap (λ x. readable x n k) (sym e.0) ∙ ap (λ x. readable s x k) (sym e.1)
-    ∙ ap (λ x. readable s m x) (sym e.2)
+    cc (e.0, e.1, e.2)
 same_file_answer bytes (readable s m h) (unreadable c) a b =
     absurd (readable_no_fault bytes s m h c a b)
 same_file_answer bytes (unreadable c) (readable s m h) a b =

@@ -3,7 +3,7 @@ use Rattle.std.proofs.Common.{◌≡◌, Bool, true, false, IsTrue, cond, ℕ, L
 use Rattle.std.specs.Prelude.{IfOk, IfErr}
 use Rattle.std.specs.Io.KnownBytes.{ReadConsumes}
 use Rattle.hound_number.specs.{Account, CountsRead, WhereKnown}
-use Rattle.hound_medium.specs.{MediumState, Gets}
+use Rattle.hound_medium.specs.{MediumState, Gets, faults_after}
 use Rattle.hound_medium.proofs.Reading.{get_consumes}
 use Rattle.hound_reader.specs.Grammar.{Head, Refused}
 use Rattle.hound_reader.specs.Walking.{Refuses, CountsFailed}
@@ -12,47 +12,37 @@ use Rattle.hound_reader.specs.declared.chunks.FileHead.{FileHead}
 use Rattle.hound_reader.specs.declared.cause.HeadError.{HeadError}
 use Rattle.hound_reader.specs.declared.cause.HeadError.TheVariants as variants
 
-none_known : {E : Type 0} (buf : List ℕ) (result : Result ℕ E) → ReadConsumes None None result buf
-none_known buf (Ok n) = (tt, λ _ _. tt)
-none_known buf (Err e) = tt
-
 -- the bytes from the place on
 pub reads_told : {E : Type 0} (tells : Bool) (buf : List ℕ) (result : Result ℕ E)
     (old new : MediumState) → (IsTrue tells → Gets buf result old new)
     → ReadConsumes (cond tells (Some (unread old)) None)
     (cond tells (Some (unread new)) None) result buf
 reads_told true buf result old new gets = get_consumes buf result old new (gets refl)
-reads_told false buf result old new gets = none_known buf result
+reads_told false buf (Ok n) old new gets = (tt, λ _ _. tt)
+reads_told false buf (Err e) old new gets = tt
 
-same_account : (old new : MediumState) (faults : ℕ) → new.faults ≡ faults
-    → new.contents ≡ old.contents → new.start ≡ old.start → new.past ≡ old.past
-    → new.flushed ≡ old.flushed → account_of new ≡ record (account_of old) { failures = faults }
-same_account old new faults f c s p l i =
-    record {
-      failures = f i;
-      kept = record { contents = c i; start = s i; past = p i; flushed = l i };
-    }
-
-account_counts : {E : Type 0} (buf : List ℕ) (result : Result ℕ E) (old new : MediumState)
-    → Gets buf result old new → CountsRead (Some (account_of old)) (Some (account_of new)) result
-account_counts buf (Ok n) old new gets =
-    same_account old new _ gets.faults gets.stays.contents gets.stays.start gets.stays.past
-    gets.flushed
-account_counts buf (Err e) old new gets =
-    same_account old new _ gets.faults gets.stays.contents gets.stays.start gets.stays.past
-    gets.flushed
-
-none_counted : {E : Type 0} (result : Result ℕ E) → CountsRead {Kept = Untouched} None None result
-none_counted (Ok n) = tt
-none_counted (Err e) = tt
+same_account : {E : Type 0} (buf : List ℕ) (result : Result ℕ E) (old new : MediumState)
+    → Gets buf result old new
+    → account_of new ≡ record (account_of old) { failures = faults_after result old.faults }
+same_account buf result old new gets i = record {
+  failures = gets.faults i;
+  kept = record {
+    contents = gets.stays.contents i;
+    start = gets.stays.start i;
+    past = gets.stays.past i;
+    flushed = gets.flushed i;
+  };
+}
 
 -- the faults, and what stays
 pub counts_told : {E : Type 0} (tells : Bool) (buf : List ℕ) (result : Result ℕ E)
     (old new : MediumState) → (IsTrue tells → Gets buf result old new)
     → CountsRead (cond tells (Some (account_of old)) None)
     (cond tells (Some (account_of new)) None) result
-counts_told true buf result old new gets = account_counts buf result old new (gets refl)
-counts_told false buf result old new gets = none_counted result
+counts_told true buf (Ok n) old new gets = same_account buf (Ok n) old new (gets refl)
+counts_told true buf (Err e) old new gets = same_account buf (Err e) old new (gets refl)
+counts_told false buf (Ok n) old new gets = tt
+counts_told false buf (Err e) old new gets = tt
 
 finds_as : (result : Result FileHead HeadError) (old new : MediumState)
     → AnswersBytes result (unread old) (unread new)
@@ -69,17 +59,6 @@ finds_as result old new answer counts =
       flushed = ap (λ (k : Untouched). k.flushed) kept;
     }
 
-finds : (result : Result FileHead HeadError) (old new : MediumState)
-    → CountsFailed (Some (account_of old)) (Some (account_of new)) result
-    → IfOk result (λ r. Head (unread old) r.spec_ex r.data_length r.data_start
-    × (unread new ≡ drop r.data_start (unread old)))
-    → IfErr result (λ e. Refuses e (λ c. Refused (unread old) c)) → FindsData result old new
-finds (Ok r) old new counts found refused = finds_as (Ok r) old new found counts
-finds (Err (variants.Failed e)) old new counts found refused =
-    finds_as (Err (variants.Failed e)) old new tt counts
-finds (Err (variants.Refused c)) old new counts found refused =
-    finds_as (Err (variants.Refused c)) old new refused counts
-
 -- the walk over a source whose bytes are known
 pub finds_told : (tells : Bool) (result : Result FileHead HeadError) (old new : MediumState)
     → IsTrue tells
@@ -92,5 +71,9 @@ pub finds_told : (tells : Bool) (result : Result FileHead HeadError) (old new : 
     (λ e. Refuses e
     (λ c. WhereKnown (cond tells (Some (unread old)) None) (cond tells (Some (unread new)) None)
     (λ xs ys. Refused xs c))) → FindsData result old new
-finds_told true result old new told counts found refused = finds result old new counts found refused
+finds_told true (Ok r) old new told counts found refused = finds_as (Ok r) old new found counts
+finds_told true (Err (variants.Failed e)) old new told counts found refused =
+    finds_as (Err (variants.Failed e)) old new tt counts
+finds_told true (Err (variants.Refused c)) old new told counts found refused =
+    finds_as (Err (variants.Refused c)) old new refused counts
 finds_told false result old new told counts found refused = absurd (let h : ⊥ = cc in h)

@@ -30,14 +30,7 @@ same_chunk p q x y isp isq e =
     let n : length p.content ≡ length q.content = isp.content
     ∙ ap (λ s. padded (number s)) b.0 ∙ sym isq.content in
     let d = same_front p.content q.content x y n b.1 in
-    let first : p ≡ record { tag = q.tag; size = p.size; content = p.content } =
-    ap (λ (t : List ℕ). record { tag = t; size = p.size; content = p.content }) a.0 in
-    let second : ◌≡◌ {A = Chunk} (record { tag = q.tag; size = p.size; content = p.content })
-    (record { tag = q.tag; size = q.size; content = p.content }) =
-    ap (λ (t : List ℕ). record { tag = q.tag; size = t; content = p.content }) b.0 in
-    let third : record { tag = q.tag; size = q.size; content = p.content } ≡ q =
-    ap (λ (t : List ℕ). record { tag = q.tag; size = q.size; content = t }) d.0 in
-    (first ∙ second ∙ third, d.1)
+    ((λ i. record { tag = a.0 i; size = b.0 i; content = d.0 i }), d.1)
 
 -- no chunk begins here
 abbrev Ends : ℕ → List ℕ → Type 0

@@ -1,5 +1,6 @@
 -- The definitions of the walk at bytes in pieces.
 use Rattle.std.proofs.Common.{◌≡◌, ℕ, ◌+◌, ◌≤◌, Bool, true, false, not, List, [], ◌∷◌, ◌++◌, length, take, drop, slice_range, refl, sym, ap, ◌∙◌, arith, take_at, drop_at, length-append, append-nil, append_assoc, le-ltb, length-take, length-drop, take_all, Option, Some, None}
+use Rattle.std.proofs.Math.Bool.{not-not}
 use Rattle.std.specs.Str.{bytes_eq}
 use Rattle.std.proofs.lemmas.Slice.Eq.{bytes_eq-Decides}
 use Rattle.std.proofs.lemmas.List.{take-append-drop}
@@ -17,10 +18,6 @@ use Rattle.hound_reader.specs.Walking.{ReadsChunk, ReadsContent, Walked}
 pub tag_test : (r b : Bool) (tag now lit : List ℕ) → r ≡ bytes_eq tag now → now ≡ lit → r ≡ b
     → bytes_eq tag lit ≡ b
 tag_test r b tag now lit e l t = sym (e ∙ ap (bytes_eq tag) l) ∙ t
-
-not-not : (b : Bool) → not (not b) ≡ b
-not-not true = refl
-not-not false = refl
 
 pub ne_test : (r b : Bool) (x tag now lit : List ℕ) → r ≡ not (bytes_eq x now) → x ≡ tag → now ≡ lit
     → r ≡ b → bytes_eq tag lit ≡ not b

@@ -1,7 +1,6 @@
 -- A written header is a head, and the containers after it are read back.
-use Rattle.std.proofs.Common.{◌≡◌, ℕ, zero, suc, ◌+◌, ◌*◌, ◌/◌, ◌%◌, ◌^◌, ◌<◌, ◌≤◌, ◌==◌, inl, inr, true, false, nat_le, List, [], ◌∷◌, ◌++◌, length, drop, append-nil, append_assoc, take_at, drop_at, length-append, refl, sym, ap, ◌∙◌, arith, le-ltb, eq-eqb, lit<, Ok}
-use Rattle.std.proofs.Math.Nat.{mul-mod_left}
-use Rattle.std.proofs.lemmas.Nat.{div-mul-add}
+use Rattle.std.proofs.Common.{◌≡◌, ℕ, suc, ◌+◌, ◌*◌, ◌/◌, ◌%◌, ◌^◌, ◌<◌, ◌≤◌, ◌==◌, inl, inr, true, false, nat_le, List, [], ◌∷◌, ◌++◌, length, drop, append-nil, append_assoc, take_at, drop_at, length-append, refl, sym, ap, ◌∙◌, arith, le-ltb, eq-eqb, lit<, Ok}
+use Rattle.std.proofs.Math.Nat.{mul-mod_left, mul-div_cancel, mul-div_cancel_left, le-mul_of_pos_right}
 use Rattle.std.proofs.lemmas.Bool.{ne_eqb, cases_Bool, and_parts}
 use Rattle.std.proofs.lemmas.Bool.Decides.{nat_tests}
 use Rattle.std.specs.List.{concat, AllByRecursion}
@@ -17,13 +16,8 @@ use Rattle.hound_reader.specs.Fmt.{wave_format, by_tag, wave_format_pcm, wave_fo
 use Rattle.hound_reader.specs.Grammar.{Chunk, spec_after, Head, Readable, joined, fault_of, ok_of, AreContainers}
 use Rattle.hound_sample.specs.{containers}
 
-times-over : (c w : ℕ) → 0 < c → c * w / c ≡ w
-times-over c w h = let e : c * w ≡ w * c + 0 = omega arith in ap (λ x. x / c) e
-    ∙ div-mul-add w c 0 h
-
 le_times : (a b : ℕ) → 0 < b → a ≤ b * a
-le_times a zero h = absurd (omega arith)
-le_times a (suc b) h = omega arith
+le_times a b h = omega (arith, le-mul_of_pos_right {m = b} a h)
 
 -- the fields of a spec fit in their bytes
 fields_fit : (tag bits : ℕ) (s : WavSpecEx) → IsWritable s → tag < 256 ^ 2
@@ -71,7 +65,7 @@ unfolding wave_format
 fields_pass tag bits s w some whole in_width =
     let p = pair_facts s.spec.sample_format s.spec.bits_per_sample s.bytes_per_sample w.pair in
     let rate = s.spec.channels * s.bytes_per_sample * s.spec.sample_rate in
-    let width = times-over s.spec.channels s.bytes_per_sample (omega (arith, w.channels)) in
+    let width = mul-div_cancel_left s.bytes_per_sample (let some : 0 < s.spec.channels = omega (arith, w.channels) in some) in
     let t1 = ne_eqb s.spec.channels 0 (λ e. omega (arith, w.channels)) in
     let t2 = le-ltb (8 * s.bytes_per_sample) bits in_width in
     let t3 = le-ltb greatest_u16 (8 * s.bytes_per_sample) (omega (arith, p.few)) in
@@ -218,15 +212,12 @@ long_head s size len rest w long fits =
     head_of s size len 40 (long_fmt s) rest (sized_fmt-long s long) refl (omega arith) refl
     (length-long_fmt s) (long_back s w) fits
 
-nat_le-true : (a b : ℕ) → nat_le a b ≡ true → a ≤ b
-nat_le-true a b h = grind (arith, nat_tests)
-
 pub header_head : (s : WavSpecEx) (size len : ℕ) (rest : List ℕ) → IsWritable s → len ≤ greatest_u32
     → Head (header s size len ++ rest) s len (data_start s)
 header_head s size len rest w fits = elim (cases_Bool (is_short s)) [
   | inl e ↦
-      rw e (short_head s size len rest w e
-      (nat_le-true s.spec.bits_per_sample 16 (and_parts _ _ e).1) fits)
+      let few : nat_le s.spec.bits_per_sample 16 ≡ true = (and_parts _ _ e).1 in
+      rw e (short_head s size len rest w e (grind (arith, nat_tests)) fits)
   | inr e ↦ rw e (long_head s size len rest w e fits)
 ]
 
@@ -259,9 +250,8 @@ canonical_back s list w a =
     let p = pair_facts s.spec.sample_format s.spec.bits_per_sample s.bytes_per_sample w.pair in
     let size = riff_size (data_start s) (length bytes) in
     let behind = bytes ++ padding (length bytes) in
-    let div : length bytes / s.bytes_per_sample ≡ length list = ap (λ t. t / s.bytes_per_sample) (n
-    ∙ add_none (length list * s.bytes_per_sample))
-    ∙ div-mul-add (length list) s.bytes_per_sample 0 p.some in
+    let div : length bytes / s.bytes_per_sample ≡ length list = ap (λ t. t / s.bytes_per_sample) n
+    ∙ mul-div_cancel (length list) p.some in
     let whole : length bytes % s.bytes_per_sample ≡ 0 = ap (λ t. t % s.bytes_per_sample) n
     ∙ mul-mod_left (length list) s.bytes_per_sample in
     let t1 = eq-eqb (length bytes % s.bytes_per_sample) 0 whole in
