@@ -1,13 +1,13 @@
 -- Bytes have an answer.
-use Rattle.std.proofs.Common.{◌≡◌, ℕ, zero, suc, ◌+◌, ◌≤◌, ◌⊎◌, inl, inr, Bool, true, false, not, cond, List, [], ◌∷◌, ◌++◌, length, take, drop, slice_range, refl, sym, ap, le_refl, zero-add, ◌∙◌, subst, arith, length-append, append_assoc, length-take, length-drop, length-take-le, ltb-false, nat_lt, Option, Some, None}
-use Rattle.std.specs.Prelude.{is_none}
+use Rattle.std.proofs.lemmas.Grind.{common_steps}
+use Rattle.std.proofs.Common.{◌≡◌, ℕ, zero, suc, ◌+◌, ◌≤◌, ◌⊎◌, inl, inr, true, List, [], ◌∷◌, ◌++◌, length, take, drop, slice_range, refl, sym, ap, le_refl, zero-add, ◌∙◌, subst, arith, length-append, append_assoc, length-take, length-drop, length-take-le, Option, Some, None}
 use Rattle.std.specs.Str.{bytes_eq}
-use Rattle.std.proofs.lemmas.Bool.{cases_Bool, not-false}
-use Rattle.std.proofs.lemmas.List.{take-append-drop, drop-drop}
+use Rattle.std.proofs.lemmas.Bool.{cases_Bool}
+use Rattle.std.proofs.lemmas.List.{take-append-drop}
 use Rattle.hound_spec.specs.declared.spec.WavSpecEx.{WavSpecEx}
 use Rattle.hound_reader.specs.declared.cause.Cause.{Cause}
 use Rattle.hound_number.specs.{number}
-use Rattle.hound_reader.specs.Grammar.{Chunk, IsChunk, chunk_bytes, fmt_fault, first_fault, Chunks, joined, last_spec, spec_after, front_fault, content_fault, chunk_fault, Answer, readable, unreadable, Answers, HasOneAnswer}
+use Rattle.hound_reader.specs.Grammar.{Chunk, IsChunk, chunk_bytes, fmt_fault, Chunks, joined, last_spec, spec_after, front_fault, content_fault, chunk_fault, Answer, readable, unreadable, Answers, HasOneAnswer}
 use Rattle.hound_spec.specs.{greatest_u32, padded, riff_tag, wave_tag, data_tag}
 use Rattle.hound_reader.proofs.WalkLemmas.{same_tag}
 use Rattle.hound_reader.proofs.Unique.{spread, heads_agree, head_no_fault, faults_agree}
@@ -22,98 +22,45 @@ abbrev OneChunk : ℕ → List ℕ → Type 0
 OneChunk c bytes = (p : Chunk) × (rest : List ℕ) × IsChunk p
     × (c + 8 + padded (number p.size) ≤ greatest_u32) × (bytes ≡ chunk_bytes p ++ rest)
 
-guard_some : (b : Bool) (c : Cause) (o : Option Cause) → cond b (Some c) o ≡ None
-    → (b ≡ false) × (o ≡ None)
-guard_some true c o h = absurd (let k : ⊥ = cc in k)
-guard_some false c o h = (refl, h)
-
-some_from : (found : Option WavSpecEx) → is_none found ≡ false
-    → (spec : WavSpecEx) × (found ≡ Some spec)
-some_from None h = absurd (let k : ⊥ = cc in k)
-some_from (Some s) h = (s, refl)
-
 parts : (bytes : List ℕ) → 8 ≤ length bytes
     → bytes ≡ take 4 bytes ++ (slice_range bytes 4 8 ++ drop 8 bytes)
-parts bytes l =
-    sym (take-append-drop 4 bytes)
-    ∙ ap (λ t. take 4 bytes ++ t)
-    (sym (take-append-drop 4 (drop 4 bytes))
-    ∙ ap (λ t. slice_range bytes 4 8 ++ t) (drop-drop 4 4 bytes))
+parts bytes l = grind (arith, common_steps)
 
-at_data : (c : ℕ) (found : Option WavSpecEx) (tag : List ℕ) (len : ℕ) (rest : List ℕ)
-    → bytes_eq tag data_tag ≡ true → content_fault c found tag len rest ≡ None
-    → (spec : WavSpecEx) × (found ≡ Some spec)
-unfolding content_fault
-at_data c found tag len rest e h =
-    let g = guard_some (is_none found) _ _ (rw e at h) in
-    some_from found g.0
-
-none_first : (a b : Option Cause) → first_fault a b ≡ None → (a ≡ None) × (b ≡ None)
-none_first None b h = (refl, h)
-none_first (Some c) b h = cc
-
-at_chunk : (c : ℕ) (found : Option WavSpecEx) (tag : List ℕ) (len : ℕ) (rest : List ℕ)
-    → bytes_eq tag data_tag ≡ false → content_fault c found tag len rest ≡ None
-    → (c + 8 + padded len ≤ greatest_u32)
-    × (fmt_fault tag len (take (padded len) rest) ≡ None)
-    × (padded len ≤ length rest)
-unfolding content_fault
-at_chunk c found tag len rest e h =
-    let g = guard_some (nat_lt greatest_u32 (c + 8 + padded len)) _ _ (rw e at h) in
-    let k = none_first (fmt_fault tag len (take (padded len) rest)) _ g.1 in
-    let l = guard_some (nat_lt (length rest) (padded len)) _ _ k.1 in
-    (ltb-false _ _ g.0, k.0, ltb-false _ _ l.0)
-
-chunk_there : (c : ℕ) (found : Option WavSpecEx) (bytes : List ℕ) → c + 8 ≤ greatest_u32
-    → 8 ≤ length bytes
-    → content_fault c found (take 4 bytes) (number (slice_range bytes 4 8)) (drop 8 bytes) ≡ None
-    → DataEnd c found bytes ⊎ OneChunk c bytes
-chunk_there c found bytes room enough h =
+no_fault_there : (c : ℕ) (found : Option WavSpecEx) (bytes : List ℕ)
+    → chunk_fault c found bytes ≡ None → DataEnd c found bytes ⊎ OneChunk c bytes
+unfolding chunk_fault content_fault
+no_fault_there c found bytes h =
     let tag = take 4 bytes in
     let size = slice_range bytes 4 8 in
     let len = number size in
     let rest = drop 8 bytes in
-    let tag_four : length tag ≡ 4 = simp length-take (omega arith) in
+    let room : c + 8 ≤ greatest_u32 = grind (arith, common_steps) in
+    let enough : 8 ≤ length bytes = grind (arith, common_steps) in
     let four : length size ≡ 4 = simp (length-take, length-drop) (omega arith) in
     let whole = parts bytes enough in
     elim (cases_Bool (bytes_eq tag data_tag)) [
-      | inl e ↦ let f = at_data c found tag len rest e h in
-          inl (
-            f.0,
-            size,
-            rest,
-            f.1,
-            room,
-            four,
-            whole
-                ∙ ap (λ t. t ++ (size ++ rest)) (same_tag tag data_tag e),
-          )
-      | inr e ↦ let k = at_chunk c found tag len rest e h in
+      | inl e ↦ let (spec, is) : (spec : WavSpecEx) × (found ≡ Some spec) = grind (arith, common_steps) in
+          inl (spec, size, rest, is, room, four, whole ∙ ap (λ t. t ++ (size ++ rest)) (same_tag tag data_tag e))
+      | inr e ↦ let limit : c + 8 + padded len ≤ greatest_u32 = grind (arith, common_steps) in
+          let sound : fmt_fault tag len (take (padded len) rest) ≡ None = grind (arith, common_steps) in
+          let within : padded len ≤ length rest = grind (arith, common_steps) in
           let n = padded len in
           let p : Chunk = record { tag = tag; size = size; content = take n rest } in
           inr (
             p,
             drop n rest,
             record {
-              tag = tag_four;
+              tag = simp length-take (omega arith);
               size = four;
-              content = length-take-le n rest k.2;
+              content = length-take-le n rest within;
               other = e;
-              sound = k.1;
+              sound = sound;
             },
-            k.0,
+            limit,
             whole ∙ ap (λ t. tag ++ (size ++ t)) (sym (take-append-drop n rest))
                 ∙ sym (spread p (drop n rest)),
           )
     ]
-
-no_fault_there : (c : ℕ) (found : Option WavSpecEx) (bytes : List ℕ)
-    → chunk_fault c found bytes ≡ None → DataEnd c found bytes ⊎ OneChunk c bytes
-unfolding chunk_fault
-no_fault_there c found bytes h =
-    let g = guard_some (nat_lt greatest_u32 (c + 8)) _ _ h in
-    let k = guard_some (nat_lt (length bytes) 8) _ _ g.1 in
-    chunk_there c found bytes (ltb-false _ _ g.0) (ltb-false _ _ k.0) k.1
 
 pub fault_or_none : (o : Option Cause) → ((c : Cause) × (o ≡ Some c)) ⊎ (o ≡ None)
 fault_or_none None = inr refl
@@ -150,14 +97,7 @@ goes_none c found bytes e = let n : c ≡ c + 0 = omega arith in
     ([], bytes, refl, tt, subst (λ i. Ending i found bytes) n e)
 
 long_chunk : (p : Chunk) → IsChunk p → 8 ≤ length (chunk_bytes p)
-long_chunk p is =
-    omega (
-      arith,
-      is.tag,
-      is.size,
-      length-append p.tag (p.size ++ p.content),
-      length-append p.size p.content,
-    )
+long_chunk p is = grind (arith, common_steps)
 
 goes : (fuel c : ℕ) (found : Option WavSpecEx) (bytes : List ℕ) → length bytes ≤ fuel
     → Goes c found bytes
@@ -185,13 +125,11 @@ front_there : (bytes : List ℕ) → front_fault bytes ≡ None
     × (bytes ≡ riff_tag ++ (size ++ (wave_tag ++ rest)))
 unfolding front_fault
 front_there bytes h =
-    let g1 = guard_some (nat_lt (length bytes) 4) _ _ h in
-    let g2 = guard_some (not (bytes_eq (take 4 bytes) riff_tag)) _ _ g1.1 in
-    let g3 = guard_some (nat_lt (length bytes) 12) _ _ g2.1 in
-    let g4 = guard_some (not (bytes_eq (slice_range bytes 8 12) wave_tag)) _ _ g3.1 in
-    let enough : 12 ≤ length bytes = ltb-false _ _ g3.0 in
-    let riff = same_tag (take 4 bytes) riff_tag (not-false _ g2.0) in
-    let wave = same_tag (slice_range bytes 8 12) wave_tag (not-false _ g4.0) in
+    let enough : 12 ≤ length bytes = grind (arith, common_steps) in
+    let is_riff : bytes_eq (take 4 bytes) riff_tag ≡ true = grind (arith, common_steps) in
+    let is_wave : bytes_eq (slice_range bytes 8 12) wave_tag ≡ true = grind (arith, common_steps) in
+    let riff = same_tag (take 4 bytes) riff_tag is_riff in
+    let wave = same_tag (slice_range bytes 8 12) wave_tag is_wave in
     let size = slice_range bytes 4 8 in (
       size,
       drop 4 (drop 8 bytes),

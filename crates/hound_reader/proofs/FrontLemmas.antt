@@ -1,10 +1,7 @@
 -- What is taken of the first twelve bytes, piece after piece.
-use Rattle.std.proofs.Common.{◌≡◌, ℕ, ◌+◌, ◌<◌, ◌≤◌, Bool, true, false, not, ◌⊎◌, inl, inr, List, [], ◌++◌, length, take, slice_range, nat_lt, if◌then◌else◌, refl, sym, ap, ◌∙◌, subst, arith, drop_at, length-append, Option, Some, None}
+use Rattle.std.proofs.lemmas.Grind.{common_steps}
+use Rattle.std.proofs.Common.{◌≡◌, ℕ, ◌+◌, ◌<◌, ◌≤◌, List, [], ◌++◌, length, refl, sym, ap, ◌∙◌, subst, arith, drop_at, length-append, Option, Some, None}
 use Rattle.std.proofs.Math.Seq.{drop-length}
-use Rattle.std.proofs.lemmas.Bool.{ltb-true}
-use Rattle.std.specs.Str.{bytes_eq}
-use Rattle.hound_spec.specs.{riff_tag, wave_tag}
-use Rattle.hound_reader.specs.declared.cause.Reason.TheVariants.{NoRiffTag, NoWaveTag}
 use Rattle.std.specs.Io.KnownBytes.{Consumes}
 use Rattle.std.proofs.KnownBytes.{Consumes-trans}
 use Rattle.hound_number.specs.{WhereKnown}
@@ -15,16 +12,14 @@ use Rattle.hound_reader.specs.Reader.{AreTaken}
 use Rattle.hound_reader.specs.Refusals.{ReportsError}
 use Rattle.hound_spec.specs.declared.error.Error.{Error}
 use Rattle.hound_spec.specs.declared.error.Error.TheVariants as errors
-use Rattle.hound_reader.specs.declared.cause.Cause.TheVariants.{Ended, Format, Unsupported}
+use Rattle.hound_reader.specs.declared.cause.Cause.TheVariants.{Ended, Unsupported}
 use Rattle.hound_reader.specs.declared.cause.HeadError.{HeadError}
 use Rattle.hound_reader.specs.declared.cause.HeadError.TheVariants.{Failed, Refused}
 
 -- these bytes were taken
 pub all_taken : (bytes : List ℕ) (k : ℕ) (o n : Option (List ℕ)) → Consumes o n bytes
     → length bytes ≡ k → WhereKnown o n (AreTaken k)
-all_taken bytes k o n taken l =
-    known_from bytes o n (AreTaken k) taken
-    (λ ys. (omega (arith, l, length-append bytes ys), sym (drop_at bytes ys k l)))
+all_taken bytes k o n taken l = grind (arith, common_steps)
 
 -- h was taken, and then a part of what was needed: a fault or the end cut it
 pub front_cut : (h : List ℕ) (k : ℕ) (o m n : Option (List ℕ)) (e : HeadError) → Consumes o m h
@@ -45,41 +40,13 @@ front_cut h k o m n (Refused c) taken room part (is, end) =
     (known_then h o m n _ (λ xs ys. AreTaken (length xs) xs ys) taken end
     (λ ys zs p. (omega arith, p.1 ∙ sym (drop-length (h ++ ys)))))
 
--- an early end: there are fewer than twelve bytes
-ended_so : (a b c d : Bool)
-    → (if a then Some Ended else if b then Some
-    (Format NoRiffTag) else if c then Some Ended else if d then Some (Format NoWaveTag) else None)
-    ≡ Some Ended → (a ≡ true) ⊎ (c ≡ true)
-ended_so true b c d e = inl refl
-ended_so false true c d e = absurd (let no : ⊥ = cc in no)
-ended_so false false true d e = inr refl
-ended_so false false false true e = absurd (let no : ⊥ = cc in no)
-ended_so false false false false e = absurd (let no : ⊥ = cc in no)
-
-no_unsupported_so : (a b c d : Bool)
-    → (if a then Some Ended else if b then Some
-    (Format NoRiffTag) else if c then Some Ended else if d then Some (Format NoWaveTag) else None)
-    ≡ Some Unsupported → ⊥
-no_unsupported_so true b c d e = cc
-no_unsupported_so false true c d e = cc
-no_unsupported_so false false true d e = cc
-no_unsupported_so false false false true e = cc
-no_unsupported_so false false false false e = cc
-
 ended_short : (xs : List ℕ) → front_fault xs ≡ Some Ended → length xs < 12
 unfolding front_fault
-ended_short xs e =
-    elim (ended_so (nat_lt (length xs) 4) (not (bytes_eq (take 4 xs) riff_tag))
-    (nat_lt (length xs) 12) (not (bytes_eq (slice_range xs 8 12) wave_tag)) e) [
-      | inl a ↦ let l : length xs < 4 = ltb-true (length xs) 4 a in omega (arith, l)
-      | inr c ↦ ltb-true (length xs) 12 c
-    ]
+ended_short xs e = grind (arith, common_steps)
 
 no_unsupported : (xs : List ℕ) → front_fault xs ≡ Some Unsupported → ⊥
 unfolding front_fault
-no_unsupported xs e =
-    no_unsupported_so (nat_lt (length xs) 4) (not (bytes_eq (take 4 xs) riff_tag))
-    (nat_lt (length xs) 12) (not (bytes_eq (slice_range xs 8 12) wave_tag)) e
+no_unsupported xs e = grind (arith, common_steps)
 
 -- what callers get for it
 told : (e : HeadError) (error : Error) (xs ys : List ℕ) → ReportsError e error

@@ -1,4 +1,5 @@
 -- The items of a run.
+use Rattle.std.proofs.lemmas.Grind.{common_steps}
 use Rattle.std.proofs.Common.{◌≡◌, ℕ, ◌+◌, ◌<◌, ◌≤◌, List, [], ◌∷◌, length, ap, ◌∙◌, subst, refl, arith, Option, Some, None, Result, Ok, Err, IsOk}
 use Rattle.std.proofs.lemmas.Bool.{false≢true}
 use Rattle.std.specs.Prelude.{IfSome, IsSome}
@@ -41,27 +42,7 @@ pub a_sample_is_given : {R A : Type 0} (left : R → Option (List ℕ))
     (left new.reader) (answer_of answer fault)
     → (IsSome (refusal_at refusal old.spec_ex) → new.reader ≡ old.reader) → answer ≡ Ok value
     → IsNext left refusal meaning (Some (Ok value)) old new
-a_sample_is_given left refusal meaning old new answer fault value inside is read untouched ok =
-    let whole =
-    subst (λ a. Reads (refusal_at refusal old.spec_ex)
-    (meaning_at meaning old.spec_ex) old.spec_ex.bytes_per_sample (left old.reader)
-    (left new.reader) (answer_of a fault)) ok read in
-    record {
-      inside = inside;
-      counted = ap (λ (r : ReaderState _). r.samples_read) is;
-      read = whole;
-      untouched = untouched;
-      bytes = ap (λ (r : ReaderState _). r.bytes_read) is;
-      taken = (
-        old.spec_ex.bytes_per_sample,
-        ap (λ (r : ReaderState _). r.bytes_read) is,
-        a_container_is_taken (refusal_at refusal old.spec_ex)
-            (meaning_at meaning old.spec_ex) old.spec_ex.bytes_per_sample (left old.reader)
-            (left new.reader) value whole,
-      );
-      spec_ex = ap (λ (r : ReaderState _). r.spec_ex) is;
-      num_samples = ap (λ (r : ReaderState _). r.num_samples) is;
-    }
+a_sample_is_given left refusal meaning old new answer fault value inside is read untouched ok = grind (arith, common_steps, a_container_is_taken)
 
 no_bytes : {A : Type 0} (left : Option (List ℕ)) (refusal : Option ReadRefusal)
     (meaning : List ℕ → A) (width : ℕ)
@@ -130,9 +111,7 @@ module _ {R A : Type 0} (left : R → Option (List ℕ))
   pub items_all : (items : List (Result A Error)) (old new end : ReaderState R)
       → GivesItems left refusal meaning items old new
       → IsNext {A = A} left refusal meaning None new end → length items ≡ samples_left old
-  items_all items old new end run none =
-      let counted = items_counted items old new run in
-      omega (arith, counted.0, counted.1, none.0, run_keeps items old new run)
+  items_all items old new end run none = grind (arith, common_steps, items_counted, run_keeps)
 
   -- and if it gave all that were left, none comes
   pub none_behind : (items : List (Result A Error)) (next : Option (Result A Error))

@@ -1,6 +1,7 @@
 -- Where a seek leads.
-use Rattle.std.proofs.Common.{◌≡◌, ℕ, zero, suc, ℤ, pos, negsuc, ◌+ℤ◌, ◌-ℤ◌, ◌+◌, ◌-◌, ◌*◌, ◌/◌, ◌^◌, ◌<◌, ◌≤◌, List, [], ◌∷◌, length, refl, take, drop, arith, subst, sym, ap, ◌∙◌, Option, Some, None, Result, Ok, Err}
-use Rattle.std.proofs.Math.Nat.{mul_assoc, mul-le-mul, mul-le-mul_right, div-zero, div-mul-le_self}
+use Rattle.std.proofs.lemmas.Grind.{common_steps}
+use Rattle.std.proofs.Common.{◌≡◌, ℕ, zero, suc, ℤ, pos, negsuc, ◌+ℤ◌, ◌-ℤ◌, ◌+◌, ◌-◌, ◌*◌, ◌/◌, ◌^◌, ◌<◌, ◌≤◌, List, [], ◌∷◌, length, take, drop, arith, subst, sym, ap, ◌∙◌, Option, Some, None, Result, Ok, Err}
+use Rattle.std.proofs.Math.Nat.{mul_assoc, mul-le-mul_right, div-zero, div-mul-le_self}
 use Rattle.std.proofs.lemmas.Int.{ints}
 use Rattle.std.proofs.lemmas.List.{length-drop, drop-drop}
 use Rattle.hound_spec.specs.declared.error.Error.{Error}
@@ -8,10 +9,9 @@ use Rattle.hound_spec.specs.declared.error.Error.TheVariants.{IoError}
 use Rattle.hound_spec.specs.declared.spec.SampleFormat.{SampleFormat}
 use Rattle.hound_sample.specs.{ReadRefusal, Reads}
 use Rattle.hound_medium.specs.{MediumState, Shifts, IsMoved}
-use Rattle.hound_number.specs.{WhereKnown}
 use Rattle.std.proofs.lemmas.Option.{same_Some}
 use Rattle.hound_spec.specs.declared.spec.WavSpecEx.{WavSpecEx}
-use Rattle.hound_reader.specs.Reader.{ReaderState, IsNext, CountsTaken, AreTaken, refusal_at, meaning_at}
+use Rattle.hound_reader.specs.Reader.{ReaderState, IsNext, CountsTaken, refusal_at, meaning_at}
 use Rattle.hound_reader.specs.Seeking.{HasSought, Seeks, StandsAsCounted, IsAtCount, ReadsInPlace, PassesItem, Follows, IsMeaningOf, container_at, samples_before, bytes_before}
 use Rattle.hound_reader.specs.Sources.{unread}
 use Rattle.hound_spec.specs.{greatest_u32}
@@ -19,9 +19,7 @@ use Rattle.hound_spec.specs.{greatest_u32}
 -- the place of a frame fits in 63 bits
 pub frame_small : (time channels width : ℕ) → time ≤ greatest_u32 → channels * width ≤ 65535
     → time * channels * width < 2 ^ 63
-frame_small time channels width t f =
-    let p : time * (channels * width) ≤ greatest_u32 * 65535 = mul-le-mul t f in
-    omega (arith, p, mul_assoc time channels width)
+frame_small time channels width t f = grind (arith, common_steps)
 
 -- and so is the place that a reader counts
 pub counted_small : (samples bytes channels width : ℕ) → samples ≤ greatest_u32 * channels
@@ -41,13 +39,6 @@ moved : (place new : ℕ) (by : ℤ) → IsMoved place by new → pos new ≡ po
 moved place new (pos n) m = omega (arith, ints, m)
 moved place new (negsuc n) m = omega (arith, ints, m)
 
--- a shift by the distance between two places leads from the one to the other
-pub arrives : (start from to place new : ℕ) → place ≡ start + from
-    → IsMoved place (pos to -ℤ pos from) new → new ≡ start + to
-arrives start from to place new stood m =
-    let e = moved place new (pos to -ℤ pos from) m in
-    omega (arith, ints, stood, e)
-
 -- the first sample of a frame that the file has is one of its samples
 pub frame_inside : (time channels samples : ℕ) → time < samples / channels
     → time * channels < samples
@@ -61,9 +52,7 @@ module _ {R : Type 0} (state : R → MediumState) (start time : ℕ) (old new : 
     (sought : HasSought state start time old new) where
   -- the place of the source after a seek
   pub sought_place : (state new.reader).place ≡ start + bytes_before time old.spec_ex
-  sought_place =
-      arrives start old.bytes_read (bytes_before time old.spec_ex) (state old.reader).place
-      (state new.reader).place sought.stood sought.seeks.source.place
+  sought_place = grind (arith, common_steps)
 
   -- which the reader counts
   pub sought_counted : (state new.reader).place ≡ start + new.bytes_read
@@ -72,9 +61,7 @@ module _ {R : Type 0} (state : R → MediumState) (start time : ℕ) (old new : 
   -- what is left there
   pub sought_unread : unread (state new.reader) ≡ drop (start + bytes_before time old.spec_ex)
       (state old.reader).contents
-  sought_unread =
-      ap (λ n. drop n (state new.reader).contents) sought_place
-      ∙ ap (drop (start + bytes_before time old.spec_ex)) sought.seeks.source.stays.contents
+  sought_unread = grind (arith, common_steps)
 
   -- and it has the whole container, if the data have all of theirs
   pub sought_there : time < old.num_samples / old.spec_ex.spec.channels
@@ -136,20 +123,11 @@ module _ {R A : Type 0} (state : R → MediumState) (left : R → Option (List �
       (Some (drop (bytes_before time old.spec_ex) (drop start (state old.reader).contents)))
       (left new.reader) item) taken known_read)
 
-known_left : (o n : Option (List ℕ)) (xs : List ℕ) (P : List ℕ → List ℕ → Type 0) → o ≡ Some xs
-    → WhereKnown o n P → (ys : List ℕ) × (n ≡ Some ys) × P xs ys
-known_left None n xs P e k = absurd (let no : ⊥ = cc in no)
-known_left (Some zs) None xs P e k = absurd k
-known_left (Some zs) (Some ys) xs P e k = (ys, refl, subst (λ l. P l ys) (same_Some zs xs e) k)
-
 module _ {R : Type 0} (left : R → Option (List ℕ)) where
   -- what an item took is counted
   pub took_counted : (bytes : List ℕ) (old new : ReaderState R) → StandsAsCounted left bytes old
       → CountsTaken left old new → StandsAsCounted left bytes new
-  took_counted bytes old new stands (n, count, known) =
-      let p = known_left (left old.reader) (left new.reader) (drop old.bytes_read bytes)
-      (AreTaken n) stands known in
-      p.1 ∙ ap Some (p.2.1 ∙ drop-drop n old.bytes_read bytes ∙ ap (λ i. drop i bytes) (sym count))
+  took_counted bytes old new stands (n, count, known) = grind (arith, common_steps)
 
   -- an item leaves the rest as counted
   pub item_counted : {A : Type 0} (refusal : SampleFormat → ℕ → ℕ → Option ReadRefusal)
@@ -187,26 +165,13 @@ module _ {R : Type 0} (left : R → Option (List ℕ)) (state : R → MediumStat
       (meaning : SampleFormat → ℕ → ℕ → List ℕ → A) (old new : ReaderState R) (item : Result A Error)
       → IsNext left refusal meaning (Some item) old new
       → ReadsInPlace (state old.reader) (state new.reader) → PassesItem left state old new
-  item_passes refusal meaning old new item step place =
-      record {
-        taken = step.taken;
-        in_place = place;
-        spec_ex = step.spec_ex;
-        num_samples = step.num_samples;
-      }
+  item_passes refusal meaning old new item step place = grind (arith, common_steps)
 
   module _ (told : (r : R) → left r ≡ Some (unread (state r))) where
     -- the source moved by what the item counts
     passed : (start : ℕ) (old new : ReaderState R) → IsAtCount state start old
         → PassesItem left state old new → IsAtCount state start new
-    passed start old new stood step =
-        let p = known_left (left old.reader) (left new.reader) (unread (state old.reader))
-        (AreTaken step.taken.0) (told old.reader) step.taken.2 in
-        let same : p.0 ≡ unread (state new.reader) = same_Some _ _ (sym p.1 ∙ told new.reader) in
-        let l : length (unread (state new.reader)) ≡ length
-        (unread (state old.reader)) - step.taken.0 =
-        ap length (sym same ∙ p.2.1) ∙ length-drop step.taken.0 (unread (state old.reader)) in
-        omega (arith, stood, step.in_place.place, l, p.2.0, step.taken.1)
+    passed start old new stood step = grind (arith, common_steps)
 
     -- after all calls the source is at the place counted, over the same contents
     pub stands_after : (start : ℕ) (calls : List (Option ℕ)) (old new : ReaderState R)

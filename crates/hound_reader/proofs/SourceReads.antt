@@ -1,13 +1,14 @@
 -- A source whose bytes are known, as an input.
-use Rattle.std.proofs.Common.{◌≡◌, Bool, true, false, IsTrue, cond, ℕ, List, drop, None, Some, Result, Ok, Err, refl, ap}
+use Rattle.std.proofs.lemmas.Grind.{common_steps}
+use Rattle.std.proofs.Common.{◌≡◌, Bool, true, false, IsTrue, cond, ℕ, List, drop, None, Some, Result, Ok, Err, refl, arith}
 use Rattle.std.specs.Prelude.{IfOk, IfErr}
 use Rattle.std.specs.Io.KnownBytes.{ReadConsumes}
-use Rattle.hound_number.specs.{Account, CountsRead, WhereKnown}
+use Rattle.hound_number.specs.{CountsRead, WhereKnown}
 use Rattle.hound_medium.specs.{MediumState, Gets, faults_after}
 use Rattle.hound_medium.proofs.Reading.{get_consumes}
 use Rattle.hound_reader.specs.Grammar.{Head, Refused}
 use Rattle.hound_reader.specs.Walking.{Refuses, CountsFailed}
-use Rattle.hound_reader.specs.Sources.{AnswersBytes, Untouched, unread, account_of, faults_after_walk, FindsData}
+use Rattle.hound_reader.specs.Sources.{AnswersBytes, unread, account_of, faults_after_walk, FindsData}
 use Rattle.hound_reader.specs.declared.chunks.FileHead.{FileHead}
 use Rattle.hound_reader.specs.declared.cause.HeadError.{HeadError}
 use Rattle.hound_reader.specs.declared.cause.HeadError.TheVariants as variants
@@ -48,16 +49,7 @@ finds_as : (result : Result FileHead HeadError) (old new : MediumState)
     → AnswersBytes result (unread old) (unread new)
     → account_of new ≡ record (account_of old) { failures = faults_after_walk result old.faults }
     → FindsData result old new
-finds_as result old new answer counts =
-    let kept = ap (λ (a : Account Untouched). a.kept) counts in
-    record {
-      answer = answer;
-      faults = ap (λ (a : Account Untouched). a.failures) counts;
-      contents = ap (λ (k : Untouched). k.contents) kept;
-      start = ap (λ (k : Untouched). k.start) kept;
-      past = ap (λ (k : Untouched). k.past) kept;
-      flushed = ap (λ (k : Untouched). k.flushed) kept;
-    }
+finds_as result old new answer counts = grind (arith, common_steps)
 
 -- the walk over a source whose bytes are known
 pub finds_told : (tells : Bool) (result : Result FileHead HeadError) (old new : MediumState)

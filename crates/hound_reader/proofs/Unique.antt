@@ -1,4 +1,5 @@
 -- For given bytes there is one answer.
+use Rattle.std.proofs.lemmas.Grind.{common_steps}
 use Rattle.std.proofs.Common.{◌≡◌, ℕ, ◌+◌, ◌≤◌, inl, inr, true, List, [], ◌∷◌, ◌++◌, length, take, drop, refl, sym, ap, ◌∙◌, subst, arith, take_at, drop_at, length-append, append_assoc, le-ltb, Option, Some, None}
 use Rattle.std.specs.Str.{bytes_eq}
 use Rattle.std.proofs.lemmas.Bool.{true≢false}
@@ -65,14 +66,7 @@ content_sound : (c : ℕ) (found : Option WavSpecEx) (p : Chunk) (rest : List �
     → c + 8 + padded (number p.size) ≤ greatest_u32
     → content_fault c found p.tag (number p.size) (p.content ++ rest) ≡ None
 unfolding content_fault
-content_sound c found p rest is limit =
-    let n = padded (number p.size) in
-    let room = le-ltb greatest_u32 (c + 8 + padded (number p.size)) limit in
-    let cut = take_at p.content rest n is.content in
-    let enough =
-    le-ltb (length (p.content ++ rest)) n
-    (omega (arith, length-append p.content rest, is.content)) in
-    rw (is.other, room, cut, is.sound, enough) refl
+content_sound c found p rest is limit = grind (arith, common_steps)
 
 -- a chunk within the limit has no fault
 chunk_sound : (c : ℕ) (found : Option WavSpecEx) (p : Chunk) (rest : List ℕ) → IsChunk p
@@ -118,12 +112,7 @@ data_ends c size rest p more is limit e =
 data_sound : (c : ℕ) (spec : WavSpecEx) (size rest : List ℕ) → c + 8 ≤ greatest_u32
     → length size ≡ 4 → chunk_fault c (Some spec) (data_tag ++ (size ++ rest)) ≡ None
 unfolding chunk_fault content_fault
-data_sound c spec size rest limit four =
-    let room = le-ltb greatest_u32 (c + 8) limit in
-    let enough =
-    le-ltb (length (data_tag ++ (size ++ rest))) 8
-    (omega (arith, four, length-append size rest)) in
-    rw (room, enough) refl
+data_sound c spec size rest limit four = grind (arith, common_steps)
 
 front_sound : (size rest : List ℕ) → length size ≡ 4
     → front_fault (riff_tag ++ (size ++ (wave_tag ++ rest))) ≡ None
@@ -148,12 +137,7 @@ no_front_fault bytes chunks rest w = ap front_fault w.whole
 pub same_walks : (bytes : List ℕ) (ps qs : List Chunk) (x y : List ℕ) → Walk bytes ps x
     → Walk bytes qs y → Ends (length (joined ps)) x → Ends (length (joined qs)) y
     → (ps ≡ qs) × (x ≡ y)
-same_walks bytes ps qs x y v w ex ey =
-    let a = append_cancel_left riff_tag _ _ (sym v.whole ∙ w.whole) in
-    let b = same_front v.size w.size _ _ (v.four ∙ sym w.four) a in
-    let d = append_cancel_left wave_tag _ _ b.1 in
-    same_walk 0 (length (joined ps)) (length (joined qs)) ps qs x y v.each w.each d (omega arith)
-    (omega arith) ex ey
+same_walks bytes ps qs x y v w ex ey = grind (arith, common_steps, append_cancel_left, same_front, same_walk)
 
 pub heads_agree : (bytes : List ℕ) (s t : WavSpecEx) (m n h k : ℕ) → Head bytes s m h
     → Head bytes t n k → (s ≡ t) × (m ≡ n) × (h ≡ k)

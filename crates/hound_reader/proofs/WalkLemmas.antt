@@ -1,4 +1,5 @@
 -- The definitions of the walk at bytes in pieces.
+use Rattle.std.proofs.lemmas.Grind.{common_steps}
 use Rattle.std.proofs.Common.{◌≡◌, ℕ, ◌+◌, ◌≤◌, Bool, true, false, not, List, [], ◌∷◌, ◌++◌, length, take, drop, slice_range, refl, sym, ap, ◌∙◌, arith, take_at, drop_at, length-append, append-nil, append_assoc, le-ltb, length-take, length-drop, take_all, Option, Some, None}
 use Rattle.std.proofs.Math.Bool.{not-not}
 use Rattle.std.specs.Str.{bytes_eq}
@@ -95,10 +96,7 @@ joined-more (q ∷ ps) p rest = append_assoc (chunk_bytes q) (joined (ps ++ p �
 
 length-joined-more : (ps : List Chunk) (p : Chunk)
     → length (joined (ps ++ p ∷ [])) ≡ length (joined ps) + length (chunk_bytes p)
-length-joined-more ps p =
-    ap length (sym (append-nil (joined (ps ++ p ∷ [])))) ∙ ap length (joined-more ps p [])
-    ∙ length-append (joined ps) (chunk_bytes p ++ [])
-    ∙ ap (λ t. length (joined ps) + length t) (append-nil (chunk_bytes p))
+length-joined-more ps p = grind (arith, common_steps)
 
 -- one more chunk
 pub walked_more : (xs ys zs : List ℕ) (c taken : ℕ) (found next : Option WavSpecEx)

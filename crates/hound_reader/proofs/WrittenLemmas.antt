@@ -1,4 +1,5 @@
 -- A written header is a head, and the containers after it are read back.
+use Rattle.std.proofs.lemmas.Grind.{common_steps}
 use Rattle.std.proofs.Common.{◌≡◌, ℕ, suc, ◌+◌, ◌*◌, ◌/◌, ◌%◌, ◌^◌, ◌<◌, ◌≤◌, ◌==◌, inl, inr, true, false, nat_le, List, [], ◌∷◌, ◌++◌, length, drop, append-nil, append_assoc, take_at, drop_at, length-append, refl, sym, ap, ◌∙◌, arith, le-ltb, eq-eqb, lit<, Ok}
 use Rattle.std.proofs.Math.Nat.{mul-mod_left, mul-div_cancel, mul-div_cancel_left, le-mul_of_pos_right}
 use Rattle.std.proofs.lemmas.Bool.{ne_eqb, cases_Bool, and_parts}
@@ -22,28 +23,7 @@ le_times a b h = omega (arith, le-mul_of_pos_right {m = b} a h)
 -- the fields of a spec fit in their bytes
 fields_fit : (tag bits : ℕ) (s : WavSpecEx) → IsWritable s → tag < 256 ^ 2
     → bits ≤ 8 * s.bytes_per_sample → FieldsFit (fields tag bits s)
-fields_fit tag bits s w small in_width =
-    let p = pair_facts s.spec.sample_format s.spec.bits_per_sample s.bytes_per_sample w.pair in
-    let frame = s.spec.channels * s.bytes_per_sample in
-    let whole_frame : s.bytes_per_sample ≤ frame =
-    le_times s.bytes_per_sample s.spec.channels (omega (arith, w.channels)) in
-    record {
-      tag = small;
-      channels =
-          omega (
-            arith,
-            le_times s.spec.channels s.bytes_per_sample (omega (arith, p.some)),
-            w.align,
-          );
-      rate = omega (
-        arith,
-        le_times s.spec.sample_rate frame (omega (arith, whole_frame, p.some)),
-        w.byte_rate,
-      );
-      byte_rate = omega (arith, w.byte_rate);
-      align = omega (arith, w.align);
-      bits = omega (arith, in_width, p.few);
-    }
+fields_fit tag bits s w small in_width = grind (arith, common_steps, pair_facts, le_times)
 
 -- a spec with other bits and format
 abbrev with_fields : WavSpecEx → ℕ → SampleFormat → WavSpecEx
