@@ -4,7 +4,7 @@ use Rattle.std.proofs.lemmas.Bool.{cases_lt}
 use Rattle.hound_medium.specs.{moment, overlay, placed, MediumState}
 use Rattle.hound_medium.proofs.Overlays.{length-placed}
 use Rattle.hound_medium.proofs.Spans.{moment_before, moment_last}
-use Rattle.hound_writer.specs.{IsPatched, Patches, PatchesAtEach}
+use Rattle.hound_writer.specs.{IsPatched, PatchesAtEach}
 use Rattle.hound_repair.specs.Damages.{FindsDamage, IsSoundDamage, PutsPad, repair_of}
 use Rattle.hound_repair.specs.Repairing.{FlushesBeforePad, HalfMended, HalfMendedAtEach, MendsAtEach}
 use Rattle.hound_repair.specs.declared.look.Damage.{Damage}
@@ -56,13 +56,7 @@ module _ (d : Damage) (sound : IsSoundDamage d) (a b : MediumState) where
             (sym (ap (moment c.start c.past) last ∙ moment_last c replays)) half
       ]
 
--- sizes alone come before no pad byte
-pub sizes_flushed : {T E : Type 0} (p riff n : ℕ) (result : Result T E) (a b : MediumState)
-    → Patches p riff n result a b → FlushesBeforePad a b
-sizes_flushed p riff n result a b patches longer =
-    absurd (omega (arith, longer, patches.half.2.same.long))
-
--- and they are flushed before it
+-- the sizes are flushed before the pad byte
 pub pad_flushed : {T E : Type 0} (keeps : Bool) (end : ℕ) (result : Result T E)
     (a b c : MediumState) → IsTrue keeps → b.flushed ≡ length b.past → PutsPad keeps end result b c
     → FlushesBeforePad a c

@@ -1,6 +1,6 @@
 -- What mending a file leaves.
-use Rattle.std.proofs.Common.{◌≡◌, ℕ, ◌+◌, ◌-◌, ◌*◌, ◌≤◌, true, false, List, [], ◌∷◌, ◌++◌, length, take, Bool, Result, Ok, Err, IsErr, OnOk, MatchResult, refl, sym, ap, ◌∙◌, subst, arith, eqb-true, length-drop, length-take}
-use Rattle.std.proofs.lemmas.Bool.{and_parts, false≢true}
+use Rattle.std.proofs.Common.{◌≡◌, ℕ, ◌+◌, ◌-◌, ◌*◌, ◌≤◌, true, false, List, [], ◌∷◌, ◌++◌, length, take, Bool, Result, Ok, Err, OnOk, MatchResult, refl, sym, ap, ◌∙◌, subst, arith, eqb-true, length-drop, length-take}
+use Rattle.std.proofs.lemmas.Bool.{and_parts}
 use Rattle.std.proofs.lemmas.List.{append-nil}
 use Rattle.std.specs.declared.io.Error.{Error as IoFault}
 use Rattle.hound_spec.specs.{riff_size}
@@ -57,30 +57,7 @@ module _ (d : Damage) (sound : IsSoundDamage d) (a b : MediumState)
       subst (λ riff. IsPatched (start - 4) riff a.contents n p.half.0 b.contents)
       sound.sizes.riff p.half.2
 
-  -- sizes that a fault cut
-  pub put_cut : {T E : Type 0} (fault : IoFault) (answer : Result T E) → IsErr answer
-      → Patches {T = Unit {0}} (start - 4) d.sizes.riff_size n (Err fault) a b
-      → PutsSizes d answer a b
-  put_cut fault (Ok x) err patches = absurd (false≢true err)
-  put_cut fault (Err e) err patches = record {
-    contents = tt;
-    half = before_pad start n patches.half.0 _ _ patches.half.1 (half_put (Err fault) patches);
-    flushed = tt;
-    faults = patches.faults;
-  }
-
-  -- sizes that were put, where no pad byte is missing
-  pub put_sizes_only : {E : Type 0} (x : Unit {0}) → missing_pad n d.held ≡ []
-      → Patches {E = IoFault} (start - 4) d.sizes.riff_size n (Ok x) a b
-      → PutsSizes {E = E} d (Ok x) a b
-  put_sizes_only x none patches = record {
-    contents = mended_by d sound a.contents [] b.contents held_is none (patches.contents ∙ sym (append-nil _));
-    half = before_pad start n patches.half.0 _ _ patches.half.1 (half_put (Ok x) patches);
-    flushed = patches.flushed;
-    faults = patches.faults;
-  }
-
-  -- and then the pad byte
+  -- the sizes were put, and then the pad byte
   pub put_both : {T E : Type 0} (keeps : Bool) (x : Unit {0}) (result : Result T E)
       (c : MediumState) → missing_pad n d.held ≡ 0 ∷ []
       → Patches {E = IoFault} (start - 4) d.sizes.riff_size n (Ok x) a b
