@@ -1,17 +1,16 @@
 -- A file that was repaired is whole.
-use Rattle.std.proofs.Common.{◌≡◌, ◌⊎◌, ℕ, zero, suc, ◌+◌, ◌-◌, ◌*◌, ◌/◌, ◌%◌, ◌≤◌, Bool, true, false, IsTrue, cond, ◌&&◌, List, [], ◌++◌, length, drop, inl, inr, refl, sym, ap, ◌∙◌, subst, arith, eqb-true, eq-eqb, length-append, length-drop}
-use Rattle.std.specs.Prelude.{◌==◌, replicate}
-use Rattle.std.proofs.lemmas.Bool.{eqb-false}
-use Rattle.std.proofs.lemmas.List.{length-replicate}
-use Rattle.std.proofs.lemmas.Nat.{div-add-mod', div-mul-add, mod-mul-add, mod_below}
+use Rattle.std.proofs.lemmas.Grind.{common_steps}
+use Rattle.std.proofs.Common.{◌≡◌, ◌⊎◌, ℕ, ◌+◌, ◌-◌, ◌*◌, ◌/◌, ◌%◌, ◌≤◌, Bool, true, IsTrue, cond, ◌&&◌, List, length, drop, inl, inr, refl, sym, ap, ◌∙◌, subst, arith, eq-eqb, length-append, length-drop}
+use Rattle.std.proofs.Math.Nat.{mul-div_cancel, mul-mod_left}
+use Rattle.std.proofs.lemmas.Nat.{div-add-mod'}
 use Rattle.hound_spec.specs.declared.spec.WavSpecEx.{WavSpecEx}
 use Rattle.hound_spec.specs.{riff_size}
 use Rattle.hound_medium.specs.{MediumState}
 use Rattle.hound_reader.specs.{Head}
 use Rattle.hound_reader.proofs.Unique.{heads_agree}
 use Rattle.hound_writer.proofs.Heads.{head_behind, head_field, head_inside}
-use Rattle.hound_writer.specs.{field, with_sizes}
-use Rattle.hound_repair.specs.Held.{is_followed, are_right, data_held, ends_with_pad, frame_length, frames_held, held, mended, missing_pad, right_length}
+use Rattle.hound_writer.specs.{field}
+use Rattle.hound_repair.specs.Held.{is_followed, are_right, data_held, ends_with_pad, frame_length, frames_held, held, mended, missing_pad}
 use Rattle.hound_repair.specs.Repairing.{HasRightSizes, IsFoundAt, LeavesFor, Repairs, UnlessFollowed, found_length, frames_found, state_of}
 use Rattle.hound_repair.specs.declared.sizes.Repair.{Repair}
 use Rattle.hound_repair.specs.declared.sizes.RepairState.{RepairState}
@@ -23,16 +22,7 @@ pub held_cases : (f len n : ℕ)
     → (data_held f len n ≡ n)
     ⊎ ((data_held f len n ≡ len) × (n ≡ len + 1) × (len % 2 ≡ 1) × (len % f ≡ 0))
 unfolding data_held ends_with_pad
-held_cases f len n = by (n == len + 1) (len % 2 == 1) (len % f == 0) refl refl refl
-  where
-    by : (a b c : Bool) → (n == len + 1) ≡ a → (len % 2 == 1) ≡ b → (len % f == 0) ≡ c
-        → (cond (a && (b && c)) len n ≡ n)
-        ⊎ ((cond (a && (b && c)) len n ≡ len) × (n ≡ len + 1) × (len % 2 ≡ 1) × (len % f ≡ 0))
-    by false b c ea eb ec = inl refl
-    by true false c ea eb ec = inl refl
-    by true true false ea eb ec = inl refl
-    by true true true ea eb ec =
-        inr (refl, eqb-true n (len + 1) ea, eqb-true (len % 2) 1 eb, eqb-true (len % f) 0 ec)
+held_cases f len n = grind (arith, common_steps)
 
 held_pad : (f len : ℕ) → len % 2 ≡ 1 → len % f ≡ 0 → data_held f len (len + 1) ≡ len
 unfolding data_held ends_with_pad
@@ -43,25 +33,10 @@ held_pad f len odd whole = λ i.
 pad_cases : (len n : ℕ)
     → ((n ≡ len) × (length (missing_pad len n) ≡ len % 2))
     ⊎ ((n ≡ len → ⊥) × (length (missing_pad len n) ≡ 0))
-pad_cases len n = by (n == len) refl
-  where
-    by : (b : Bool) → (n == len) ≡ b
-        → ((n ≡ len) × (length (cond b (replicate {A = ℕ} (len % 2) 0) []) ≡ len % 2))
-        ⊎ ((n ≡ len → ⊥) × (length (cond b (replicate {A = ℕ} (len % 2) 0) []) ≡ 0))
-    by true is = inl (eqb-true n len is, length-replicate (len % 2) 0)
-    by false is = inr (eqb-false n len is, refl)
-
-ne_zero : (k : ℕ) → (k ≡ 0 → ⊥) → 1 ≤ k
-ne_zero zero not = absurd (not refl)
-ne_zero (suc k) not = omega arith
+pad_cases len n = grind (arith, common_steps)
 
 cases_even : (l : ℕ) → (l % 2 ≡ 0) ⊎ (l % 2 ≡ 1)
-cases_even l = by (l % 2 == 0) refl
-  where
-    by : (b : Bool) → (l % 2 == 0) ≡ b → (l % 2 ≡ 0) ⊎ (l % 2 ≡ 1)
-    by true is = inl (eqb-true (l % 2) 0 is)
-    by false is =
-        inr (omega (arith, mod_below l 2 (omega arith), ne_zero (l % 2) (eqb-false (l % 2) 0 is)))
+cases_even l = grind (arith, common_steps)
 
 -- of mended contents the same frames are held
 pub frames_again : (f len n : ℕ) → 1 ≤ f
@@ -70,12 +45,6 @@ pub frames_again : (f len n : ℕ) → 1 ≤ f
     ≡ data_held f len n / f
 frames_again f len n some = go (data_held f len n / f) refl (held_cases f len n)
   where
-    back : (q : ℕ) → q * f / f ≡ q
-    back q = ap (λ k. k / f) (let e : q * f ≡ q * f + 0 = omega arith in e) ∙ div-mul-add q f 0 some
-
-    whole : (q : ℕ) → q * f % f ≡ 0
-    whole q = ap (λ k. k % f) (let e : q * f ≡ q * f + 0 = omega arith in e) ∙ mod-mul-add q f 0 some
-
     go : (q : ℕ) → data_held f len n / f ≡ q
         → (data_held f len n ≡ n)
         ⊎ ((data_held f len n ≡ len) × (n ≡ len + 1) × (len % 2 ≡ 1) × (len % f ≡ 0))
@@ -84,10 +53,10 @@ frames_again f len n some = go (data_held f len n / f) refl (held_cases f len n)
         let l = q * f in
         let m = n + length (missing_pad l n) in
         elim (held_cases f l m) [
-          | inr (held_is, one, odd, frames) ↦ ap (λ k. k / f) held_is ∙ back q
+          | inr (held_is, one, odd, frames) ↦ ap (λ k. k / f) held_is ∙ mul-div_cancel q some
           | inl all ↦
               let padded : m ≡ l + 1 → l % 2 ≡ 1 → ⊥ =
-              λ is odd. omega (arith, all, ap (data_held f l) is, held_pad f l odd (whole q), is) in
+              λ is odd. omega (arith, all, ap (data_held f l) is, held_pad f l odd (mul-mod_left q f), is) in
               let same : n ≡ m → n / f ≡ q → data_held f l m / f ≡ q =
               λ e d. ap (λ k. k / f) (all ∙ sym e) ∙ d in
               elim first [
@@ -121,11 +90,7 @@ frames_again f len n some = go (data_held f len n / f) refl (held_cases f len n)
 right_again : (s : WavSpecEx) (start len riff n frames : ℕ)
     → len ≡ frames * frame_length s → riff ≡ riff_size start len → frames_held s len n ≡ frames
     → are_right s start len riff n ≡ true
-right_again s start len riff n frames len_is riff_is held_is =
-    let right : right_length s len n ≡ len =
-    ap (λ k. k * frame_length s) held_is ∙ sym len_is in
-    λ i. eq-eqb riff (riff_size start (right_length s len n)) (riff_is ∙ ap (riff_size start) (sym right)) i
-    && eq-eqb len (right_length s len n) (sym right) i
+right_again s start len riff n frames len_is riff_is held_is = grind (arith, common_steps)
 
 -- what the sizes of a file that isn't followed by chunks are
 sizes_of : (was : RepairState) (found : Repair) (start : ℕ) (contents : List ℕ)
@@ -138,18 +103,7 @@ sizes_of HasChunksAfterData found start contents alone right = absurd (alone ref
 -- how many bytes a mended file holds
 held_mended : (start n : ℕ) (c : List ℕ) → 20 ≤ start → start ≤ length c
     → held start (mended start n c) ≡ held start c + length (missing_pad n (held start c))
-held_mended start n c behind inside =
-    let sizes = with_sizes (start - 4) (riff_size start n) n c in
-    let pad = missing_pad n (held start c) in
-    let same = same_sizes (start - 4) (riff_size start n) n c (omega (arith, behind)) (omega (arith, behind, inside)) in
-    omega (
-      arith,
-      length-drop start (sizes ++ pad),
-      length-append sizes pad,
-      same.long,
-      length-drop start c,
-      inside,
-    )
+held_mended start n c behind inside = grind (arith, common_steps, same_sizes, length-drop, length-append)
 
 -- and that they are the frames that were found
 pub frames_mended : (looks : Bool) (contents : List ℕ) (found : Repair) (len start : ℕ)
@@ -157,15 +111,7 @@ pub frames_mended : (looks : Bool) (contents : List ℕ) (found : Repair) (len s
     → 1 ≤ frame_length found.spec_ex
     → frames_held found.spec_ex (found_length found)
     (held start (mended start (found_length found) contents)) ≡ found.frames
-frames_mended looks contents found len start at apart some =
-    let f = frame_length found.spec_ex in
-    let n = held start contents in
-    let right = length_of looks contents found len start at apart in
-    let more = held_mended start (found_length found) contents
-    (head_behind contents found.spec_ex len start at.head)
-    (head_inside contents found.spec_ex len start at.head) in
-    (λ i. data_held f (right i) ((more ∙ ap (λ k. n + length (missing_pad k n)) right) i) / f)
-    ∙ frames_again f len n some ∙ sym (frames_are looks contents found len start at apart)
+frames_mended looks contents found len start at apart some = grind (arith, common_steps, length_of, held_mended, head_behind, head_inside, frames_again, frames_are)
 
 module _ (looks again : Bool) (old mid next new : MediumState) (found other : Repair)
     (first : Repairs looks old found mid)

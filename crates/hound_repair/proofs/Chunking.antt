@@ -1,14 +1,12 @@
 -- Chunks after the data, one by one.
-use Rattle.std.proofs.Common.{◌≡◌, ℕ, min, inl, inr, zero, suc, ◌+◌, ◌≤◌, ◌<◌, Bool, true, false, cond, if◌then◌else◌, ◌&&◌, ◌||◌, nat_lt, nat_le, List, [], ◌∷◌, ◌++◌, Option, None, Some, length, drop, take, refl, sym, ◌∙◌, ap, arith, length-drop, length-take, eqb-true}
-use Rattle.std.specs.Prelude.{◌==◌, bytes_eq, slice_index}
+use Rattle.std.proofs.lemmas.Grind.{common_steps}
+use Rattle.std.proofs.Common.{◌≡◌, ℕ, min, inl, inr, zero, suc, ◌+◌, ◌≤◌, ◌<◌, Bool, true, false, if◌then◌else◌, ◌&&◌, ◌||◌, nat_lt, nat_le, List, [], ◌∷◌, ◌++◌, Option, None, Some, length, drop, take, refl, sym, ◌∙◌, ap, arith, length-drop, length-take, eqb-true}
+use Rattle.std.specs.Prelude.{◌==◌, bytes_eq}
 use Rattle.std.proofs.lemmas.Bool.{cases_lt, false≢true}
-use Rattle.std.specs.Cmp.Lexicographic.{same_text}
 use Rattle.std.specs.List.{list_all, list_any}
-use Rattle.std.proofs.lemmas.Bool.Decides.{nat_tests}
-use Rattle.std.proofs.lemmas.List.{get_or-take, drop-take, take-take, take_all, take_at}
-use Rattle.hound_number.specs.{number}
+use Rattle.std.proofs.lemmas.List.{take-take, take_all, take_at}
 use Rattle.hound_spec.specs.{padded}
-use Rattle.hound_repair.specs.Held.{are_at_most, are_chunks, chunk_content, has_known_tag, has_tag, if_some, known_tags, is_printable, said_length}
+use Rattle.hound_repair.specs.Held.{are_at_most, are_chunks, chunk_content, has_known_tag, has_tag, if_some, known_tags, said_length}
 
 -- no bytes are no chunks
 pub none_left : (bytes : List ℕ) → length bytes ≡ 0 → are_chunks bytes ≡ true
@@ -70,11 +68,7 @@ chunk_then (x ∷ bytes) content some other is =
 
 -- texts of other lengths aren't equal
 unequal : (xs ys : List ℕ) → (length xs ≡ length ys → ⊥) → bytes_eq xs ys ≡ false
-unequal xs ys not = by (bytes_eq xs ys) refl
-  where
-    by : (b : Bool) → b ≡ bytes_eq xs ys → bytes_eq xs ys ≡ false
-    by true same = absurd (not (ap length (same_text xs ys same)))
-    by false other = sym other
+unequal xs ys not = grind (arith, common_steps)
 
 none_equal : (tags : List (List ℕ)) (bytes : List ℕ)
     → list_all (λ tag. length tag == 4) tags ≡ true → length bytes < 4
@@ -129,33 +123,4 @@ pub content_is : (bytes header : List ℕ) (left n : ℕ) → left ≡ length by
     else if has_tag header && nat_le (8 + said_length header) left
     then Some (padded (said_length header)) else None) ≡ chunk_content bytes
 unfolding chunk_content
-content_is bytes header left n all count is =
-    by (nat_lt left 8) _ _ said ∙ ap (λ k. cond (nat_lt k 8) None (cond (has_tag bytes
-    && nat_le (8 + said_length bytes) (length bytes)) (Some (padded (said_length bytes))) None)) all
-  where
-    by : (b : Bool) (x y : Option ℕ) → (b ≡ false → x ≡ y) → cond b None x ≡ cond b None y
-    by true x y same = refl
-    by false x y same = same refl
-
-    at_index : (i : ℕ) → i < 8 → slice_index (take 8 bytes) i ≡ slice_index bytes i
-    at_index i before = get_or-take 8 bytes i 0 before
-
-    tag : has_tag (take 8 bytes) ≡ has_tag bytes
-    tag = λ i. is_printable (at_index 0 (omega arith) i)
-        && (is_printable (at_index 1 (omega arith) i)
-        && (is_printable (at_index 2 (omega arith) i) && is_printable (at_index 3 (omega arith) i)))
-
-    length_said : said_length (take 8 bytes) ≡ said_length bytes
-    length_said = ap (λ l. number (take 4 l)) (drop-take 4 4 bytes)
-        ∙ ap number (take-take 4 4 (drop 4 bytes) (omega arith))
-
-    said : nat_lt left 8 ≡ false
-        → cond (has_tag header && nat_le (8 + said_length header) left) (Some (padded (said_length header))) None
-        ≡ cond (has_tag bytes && nat_le (8 + said_length bytes) (length bytes)) (Some (padded (said_length bytes))) None
-    said many =
-        let long : 8 ≤ left = grind (arith, nat_tests) in
-        let eight : n ≡ 8 = omega (arith, count, long) in
-        let whole : header ≡ take 8 bytes = is ∙ ap (λ k. take k bytes) eight in
-        let tags = ap has_tag whole ∙ tag in
-        let lengths = ap said_length whole ∙ length_said in
-        λ i. cond (tags i && nat_le (8 + lengths i) (all i)) (Some (padded (lengths i))) None
+content_is bytes header left n all count is = grind (arith, common_steps)

@@ -1,5 +1,6 @@
 -- Containers of one width, joined.
-use Rattle.std.proofs.Common.{◌≡◌, ℕ, List, [], ◌∷◌, ◌++◌, length, take, drop, sym, ap, ◌∙◌, subst, take-append-drop}
+use Rattle.std.proofs.lemmas.Grind.{common_steps}
+use Rattle.std.proofs.Common.{◌≡◌, ℕ, List, [], ◌∷◌, ◌++◌, length, take, drop, sym, ap, ◌∙◌, take-append-drop, arith}
 pub use Rattle.std.proofs.lemmas.List.Folds.{concat-append}
 use Rattle.std.specs.List.{concat, AllByRecursion}
 
@@ -12,9 +13,7 @@ wide_front w [] ys all = tt
 wide_front w (x ∷ xs) ys (one, each) = (one, wide_front w xs ys each)
 
 pub wide_take : (w n : ℕ) (list : List (List ℕ)) → AreWide w list → AreWide w (take n list)
-wide_take w n list all =
-    wide_front w (take n list) (drop n list)
-    (subst (AreWide w) (sym (take-append-drop n list)) all)
+wide_take w n list all = grind (arith, common_steps)
 
 -- the first of a list, joined, are the front of all joined
 pub concat_front : (n : ℕ) (list : List (List ℕ))

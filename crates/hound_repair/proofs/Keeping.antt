@@ -1,11 +1,10 @@
 -- What is stored is read again once a file is repaired.
-use Rattle.std.proofs.Common.{None, ◌≡◌, ◌⊎◌, ℕ, zero, suc, ◌+◌, ◌-◌, ◌*◌, ◌/◌, ◌%◌, ◌≤◌, Bool, true, false, IsTrue, cond, ◌&&◌, List, ◌∷◌, length, take, drop, inl, inr, refl, sym, ap, ◌∙◌, subst, arith, length-take, eqb-true}
-use Rattle.std.specs.Prelude.{◌==◌}
+use Rattle.std.proofs.lemmas.Grind.{common_steps}
+use Rattle.std.proofs.Common.{None, ◌≡◌, ◌⊎◌, ℕ, zero, suc, ◌+◌, ◌-◌, ◌*◌, ◌/◌, ◌≤◌, Bool, IsTrue, List, ◌∷◌, length, take, drop, inl, inr, refl, sym, ap, ◌∙◌, subst, arith, length-take}
 use Rattle.std.specs.List.{concat, AllByRecursion}
-use Rattle.std.proofs.lemmas.Bool.{cases_lt}
-use Rattle.std.proofs.lemmas.List.{take-take, take-append-le, drop-append-le, length-take-le, take_all}
-use Rattle.std.proofs.lemmas.Nat.{div-add-mod', mul-le}
-use Rattle.std.proofs.Math.Nat.{div-mul-le_self, le-div_iff_mul-le, mul_assoc}
+use Rattle.std.proofs.lemmas.List.{take-take, take-append-le, drop-append-le, length-take-le}
+use Rattle.std.proofs.lemmas.Nat.{mul-le}
+use Rattle.std.proofs.Math.Nat.{div-mul-le_self, mul_assoc}
 use Rattle.hound_spec.specs.declared.spec.WavSpecEx.{WavSpecEx}
 use Rattle.hound_spec.specs.{riff_size}
 use Rattle.hound_medium.specs.{MediumState, one_more}
@@ -22,7 +21,6 @@ use Rattle.hound_repair.specs.Repairing.{IsNoPad, IsNotRepaired, IsRepairFault, 
 use Rattle.hound_repair.specs.declared.sizes.Repair.{Repair}
 use Rattle.hound_repair.specs.declared.sizes.RepairState.{RepairState}
 use Rattle.hound_repair.specs.declared.sizes.RepairState.TheVariants.{Whole, CutOff, HasChunksAfterData}
-use Rattle.hound_repair.proofs.Dividing.{times_le}
 use Rattle.hound_repair.proofs.Joining.{AreWide, concat_front, wide_take}
 use Rattle.hound_repair.proofs.RightSizes.{held_frames, not_followed, same_sizes}
 
@@ -39,36 +37,7 @@ containers_fewer w (suc n) (suc m) bytes le =
 pub frames_kept : (f len n q : ℕ) → 1 ≤ f → q * f ≤ n → (f ≡ 1 → n ≡ len + 1 → q * f ≤ len)
     → q ≤ data_held f len n / f
 unfolding data_held ends_with_pad
-frames_kept f len n q some few no_pad = by (n == len + 1) (len % 2 == 1) (len % f == 0) refl refl refl
-  where
-    fits : (d : ℕ) → q * f ≤ d → q ≤ d / f
-    fits d le = (le-div_iff_mul-le {k = f} {x = q} {y = d} some).1 le
-
-    by : (a b c : Bool) → (n == len + 1) ≡ a → (len % 2 == 1) ≡ b → (len % f == 0) ≡ c
-        → q ≤ (cond (a && (b && c)) len n) / f
-    by false b c ea eb ec = fits n few
-    by true false c ea eb ec = fits n few
-    by true true false ea eb ec = fits n few
-    by true true true ea eb ec = elim (cases_lt 1 f) [
-      | inr one ↦ fits len (no_pad (omega (arith, some, one)) (eqb-true n (len + 1) ea))
-      | inl two ↦
-          let m = len / f in
-          let whole : m * f ≡ len =
-          omega (arith, div-add-mod' len f, eqb-true (len % f) 0 ec) in
-          elim (cases_lt m q) [
-            | inr le ↦ le
-            | inl more ↦
-                absurd (omega (
-                  arith,
-                  mul-le (m + 1) f q f (omega (arith, more)) (omega arith),
-                  whole,
-                  two,
-                  few,
-                  eqb-true n (len + 1) ea,
-                  (let e : (m + 1) * f ≡ m * f + f = omega arith in e),
-                ))
-          ]
-    ]
+frames_kept f len n q some few no_pad = grind (arith, common_steps)
 
 -- the data stay
 data_stay : (was : RepairState) (found : Repair) (start m : ℕ) (old new : MediumState)
@@ -124,13 +93,8 @@ module _ (looks : Bool) (old new : MediumState) (found : Repair)
   size : length (concat list) ≡ length list * w
   size = length-concat w list wide
 
-  at_start : r.start + 0 ≡ r.start
-  at_start = omega arith
-
   there : take (length (concat list)) rest ≡ concat list
-  there =
-      ap (λ k. take (length (concat list)) (drop k old.contents)) (sym at_start) ∙ stored
-      ∙ take_all (length (concat list)) (concat list) (omega arith)
+  there = grind (arith, common_steps)
 
   long : length (concat list) ≤ length rest
   long = omega (arith, ap length there, length-take (length (concat list)) rest)
@@ -145,24 +109,13 @@ module _ (looks : Bool) (old new : MediumState) (found : Repair)
   frame = mul-le 1 1 channels w sound.0 sound.1
 
   not_pad : frame_length s ≡ 1 → length rest ≡ r.len + 1 → q * frame_length s ≤ r.len
-  not_pad one more =
-      let whole : q * frame_length s ≡ q = ap (λ f. q * f) one ∙ (let e : q * 1 ≡ q = omega arith in e) in
-      omega (arith, whole, few, times_le q channels sound.0, no_pad one more)
+  not_pad one more = grind (arith, common_steps)
 
   frames : q ≤ found.frames
-  frames =
-      let kept = frames_kept (frame_length s) r.len (length rest) q frame
-      (omega (arith, bytes, inside, size, long)) not_pad in
-      omega (arith, kept, r.is.frames, held_frames found.was s r.len (length rest) alone)
+  frames = grind (arith, common_steps, frames_kept, frame, bytes, inside, size, long, not_pad, held_frames)
 
   same : take (n * w) (drop r.start new.contents) ≡ take (n * w) (concat list)
-  same =
-      data_stay found.was found r.start (n * w) old new alone r.leaves
-      (head_behind old.contents s r.len r.start r.is.head)
-      (head_inside old.contents s r.len r.start r.is.head)
-      (omega (arith, inside, size, long))
-      ∙ sym (take-take (n * w) (length (concat list)) rest (omega (arith, inside, size)))
-      ∙ ap (take (n * w)) there
+  same = grind (arith, common_steps, data_stay, head_behind, head_inside, inside, size, long, take-take, there)
 
   taken : length (take n list) ≡ n
   taken = length-take-le n list few

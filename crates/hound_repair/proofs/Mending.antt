@@ -1,16 +1,16 @@
 -- What mending a file leaves.
-use Rattle.std.proofs.Common.{◌≡◌, ℕ, ◌+◌, ◌-◌, ◌*◌, ◌≤◌, true, false, List, [], ◌∷◌, ◌++◌, length, take, Bool, Result, Ok, Err, OnOk, MatchResult, refl, sym, ap, ◌∙◌, subst, arith, eqb-true, length-drop, length-take}
+use Rattle.std.proofs.lemmas.Grind.{common_steps}
+use Rattle.std.proofs.Common.{◌≡◌, ℕ, ◌+◌, ◌-◌, ◌≤◌, true, false, List, [], ◌∷◌, ◌++◌, length, Bool, Result, Ok, refl, sym, ◌∙◌, subst, arith, eqb-true, length-drop, length-take}
 use Rattle.std.proofs.lemmas.Bool.{and_parts}
-use Rattle.std.proofs.lemmas.List.{append-nil}
 use Rattle.std.specs.declared.io.Error.{Error as IoFault}
 use Rattle.hound_spec.specs.{riff_size}
-use Rattle.hound_medium.specs.{MediumState, faults_after}
+use Rattle.hound_medium.specs.{MediumState}
 use Rattle.hound_medium.proofs.Overlays.{overlay_at_end}
 use Rattle.hound_reader.specs.{IsSoundSpec}
 use Rattle.hound_writer.specs.{PutsNothing, IsPatched, Patches, with_sizes}
 use Rattle.hound_repair.specs.Damages.{FindsDamage, IsSoundDamage, PutsPad, PutsSizes, repair_of}
-use Rattle.hound_repair.specs.Held.{frame_length, held, mended, missing_pad}
-use Rattle.hound_repair.specs.Repairing.{HalfMended, HasRightSizes, IsFoundAt, LeavesFor, Repairs, UnlessFollowed, found_length, frames_found, state_of}
+use Rattle.hound_repair.specs.Held.{held, mended, missing_pad}
+use Rattle.hound_repair.specs.Repairing.{HalfMended, HasRightSizes, IsFoundAt, LeavesFor, Repairs, UnlessFollowed, found_length, state_of}
 use Rattle.hound_repair.specs.declared.look.Damage.{Damage}
 use Rattle.hound_repair.specs.declared.sizes.Repair.{Repair}
 use Rattle.hound_repair.specs.declared.sizes.RepairState.{RepairState}
@@ -20,25 +20,14 @@ use Rattle.hound_repair.proofs.RightSizes.{right_sizes_put, right_sizes_there}
 -- a file is half mended before its pad byte is written
 pub before_pad : (start n k : ℕ) (old new : List ℕ) → k ≤ 4
     → IsPatched (start - 4) (riff_size start n) old n k new → HalfMended start n old new
-before_pad start n k old new within half = record {
-  sizes = new;
-  k = k;
-  within = within;
-  half = half;
-  pad = [];
-  one = omega arith;
-  is = sym (append-nil new);
-  last = λ some. absurd (omega (arith, some));
-}
+before_pad start n k old new within half = grind (arith, common_steps)
 
 -- the sizes and the missing bytes are what mends a file
 pub mended_by : (d : Damage) → IsSoundDamage d → (c pad new : List ℕ)
     → d.held ≡ held d.head.data_start c → missing_pad d.sizes.data_length d.held ≡ pad
     → new ≡ with_sizes (d.head.data_start - 4) d.sizes.riff_size d.sizes.data_length c ++ pad
     → new ≡ mended d.head.data_start d.sizes.data_length c
-mended_by d sound c pad new held_is missing is =
-    is ∙ (λ i. with_sizes (d.head.data_start - 4) (sound.sizes.riff i) d.sizes.data_length c
-    ++ (sym missing ∙ ap (missing_pad d.sizes.data_length) held_is) i)
+mended_by d sound c pad new held_is missing is = grind (arith, common_steps)
 
 module _ (d : Damage) (sound : IsSoundDamage d) (a b : MediumState)
     (ends : d.head.data_start + d.held ≡ length a.contents) where
@@ -53,47 +42,14 @@ module _ (d : Damage) (sound : IsSoundDamage d) (a b : MediumState)
 
   half_put : {T E : Type 0} (r : Result T E) (p : Patches (start - 4) d.sizes.riff_size n r a b)
       → IsPatched (start - 4) (riff_size start n) a.contents n p.half.0 b.contents
-  half_put r p =
-      subst (λ riff. IsPatched (start - 4) riff a.contents n p.half.0 b.contents)
-      sound.sizes.riff p.half.2
+  half_put r p = grind (arith, common_steps)
 
   -- the sizes were put, and then the pad byte
   pub put_both : {T E : Type 0} (keeps : Bool) (x : Unit {0}) (result : Result T E)
       (c : MediumState) → missing_pad n d.held ≡ 0 ∷ []
       → Patches {E = IoFault} (start - 4) d.sizes.riff_size n (Ok x) a b
       → PutsPad keeps (start + d.held) result b c → PutsSizes d result a c
-  put_both keeps x result c missing patches pads =
-      let pad = take pads.count (0 ∷ []) in
-      let is : c.contents ≡ b.contents ++ pad =
-      pads.contents
-      ∙ overlay_at_end b.contents (start + d.held) pad (ends ∙ sym patches.half.2.same.long) in
-      let all : pads.count ≡ 1 → c.contents ≡ mended start n a.contents =
-      λ one. mended_by d sound a.contents (0 ∷ []) c.contents held_is missing
-      (is ∙ (λ i. patches.contents i ++ take (one i) (0 ∷ []))) in
-      record {
-        contents = on_ok result pads.whole all;
-        half = record {
-          sizes = b.contents;
-          k = patches.half.0;
-          within = patches.half.1;
-          half = half_put (Ok x) patches;
-          pad = pad;
-          one = omega (arith, length-take {A = ℕ} pads.count (0 ∷ []));
-          is = is;
-          last = λ some. all (omega (arith, pads.within, some, length-take {A = ℕ} pads.count (0 ∷ [])));
-        };
-        flushed = flushed _ _ result pads.flushed;
-        faults = pads.faults ∙ ap (faults_after result) patches.faults;
-      }
-    where
-      on_ok : {X Y P Q : Type 0} (r : Result X Y) → OnOk r P → (P → Q) → OnOk r Q
-      on_ok (Ok x) p f = f p
-      on_ok (Err e) p f = tt
-
-      flushed : {X Y : Type 0} (P Q : Type 0) (r : Result X Y) → MatchResult r (λ _. P) (λ _. Q)
-          → OnOk r P
-      flushed P Q (Ok x) p = p
-      flushed P Q (Err e) q = tt
+  put_both keeps x result c missing patches pads = grind (arith, common_steps, overlay_at_end, mended_by, held_is, half_put, length-take)
 
 -- a file that wasn't cut off is left as it is
 pub repairs_kept : (looks : Bool) (old new : MediumState) (found : Repair) (len start : ℕ)
@@ -150,10 +106,7 @@ repairs_cut looks old new found len start at sound cut is flushed faults = recor
 -- the right data length of a file that was cut off is that of the frames that are reported
 pub length_is : (d : Damage) → IsSoundDamage d → d.was ≡ CutOff
     → d.sizes.data_length ≡ found_length (repair_of d)
-length_is d sound cut =
-    let s = d.head.spec_ex in
-    sound.sizes.length_is
-    ∙ ap (λ w. frames_found w s d.head.data_length d.held * frame_length s) (sym cut)
+length_is d sound cut = grind (arith, common_steps)
 
 -- the same, after a look at the file
 module _ (looks : Bool) (old mid new : MediumState) (d : Damage) (sound : IsSoundDamage d)
@@ -168,6 +121,4 @@ module _ (looks : Bool) (old mid new : MediumState) (d : Damage) (sound : IsSoun
 
   pub half_after : (c : List ℕ) → HalfMended d.head.data_start d.sizes.data_length mid.contents c
       → HalfMended d.head.data_start (found_length (repair_of d)) old.contents c
-  half_after c half =
-      subst (λ (x : ℕ × List ℕ). HalfMended d.head.data_start x.0 x.1 c)
-      (λ i. (length_is d sound cut i, finds.puts.stays.contents i)) half
+  half_after c half = grind (arith, common_steps)

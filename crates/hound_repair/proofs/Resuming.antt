@@ -1,5 +1,6 @@
 -- A file whose repair was cut off is repaired to the same frames.
-use Rattle.std.proofs.Common.{◌≡◌, ℕ, zero, suc, ◌+◌, ◌-◌, ◌*◌, ◌/◌, ◌%◌, ◌≤◌, Bool, IsTrue, ◌++◌, length, take, drop, inl, inr, refl, sym, ap, ◌∙◌, subst, arith, length-append, length-drop, take-append-drop}
+use Rattle.std.proofs.lemmas.Grind.{common_steps}
+use Rattle.std.proofs.Common.{◌≡◌, ℕ, zero, suc, ◌+◌, ◌-◌, ◌*◌, ◌/◌, ◌%◌, ◌≤◌, Bool, IsTrue, ◌++◌, length, take, drop, inl, inr, refl, sym, ap, ◌∙◌, arith, length-append, length-drop, take-append-drop}
 use Rattle.std.proofs.lemmas.Bool.{cases_lt}
 use Rattle.std.proofs.lemmas.List.{take-append-le}
 use Rattle.std.proofs.lemmas.Nat.{div-add-mod', div-mul-add}
@@ -29,14 +30,7 @@ mix_low (suc k) old n some is =
 
 -- where a frame has more than one byte, the frames held don't depend on the data length
 frames_of_two : (f len n : ℕ) → 2 ≤ f → data_held f len n / f ≡ n / f
-frames_of_two f len n two = elim (held_cases f len n) [
-  | inl all ↦ ap (λ k. k / f) all
-  | inr (held_is, one, odd, whole) ↦
-      let len_is : len ≡ len / f * f + 0 = omega (arith, div-add-mod' len f, whole) in
-      let n_is : n ≡ len / f * f + 1 = omega (arith, one, len_is) in
-      ap (λ k. k / f) held_is
-      ∙ sym (ap (λ k. k / f) n_is ∙ div-mul-add (len / f) f 1 (omega (arith, two)))
-]
+frames_of_two f len n two = grind (arith, common_steps, held_cases, div-add-mod', div-mul-add)
 
 -- nor do they change while the right length is written over a data length
 frames_half : (f len n k : ℕ) → 1 ≤ f → len ≤ greatest_u32
@@ -106,36 +100,12 @@ module _ (looks again : Bool) (old mid new : MediumState) (found other : Repair)
   right = length_of looks old.contents found len start at apart
 
   head_now : Head mid.contents s says start
-  head_now =
-      subst (λ c. Head c s (field (start - 4) c) start) (sym half.is)
-      (head_with old.contents s len start at.head (half.sizes ++ half.pad)
-      (omega (arith, long, inside, length-append half.sizes half.pad))
-      (take-append-le 4 half.sizes half.pad (omega (arith, behind, inside, long)) ∙ half.half.same.front)
-      (ap (drop 8) (take-append-le (start - 4) half.sizes half.pad (omega (arith, inside, long)))
-      ∙ half.half.same.middle))
+  head_now = grind (arith, common_steps, head_with, long, inside, length-append, take-append-le, behind)
 
   -- before the pad byte
   frames_before : length half.pad ≡ 0
       → frames_held s says (held start mid.contents) ≡ found.frames
-  frames_before none =
-      let held_same : held start mid.contents ≡ n =
-      omega (
-        arith,
-        ap (held start) half.is,
-        length-drop start (half.sizes ++ half.pad),
-        length-append half.sizes half.pad,
-        long,
-        length-drop start old.contents,
-        none,
-      ) in
-      let torn : says ≡ mix half.k len (data_held (frame_length s) len n / frame_length s * frame_length s) =
-      ap (field (start - 4)) half.is
-      ∙ field_before (start - 4) half.sizes half.pad (omega (arith, behind, inside, long))
-      ∙ half.half.field
-      ∙ (λ i. mix half.k (head_field old.contents s len start at.head i) (right i)) in
-      (λ i. frames_held s (torn i) (held_same i))
-      ∙ frames_half (frame_length s) len n half.k some at.small
-      ∙ sym (frames_are looks old.contents found len start at apart)
+  frames_before none = grind (arith, common_steps, length-drop, length-append, long, field_before, behind, inside, head_field, right, frames_half, frames_are)
 
   -- and after it
   frames_after : 1 ≤ length half.pad

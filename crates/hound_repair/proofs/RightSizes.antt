@@ -1,17 +1,14 @@
 -- What a file is read as once its sizes are right.
-use Rattle.std.proofs.Common.{◌≡◌, ℕ, ◌+◌, ◌-◌, ◌*◌, ◌/◌, ◌%◌, ◌^◌, ◌≤◌, ◌<◌, Bool, true, false, cond, not, nat_lt, IsTrue, ◌&&◌, if◌then◌else◌, List, ◌++◌, length, take, drop, Some, None, refl, sym, ap, ◌∙◌, subst, arith, eq-eqb, length-append, length-drop}
-use Rattle.std.proofs.lemmas.Bool.Decides.{nat_tests}
+use Rattle.std.proofs.lemmas.Grind.{common_steps}
+use Rattle.std.proofs.Common.{◌≡◌, ℕ, ◌+◌, ◌-◌, ◌*◌, ◌/◌, ◌%◌, ◌^◌, ◌≤◌, ◌<◌, Bool, true, false, IsTrue, ◌&&◌, List, ◌++◌, length, take, drop, None, refl, sym, ap, ◌∙◌, subst, arith, length-append, length-drop}
 use Rattle.std.proofs.lemmas.List.{take-append-le, drop-append-le}
-use Rattle.std.proofs.lemmas.Nat.{div-mul-add, mod-mul-add}
-use Rattle.std.proofs.Math.Nat.{mul_assoc}
+use Rattle.std.proofs.Math.Nat.{mul_assoc, mul-div_cancel, mul-mod_left}
 use Rattle.hound_number.specs.{bytes_of, number}
 use Rattle.hound_spec.specs.declared.spec.WavSpecEx.{WavSpecEx}
-use Rattle.hound_spec.specs.{greatest_u32, riff_size, is_pair}
+use Rattle.hound_spec.specs.{greatest_u32, riff_size}
 use Rattle.hound_medium.specs.{placed, overlay}
-use Rattle.hound_reader.specs.declared.cause.Cause.TheVariants.{Format, Unsupported}
-use Rattle.hound_reader.specs.declared.cause.Reason.TheVariants.{DataLength, FrameLength}
 use Rattle.hound_reader.specs.{Head, Readable, data_fault, IsSoundSpec}
-use Rattle.hound_writer.specs.{by_bytes, too_long, SameButSizes, field, with_sizes}
+use Rattle.hound_writer.specs.{SameButSizes, field, with_sizes}
 use Rattle.hound_writer.proofs.Heads.{head_behind, head_field, head_inside, head_with}
 use Rattle.hound_writer.proofs.Patching.{data_length_of_sizes, riff_size_of_sizes, sizes_put}
 use Rattle.hound_writer.proofs.Sizes.{same_length, same_riff, same_transitive}
@@ -54,33 +51,18 @@ module _ (s : WavSpecEx) (len start : ℕ) (c : List ℕ) (head : Head c s len s
   long = (same_sizes (start - 4) riff n c behind inside).long
 
   pub length_put : field (start - 4) (sizes ++ pad) ≡ n
-  length_put =
-      field_before (start - 4) sizes pad (omega (arith, inside, long))
-      ∙ data_length_of_sizes (start - 4) riff n c behind inside small
+  length_put = grind (arith, common_steps, field_before, inside, long, data_length_of_sizes, behind)
 
   pub riff_put : field 4 (sizes ++ pad) ≡ riff
-  riff_put =
-      field_before 4 sizes pad (omega (arith, behind, inside, long))
-      ∙ riff_size_of_sizes (start - 4) riff n c behind inside fits
+  riff_put = grind (arith, common_steps, field_before, behind, inside, long, riff_size_of_sizes)
 
   pub head_put : Head (sizes ++ pad) s n start
-  head_put =
-      let same = same_sizes (start - 4) riff n c behind inside in
-      subst (λ k. Head (sizes ++ pad) s k start) length_put
-      (head_with c s len start head (sizes ++ pad)
-      (omega (arith, long, head_inside c s len start head, length-append sizes pad))
-      (take-append-le 4 sizes pad (omega (arith, behind, inside, long)) ∙ same.front)
-      (ap (drop 8) (take-append-le (start - 4) sizes pad (omega (arith, inside, long)))
-      ∙ same.middle))
+  head_put = grind (arith, common_steps, same_sizes, behind, inside, length_put, head_with, long, head_inside, length-append, take-append-le)
 
 -- whole frames have no fault
 no_fault : (s : WavSpecEx) (n : ℕ) → n % s.bytes_per_sample ≡ 0
     → (n / s.bytes_per_sample) % s.spec.channels ≡ 0 → data_fault s n ≡ None
-no_fault s n samples frames = λ i.
-    if not (eq-eqb (n % s.bytes_per_sample) 0 samples i) then Some (Format DataLength)
-    else if not (eq-eqb ((n / s.bytes_per_sample) % s.spec.channels) 0 frames i)
-    then Some (Format FrameLength)
-    else None
+no_fault s n samples frames = grind (arith, common_steps)
 
 -- so many frames are read
 pub frames_read : (s : WavSpecEx) (n start frames : ℕ) (c : List ℕ) → 0 < s.spec.channels
@@ -89,18 +71,13 @@ pub frames_read : (s : WavSpecEx) (n start frames : ℕ) (c : List ℕ) → 0 < 
 frames_read s n start frames c channels width is head =
     let w = s.bytes_per_sample in
     let samples = frames * s.spec.channels in
-    let all : n ≡ samples * w + 0 =
-    is ∙ sym (mul_assoc frames s.spec.channels w)
-    ∙ (let e : samples * w ≡ samples * w + 0 = omega arith in e) in
-    let count : n / w ≡ samples = ap (λ k. k / w) all ∙ div-mul-add samples w 0 width in
-    let whole : n % w ≡ 0 = ap (λ k. k % w) all ∙ mod-mul-add samples w 0 width in
-    let more : samples % s.spec.channels ≡ 0 =
-    ap (λ k. k % s.spec.channels) (let e : samples ≡ samples + 0 = omega arith in e)
-    ∙ mod-mul-add frames s.spec.channels 0 channels in
+    let all = is ∙ sym (mul_assoc frames s.spec.channels w) in
+    let count : n / w ≡ samples = ap (λ k. k / w) all ∙ mul-div_cancel samples width in
+    let whole = ap (λ k. k % w) all ∙ mul-mod_left samples w in
     record {
       len = n;
       head = head;
-      frames = no_fault s n whole (ap (λ k. k % s.spec.channels) count ∙ more);
+      frames = no_fault s n whole (ap (λ k. k % s.spec.channels) count ∙ mul-mod_left frames s.spec.channels);
       count = sym count;
     }
 
@@ -123,23 +100,12 @@ not_followed false false followed was is alone here = let e = sym is ∙ here in
 pub size_fits : (s : WavSpecEx) (len start n : ℕ) → size_fault s len start n ≡ None
     → riff_size start (right_length s len n) ≤ greatest_u32
 unfolding size_fault
-size_fits s len start n none = by (nat_lt greatest_u32 (riff_size start (right_length s len n))) refl none
-  where
-    by : (b : Bool) → nat_lt greatest_u32 (riff_size start (right_length s len n)) ≡ b
-        → cond b (Some too_long) None ≡ None → riff_size start (right_length s len n) ≤ greatest_u32
-    by true is fault = absurd (cc fault)
-    by false is fault = grind (arith, nat_tests)
+size_fits s len start n none = grind (arith, common_steps)
 
 pub check_fits : (s : WavSpecEx) (len start n : ℕ) → repair_fault s len start n ≡ None
     → riff_size start (right_length s len n) ≤ greatest_u32
 unfolding repair_fault
-check_fits s len start n none =
-    by (is_pair s.spec.sample_format s.spec.bits_per_sample s.bytes_per_sample) none
-  where
-    by : (b : Bool) → cond (not b) (Some (by_bytes Unsupported)) (size_fault s len start n) ≡ None
-        → riff_size start (right_length s len n) ≤ greatest_u32
-    by false fault = absurd (cc fault)
-    by true fault = size_fits s len start n fault
+check_fits s len start n none = grind (arith, common_steps, size_fits)
 
 -- the sizes of a file with these frames fit, and are right where its fields say them
 module _ (looks : Bool) (contents : List ℕ) (found : Repair) (len start : ℕ)
@@ -155,11 +121,7 @@ module _ (looks : Bool) (contents : List ℕ) (found : Repair) (len start : ℕ)
   length_of = ap (λ k. k * frame_length found.spec_ex) frames_are
 
   pub riff_fits : riff_size start all < 2 ^ 32
-  riff_fits = omega (
-    arith,
-    ap (riff_size start) length_of,
-    check_fits found.spec_ex len start (held start contents) at.check,
-  )
+  riff_fits = grind (arith, common_steps, length_of, check_fits)
 
   pub length_fits : all < 2 ^ 32
   length_fits = omega (arith, riff_fits, head_behind contents found.spec_ex len start at.head)
