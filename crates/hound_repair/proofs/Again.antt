@@ -1,6 +1,6 @@
 -- A file that was repaired is whole.
 use Rattle.std.proofs.lemmas.Grind.{common_steps}
-use Rattle.std.proofs.Common.{◌≡◌, ◌⊎◌, ℕ, ◌+◌, ◌-◌, ◌*◌, ◌/◌, ◌%◌, ◌≤◌, Bool, true, IsTrue, cond, ◌&&◌, List, length, drop, inl, inr, refl, sym, ap, ◌∙◌, subst, arith, eq-eqb, length-append, length-drop}
+use Rattle.std.proofs.Common.{◌≡◌, ◌⊎◌, ℕ, ◌+◌, ◌-◌, ◌*◌, ◌/◌, ◌%◌, ◌≤◌, Bool, true, IsTrue, cond, ◌&&◌, List, length, drop, refl, sym, ap, ◌∙◌, subst, arith, eq-eqb, length-append, length-drop}
 use Rattle.std.proofs.Math.Nat.{mul-div_cancel, mul-mod_left}
 use Rattle.std.proofs.lemmas.Nat.{div-add-mod'}
 use Rattle.hound_spec.specs.declared.spec.WavSpecEx.{WavSpecEx}
@@ -43,48 +43,7 @@ pub frames_again : (f len n : ℕ) → 1 ≤ f
     → data_held f (data_held f len n / f * f)
     (n + length (missing_pad (data_held f len n / f * f) n)) / f
     ≡ data_held f len n / f
-frames_again f len n some = go (data_held f len n / f) refl (held_cases f len n)
-  where
-    go : (q : ℕ) → data_held f len n / f ≡ q
-        → (data_held f len n ≡ n)
-        ⊎ ((data_held f len n ≡ len) × (n ≡ len + 1) × (len % 2 ≡ 1) × (len % f ≡ 0))
-        → data_held f (q * f) (n + length (missing_pad (q * f) n)) / f ≡ q
-    go q is first =
-        let l = q * f in
-        let m = n + length (missing_pad l n) in
-        elim (held_cases f l m) [
-          | inr (held_is, one, odd, frames) ↦ ap (λ k. k / f) held_is ∙ mul-div_cancel q some
-          | inl all ↦
-              let padded : m ≡ l + 1 → l % 2 ≡ 1 → ⊥ =
-              λ is odd. omega (arith, all, ap (data_held f l) is, held_pad f l odd (mul-mod_left q f), is) in
-              let same : n ≡ m → n / f ≡ q → data_held f l m / f ≡ q =
-              λ e d. ap (λ k. k / f) (all ∙ sym e) ∙ d in
-              elim first [
-                | inl one ↦ elim (pad_cases l n) [
-                  | inr (not, none) ↦
-                      same (omega (arith, none)) (ap (λ k. k / f) (sym one) ∙ is)
-                  | inl (is_l, pad) ↦ elim (cases_even l) [
-                    | inl even ↦
-                        same (omega (arith, pad, even)) (ap (λ k. k / f) (sym one) ∙ is)
-                    | inr odd ↦ absurd (padded (omega (arith, pad, odd, is_l)) odd)
-                  ]
-                ]
-                | inr (one, more, odd, frames) ↦
-                    let l_is : l ≡ len =
-                    omega (
-                      arith,
-                      ap (λ k. k * f) (sym is ∙ ap (λ k. k / f) one),
-                      div-add-mod' len f,
-                      frames,
-                    ) in
-                    let odd_l : l % 2 ≡ 1 = ap (λ k. k % 2) l_is ∙ odd in
-                    elim (pad_cases l n) [
-                      | inl (is_l, pad) ↦ absurd (omega (arith, is_l, l_is, more))
-                      | inr (not, none) ↦
-                          absurd (padded (omega (arith, none, more, l_is)) odd_l)
-                    ]
-              ]
-        ]
+frames_again f len n some = grind (arith, common_steps, held_cases, mul-div_cancel, held_pad, mul-mod_left, pad_cases, cases_even, div-add-mod')
 
 -- the sizes that were put are right
 right_again : (s : WavSpecEx) (start len riff n frames : ℕ)
@@ -96,9 +55,7 @@ right_again s start len riff n frames len_is riff_is held_is = grind (arith, com
 sizes_of : (was : RepairState) (found : Repair) (start : ℕ) (contents : List ℕ)
     → (was ≡ HasChunksAfterData → ⊥) → UnlessFollowed was (HasRightSizes found start contents)
     → HasRightSizes found start contents
-sizes_of Whole found start contents alone right = right
-sizes_of CutOff found start contents alone right = right
-sizes_of HasChunksAfterData found start contents alone right = absurd (alone refl)
+sizes_of was found start contents alone right = grind (arith, common_steps)
 
 -- how many bytes a mended file holds
 held_mended : (start n : ℕ) (c : List ℕ) → 20 ≤ start → start ≤ length c

@@ -11,14 +11,12 @@ use Rattle.hound_repair.specs.Held.{are_at_most, are_chunks, chunk_content, has_
 -- no bytes are no chunks
 pub none_left : (bytes : List ℕ) → length bytes ≡ 0 → are_chunks bytes ≡ true
 unfolding are_chunks are_at_most
-none_left [] e = refl
-none_left (b ∷ bytes) e = absurd (omega (arith, e))
+none_left bytes e = grind (arith, common_steps)
 
 -- what follows a chunk is the same, whatever the limit
 by_content : (o : Option ℕ) (f g : ℕ → Bool) → ((content : ℕ) → f content ≡ g content)
     → if_some o f ≡ if_some o g
-by_content None f g same = refl
-by_content (Some content) f g same = same content
+by_content o f g same = grind (arith, common_steps)
 
 -- how many chunks they are at most is no matter
 enough : (n m : ℕ) (bytes : List ℕ) → length bytes ≤ n → length bytes ≤ m
@@ -43,28 +41,19 @@ enough (suc n) (suc m) (x ∷ bytes) a b =
 pub known_chunk : (bytes : List ℕ) → 0 < length bytes → has_known_tag bytes ≡ true
     → are_chunks bytes ≡ true
 unfolding are_chunks are_at_most
-known_chunk [] some known = absurd (omega (arith, some))
-known_chunk (x ∷ bytes) some known =
-    ap (λ b. b || if_some (chunk_content (x ∷ bytes)) (λ k. are_at_most (length bytes) (drop (8 + k) (x ∷ bytes)))) known
+known_chunk bytes some known = grind (arith, common_steps)
 
 -- bytes that don't begin with a chunk
 pub no_chunk : (bytes : List ℕ) → 0 < length bytes → has_known_tag bytes ≡ false
     → chunk_content bytes ≡ None → are_chunks bytes ≡ false
 unfolding are_chunks are_at_most
-no_chunk [] some other none = absurd (omega (arith, some))
-no_chunk (x ∷ bytes) some other none = λ i.
-    other i || if_some (none i) (λ k. are_at_most (length bytes) (drop (8 + k) (x ∷ bytes)))
+no_chunk bytes some other none = grind (arith, common_steps)
 
 -- bytes that do, with another tag
 pub chunk_then : (bytes : List ℕ) (content : ℕ) → 0 < length bytes → has_known_tag bytes ≡ false
     → chunk_content bytes ≡ Some content → are_chunks bytes ≡ are_chunks (drop (8 + content) bytes)
 unfolding are_chunks are_at_most
-chunk_then [] content some other is = absurd (omega (arith, some))
-chunk_then (x ∷ bytes) content some other is =
-    let rest = drop (8 + content) (x ∷ bytes) in
-    let short : length rest ≤ length bytes = omega (arith, length-drop (8 + content) (x ∷ bytes)) in
-    (λ i. other i || if_some (is i) (λ k. are_at_most (length bytes) (drop (8 + k) (x ∷ bytes))))
-    ∙ enough (length bytes) (length rest) rest short (omega arith)
+chunk_then bytes content some other is = grind (arith, common_steps, length-drop, enough)
 
 -- texts of other lengths aren't equal
 unequal : (xs ys : List ℕ) → (length xs ≡ length ys → ⊥) → bytes_eq xs ys ≡ false

@@ -1,5 +1,6 @@
 -- A file in each intermediate state of its repair.
-use Rattle.std.proofs.Common.{◌≡◌, ℕ, ◌-◌, Bool, [], ◌∷◌, length, take, inl, inr, Result, Ok, Err, IsTrue, sym, ap, ◌∙◌, subst, arith, length-append, length-take}
+use Rattle.std.proofs.lemmas.Grind.{common_steps}
+use Rattle.std.proofs.Common.{◌≡◌, ℕ, ◌-◌, Bool, [], ◌∷◌, length, take, inl, inr, Result, IsTrue, sym, ap, ◌∙◌, subst, arith, length-append, length-take}
 use Rattle.std.proofs.lemmas.Bool.{cases_lt}
 use Rattle.hound_medium.specs.{moment, overlay, placed, MediumState}
 use Rattle.hound_medium.proofs.Overlays.{length-placed}
@@ -60,18 +61,7 @@ module _ (d : Damage) (sound : IsSoundDamage d) (a b : MediumState) where
 pub pad_flushed : {T E : Type 0} (keeps : Bool) (end : ℕ) (result : Result T E)
     (a b c : MediumState) → IsTrue keeps → b.flushed ≡ length b.past → PutsPad keeps end result b c
     → FlushesBeforePad a c
-pad_flushed keeps end (Ok x) a b c kept flushed pads longer = omega (arith, pads.flushed)
-pad_flushed keeps end (Err e) a b c kept flushed pads longer =
-    let added = placed end (take pads.count (0 ∷ [])) in
-    omega (
-      arith,
-      pads.flushed,
-      flushed,
-      ap length (pads.past kept),
-      length-append b.past added,
-      length-placed end (take pads.count (0 ∷ [])),
-      length-take {A = ℕ} pads.count (0 ∷ []),
-    )
+pad_flushed keeps end result a b c kept flushed pads longer = grind (arith, common_steps)
 
 -- so the file is half mended, after a look at it
 pub mends_at_each : (looks : Bool) (old mid new : MediumState) (d : Damage) → IsSoundDamage d

@@ -1,12 +1,11 @@
 -- What is stored is read again once a file is repaired.
 use Rattle.std.proofs.lemmas.Grind.{common_steps}
-use Rattle.std.proofs.Common.{None, ◌≡◌, ◌⊎◌, ℕ, zero, suc, ◌+◌, ◌-◌, ◌*◌, ◌/◌, ◌≤◌, Bool, IsTrue, List, ◌∷◌, length, take, drop, inl, inr, refl, sym, ap, ◌∙◌, subst, arith, length-take}
+use Rattle.std.proofs.Common.{None, ◌≡◌, ◌⊎◌, ℕ, zero, suc, ◌+◌, ◌*◌, ◌/◌, ◌≤◌, Bool, IsTrue, List, ◌∷◌, length, take, drop, inl, inr, refl, sym, ap, ◌∙◌, subst, arith, length-take}
 use Rattle.std.specs.List.{concat, AllByRecursion}
 use Rattle.std.proofs.lemmas.List.{take-take, take-append-le, drop-append-le, length-take-le}
 use Rattle.std.proofs.lemmas.Nat.{mul-le}
 use Rattle.std.proofs.Math.Nat.{div-mul-le_self, mul_assoc}
 use Rattle.hound_spec.specs.declared.spec.WavSpecEx.{WavSpecEx}
-use Rattle.hound_spec.specs.{riff_size}
 use Rattle.hound_medium.specs.{MediumState, one_more}
 use Rattle.hound_sample.specs.{containers}
 use Rattle.hound_reader.specs.{Head, IsSoundSpec}
@@ -14,13 +13,13 @@ use Rattle.hound_reader.proofs.Unique.{head_no_fault, heads_agree}
 use Rattle.hound_reader.proofs.WrittenLemmas.{length-concat, containers-concat}
 use Rattle.hound_sample.proofs.Containers.{containers_front}
 use Rattle.hound_writer.proofs.Heads.{head_behind, head_inside}
-use Rattle.hound_writer.specs.{with_sizes, IsStored, IsIoError, AppendFault, NamesFault, PutsNothing}
-use Rattle.hound_repair.specs.Held.{data_held, ends_with_pad, frame_length, held, missing_pad}
+use Rattle.hound_writer.specs.{IsStored, IsIoError, AppendFault, NamesFault, PutsNothing}
+use Rattle.hound_repair.specs.Held.{data_held, ends_with_pad, frame_length, held}
 use Rattle.hound_spec.specs.declared.error.Error.{Error}
-use Rattle.hound_repair.specs.Repairing.{IsNoPad, IsNotRepaired, IsRepairFault, LeavesFor, LeavesHalf, ReadsFrames, Repairs, found_length, repair_fault}
+use Rattle.hound_repair.specs.Repairing.{IsNoPad, IsNotRepaired, IsRepairFault, LeavesFor, LeavesHalf, ReadsFrames, Repairs, repair_fault}
 use Rattle.hound_repair.specs.declared.sizes.Repair.{Repair}
 use Rattle.hound_repair.specs.declared.sizes.RepairState.{RepairState}
-use Rattle.hound_repair.specs.declared.sizes.RepairState.TheVariants.{Whole, CutOff, HasChunksAfterData}
+use Rattle.hound_repair.specs.declared.sizes.RepairState.TheVariants.{HasChunksAfterData}
 use Rattle.hound_repair.proofs.Joining.{AreWide, concat_front, wide_take}
 use Rattle.hound_repair.proofs.RightSizes.{held_frames, not_followed, same_sizes}
 
@@ -44,23 +43,7 @@ data_stay : (was : RepairState) (found : Repair) (start m : ℕ) (old new : Medi
     → (was ≡ HasChunksAfterData → ⊥) → LeavesFor was found start old new → 20 ≤ start
     → start ≤ length old.contents → m ≤ held start old.contents
     → take m (drop start new.contents) ≡ take m (drop start old.contents)
-data_stay Whole found start m old new alone leaves behind inside few =
-    ap (λ c. take m (drop start c)) leaves.stays.contents
-data_stay HasChunksAfterData found start m old new alone leaves behind inside few =
-    absurd (alone refl)
-data_stay CutOff found start m old new alone leaves behind inside few =
-    let n = found_length found in
-    let c = old.contents in
-    let sizes = with_sizes (start - 4) (riff_size start n) n c in
-    let pad = missing_pad n (held start c) in
-    let same = same_sizes (start - 4) (riff_size start n) n c (omega (arith, behind)) (omega (arith, behind, inside)) in
-    let at : start - 4 + 4 ≡ start = omega (arith, behind) in
-    let rest : drop start sizes ≡ drop start c =
-    ap (λ k. drop k sizes) (sym at) ∙ same.behind ∙ ap (λ k. drop k c) at in
-    ap (λ l. take m (drop start l)) leaves.0
-    ∙ ap (take m) (drop-append-le start sizes pad (omega (arith, inside, same.long)))
-    ∙ take-append-le m (drop start sizes) pad (omega (arith, few, ap length rest))
-    ∙ ap (take m) rest
+data_stay was found start m old new alone leaves behind inside few = grind (arith, common_steps, same_sizes, drop-append-le, take-append-le)
 
 module _ (looks : Bool) (old new : MediumState) (found : Repair)
     (r : Repairs looks old found new) (alone : found.was ≡ HasChunksAfterData → ⊥)

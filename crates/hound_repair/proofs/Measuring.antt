@@ -1,6 +1,6 @@
 -- What a head is found as, by what the file holds.
 use Rattle.std.proofs.lemmas.Grind.{common_steps}
-use Rattle.std.proofs.Common.{◌≡◌, ℕ, ◌+◌, ◌≤◌, ◌<◌, ◌^◌, true, false, not, min, ◌⊎◌, Option, Some, None, inl, Err, refl, arith}
+use Rattle.std.proofs.Common.{◌≡◌, ℕ, ◌+◌, ◌≤◌, ◌<◌, ◌^◌, true, false, not, min, ◌⊎◌, Option, Some, inl, Err, refl, arith}
 use Rattle.std.proofs.lemmas.Bool.Decides.{nat_tests}
 use Rattle.std.proofs.lemmas.Bool.{cases_lt}
 use Rattle.std.proofs.Math.Nat.{lt-div-mul-add, le-mul_of_pos_right}
@@ -57,8 +57,7 @@ not_written s len start n pair = rw pair
 -- the fault that a check answers
 pub fails_for : (T : Type 0) (e : Error) (o : Option AppendFault) → FailsCheck {T = T} (Err e) o
     → (fault : AppendFault) × (o ≡ Some fault) × NamesFault e fault
-fails_for T e None fails = absurd fails
-fails_for T e (Some fault) fails = (fault, refl, fails)
+fails_for T e o fails = grind (arith, common_steps)
 
 -- a walk that found no head
 pub walk_fails : (error : HeadError) (e : Error) (old new : MediumState) → old.place ≡ 0

@@ -1,6 +1,6 @@
 -- A file whose repair was cut off is repaired to the same frames.
 use Rattle.std.proofs.lemmas.Grind.{common_steps}
-use Rattle.std.proofs.Common.{◌≡◌, ℕ, zero, suc, ◌+◌, ◌-◌, ◌*◌, ◌/◌, ◌%◌, ◌≤◌, Bool, IsTrue, ◌++◌, length, take, drop, inl, inr, refl, sym, ap, ◌∙◌, arith, length-append, length-drop, take-append-drop}
+use Rattle.std.proofs.Common.{◌≡◌, ℕ, ◌+◌, ◌-◌, ◌*◌, ◌/◌, ◌%◌, ◌≤◌, Bool, IsTrue, length, inl, inr, sym, ap, ◌∙◌, arith, length-append, length-drop, take-append-drop}
 use Rattle.std.proofs.lemmas.Bool.{cases_lt}
 use Rattle.std.proofs.lemmas.List.{take-append-le}
 use Rattle.std.proofs.lemmas.Nat.{div-add-mod', div-mul-add}
@@ -22,11 +22,7 @@ use Rattle.hound_repair.proofs.RightSizes.{field_before, frames_are, length_fits
 
 -- a number whose low byte is written has that byte, so it isn't one less
 mix_low : (k old n : ℕ) → 1 ≤ k → mix k old n + 1 ≡ n → ⊥
-mix_low zero old n some is = omega (arith, some)
-mix_low (suc k) old n some is =
-    let rest = number (take k (bytes_of 3 (n / 256)) ++ drop (suc k) (bytes_of 4 old)) in
-    let low : mix (suc k) old n ≡ n % 256 + 256 * rest = refl in
-    omega (arith, low, is)
+mix_low k old n some is = grind (arith, common_steps)
 
 -- where a frame has more than one byte, the frames held don't depend on the data length
 frames_of_two : (f len n : ℕ) → 2 ≤ f → data_held f len n / f ≡ n / f

@@ -1,6 +1,6 @@
 -- What a file is read as once its sizes are right.
 use Rattle.std.proofs.lemmas.Grind.{common_steps}
-use Rattle.std.proofs.Common.{◌≡◌, ℕ, ◌+◌, ◌-◌, ◌*◌, ◌/◌, ◌%◌, ◌^◌, ◌≤◌, ◌<◌, Bool, true, false, IsTrue, ◌&&◌, List, ◌++◌, length, take, drop, None, refl, sym, ap, ◌∙◌, subst, arith, length-append, length-drop}
+use Rattle.std.proofs.Common.{◌≡◌, ℕ, ◌+◌, ◌-◌, ◌*◌, ◌/◌, ◌%◌, ◌^◌, ◌≤◌, ◌<◌, Bool, IsTrue, ◌&&◌, List, ◌++◌, length, take, drop, None, refl, sym, ap, ◌∙◌, subst, arith, length-append, length-drop}
 use Rattle.std.proofs.lemmas.List.{take-append-le, drop-append-le}
 use Rattle.std.proofs.Math.Nat.{mul_assoc, mul-div_cancel, mul-mod_left}
 use Rattle.hound_number.specs.{bytes_of, number}
@@ -16,7 +16,7 @@ use Rattle.hound_repair.specs.Held.{frame_length, frames_held, held, mended, mis
 use Rattle.hound_repair.specs.Repairing.{HasRightSizes, IsFoundAt, found_length, frames_found, repair_fault, size_fault, state_of}
 use Rattle.hound_repair.specs.declared.sizes.Repair.{Repair}
 use Rattle.hound_repair.specs.declared.sizes.RepairState.{RepairState}
-use Rattle.hound_repair.specs.declared.sizes.RepairState.TheVariants.{Whole, CutOff, HasChunksAfterData}
+use Rattle.hound_repair.specs.declared.sizes.RepairState.TheVariants.{HasChunksAfterData}
 
 -- two sizes that were put change nothing else
 pub same_sizes : (p riff n : ℕ) (c : List ℕ) → 8 ≤ p → p + 4 ≤ length c
@@ -84,17 +84,13 @@ frames_read s n start frames c channels width is head =
 -- where no chunks follow the data, what is reported is what is held
 pub held_frames : (was : RepairState) (s : WavSpecEx) (len n : ℕ) → (was ≡ HasChunksAfterData → ⊥)
     → frames_found was s len n ≡ frames_held s len n
-held_frames Whole s len n alone = refl
-held_frames CutOff s len n alone = refl
-held_frames HasChunksAfterData s len n alone = absurd (alone refl)
+held_frames was s len n alone = grind (arith, common_steps)
 
 -- chunks that aren't looked for aren't found
 pub not_followed : (looks right followed : Bool) (was : RepairState)
     → was ≡ state_of right (looks && followed)
     → (IsTrue looks → was ≡ HasChunksAfterData → ⊥) → was ≡ HasChunksAfterData → ⊥
-not_followed true right followed was is alone here = alone refl here
-not_followed false true followed was is alone here = let e = sym is ∙ here in cc
-not_followed false false followed was is alone here = let e = sym is ∙ here in cc
+not_followed looks right followed was is alone here = grind (arith, common_steps)
 
 -- a length that passes the check fits
 pub size_fits : (s : WavSpecEx) (len start n : ℕ) → size_fault s len start n ≡ None
