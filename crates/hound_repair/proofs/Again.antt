@@ -24,26 +24,13 @@ pub held_cases : (f len n : ℕ)
 unfolding data_held ends_with_pad
 held_cases f len n = grind (arith, common_steps)
 
-held_pad : (f len : ℕ) → len % 2 ≡ 1 → len % f ≡ 0 → data_held f len (len + 1) ≡ len
-unfolding data_held ends_with_pad
-held_pad f len odd whole = λ i.
-    cond (eq-eqb (len + 1) (len + 1) refl i && (eq-eqb (len % 2) 1 odd i && eq-eqb (len % f) 0 whole i)) len (len + 1)
-
--- how many bytes are added
-pad_cases : (len n : ℕ)
-    → ((n ≡ len) × (length (missing_pad len n) ≡ len % 2))
-    ⊎ ((n ≡ len → ⊥) × (length (missing_pad len n) ≡ 0))
-pad_cases len n = grind (arith, common_steps)
-
-cases_even : (l : ℕ) → (l % 2 ≡ 0) ⊎ (l % 2 ≡ 1)
-cases_even l = grind (arith, common_steps)
-
 -- of mended contents the same frames are held
 pub frames_again : (f len n : ℕ) → 1 ≤ f
     → data_held f (data_held f len n / f * f)
     (n + length (missing_pad (data_held f len n / f * f) n)) / f
     ≡ data_held f len n / f
-frames_again f len n some = grind (arith, common_steps, held_cases, mul-div_cancel, held_pad, mul-mod_left, pad_cases, cases_even, div-add-mod')
+unfolding data_held ends_with_pad
+frames_again f len n some = grind (arith, common_steps, mul-div_cancel, mul-mod_left, div-add-mod')
 
 -- the sizes that were put are right
 right_again : (s : WavSpecEx) (start len riff n frames : ℕ)

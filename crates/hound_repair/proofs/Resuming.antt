@@ -13,7 +13,7 @@ use Rattle.hound_reader.specs.{Head}
 use Rattle.hound_reader.proofs.Unique.{heads_agree}
 use Rattle.hound_writer.proofs.Heads.{head_behind, head_field, head_inside, head_with}
 use Rattle.hound_writer.specs.{field}
-use Rattle.hound_repair.specs.Held.{data_held, frame_length, frames_held, held, missing_pad}
+use Rattle.hound_repair.specs.Held.{data_held, ends_with_pad, frame_length, frames_held, held, missing_pad}
 use Rattle.hound_repair.specs.Repairing.{HalfMended, IsFoundAt, Repairs, found_length}
 use Rattle.hound_repair.specs.declared.sizes.Repair.{Repair}
 use Rattle.hound_repair.specs.declared.sizes.RepairState.TheVariants.{HasChunksAfterData}
@@ -24,48 +24,19 @@ use Rattle.hound_repair.proofs.RightSizes.{field_before, frames_are, length_fits
 mix_low : (k old n : ℕ) → 1 ≤ k → mix k old n + 1 ≡ n → ⊥
 mix_low k old n some is = grind (arith, common_steps)
 
+-- a number that is written over itself stays
+same_mix : (a j : ℕ) → a ≤ greatest_u32 → mix j a a ≡ a
+same_mix a j fits = ap number (take-append-drop j (bytes_of 4 a)) ∙ number-bytes_of 4 a (omega (arith, fits))
+
 -- where a frame has more than one byte, the frames held don't depend on the data length
 frames_of_two : (f len n : ℕ) → 2 ≤ f → data_held f len n / f ≡ n / f
-frames_of_two f len n two = grind (arith, common_steps, held_cases, div-add-mod', div-mul-add)
+unfolding data_held ends_with_pad
+frames_of_two f len n two = grind (arith, common_steps, div-add-mod', div-mul-add)
 
 -- nor do they change while the right length is written over a data length
 frames_half : (f len n k : ℕ) → 1 ≤ f → len ≤ greatest_u32
     → data_held f (mix k len (data_held f len n / f * f)) n / f ≡ data_held f len n / f
-frames_half f len n k some small = elim (cases_lt 1 f) [
-  | inl two ↦
-      frames_of_two f (mix k len (data_held f len n / f * f)) n (omega (arith, two))
-      ∙ sym (frames_of_two f len n (omega (arith, two)))
-  | inr one ↦ ap (λ k. k / f) (single (omega (arith, some, one)))
-]
-  where
-    same_mix : (a : ℕ) → a ≤ greatest_u32 → (j : ℕ) → mix j a a ≡ a
-    same_mix a fits j =
-        ap number (take-append-drop j (bytes_of 4 a)) ∙ number-bytes_of 4 a (omega (arith, fits))
-
-    none : mix 0 len (data_held f len n / f * f) ≡ len
-    none = number-bytes_of 4 len (omega (arith, small))
-
-    single : f ≡ 1 → data_held f (mix k len (data_held f len n / f * f)) n ≡ data_held f len n
-    single is =
-        let l = data_held f len n / f * f in
-        let whole : l ≡ data_held f len n =
-        omega (arith, div-add-mod' (data_held f len n) f, ap (λ g. data_held f len n % g) is, ap (λ g. data_held f len n / f * g) is, ap (λ g. data_held f len n / g) is) in
-        elim (held_cases f len n) [
-          | inr (held_is, more, odd, frames) ↦
-              let same : mix k len l ≡ len =
-              ap (mix k len) (whole ∙ held_is) ∙ same_mix len small k in
-              ap (λ m. data_held f m n) same
-          | inl all ↦ elim (held_cases f (mix k len l) n) [
-            | inl now ↦ now ∙ sym all
-            | inr (held_is, more, odd, frames) ↦ elim (cases_lt 0 k) [
-              | inl written ↦
-                  absurd (mix_low k len l written (omega (arith, more, whole, all)))
-              | inr before ↦
-                  let zero_is : k ≡ 0 = omega (arith, before) in
-                  ap (λ m. data_held f m n) (ap (λ j. mix j len l) zero_is ∙ none)
-            ]
-          ]
-        ]
+frames_half f len n k some small = grind (arith, common_steps, held_cases, frames_of_two, mix_low, same_mix, number-bytes_of, div-add-mod')
 
 module _ (looks again : Bool) (old mid new : MediumState) (found other : Repair) (len start : ℕ)
     (at : IsFoundAt looks old.contents found len start)
