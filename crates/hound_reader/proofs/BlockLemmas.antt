@@ -28,19 +28,13 @@ refusal_by_reason : (refusal : ReadRefusal) (fault : IoFault)
 refusal_by_reason other_format fault = refl
 refusal_by_reason _ fault = refl
 
-same_Err : {A : Type 0} (d e : Error) → (let answer : Result A Error = Err d in answer) ≡ Err e
-    → d ≡ e
-same_Err d e is = cc
-
 -- an error that ended samples, by its reason, whichever the fault is
 error_by_reason : {A : Type 0} (refusal : Option ReadRefusal) (meaning : List ℕ → A) (width : ℕ)
     (old new : Option (List ℕ)) (e : Error) (fault : IoFault)
     → Reads refusal meaning width old new (Err e)
     → Reads refusal meaning width old new (Err (error_of_item (reason_of e) fault))
-error_by_reason (Some refusal) meaning width old new e fault (is, same) = (
-  ap Err (ap (λ d. error_of_item (reason_of d) fault) (same_Err _ _ is) ∙ refusal_by_reason refusal fault),
-  same,
-)
+error_by_reason (Some refusal) meaning width old new e fault (is, same) =
+    let told = refusal_by_reason refusal fault in (cc, same)
 error_by_reason None meaning width old new (IoError e) fault read = read
 error_by_reason None meaning width old new _ fault read = absurd read
 
@@ -71,16 +65,6 @@ unknown_each : {A : Type 0} (meaning : List ℕ → A) (width : ℕ) (values : L
 unknown_each meaning width [] = refl
 unknown_each meaning width (value ∷ values) = (None, tt, unknown_each meaning width values)
 
-unknown_last : {A : Type 0} (meaning : List ℕ → A) (width : ℕ) (values : List A)
-    (item : Result A Error) (old new : Option (List ℕ))
-    → ReadsEach None meaning width (map Ok values ++ (item ∷ [])) old new
-    → Reads None meaning width None new item
-unknown_last meaning width [] item old new (mid, read, same) =
-    unknown_read meaning width item old new
-    (subst (λ m. Reads None meaning width old m item) (sym same) read)
-unknown_last meaning width (value ∷ values) item old new (mid, read, rest) =
-    unknown_last meaning width values item mid new rest
-
 -- samples, and what was returned after them; unknown bytes stay unknown
 pub each_split : {A : Type 0} (refusal : Option ReadRefusal) (meaning : List ℕ → A) (width : ℕ)
     (values : List A) (item : Result A Error) (old new : Option (List ℕ))
@@ -91,12 +75,13 @@ each_split refusal meaning width [] item old new (mid, read, same) =
     (old, refl, subst (λ m. Reads refusal meaning width old m item) (sym same) read, λ none. none)
 each_split (Some refusal) meaning width (value ∷ values) item old new (mid, read, rest) =
     no_value value (error_of_read refusal) read.0
-each_split None meaning width (value ∷ values) item None new (mid, read, rest) = (
-  None,
-  (None, tt, unknown_each meaning width values),
-  unknown_last meaning width values item mid new rest,
-  λ none. refl,
-)
+each_split None meaning width (value ∷ values) item None new (mid, read, rest) =
+    let (end, before, last, _) = each_split None meaning width values item mid new rest in (
+      None,
+      (None, tt, unknown_each meaning width values),
+      unknown_read meaning width item end new last,
+      λ none. refl,
+    )
 each_split None meaning width (value ∷ values) item (Some xs) new (mid, read, rest) =
     let (end, before, last, _) = each_split None meaning width values item mid new rest in
     (end, (mid, read, before), last, λ none. cc)

@@ -112,9 +112,7 @@ fn read_content<R: Input>(
     if tag == b"fmt ".as_slice() {
         let spec_ex = read_fmt_chunk(reader, chunk_len)?;
         let rest = content - chunk_len.min(WAVEFORMATEXTENSIBLE_LENGTH);
-        if rest > 0 {
-            skip_bytes(reader, rest)?;
-        }
+        skip_bytes(reader, rest)?;
         return Ok(ChunkRead::Other(Some(spec_ex), taken + 8 + content));
     }
     skip_bytes(reader, content)?;

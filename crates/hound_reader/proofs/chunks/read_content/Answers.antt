@@ -1,9 +1,6 @@
-use Rattle.std.proofs.Common.{◌≡◌, ◌+◌, ◌≤◌, ℕ, List, [], ◌++◌, Some, Ok, true, false, take, drop, length, refl, sym, ap, ◌∙◌, arith, rules, append_assoc, length-append, length-take-le}
+use Rattle.std.proofs.Common.{◌≡◌, ◌+◌, ◌≤◌, ℕ, List, ◌++◌, Some, Ok, true, false, take, drop, length, refl, sym, ap, ◌∙◌, arith, rules, append_assoc, length-append, length-take-le}
 use Rattle.std.proofs.lemmas.List.{take-append-drop}
-use Rattle.std.specs.Io.KnownBytes.{Consumes}
-use Rattle.std.proofs.KnownBytes.{Consumes-nil}
 use Rattle.hound_spec.specs.declared.spec.WavSpecEx.{WavSpecEx}
-use Rattle.hound_number.specs.{NoneFailed}
 use Rattle.hound_number.proofs.Counting.{NoneFailed-trans}
 use Rattle.hound_reader.specs.Fmt.{fmt_len, fmt_of}
 use Rattle.hound_reader.proofs.FmtLemmas.{fmt_and_rest}
@@ -14,7 +11,6 @@ use Rattle.hound_reader.specs.declared.chunks.ChunkRead.TheVariants.{Other}
 use Rattle.hound_number.proofs.KnownSteps.{known_both, known_from}
 use Rattle.hound_reader.proofs.WalkLemmas.{tag_test}
 use Rattle.hound_reader.proofs.chunks.read_content.Goals as goal
-use Rattle.hound_reader.proofs.chunks.read_content.Goals.{then-rest-gt0+in_ok-skip_bytes, else-rest-gt0}
 
 -- the used part of a fmt chunk, and the rest
 fmt_whole : (len : ℕ) (found : WavSpecEx) (rest xs ys zs : List ℕ)
@@ -38,28 +34,16 @@ returns-then-eq-2 g c =
     let is_fmt = tag_test _ true tag _ fmt_tag c.eq-2.ensures c.as_slice-2.ensures c.if-eq-2.true in
     let other = tag_test _ false tag _ data_tag c.eq.ensures c.as_slice.ensures c.if-eq.false in
     let found = c.in_ok-spec_ex.spec_ex in
-    let mid = c.read_fmt_chunk.new.reader in
-    let end = c.if-rest-gt0.reader in
-    let skipped : (rest : List ℕ) × Consumes (g.R.Input.left mid) (g.R.Input.left end) rest
-    × (length rest + fmt_len len ≡ padded len)
-    × NoneFailed (g.R.Input.account mid) (g.R.Input.account end) =
-    elim c.if-rest-gt0.branch [
-      | then-rest-gt0+in_ok-skip_bytes w ↦
-          let (rest, taken, l) = w.in_ok-skip_bytes.ensures.ok in
-          rw w.reader-is (rest, taken, omega (arith, l), w.in_ok-skip_bytes.ensures.failures)
-      | else-rest-gt0 w ↦
-          rw w.reader-is ([], Consumes-nil (g.R.Input.left mid), omega (arith, w.if-rest-gt0.false), search rules)
-    ] in
-    let (rest, taken, l, counted) = skipped in
+    let (rest, taken, l) = c.in_ok-skip_bytes.ensures.ok in
     record {
       sound = search rules;
-      failures = NoneFailed-trans _ _ _ c.in_ok-spec_ex.ensures.failures counted;
+      failures = NoneFailed-trans _ _ _ c.in_ok-spec_ex.ensures.failures c.in_ok-skip_bytes.ensures.failures;
       ok = known_both _ _ _ _ (λ ys zs. ys ≡ rest ++ zs)
           (ReadsContent c.args.taken c.args.found tag len
           (Other (Some found) (c.args.taken + 8 + padded len))) c.in_ok-spec_ex.ensures.gives
           (known_from rest _ _ (λ ys zs. ys ≡ rest ++ zs) taken (λ ys. refl))
           (λ xs ys zs p e.
-          let (content, n, read, is) = fmt_whole len found rest xs ys zs p e l in (
+          let (content, n, read, is) = fmt_whole len found rest xs ys zs p e (omega (arith, l)) in (
             content,
             n,
             other,
