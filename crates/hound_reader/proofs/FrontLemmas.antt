@@ -1,6 +1,6 @@
 -- What is taken of the first twelve bytes, piece after piece.
 use Rattle.std.proofs.lemmas.Grind.{common_steps}
-use Rattle.std.proofs.Common.{◌≡◌, ℕ, ◌+◌, ◌<◌, ◌≤◌, List, [], ◌++◌, length, refl, sym, ap, ◌∙◌, subst, arith, drop_at, length-append, Option, Some, None}
+use Rattle.std.proofs.Common.{◌≡◌, ℕ, ◌+◌, ◌<◌, ◌≤◌, List, [], ◌++◌, length, refl, sym, ◌∙◌, subst, arith, drop_at, length-append, Option, Some, None}
 use Rattle.std.proofs.Math.Seq.{drop-length}
 use Rattle.std.specs.Io.KnownBytes.{Consumes}
 use Rattle.std.proofs.KnownBytes.{Consumes-trans}
@@ -11,7 +11,6 @@ use Rattle.hound_reader.specs.Walking.{TakesFront, TakesLess, ReportsFront, fron
 use Rattle.hound_reader.specs.Reader.{AreTaken}
 use Rattle.hound_reader.specs.Refusals.{ReportsError}
 use Rattle.hound_spec.specs.declared.error.Error.{Error}
-use Rattle.hound_spec.specs.declared.error.Error.TheVariants as errors
 use Rattle.hound_reader.specs.declared.cause.Cause.TheVariants.{Ended, Unsupported}
 use Rattle.hound_reader.specs.declared.cause.HeadError.{HeadError}
 use Rattle.hound_reader.specs.declared.cause.HeadError.TheVariants.{Failed, Refused}
@@ -51,14 +50,7 @@ no_unsupported xs e = grind (arith, common_steps)
 -- what callers get for it
 told : (e : HeadError) (error : Error) (xs ys : List ℕ) → ReportsError e error
     → Refuses e (λ c. front_fault xs ≡ Some c) → TakesFront e xs ys → ReportsFront error xs ys
-told (Failed e) error xs ys r f t = subst (λ x. ReportsFront x xs ys) (sym r) t
-told (Refused c) (errors.IoError e) xs ys r f t =
-    let taken : AreTaken (length xs) xs ys = subst (λ d. AreTaken (front_taken d xs) xs ys) r.0 t in
-    (length xs, ended_short xs (f ∙ ap Some r.0), taken)
-told (Refused c) (errors.FormatError s) xs ys (reason, is, words) f t =
-    (reason, (f ∙ ap Some is, subst (λ d. AreTaken (front_taken d xs) xs ys) is t), words)
-told (Refused c) errors.Unsupported xs ys r f t = no_unsupported xs (f ∙ ap Some r)
-told (Refused c) _ xs ys r f t = r
+told e error xs ys r f t = grind (arith, common_steps, ended_short, no_unsupported)
 
 pub front_told : (e : HeadError) (error : Error) (o n : Option (List ℕ)) → ReportsError e error
     → Refuses e (λ c. WhereKnown o n (λ xs ys. front_fault xs ≡ Some c)) → WhereKnown o n (TakesFront e)

@@ -1,4 +1,5 @@
 -- What reading gives, piece after piece.
+use Rattle.std.proofs.lemmas.Grind.{common_steps}
 use Rattle.std.proofs.Common.{◌≡◌, ℕ, ◌+◌, ◌≤◌, List, ◌++◌, length, take, drop, refl, sym, ap, ◌∙◌, arith, take_at, drop_at, length-append, Option, Result, Ok, Err}
 use Rattle.std.proofs.lemmas.List.{drop-drop}
 use Rattle.std.specs.Io.KnownBytes.{Consumes}
@@ -13,11 +14,7 @@ use Rattle.hound_reader.specs.Walking.{Gives}
 pub ok_from_taken : {A : Type 0} (k : ℕ) (bs : List ℕ) (o n : Option (List ℕ))
     (f : List ℕ → Result A Cause) (x : A) → Consumes o n bs → length bs ≡ k → f bs ≡ Ok x
     → WhereKnown o n (λ xs ys. (f (take k xs) ≡ Ok x) × (k ≤ length xs) × (ys ≡ drop k xs))
-ok_from_taken k bs o n f x h l e = known_from bs o n _ h (λ ys. (
-  ap f (take_at bs ys k l) ∙ e,
-  omega (arith, length-append bs ys),
-  sym (drop_at bs ys k l),
-))
+ok_from_taken k bs o n f x h l e = grind (arith, common_steps)
 
 -- the same if f of them is a fault
 pub err_from_taken : {A : Type 0} (k : ℕ) (bs : List ℕ) (o n : Option (List ℕ))

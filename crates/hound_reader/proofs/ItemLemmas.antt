@@ -1,12 +1,10 @@
 -- The items of a run.
 use Rattle.std.proofs.lemmas.Grind.{common_steps}
-use Rattle.std.proofs.Common.{◌≡◌, ℕ, ◌+◌, ◌<◌, ◌≤◌, List, [], ◌∷◌, length, ap, ◌∙◌, subst, refl, arith, Option, Some, None, Result, Ok, Err, IsOk}
-use Rattle.std.proofs.lemmas.Bool.{false≢true}
+use Rattle.std.proofs.Common.{◌≡◌, ℕ, ◌+◌, ◌<◌, ◌≤◌, List, [], ◌∷◌, length, ap, ◌∙◌, subst, arith, Option, Some, None, Result, Ok}
 use Rattle.std.specs.Prelude.{IfSome, IsSome}
 use Rattle.std.specs.declared.io.Error.{Error as IoFault}
 use Rattle.hound_number.specs.{WhereKnown}
 use Rattle.hound_spec.specs.declared.error.Error.{Error}
-use Rattle.hound_spec.specs.declared.error.Error.TheVariants.{IoError}
 use Rattle.hound_spec.specs.declared.spec.SampleFormat.{SampleFormat}
 use Rattle.hound_spec.specs.declared.spec.WavSpecEx.{WavSpecEx}
 use Rattle.hound_sample.specs.{ReadRefusal, Reads, answer_of}
@@ -17,11 +15,7 @@ use Rattle.hound_sample.specs.declared.item.ItemError.{ItemError}
 pub a_container_is_taken : {A : Type 0} (refusal : Option ReadRefusal) (meaning : List ℕ → A)
     (width : ℕ) (old new : Option (List ℕ)) (value : A)
     → Reads refusal meaning width old new (Ok value) → WhereKnown old new (AreTaken width)
-a_container_is_taken {A = A} (Some refusal) meaning width old new value read =
-    absurd (false≢true (subst (IsOk {T = A} {E = Error}) read.0 refl))
-a_container_is_taken None meaning width None new value read = tt
-a_container_is_taken None meaning width (Some xs) None value read = absurd read
-a_container_is_taken None meaning width (Some xs) (Some ys) value read = (read.0, read.2)
+a_container_is_taken refusal meaning width old new value read = grind (arith, common_steps)
 
 -- this many samples and bytes later
 abbrev pub later : {R : Type 0} → ReaderState R → ℕ → ℕ → R → ReaderState R
@@ -47,8 +41,7 @@ a_sample_is_given left refusal meaning old new answer fault value inside is read
 no_bytes : {A : Type 0} (left : Option (List ℕ)) (refusal : Option ReadRefusal)
     (meaning : List ℕ → A) (width : ℕ)
     → IfSome left (λ bytes. AreItems refusal meaning width bytes [])
-no_bytes None refusal meaning width = tt
-no_bytes (Some bytes) refusal meaning width = tt
+no_bytes left refusal meaning width = grind (arith, common_steps)
 
 -- an item before items
 item_more : {A : Type 0} (refusal : Option ReadRefusal) (meaning : List ℕ → A) (width : ℕ)
@@ -56,17 +49,7 @@ item_more : {A : Type 0} (refusal : Option ReadRefusal) (meaning : List ℕ → 
     → Reads refusal meaning width old new item
     → IfSome new (λ bytes. AreItems refusal meaning width bytes items)
     → IfSome old (λ bytes. AreItems refusal meaning width bytes (item ∷ items))
-item_more refusal meaning width None new item items read rest = tt
-item_more (Some refusal) meaning width (Some bytes) new item items read rest = (
-  read.0,
-  subst (λ left. IfSome left
-      (λ bytes. AreItems (Some refusal) meaning width bytes items)) read.1 rest,
-)
-item_more None meaning width (Some bytes) None (Ok value) items read rest = absurd read
-item_more None meaning width (Some bytes) (Some behind) (Ok value) items read rest =
-    (read.0, read.1, subst (λ bytes. AreItems None meaning width bytes items) read.2 rest)
-item_more None meaning width (Some bytes) new (Err (IoError e)) items read rest = tt
-item_more None meaning width (Some bytes) new (Err _) items read rest = read
+item_more refusal meaning width old new item items read rest = grind (arith, common_steps)
 
 module _ {R A : Type 0} (left : R → Option (List ℕ))
     (refusal : SampleFormat → ℕ → ℕ → Option ReadRefusal) (meaning : SampleFormat → ℕ → ℕ → List ℕ → A) where
@@ -117,7 +100,4 @@ module _ {R A : Type 0} (left : R → Option (List ℕ))
   pub none_behind : (items : List (Result A Error)) (next : Option (Result A Error))
       (old new end : ReaderState R) → GivesItems left refusal meaning items old new
       → length items ≡ samples_left old → IsNext left refusal meaning next new end → next ≡ None
-  none_behind items None old new end run all step = refl
-  none_behind items (Some item) old new end run all step =
-      let counted = items_counted items old new run in
-      absurd (omega (arith, counted.0, all, step.inside, run_keeps items old new run))
+  none_behind items next old new end run all step = grind (arith, common_steps, items_counted, run_keeps)

@@ -1,5 +1,6 @@
 -- What a reader returns.
-use Rattle.std.proofs.Common.{◌≡◌, ℕ, drop, inl, inr, ◌/◌, ◌∙◌, List, sym, ap, subst, Option, Some, None, Err, refl}
+use Rattle.std.proofs.lemmas.Grind.{common_steps}
+use Rattle.std.proofs.Common.{◌≡◌, ℕ, drop, inl, inr, ◌/◌, ◌∙◌, List, sym, ap, subst, Option, Some, Err, refl, arith}
 use Rattle.std.specs.Prelude.{⊤, IfSome}
 use Rattle.std.proofs.lemmas.Option.{same_Some}
 use Rattle.hound_spec.specs.declared.spec.WavSpecEx.{WavSpecEx}
@@ -7,7 +8,6 @@ use Rattle.hound_reader.specs.declared.cause.Cause.{Cause}
 use Rattle.hound_reader.specs.declared.cause.HeadError.{HeadError}
 use Rattle.hound_reader.specs.declared.cause.HeadError.TheVariants.{Failed, Refused as Refused'}
 use Rattle.hound_spec.specs.declared.error.Error.{Error}
-use Rattle.hound_spec.specs.declared.error.Error.TheVariants as errors
 use Rattle.hound_reader.specs.Walking.{Refuses}
 use Rattle.hound_number.specs.{WhereKnown}
 use Rattle.hound_reader.specs.Grammar.{Answer, readable, unreadable, Answers, AnswersFile, HasOneFileAnswer, Head, Readable, Unreadable, data_fault}
@@ -80,28 +80,17 @@ one_file_answer bytes =
     let file = file_of_answer bytes head.0 head.1 in
     (file.0, file.1, λ b is. same_file_answer bytes file.0 b file.1 is)
 
--- the error of a cause names it
-refusal_is : (e : Error) (cause : Cause) (P : Cause → Type 0) → Names e cause → P cause
-    → IsRefusal e P
-refusal_is (errors.IoError e) cause P n p = tt
-refusal_is (errors.FormatError s) cause P (reason, e, t) p = (reason, subst P e p, t)
-refusal_is errors.Unsupported cause P n p = subst P n p
-refusal_is _ cause P n p = n
-
 if_some : (o : Option (List ℕ)) (Q : List ℕ → Type 0) → ((xs : List ℕ) → Q xs) → IfSome o Q
-if_some None Q f = tt
-if_some (Some xs) Q f = f xs
+if_some o Q f = grind (arith, common_steps)
 
 pub refusal_told : (o n : Option (List ℕ)) (stop : HeadError) (e : Error)
     (P : List ℕ → Cause → Type 0) → ReportsError stop e
     → Refuses stop (λ c. WhereKnown o n (λ xs ys. P xs c)) → IfSome o (λ xs. IsRefusal e (P xs))
-refusal_told o n (Failed x) e P r f = if_some o _ (λ xs. subst (λ y. IsRefusal y (P xs)) (sym r) tt)
-refusal_told o n (Refused' c) e P r f = known_some o n _ _ f (λ xs ys u. refusal_is e c (P xs) r u)
+refusal_told o n stop e P r f = grind (arith, common_steps)
 
 -- whatever ended the walk, callers get an `IoError` or the error of its cause
 pub is_told : (stop : HeadError) (e : Error) → ReportsError stop e → IsRefusal e (λ _. ⊤)
-is_told (Failed x) e r = subst (λ y. IsRefusal y (λ _. ⊤)) (sym r) tt
-is_told (Refused' c) e r = refusal_is e c (λ _. ⊤) r tt
+is_told stop e r = grind (arith, common_steps)
 
 -- what can be read is opened, unless a read failed
 pub opens_told : {A : Type 0} (o n : Option (List ℕ)) (stop : HeadError) (e : Error)
@@ -124,8 +113,7 @@ opens_ok o n spec samples place k =
     (e.0, e.1))
 
 names_fails : (e : Error) (c : Cause) → Names e c → FailsAs e c
-names_fails (errors.IoError e) c n = tt
-names_fails _ c n = n
+names_fails e c n = grind (arith, common_steps)
 
 pub no_fault_ok : (o n : Option (List ℕ)) (spec : WavSpecEx) (samples place : ℕ)
     → WhereKnown o n (λ xs ys. Readable xs spec samples place × (ys ≡ drop place xs))

@@ -1,13 +1,12 @@
 -- Where a seek leads.
 use Rattle.std.proofs.lemmas.Grind.{common_steps}
-use Rattle.std.proofs.Common.{◌≡◌, ℕ, zero, suc, ℤ, pos, negsuc, ◌+ℤ◌, ◌-ℤ◌, ◌+◌, ◌-◌, ◌*◌, ◌/◌, ◌^◌, ◌<◌, ◌≤◌, List, [], ◌∷◌, length, take, drop, arith, subst, sym, ap, ◌∙◌, Option, Some, None, Result, Ok, Err}
-use Rattle.std.proofs.Math.Nat.{mul_assoc, mul-le-mul_right, div-zero, div-mul-le_self}
+use Rattle.std.proofs.Common.{◌≡◌, ℕ, suc, ℤ, pos, ◌+ℤ◌, ◌-ℤ◌, ◌+◌, ◌-◌, ◌*◌, ◌/◌, ◌^◌, ◌<◌, ◌≤◌, List, [], ◌∷◌, length, drop, arith, subst, sym, ap, ◌∙◌, Option, Some, None, Result, Ok}
+use Rattle.std.proofs.Math.Nat.{mul_assoc, mul-le-mul_right}
 use Rattle.std.proofs.lemmas.Int.{ints}
 use Rattle.std.proofs.lemmas.List.{length-drop, drop-drop}
 use Rattle.hound_spec.specs.declared.error.Error.{Error}
-use Rattle.hound_spec.specs.declared.error.Error.TheVariants.{IoError}
 use Rattle.hound_spec.specs.declared.spec.SampleFormat.{SampleFormat}
-use Rattle.hound_sample.specs.{ReadRefusal, Reads}
+use Rattle.hound_sample.specs.{ReadRefusal}
 use Rattle.hound_medium.specs.{MediumState, Shifts, IsMoved}
 use Rattle.std.proofs.lemmas.Option.{same_Some}
 use Rattle.hound_spec.specs.declared.spec.WavSpecEx.{WavSpecEx}
@@ -36,17 +35,12 @@ shifts_so {T} {E} by way result x old new b r s =
 
 -- a shift as an equation of signed numbers
 moved : (place new : ℕ) (by : ℤ) → IsMoved place by new → pos new ≡ pos place +ℤ by
-moved place new (pos n) m = omega (arith, ints, m)
-moved place new (negsuc n) m = omega (arith, ints, m)
+moved place new by m = grind (arith, common_steps)
 
 -- the first sample of a frame that the file has is one of its samples
 pub frame_inside : (time channels samples : ℕ) → time < samples / channels
     → time * channels < samples
-frame_inside time zero samples t = absurd (omega (arith, t, div-zero samples))
-frame_inside time (suc channels) samples t =
-    let p : suc time * suc channels ≤ samples / suc channels * suc channels =
-    mul-le-mul_right (suc channels) t in
-    omega (arith, p, div-mul-le_self samples (suc channels))
+frame_inside time channels samples t = grind (arith, common_steps)
 
 module _ {R : Type 0} (state : R → MediumState) (start time : ℕ) (old new : ReaderState R)
     (sought : HasSought state start time old new) where
@@ -77,15 +71,6 @@ module _ {R : Type 0} (state : R → MediumState) (start time : ℕ) (old new : 
       ∙ length-drop (start + bytes_before time old.spec_ex) (state old.reader).contents in
       omega (arith, p, l, whole)
 
--- what a type that reads the samples takes is the first container
-reads_first : {A : Type 0} (meaning : List ℕ → A) (width : ℕ) (bytes : List ℕ)
-    (new : Option (List ℕ)) (item : Result A Error) → Reads None meaning width (Some bytes) new item
-    → IsMeaningOf meaning (take width bytes) (Some item)
-reads_first meaning width bytes None (Ok value) read = absurd read
-reads_first meaning width bytes (Some behind) (Ok value) read = read.1
-reads_first meaning width bytes new (Err (IoError e)) read = tt
-reads_first meaning width bytes new (Err _) read = read
-
 module _ {R A : Type 0} (state : R → MediumState) (left : R → Option (List ℕ))
     (refusal : SampleFormat → ℕ → ℕ → Option ReadRefusal) (meaning : SampleFormat → ℕ → ℕ → List ℕ → A) where
   -- the item after a seek
@@ -96,32 +81,7 @@ module _ {R A : Type 0} (state : R → MediumState) (left : R → Option (List �
       → IsMeaningOf (meaning_at meaning old.spec_ex)
       (container_at old.spec_ex.bytes_per_sample (samples_before time old.spec_ex)
       (drop start (state old.reader).contents)) next
-  sought_item start time old mid new None known sought t taken step =
-      let inside = frame_inside time old.spec_ex.spec.channels old.num_samples t in
-      absurd (omega (
-        arith,
-        inside,
-        step.0,
-        sought.seeks.counts.samples,
-        sought.seeks.counts.num_samples,
-      ))
-  sought_item start time old mid new (Some item) known sought t taken step =
-      let width = old.spec_ex.bytes_per_sample in
-      let there =
-      known ∙ ap Some (sought_unread state start time old mid sought
-      ∙ sym (drop-drop (bytes_before time old.spec_ex) start (state old.reader).contents)) in
-      let read =
-      subst (λ s. Reads (refusal_at refusal s) (meaning_at meaning s) s.bytes_per_sample
-      (left mid.reader) (left new.reader) item) sought.seeks.counts.spec_ex step.read in
-      let known_read =
-      subst (λ o. Reads (refusal_at refusal old.spec_ex)
-      (meaning_at meaning old.spec_ex) width o (left new.reader) item) there read in
-      reads_first (meaning_at meaning old.spec_ex) width
-      (drop (bytes_before time old.spec_ex) (drop start (state old.reader).contents))
-      (left new.reader) item
-      (subst (λ o. Reads o (meaning_at meaning old.spec_ex) width
-      (Some (drop (bytes_before time old.spec_ex) (drop start (state old.reader).contents)))
-      (left new.reader) item) taken known_read)
+  sought_item start time old mid new next known sought t taken step = grind (arith, common_steps)
 
 module _ {R : Type 0} (left : R → Option (List ℕ)) where
   -- what an item took is counted
@@ -134,10 +94,7 @@ module _ {R : Type 0} (left : R → Option (List ℕ)) where
       (meaning : SampleFormat → ℕ → ℕ → List ℕ → A) (bytes : List ℕ) (old new : ReaderState R)
       (next : Option (Result A Error)) → StandsAsCounted left bytes old
       → IsNext left refusal meaning next old new → StandsAsCounted left bytes new
-  item_counted refusal meaning bytes old new None stands step =
-      subst (StandsAsCounted left bytes) (sym step.1) stands
-  item_counted refusal meaning bytes old new (Some item) stands step =
-      took_counted bytes old new stands step.taken
+  item_counted refusal meaning bytes old new next stands step = grind (arith, common_steps)
 
 module _ {R : Type 0} (left : R → Option (List ℕ)) (state : R → MediumState) where
   -- and so does an Ok seek that doesn't go back

@@ -1,6 +1,6 @@
 -- How many bytes are taken if the bytes are rejected, piece after piece.
 use Rattle.std.proofs.lemmas.Grind.{common_steps}
-use Rattle.std.proofs.Common.{◌≡◌, ℕ, ◌+◌, ◌≤◌, List, ◌++◌, length, drop, refl, sym, ap, ◌∙◌, subst, arith, inl, inr, slice_range, append_assoc, drop_at, length-append, Option, None, Some, Result, Ok, Err}
+use Rattle.std.proofs.Common.{◌≡◌, ℕ, ◌+◌, ◌≤◌, List, ◌++◌, length, drop, refl, sym, ap, ◌∙◌, subst, arith, inr, slice_range, append_assoc, drop_at, length-append, Option, None, Some, Result, Err}
 use Rattle.std.proofs.lemmas.List.{drop-drop}
 use Rattle.std.specs.Io.KnownBytes.{Consumes}
 use Rattle.hound_number.specs.{WhereKnown, number}
@@ -9,7 +9,7 @@ use Rattle.hound_reader.specs.Walking.{Refuses, RefusedAfter, UnreadableAfter, T
 use Rattle.hound_reader.specs.Reader.{AreTaken}
 use Rattle.hound_reader.specs.Grammar.{Head, Refused as Refused', chunk_fault, data_fault, joined, last_spec}
 use Rattle.hound_spec.specs.{riff_tag, wave_tag, FmtFields, Extension, fmt_fields, greatest_u32}
-use Rattle.std.specs.Prelude.{IfErr, ⊤}
+use Rattle.std.specs.Prelude.{IfErr}
 use Rattle.hound_reader.specs.Fmt.{by_subformat, wave_format}
 use Rattle.hound_spec.specs.declared.spec.WavSpecEx.{WavSpecEx}
 use Rattle.hound_reader.specs.declared.cause.Cause.{Cause}
@@ -59,10 +59,7 @@ pub takes_more : {A : Type 0} (h : List ℕ) (o m n : Option (List ℕ)) (f g : 
     (r : Result A HeadError) → Consumes o m h
     → ((c : Cause) (ys : List ℕ) → g c (h ++ ys) ≡ length h + f c ys)
     → IfErr r (TakesFor m n f) → IfErr r (TakesFor o n g)
-takes_more h o m n f g (Ok x) taken same t = tt
-takes_more h o m n f g (Err (Failed e)) taken same t = tt
-takes_more h o m n f g (Err (Refused c)) taken same t =
-    takes_after h o m n f g (λ _. ⊤) (Refused c) taken tt (λ d ys is. same d ys) t
+takes_more h o m n f g r taken same t = grind (arith, common_steps, takes_after)
 
 -- a chunk whose header is h takes that, and of its content what the table says
 pub chunk_takes : (c len : ℕ) (h ys : List ℕ) (cause : Cause) → length h ≡ 8 → c + 8 ≤ greatest_u32
@@ -74,9 +71,7 @@ chunk_takes c len h ys cause eight room is = grind (arith, common_steps)
 -- P and Q for the same bytes
 pub known_and : (o n : Option (List ℕ)) (P Q : List ℕ → List ℕ → Type 0) → WhereKnown o n P → WhereKnown o n Q
     → WhereKnown o n (λ xs ys. P xs ys × Q xs ys)
-known_and None n P Q p q = tt
-known_and (Some xs) None P Q p q = p
-known_and (Some xs) (Some ys) P Q p q = (p, q)
+known_and o n P Q p q = grind (arith, common_steps)
 
 -- whole chunks, and then a fault
 pub walk_takes : (o m n : Option (List ℕ)) (found : Option WavSpecEx) (taken : ℕ) (e : HeadError)
@@ -112,12 +107,7 @@ walk_takes o m n found taken (Refused c) walked fault t =
 -- what is taken of bytes without a head shows why they have none
 pub refused_for : (o n : Option (List ℕ)) (e : HeadError) → TakesAll RefusedAfter o n e
     → Refuses e (λ c. WhereKnown o n (λ xs ys. Refused' xs c))
-refused_for o n (Failed e) t = tt
-refused_for o n (Refused c) t =
-    known_weaker o n _ _ t (λ xs ys (k, after, are). elim after [
-      | inl front ↦ inl front.0
-      | inr (chunks, rest, walk, fault, count) ↦ inr (chunks, rest, walk, fault)
-    ])
+refused_for o n e t = grind (arith, common_steps)
 
 -- a head is complete
 pub head_is_there : (bytes : List ℕ) (spec : WavSpecEx) (len h : ℕ) → Head bytes spec len h

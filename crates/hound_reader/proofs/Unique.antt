@@ -24,14 +24,7 @@ spread p x = append_assoc p.tag (p.size ++ p.content) x
 
 same_chunk : (p q : Chunk) (x y : List ℕ) → IsChunk p → IsChunk q
     → chunk_bytes p ++ x ≡ chunk_bytes q ++ y → (p ≡ q) × (x ≡ y)
-same_chunk p q x y isp isq e =
-    let a = same_front p.tag q.tag _ _ (isp.tag ∙ sym isq.tag) (sym (spread p x) ∙ e
-    ∙ spread q y) in
-    let b = same_front p.size q.size _ _ (isp.size ∙ sym isq.size) a.1 in
-    let n : length p.content ≡ length q.content = isp.content
-    ∙ ap (λ s. padded (number s)) b.0 ∙ sym isq.content in
-    let d = same_front p.content q.content x y n b.1 in
-    ((λ i. record { tag = a.0 i; size = b.0 i; content = d.0 i }), d.1)
+same_chunk p q x y isp isq e = grind (arith, common_steps, same_front, spread)
 
 -- no chunk begins here
 abbrev Ends : ℕ → List ℕ → Type 0

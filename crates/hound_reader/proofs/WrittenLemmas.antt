@@ -1,6 +1,6 @@
 -- A written header is a head, and the containers after it are read back.
 use Rattle.std.proofs.lemmas.Grind.{common_steps}
-use Rattle.std.proofs.Common.{◌≡◌, ℕ, suc, ◌+◌, ◌*◌, ◌/◌, ◌%◌, ◌^◌, ◌<◌, ◌≤◌, ◌==◌, inl, inr, true, false, nat_le, List, [], ◌∷◌, ◌++◌, length, drop, append-nil, append_assoc, take_at, drop_at, length-append, refl, sym, ap, ◌∙◌, arith, le-ltb, eq-eqb, lit<, Ok}
+use Rattle.std.proofs.Common.{◌≡◌, ℕ, suc, ◌+◌, ◌*◌, ◌/◌, ◌%◌, ◌^◌, ◌<◌, ◌≤◌, ◌==◌, true, false, List, [], ◌∷◌, ◌++◌, length, drop, append-nil, append_assoc, take_at, drop_at, length-append, refl, sym, ap, ◌∙◌, arith, le-ltb, eq-eqb, lit<, Ok}
 use Rattle.std.proofs.Math.Nat.{mul-mod_left, mul-div_cancel, mul-div_cancel_left, le-mul_of_pos_right}
 use Rattle.std.proofs.lemmas.Bool.{ne_eqb, cases_Bool, and_parts}
 use Rattle.std.proofs.lemmas.Bool.Decides.{nat_tests}
@@ -9,7 +9,7 @@ use Rattle.hound_number.specs.{number, bytes_of}
 use Rattle.hound_spec.specs.declared.spec.SampleFormat.{SampleFormat}
 use Rattle.hound_spec.specs.declared.spec.SampleFormat.TheVariants.{Int, Float}
 use Rattle.hound_spec.specs.declared.spec.WavSpecEx.{WavSpecEx}
-use Rattle.hound_spec.specs.{IsPair, IsWritable, riff_tag, wave_tag, fmt_tag, data_tag, is_short, mask, fields, short_fmt, long_fmt, sized_fmt, header, data_start, riff_size, padding, canonical, FieldsFit, fmt_bytes, fmt_fields, Extension, extension_bytes, subformat, pcm, extensible, greatest_u16, greatest_u32}
+use Rattle.hound_spec.specs.{IsPair, IsWritable, riff_tag, wave_tag, fmt_tag, data_tag, is_short, mask, fields, short_fmt, long_fmt, sized_fmt, header, data_start, riff_size, padding, canonical, FieldsFit, fmt_bytes, fmt_fields, Extension, extension_bytes, subformat, pcm, extensible, greatest_u32}
 use Rattle.hound_spec.proofs.FmtLemmas.{number-bytes_of, fields_written}
 use Rattle.hound_spec.proofs.WritableLemmas.{PairFacts, pair_facts}
 use Rattle.hound_spec.proofs.HeaderLemmas.{sized_fmt-short, sized_fmt-long, length-long_fmt, length-header}
@@ -42,18 +42,7 @@ with_fields s bits format =
 fields_pass : (tag bits : ℕ) (s : WavSpecEx) → IsWritable s → 0 < bits → bits % 8 ≡ 0
     → bits ≤ 8 * s.bytes_per_sample → wave_format (fields tag bits s) ≡ Ok (with_fields s bits Int)
 unfolding wave_format
-fields_pass tag bits s w some whole in_width =
-    let p = pair_facts s.spec.sample_format s.spec.bits_per_sample s.bytes_per_sample w.pair in
-    let rate = s.spec.channels * s.bytes_per_sample * s.spec.sample_rate in
-    let width = mul-div_cancel_left s.bytes_per_sample (let some : 0 < s.spec.channels = omega (arith, w.channels) in some) in
-    let t1 = ne_eqb s.spec.channels 0 (λ e. omega (arith, w.channels)) in
-    let t2 = le-ltb (8 * s.bytes_per_sample) bits in_width in
-    let t3 = le-ltb greatest_u16 (8 * s.bytes_per_sample) (omega (arith, p.few)) in
-    let t4 = eq-eqb rate rate refl in
-    let t5 = le-ltb greatest_u32 rate w.byte_rate in
-    let t6 = eq-eqb (bits % 8) 0 whole in
-    let t7 = ne_eqb bits 0 (λ e. omega arith) in
-    rw (width, t1, t2, t3, t4, t5, t6, t7) refl
+fields_pass tag bits s w some whole in_width = grind (arith, common_steps, pair_facts, mul-div_cancel_left, ne_eqb, le-ltb, eq-eqb)
 
 -- and so do their bytes
 bytes_pass : (tag bits : ℕ) (s : WavSpecEx) → IsWritable s → tag < 256 ^ 2 → 0 < bits → bits % 8 ≡ 0
@@ -126,9 +115,6 @@ length-joined-one : (len : ℕ) (content : List ℕ)
 length-joined-one len content =
     ap (λ t. length (fmt_tag ++ (bytes_of 4 len ++ t))) (append-nil content) ∙ omega arith
 
-regroup : (a b c d e : List ℕ) → (((a ++ b) ++ c) ++ d) ++ e ≡ a ++ (b ++ (c ++ (d ++ e)))
-regroup a b c d e = simp append_assoc
-
 header-parts : (s : WavSpecEx) (size len n : ℕ) (content rest : List ℕ)
     → sized_fmt s ≡ bytes_of 4 n ++ content
     → header s size len ++ rest ≡ riff_tag ++
@@ -136,9 +122,7 @@ header-parts : (s : WavSpecEx) (size len n : ℕ) (content rest : List ℕ)
     (wave_tag ++
     (fmt_tag ++ (bytes_of 4 n ++ (content ++ (data_tag ++ (bytes_of 4 len ++ rest)))))))
 unfolding header
-header-parts s size len n content rest e =
-    rw e (ap (λ t. riff_tag ++ (bytes_of 4 size ++ (wave_tag ++ (fmt_tag ++ t))))
-    (regroup (bytes_of 4 n) content data_tag (bytes_of 4 len) rest))
+header-parts s size len n content rest e = grind (arith, common_steps)
 
 add_none : (n : ℕ) → n ≡ n + 0
 add_none n = omega arith
@@ -194,12 +178,7 @@ long_head s size len rest w long fits =
 
 pub header_head : (s : WavSpecEx) (size len : ℕ) (rest : List ℕ) → IsWritable s → len ≤ greatest_u32
     → Head (header s size len ++ rest) s len (data_start s)
-header_head s size len rest w fits = elim (cases_Bool (is_short s)) [
-  | inl e ↦
-      let few : nat_le s.spec.bits_per_sample 16 ≡ true = (and_parts _ _ e).1 in
-      rw e (short_head s size len rest w e (grind (arith, nat_tests)) fits)
-  | inr e ↦ rw e (long_head s size len rest w e fits)
-]
+header_head s size len rest w fits = grind (arith, common_steps, cases_Bool, and_parts, short_head, nat_tests, long_head)
 
 -- containers of one width, joined
 pub length-concat : (w : ℕ) (list : List (List ℕ)) → AllByRecursion (λ c. length c ≡ w) list
