@@ -1,8 +1,8 @@
 -- Chunks after the data, one by one.
 use Rattle.std.proofs.lemmas.Grind.{common_steps}
-use Rattle.std.proofs.Common.{◌≡◌, ℕ, min, inl, inr, zero, suc, ◌+◌, ◌≤◌, ◌<◌, Bool, true, false, if◌then◌else◌, ◌&&◌, ◌||◌, nat_lt, nat_le, List, [], ◌∷◌, ◌++◌, Option, None, Some, length, drop, take, refl, sym, ◌∙◌, ap, arith, length-drop, length-take, eqb-true}
+use Rattle.std.proofs.Common.{◌≡◌, ℕ, min, inl, inr, suc, ◌+◌, ◌-◌, ◌≤◌, ◌<◌, Bool, true, false, if◌then◌else◌, ◌&&◌, ◌||◌, nat_lt, nat_le, List, [], ◌∷◌, ◌++◌, Option, None, Some, length, drop, take, refl, sym, ◌∙◌, ap, arith, length-drop, length-take, eqb-true}
 use Rattle.std.specs.Prelude.{◌==◌, bytes_eq}
-use Rattle.std.proofs.lemmas.Bool.{cases_lt, false≢true}
+use Rattle.std.proofs.lemmas.Bool.{cases_lt}
 use Rattle.std.specs.List.{list_all, list_any}
 use Rattle.std.proofs.lemmas.List.{take-take, take_all, take_at}
 use Rattle.hound_spec.specs.{padded}
@@ -22,12 +22,6 @@ by_content o f g same = grind (arith, common_steps)
 enough : (n m : ℕ) (bytes : List ℕ) → length bytes ≤ n → length bytes ≤ m
     → are_at_most n bytes ≡ are_at_most m bytes
 unfolding are_at_most
-enough zero zero bytes a b = refl
-enough zero (suc m) [] a b = refl
-enough zero (suc m) (x ∷ bytes) a b = absurd (omega (arith, a))
-enough (suc n) zero [] a b = refl
-enough (suc n) zero (x ∷ bytes) a b = absurd (omega (arith, b))
-enough (suc n) (suc m) [] a b = refl
 enough (suc n) (suc m) (x ∷ bytes) a b =
     ap (λ rest. has_known_tag (x ∷ bytes) || rest)
     (by_content (chunk_content (x ∷ bytes))
@@ -36,6 +30,7 @@ enough (suc n) (suc m) (x ∷ bytes) a b =
     (λ content. enough n m (drop (8 + content) (x ∷ bytes))
     (omega (arith, length-drop (8 + content) (x ∷ bytes), a))
     (omega (arith, length-drop (8 + content) (x ∷ bytes), b))))
+enough _ _ _ a b = grind (arith, common_steps)
 
 -- bytes that begin with a known tag
 pub known_chunk : (bytes : List ℕ) → 0 < length bytes → has_known_tag bytes ≡ true
@@ -64,18 +59,8 @@ none_equal : (tags : List (List ℕ)) (bytes : List ℕ)
     → list_any (λ tag. bytes_eq tag bytes) tags ≡ false
 none_equal [] bytes all few = refl
 none_equal (tag ∷ tags) bytes all few =
-    by (length tag == 4) refl all (λ each. none_equal tags bytes each few)
-  where
-    others : Bool
-    others = list_any (λ t. bytes_eq t bytes) tags
-
-    by : (b : Bool) → (length tag == 4) ≡ b → (b && list_all (λ t. length t == 4) tags) ≡ true
-        → (list_all (λ t. length t == 4) tags ≡ true → others ≡ false)
-        → (bytes_eq tag bytes || others) ≡ false
-    by false long each none = absurd (false≢true each)
-    by true long each none = λ i.
-        unequal tag bytes (λ same. omega (arith, eqb-true (length tag) 4 long, few, same)) i
-        || none each i
+    let others = none_equal tags bytes in
+    grind (arith, common_steps, unequal tag bytes, eqb-true (length tag) 4, others)
 
 -- too few bytes for a tag
 pub no_tag : (bytes : List ℕ) → length bytes < 4 → false ≡ has_known_tag bytes
@@ -98,18 +83,30 @@ tag_of_front bytes n is = tag_is bytes (take 4 (take n bytes)) (elim (cases_lt (
   | inr many ↦ take-take 4 n bytes (omega (arith, is, many))
 ])
 
--- what was read into the front of a buffer
-pub front_read : (n place : ℕ) (given old after contents now : List ℕ) → length old ≡ n
-    → length given ≡ length old → now ≡ contents → given ≡ take (length old) (drop place now)
-    → take n (given ++ after) ≡ take n (drop place contents)
-front_read n place given old after contents now count size same is =
-    take_at given after n (size ∙ count) ∙ is ∙ (λ i. take (count i) (drop place (same i)))
-
--- the first eight bytes say what the chunk is, and fewer that there is none
-pub content_is : (bytes header : List ℕ) (left n : ℕ) → left ≡ length bytes → n ≡ min left 8
-    → header ≡ take n bytes
-    → (if nat_lt left 8 then None
+-- how many bytes the content of a chunk takes, by its header and how many bytes there are
+abbrev pub content_by : List ℕ → ℕ → Option ℕ
+content_by header left =
+    if nat_lt left 8 then None
     else if has_tag header && nat_le (8 + said_length header) left
-    then Some (padded (said_length header)) else None) ≡ chunk_content bytes
+    then Some (padded (said_length header)) else None
+
+content_is : (bytes header : List ℕ) (left n : ℕ) → left ≡ length bytes → n ≡ min left 8
+    → header ≡ take n bytes → content_by header left ≡ chunk_content bytes
 unfolding chunk_content
 content_is bytes header left n all count is = grind (arith, common_steps)
+
+-- a header that was read into the front of a buffer says what begins at its place
+pub header_read : (place end n : ℕ) (given old after contents now : List ℕ) → end ≡ length contents
+    → n ≡ min (end - place) 8 → length old ≡ n → length given ≡ length old → now ≡ contents
+    → given ≡ take (length old) (drop place now)
+    → (end - place ≡ length (drop place contents))
+    × (has_known_tag (take n (given ++ after)) ≡ has_known_tag (drop place contents))
+    × (content_by (take n (given ++ after)) (end - place) ≡ chunk_content (drop place contents))
+header_read place end n given old after contents now ends count size long same is =
+    let rest = drop place contents in
+    let left : end - place ≡ length rest = omega (arith, ends, length-drop place contents) in
+    let front = take_at given after n (long ∙ size) ∙ is ∙ (λ i. take (size i) (drop place (same i))) in (
+      left,
+      ap has_known_tag front ∙ tag_of_front rest n (count ∙ ap (λ k. min k 8) left),
+      content_is rest _ _ n left count front,
+    )

@@ -1,6 +1,6 @@
 -- What mending a file leaves.
 use Rattle.std.proofs.lemmas.Grind.{common_steps}
-use Rattle.std.proofs.Common.{◌≡◌, ℕ, ◌+◌, ◌-◌, ◌≤◌, true, false, List, [], ◌∷◌, ◌++◌, length, Bool, Result, Ok, refl, sym, ◌∙◌, subst, arith, eqb-true, length-drop, length-take}
+use Rattle.std.proofs.Common.{◌≡◌, ℕ, ◌+◌, ◌-◌, ◌≤◌, List, [], ◌∷◌, ◌++◌, length, Bool, Result, Ok, sym, ◌∙◌, subst, arith, eqb-true, length-drop, length-take}
 use Rattle.std.proofs.lemmas.Bool.{and_parts}
 use Rattle.std.specs.declared.io.Error.{Error as IoFault}
 use Rattle.hound_spec.specs.{riff_size}
@@ -10,11 +10,10 @@ use Rattle.hound_reader.specs.{IsSoundSpec}
 use Rattle.hound_writer.specs.{PutsNothing, IsPatched, Patches, with_sizes}
 use Rattle.hound_repair.specs.Damages.{FindsDamage, IsSoundDamage, PutsPad, PutsSizes, repair_of}
 use Rattle.hound_repair.specs.Held.{held, mended, missing_pad}
-use Rattle.hound_repair.specs.Repairing.{HalfMended, HasRightSizes, IsFoundAt, LeavesFor, Repairs, UnlessFollowed, found_length, state_of}
+use Rattle.hound_repair.specs.Repairing.{HalfMended, HasRightSizes, IsFoundAt, LeavesFor, Repairs, UnlessFollowed, found_length}
 use Rattle.hound_repair.specs.declared.look.Damage.{Damage}
 use Rattle.hound_repair.specs.declared.sizes.Repair.{Repair}
-use Rattle.hound_repair.specs.declared.sizes.RepairState.{RepairState}
-use Rattle.hound_repair.specs.declared.sizes.RepairState.TheVariants.{Whole, CutOff, HasChunksAfterData}
+use Rattle.hound_repair.specs.declared.sizes.RepairState.TheVariants.{CutOff}
 use Rattle.hound_repair.proofs.RightSizes.{right_sizes_put, right_sizes_there}
 
 -- a file is half mended before its pad byte is written
@@ -60,31 +59,10 @@ repairs_kept looks old new found len start at sound other nothing faults = recor
   len = len;
   start = start;
   is = at;
-  leaves = leaves found.was other;
-  sizes = sizes found.was refl;
+  leaves = grind (arith, common_steps);
+  sizes = grind (arith, common_steps, right_sizes_there looks old.contents found len start at, and_parts, eqb-true);
   faults = faults;
 }
-  where
-    leaves : (w : RepairState) → (w ≡ CutOff → ⊥) → LeavesFor w found start old new
-    leaves Whole not = nothing
-    leaves CutOff not = absurd (not refl)
-    leaves HasChunksAfterData not = nothing
-
-    right : (b followed : Bool) → state_of b followed ≡ Whole → b ≡ true
-    right true followed is = refl
-    right false true is = cc
-    right false false is = cc
-
-    sizes : (w : RepairState) → found.was ≡ w
-        → UnlessFollowed w (HasRightSizes found start new.contents)
-    sizes HasChunksAfterData is = tt
-    sizes CutOff is = absurd (other is)
-    sizes Whole is =
-        let says = and_parts _ _ (right _ _ (sym at.was ∙ is)) in
-        subst (HasRightSizes found start) (sym nothing.stays.contents)
-        (right_sizes_there looks old.contents found len start at
-        (λ followed. let never = sym is ∙ followed in cc) sound
-        (eqb-true _ _ says.0) (eqb-true _ _ says.1))
 
 -- a file that was cut off is mended
 pub repairs_cut : (looks : Bool) (old new : MediumState) (found : Repair) (len start : ℕ)
