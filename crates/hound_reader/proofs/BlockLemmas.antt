@@ -1,4 +1,5 @@
 -- Samples that were read at once, as items.
+use Rattle.std.proofs.lemmas.Grind.{common_steps}
 use Rattle.std.proofs.Common.{◌≡◌, ℕ, suc, ◌+◌, ◌-◌, ◌*◌, ◌^◌, ◌<◌, ◌≤◌, min, List, [], ◌∷◌, ◌++◌, map, length, take, drop, refl, sym, ap, ◌∙◌, subst, arith, Option, None, Some, Result, Ok, Err}
 use Rattle.std.proofs.lemmas.Bool.{false≢true}
 use Rattle.std.proofs.lemmas.List.{drop-drop, length-drop, length-take-le, length-append, take-append-le, drop-append-le, take-append-drop}
@@ -25,18 +26,14 @@ no_value value error is = cc
 -- the error of a type that doesn't read the samples, by its reason
 refusal_by_reason : (refusal : ReadRefusal) (fault : IoFault)
     → error_of_item (reason_of (error_of_read refusal)) fault ≡ error_of_read refusal
-refusal_by_reason other_format fault = refl
-refusal_by_reason _ fault = refl
+refusal_by_reason refusal fault = grind (arith, common_steps)
 
 -- an error that ended samples, by its reason, whichever the fault is
 error_by_reason : {A : Type 0} (refusal : Option ReadRefusal) (meaning : List ℕ → A) (width : ℕ)
     (old new : Option (List ℕ)) (e : Error) (fault : IoFault)
     → Reads refusal meaning width old new (Err e)
     → Reads refusal meaning width old new (Err (error_of_item (reason_of e) fault))
-error_by_reason (Some refusal) meaning width old new e fault (is, same) =
-    let told = refusal_by_reason refusal fault in (cc, same)
-error_by_reason None meaning width old new (IoError e) fault read = read
-error_by_reason None meaning width old new _ fault read = absurd read
+error_by_reason refusal meaning width old new e fault read = grind (arith, common_steps, refusal_by_reason)
 
 pub each_by_reason : {A : Type 0} (refusal : Option ReadRefusal) (meaning : List ℕ → A) (width : ℕ)
     (values : List A) (e : Error) (reason : ItemError) (fault : IoFault) (old new : Option (List ℕ))
@@ -56,9 +53,7 @@ each_by_reason refusal meaning width (value ∷ values) e reason fault old new i
 unknown_read : {A : Type 0} (meaning : List ℕ → A) (width : ℕ) (item : Result A Error)
     (old new : Option (List ℕ)) → Reads None meaning width old new item
     → Reads None meaning width None new item
-unknown_read meaning width (Ok value) old new read = tt
-unknown_read meaning width (Err (IoError e)) old new read = tt
-unknown_read meaning width (Err _) old new read = absurd read
+unknown_read meaning width item old new read = grind (arith, common_steps)
 
 unknown_each : {A : Type 0} (meaning : List ℕ → A) (width : ℕ) (values : List A)
     → ReadsEach None meaning width (map Ok values) None None
@@ -105,29 +100,13 @@ each_takes refusal meaning width (value ∷ values) xs new (Some ys, read, rest)
           ∙ ap Some (drop-drop (length values * width) width xs ∙ ap (λ n. drop n xs) e),
     )
 
--- a fault isn't an error of the type
-no_refusal : {A : Type 0} (fault : IoFault) (refusal : ReadRefusal)
-    → (let answer : Result A Error = Err (IoError fault) in answer) ≡ Err (error_of_read refusal)
-    → ⊥
-no_refusal fault other_format is = cc
-no_refusal fault _ is = cc
-
 torn_after : {A : Type 0} (refusal : Option ReadRefusal) (meaning : List ℕ → A) (width count : ℕ)
     (reason : ItemError) (fault : IoFault) (given : ℕ) (xs ms ys : List ℕ)
     → count * width ≤ length xs → length ms ≡ length xs - count * width
     → count * width + width < 2 ^ 64 → given ≡ min (length xs - length ys) (2 ^ 64 - 1)
     → Reads refusal meaning width (Some ms) (Some ys) (Err (error_of_item reason fault))
     → AreTaken (taken_without reason (given - count * width) width) ms ys
-torn_after (Some refusal) meaning width count Failed fault given xs ms ys enough size few has read =
-    absurd (no_refusal fault refusal read.0)
-torn_after (Some refusal) meaning width count _ fault given xs ms ys enough size few has read =
-    (omega arith, same_Some _ _ read.1)
-torn_after None meaning width count Failed fault given xs ms ys enough size few has (m, part, within, is) =
-    let left = ap length is ∙ length-drop m ms in
-    let same : min (given - count * width) width ≡ m =
-    omega (arith, few, has, left, size, enough, part, within) in
-    (omega (arith, same, within), is ∙ ap (λ n. drop n ms) (sym same))
-torn_after None meaning width count _ fault given xs ms ys enough size few has read = absurd read
+torn_after refusal meaning width count reason fault given xs ms ys enough size few has read = grind (arith, common_steps, length-drop)
 
 -- an item without a sample took as many bytes as were given after the samples
 pub torn_takes : {A : Type 0} (refusal : Option ReadRefusal) (meaning : List ℕ → A) (width : ℕ)
@@ -137,38 +116,22 @@ pub torn_takes : {A : Type 0} (refusal : Option ReadRefusal) (meaning : List ℕ
     → Reads refusal meaning width mid new (Err (error_of_item reason fault))
     → (old ≡ None → mid ≡ None)
     → WhereKnown mid new (AreTaken (taken_without reason (given - length values * width) width))
-torn_takes refusal meaning width values reason fault given None mid new few has before read same =
-    subst (λ m. WhereKnown m new (AreTaken (taken_without reason (given - length values * width) width)))
-    (sym (same refl)) tt
-torn_takes refusal meaning width values reason fault given (Some xs) mid None few has before read same =
-    absurd has
-torn_takes refusal meaning width values reason fault given (Some xs) mid (Some ys) few has before read same =
-    let (enough, is) = each_takes refusal meaning width values xs mid before in
-    let ms = drop (length values * width) xs in
-    subst (λ m. WhereKnown m (Some ys)
-    (AreTaken (taken_without reason (given - length values * width) width))) (sym is)
-    (torn_after refusal meaning width (length values) reason fault given xs ms ys enough
-    (length-drop (length values * width) xs) few has.2
-    (subst (λ m. Reads refusal meaning width m (Some ys) (Err (error_of_item reason fault))) is
-    read))
+torn_takes refusal meaning width values reason fault given old mid new few has before read same = grind (arith, common_steps, each_takes, torn_after, length-drop)
 
 -- an item without a sample took no more than a container
 took_of_reason : (A : Type 0) (reason : ItemError) (fault : IoFault) (given width old : ℕ)
     → TookBytes {A = A} width (Err (error_of_item reason fault)) old
     (old + taken_without reason given width)
-took_of_reason A Failed fault given width old = (omega arith, omega arith)
-took_of_reason A _ fault given width old = omega arith
+took_of_reason A reason fault given width old = grind (arith, common_steps)
 
 pub taken_few : (reason : ItemError) (given width : ℕ) → taken_without reason given width ≤ width
-taken_few Failed given width = omega arith
-taken_few _ given width = omega arith
+taken_few reason given width = grind (arith, common_steps)
 
 -- an error of the type leaves the bytes
 refused_stays : {A : Type 0} (refusal : Option ReadRefusal) (meaning : List ℕ → A) (width : ℕ)
     (old new : Option (List ℕ)) (item : Result A Error)
     → Reads refusal meaning width old new item → IsSome refusal → new ≡ old
-refused_stays None meaning width old new item read some = absurd (false≢true some)
-refused_stays (Some refusal) meaning width old new item read some = read.1
+refused_stays refusal meaning width old new item read some = grind (arith, common_steps)
 
 -- an item without a sample is given, whichever its fault is
 pub no_sample_is_given : {R A : Type 0} (left : R → Option (List ℕ))
@@ -181,29 +144,19 @@ pub no_sample_is_given : {R A : Type 0} (left : R → Option (List ℕ))
     → (IsSome (refusal_at refusal old.spec_ex) → new.reader ≡ old.reader)
     → HasGiven (left old.reader) given (left new.reader) → (fault : IoFault)
     → IsNext left refusal meaning (Some (Err (error_of_item reason fault))) old new
-no_sample_is_given {A = A} left refusal meaning old new reason given inside small is read untouched has fault =
+no_sample_is_given left refusal meaning old new reason given inside small is read untouched has fault =
     let width = old.spec_ex.bytes_per_sample in
-    let counted = ap (λ (r : ReaderState _). r.bytes_read) is in
-    let few : 0 * width + width < 2 ^ 64 = omega (arith, small) in
-    let all : given - 0 * width ≡ given = omega arith in
-    record {
-      inside = inside;
-      counted = ap (λ (r : ReaderState _). r.samples_read) is;
-      read = read fault;
-      untouched = untouched;
-      bytes = subst (λ n. TookBytes {A = A} width (Err (error_of_item reason fault)) old.bytes_read n)
-          (sym counted) (took_of_reason A reason fault given width old.bytes_read);
-      taken = (
-        taken_without reason given width,
-        counted,
-        subst (λ n. WhereKnown (left old.reader) (left new.reader) (AreTaken (taken_without reason n width)))
-            all (torn_takes (refusal_at refusal old.spec_ex) (meaning_at meaning old.spec_ex) width []
-            reason fault given (left old.reader) (left old.reader) (left new.reader) few has refl
-            (read fault) (λ none. none)),
-      );
-      spec_ex = ap (λ (r : ReaderState _). r.spec_ex) is;
-      num_samples = ap (λ (r : ReaderState _). r.num_samples) is;
-    }
+    let known : WhereKnown (left old.reader) (left new.reader) (AreTaken (taken_without reason given width)) =
+    grind (arith, common_steps, read fault, length-drop) in
+    let taken : CountsTaken left old new =
+    (taken_without reason given width, ap (λ (r : ReaderState _). r.bytes_read) is, known) in
+    grind (arith, common_steps, taken, read fault, took_of_reason)
+
+-- how many bytes a block took: its containers, and what was taken for an item without a sample
+abbrev pub block_bytes : {T : Type 0} → ℕ → ℕ → ℕ → Result T ItemError → ℕ
+block_bytes count width given (Ok done) = count * width
+block_bytes count width given (Err reason) =
+    count * width + taken_without reason (given - count * width) width
 
 module _ {A : Type 0} (refusal : SampleFormat → ℕ → ℕ → Option ReadRefusal)
     (meaning : SampleFormat → ℕ → ℕ → List ℕ → A) where
@@ -227,16 +180,9 @@ module _ {A : Type 0} (refusal : SampleFormat → ℕ → ℕ → Option ReadRef
       let width = old.spec_ex.bytes_per_sample in
       let next = later old 1 width mid in (
         next,
-        record {
-          inside = omega (arith, few);
-          counted = refl;
-          read = read;
-          untouched = refused_stays (refusal_at refusal old.spec_ex) _ _ _ _ _ read;
-          bytes = refl;
-          taken = (width, refl, a_container_is_taken (refusal_at refusal old.spec_ex) _ _ _ _ value read);
-          spec_ex = refl;
-          num_samples = refl;
-        },
+        (let taken : CountsTaken (λ (bytes : Option (List ℕ)). bytes) old next =
+            (width, refl, a_container_is_taken (refusal_at refusal old.spec_ex) _ _ _ _ value read) in
+            grind (arith, common_steps, taken, read, refused_stays)),
         subst (Gives (map Ok values) next)
             (λ i. record old {
               reader = new;
@@ -257,20 +203,19 @@ module _ {A : Type 0} (refusal : SampleFormat → ℕ → ℕ → Option ReadRef
       (next, given, items_more items item next mid new before step)
 
   -- samples that were read, and the error that ended them, are items
-  error_is_item : (values : List A) (reason : ItemError) (fault : IoFault) (given : ℕ)
-      (old : ReaderState (Option (List ℕ))) (new : Option (List ℕ))
-      → length values < samples_left old
+  block_items : (values : List A) (answer : Result (Unit {0}) ItemError) (fault : IoFault)
+      (given : ℕ) (old : ReaderState (Option (List ℕ))) (new : Option (List ℕ))
+      → requested (length values) answer ≤ samples_left old
       → length values * old.spec_ex.bytes_per_sample + old.spec_ex.bytes_per_sample < 2 ^ 64
       → HasGiven old.reader given new
       → ReadsEach (refusal_at refusal old.spec_ex) (meaning_at meaning old.spec_ex)
-      old.spec_ex.bytes_per_sample
-      (map Ok values ++ (Err (error_of_item reason fault) ∷ [])) old.reader new
-      → Gives (map Ok values ++ (Err (error_of_item reason fault) ∷ [])) old
-      (later old (length values + 1)
-      (length values * old.spec_ex.bytes_per_sample
-      + taken_without reason (given - length values * old.spec_ex.bytes_per_sample)
-      old.spec_ex.bytes_per_sample) new)
-  error_is_item values reason fault given old new few small has each =
+      old.spec_ex.bytes_per_sample (items_of values (answer_of answer fault)) old.reader new
+      → Gives (items_of values (answer_of answer fault)) old
+      (later old (requested (length values) answer)
+      (block_bytes (length values) old.spec_ex.bytes_per_sample given answer) new)
+  block_items values (Ok done) fault given old new few small has each =
+      samples_are_items values old new few each
+  block_items values (Err reason) fault given old new few small has each =
       let width = old.spec_ex.bytes_per_sample in
       let k = length values in
       let r = refusal_at refusal old.spec_ex in
@@ -287,16 +232,9 @@ module _ {A : Type 0} (refusal : SampleFormat → ℕ → ℕ → Option ReadRef
       })
       (items_more (map Ok values) _ old next last
       (samples_are_items values old mid (omega (arith, few)) before)
-      (record {
-        inside = omega (arith, few);
-        counted = refl;
-        read = read;
-        untouched = refused_stays r m _ _ _ _ read;
-        bytes = took_of_reason A reason fault (given - k * width) width (old.bytes_read + k * width);
-        taken = (torn, refl, torn_takes r m width values reason fault given old.reader mid new small has before read unknown);
-        spec_ex = refl;
-        num_samples = refl;
-      }))
+      (let taken : CountsTaken (λ (bytes : Option (List ℕ)). bytes) next last =
+      (torn, refl, torn_takes r m width values reason fault given old.reader mid new small has before read unknown) in
+      grind (arith, common_steps, taken, read, refused_stays, took_of_reason)))
 
 -- a front of a slice that was filled to a place: the slice before that place, and after it
 front_filled : {A : Type 0} (count wanted : ℕ) (xs ys : List A) → wanted ≤ length xs
@@ -313,12 +251,6 @@ front_filled count wanted xs ys within size few rest =
           ∙ ap (drop count) (take-append-drop wanted xs),
       length-append ys (drop wanted xs) ∙ omega (arith, size, front, within, length-drop wanted xs),
     )
-
--- how many bytes a block took: its containers, and what was taken for an item without a sample
-abbrev pub block_bytes : {T : Type 0} → ℕ → ℕ → ℕ → Result T ItemError → ℕ
-block_bytes count width given (Ok done) = count * width
-block_bytes count width given (Err reason) =
-    count * width + taken_without reason (given - count * width) width
 
 module _ {R A : Type 0} (left : R → Option (List ℕ))
     (refusal : SampleFormat → ℕ → ℕ → Option ReadRefusal) (meaning : SampleFormat → ℕ → ℕ → List ℕ → A) where
@@ -337,7 +269,7 @@ module _ {R A : Type 0} (left : R → Option (List ℕ))
       ≡ later (over_bytes left old) (requested count answer)
       (block_bytes count old.spec_ex.bytes_per_sample given answer) (left new.reader)
       → ReadsBlock left refusal meaning count (answer_of answer fault) xs (ys ++ drop wanted xs) old new
-  is_block count wanted given told (Ok done) fault xs ys old new shown is size small narrow fills each has untouched after =
+  is_block count wanted given told answer fault xs ys old new shown is size small narrow fills each has untouched after =
       let begin = over_bytes left old in
       let width = old.spec_ex.bytes_per_sample in
       let front = subst (λ a. FillsFront count a (take wanted xs) ys) shown fills in
@@ -345,47 +277,26 @@ module _ {R A : Type 0} (left : R → Option (List ℕ))
       front_filled count wanted xs ys (omega (arith, is)) size front.within front.rest in
       let wide = length-take-le wanted xs (omega (arith, is)) in
       let all = length-take-le count ys front.within in
-      record {
-        within = omega (arith, front.full, size, wide, is, long);
-        all = omega (arith, front.full, size, wide, is, long);
-        part = tt;
-        items = subst (λ (x : List A × ReaderState (Option (List ℕ))). Gives refusal meaning (map Ok x.0) begin x.1)
-            (λ i. (sym taken i, (ap (λ n. later begin n (n * width) (left new.reader)) all ∙ sym after) i))
-            (samples_are_items refusal meaning (take count ys) begin (left new.reader)
-            (omega (arith, all, front.full, size, wide, is))
-            (subst (λ a. ReadsEach (refusal_at refusal old.spec_ex) (meaning_at meaning old.spec_ex) width
-            (items_of (take count ys) (answer_of a fault)) (left old.reader) (left new.reader)) shown each));
-        counted = omega (arith, ap (λ (s : ReaderState _). samples_left s) after);
-        rest = rest;
-        untouched = untouched;
-      }
-  is_block count wanted given told (Err reason) fault xs ys old new shown is size small narrow fills each has untouched after =
-      let begin = over_bytes left old in
-      let width = old.spec_ex.bytes_per_sample in
-      let front = subst (λ a. FillsFront count a (take wanted xs) ys) shown fills in
-      let (taken, rest, long) =
-      front_filled count wanted xs ys (omega (arith, is)) size front.within front.rest in
-      let wide = length-take-le wanted xs (omega (arith, is)) in
-      let all = length-take-le count ys front.within in
-      let error = error_of_item reason fault in
+      let few : requested (length (take count ys)) answer ≤ samples_left old =
+      grind (arith, common_steps, front, all, size, wide, is) in
       let bytes = mul-le (length (take count ys) + 1) width (2 ^ 32) (2 ^ 16)
-      (omega (arith, all, front.part, size, wide, is, small)) narrow in
+      (omega (arith, all, front.within, size, wide, is, small)) narrow in
       record {
-        within = omega (arith, front.part, size, wide, is, long);
-        all = tt;
-        part = omega (arith, front.part, size, wide, is, long);
+        within = omega (arith, front.within, size, wide, is, long);
+        all = grind (arith, common_steps, front, size, wide, is, long);
+        part = grind (arith, common_steps, front, size, wide, is, long);
         items = subst (λ (x : List A × ReaderState (Option (List ℕ))).
-            Gives refusal meaning (map Ok x.0 ++ (Err error ∷ [])) begin x.1)
+            Gives refusal meaning (items_of x.0 (answer_of answer fault)) begin x.1)
             (λ i. (
               sym taken i,
-              (ap (λ n. later begin (n + 1) (n * width + taken_without reason (given - n * width) width) (left new.reader)) all
+              (ap (λ n. later begin (requested n answer) (block_bytes n width given answer) (left new.reader)) all
                   ∙ sym after) i,
             ))
-            (error_is_item refusal meaning (take count ys) reason fault given begin (left new.reader)
-            (omega (arith, all, front.part, size, wide, is)) (omega (arith, bytes)) has
+            (block_items refusal meaning (take count ys) answer fault given begin (left new.reader) few
+            (omega (arith, bytes)) has
             (subst (λ a. ReadsEach (refusal_at refusal old.spec_ex) (meaning_at meaning old.spec_ex) width
             (items_of (take count ys) (answer_of a fault)) (left old.reader) (left new.reader)) shown each));
-        counted = omega (arith, ap (λ (s : ReaderState _). samples_left s) after);
+        counted = grind (arith, common_steps, ap (λ (s : ReaderState _). samples_left s) after);
         rest = rest;
         untouched = untouched;
       }
@@ -413,16 +324,10 @@ module _ {R A : Type 0} (left : R → Option (List ℕ))
 -- more was taken
 taken_more : (old mid new : Option (List ℕ)) (n m : ℕ) → WhereKnown old mid (AreTaken n)
     → WhereKnown mid new (AreTaken m) → WhereKnown old new (AreTaken (n + m))
-taken_more old mid new n m before after =
-    known_both old mid new (AreTaken n) (AreTaken m) (AreTaken (n + m)) before after
-    (λ xs ys zs first second. (
-      omega (arith, first.0, second.0, ap length first.1, length-drop n xs),
-      second.1 ∙ ap (drop m) first.1 ∙ drop-drop m n xs,
-    ))
+taken_more old mid new n m before after = grind (arith, common_steps, length-drop, drop-drop)
 
 none_taken : (bytes : Option (List ℕ)) → WhereKnown bytes bytes (AreTaken 0)
-none_taken None = tt
-none_taken (Some xs) = (omega arith, refl)
+none_taken bytes = grind (arith, common_steps)
 
 module _ {A : Type 0} (refusal : SampleFormat → ℕ → ℕ → Option ReadRefusal)
     (meaning : SampleFormat → ℕ → ℕ → List ℕ → A) where
@@ -455,9 +360,7 @@ module _ {A : Type 0} (refusal : SampleFormat → ℕ → ℕ → Option ReadRef
   value_read : (r : Option ReadRefusal) (m : List ℕ → A) (width : ℕ) (xs : List ℕ)
       (new : Option (List ℕ)) (value : A) → Reads r m width (Some xs) new (Ok value)
       → (value ≡ m (take width xs)) × (new ≡ Some (drop width xs))
-  value_read (Some r) m width xs new value read = no_value value (error_of_read r) read.0
-  value_read None m width xs None value read = absurd read
-  value_read None m width xs (Some ys) value (enough, is, left) = (is, ap Some left)
+  value_read r m width xs new value read = grind (arith, common_steps)
 
   -- the same samples come from the same bytes
   pub same_samples : (samples others : List A) (old block new : ReaderState (Option (List ℕ)))
@@ -489,5 +392,4 @@ module _ {A : Type 0} (refusal : SampleFormat → ℕ → ℕ → Option ReadRef
 
 -- bytes that are known
 pub known_bytes : (bytes : Option (List ℕ)) → IsSome bytes → (xs : List ℕ) × (bytes ≡ Some xs)
-known_bytes None some = absurd (false≢true some)
-known_bytes (Some xs) some = (xs, refl)
+known_bytes bytes some = grind (arith, common_steps)
