@@ -86,27 +86,10 @@ each_takes : {A : Type 0} (refusal : Option ReadRefusal) (meaning : List ℕ →
     (values : List A) (xs : List ℕ) (new : Option (List ℕ))
     → ReadsEach refusal meaning width (map Ok values) (Some xs) new
     → (length values * width ≤ length xs) × (new ≡ Some (drop (length values * width) xs))
-each_takes refusal meaning width [] xs new same =
-    (omega arith, same ∙ ap (λ n. Some (drop n xs)) (let e : 0 ≡ 0 * width = omega arith in e))
-each_takes refusal meaning width (value ∷ values) xs new (None, read, rest) =
-    absurd (a_container_is_taken refusal meaning width (Some xs) None value read)
-each_takes refusal meaning width (value ∷ values) xs new (Some ys, read, rest) =
-    let (enough, is) = a_container_is_taken refusal meaning width (Some xs) (Some ys) value read in
-    let (more, end) = each_takes refusal meaning width values ys new rest in
-    let size = ap length is ∙ length-drop width xs in
-    let e : width + length values * width ≡ suc (length values) * width = omega arith in (
-      omega (arith, e, more, size, enough),
-      end ∙ ap (λ l. Some (drop (length values * width) l)) is
-          ∙ ap Some (drop-drop (length values * width) width xs ∙ ap (λ n. drop n xs) e),
-    )
-
-torn_after : {A : Type 0} (refusal : Option ReadRefusal) (meaning : List ℕ → A) (width count : ℕ)
-    (reason : ItemError) (fault : IoFault) (given : ℕ) (xs ms ys : List ℕ)
-    → count * width ≤ length xs → length ms ≡ length xs - count * width
-    → count * width + width < 2 ^ 64 → given ≡ min (length xs - length ys) (2 ^ 64 - 1)
-    → Reads refusal meaning width (Some ms) (Some ys) (Err (error_of_item reason fault))
-    → AreTaken (taken_without reason (given - count * width) width) ms ys
-torn_after refusal meaning width count reason fault given xs ms ys enough size few has read = grind (arith, common_steps, length-drop)
+each_takes refusal meaning width [] xs new same = grind (arith, common_steps)
+each_takes refusal meaning width (value ∷ values) xs new (mid, read, rest) =
+    let more = each_takes refusal meaning width values in
+    grind (arith, common_steps, a_container_is_taken, read, rest, more, length-drop, drop-drop)
 
 -- an item without a sample took as many bytes as were given after the samples
 pub torn_takes : {A : Type 0} (refusal : Option ReadRefusal) (meaning : List ℕ → A) (width : ℕ)
@@ -116,22 +99,10 @@ pub torn_takes : {A : Type 0} (refusal : Option ReadRefusal) (meaning : List ℕ
     → Reads refusal meaning width mid new (Err (error_of_item reason fault))
     → (old ≡ None → mid ≡ None)
     → WhereKnown mid new (AreTaken (taken_without reason (given - length values * width) width))
-torn_takes refusal meaning width values reason fault given old mid new few has before read same = grind (arith, common_steps, each_takes, torn_after, length-drop)
-
--- an item without a sample took no more than a container
-took_of_reason : (A : Type 0) (reason : ItemError) (fault : IoFault) (given width old : ℕ)
-    → TookBytes {A = A} width (Err (error_of_item reason fault)) old
-    (old + taken_without reason given width)
-took_of_reason A reason fault given width old = grind (arith, common_steps)
+torn_takes refusal meaning width values reason fault given old mid new few has before read same = grind (arith, common_steps, each_takes, length-drop)
 
 pub taken_few : (reason : ItemError) (given width : ℕ) → taken_without reason given width ≤ width
 taken_few reason given width = grind (arith, common_steps)
-
--- an error of the type leaves the bytes
-refused_stays : {A : Type 0} (refusal : Option ReadRefusal) (meaning : List ℕ → A) (width : ℕ)
-    (old new : Option (List ℕ)) (item : Result A Error)
-    → Reads refusal meaning width old new item → IsSome refusal → new ≡ old
-refused_stays refusal meaning width old new item read some = grind (arith, common_steps)
 
 -- an item without a sample is given, whichever its fault is
 pub no_sample_is_given : {R A : Type 0} (left : R → Option (List ℕ))
@@ -150,7 +121,7 @@ no_sample_is_given left refusal meaning old new reason given inside small is rea
     grind (arith, common_steps, read fault, length-drop) in
     let taken : CountsTaken left old new =
     (taken_without reason given width, ap (λ (r : ReaderState _). r.bytes_read) is, known) in
-    grind (arith, common_steps, taken, read fault, took_of_reason)
+    grind (arith, common_steps, taken, read fault)
 
 -- how many bytes a block took: its containers, and what was taken for an item without a sample
 abbrev pub block_bytes : {T : Type 0} → ℕ → ℕ → ℕ → Result T ItemError → ℕ
@@ -182,7 +153,7 @@ module _ {A : Type 0} (refusal : SampleFormat → ℕ → ℕ → Option ReadRef
         next,
         (let taken : CountsTaken (λ (bytes : Option (List ℕ)). bytes) old next =
             (width, refl, a_container_is_taken (refusal_at refusal old.spec_ex) _ _ _ _ value read) in
-            grind (arith, common_steps, taken, read, refused_stays)),
+            grind (arith, common_steps, taken, read)),
         subst (Gives (map Ok values) next)
             (λ i. record old {
               reader = new;
@@ -234,7 +205,7 @@ module _ {A : Type 0} (refusal : SampleFormat → ℕ → ℕ → Option ReadRef
       (samples_are_items values old mid (omega (arith, few)) before)
       (let taken : CountsTaken (λ (bytes : Option (List ℕ)). bytes) next last =
       (torn, refl, torn_takes r m width values reason fault given old.reader mid new small has before read unknown) in
-      grind (arith, common_steps, taken, read, refused_stays, took_of_reason)))
+      grind (arith, common_steps, taken, read)))
 
 -- a front of a slice that was filled to a place: the slice before that place, and after it
 front_filled : {A : Type 0} (count wanted : ℕ) (xs ys : List A) → wanted ≤ length xs
@@ -368,8 +339,6 @@ module _ {A : Type 0} (refusal : SampleFormat → ℕ → ℕ → Option ReadRef
       → Gives refusal meaning (map Ok samples) old block
       → Gives refusal meaning (map Ok others) old new → (samples ≡ others) × (block ≡ new)
   same_samples [] [] old block new xs known size first second = (refl, first ∙ sym second)
-  same_samples [] (other ∷ others) old block new xs known size first second = absurd (omega (arith, size))
-  same_samples (sample ∷ samples) [] old block new xs known size first second = absurd (omega (arith, size))
   same_samples (sample ∷ samples) (other ∷ others) old block new xs known size (mid, step, first) (mid', step', second) =
       let width = old.spec_ex.bytes_per_sample in
       let r = refusal_at refusal old.spec_ex in
@@ -389,6 +358,7 @@ module _ {A : Type 0} (refusal : SampleFormat → ℕ → ℕ → Option ReadRef
       let (more, end) = same_samples samples others mid block new (drop width xs) left (omega (arith, size)) first
       (subst (λ s. Gives refusal meaning (map Ok others) s new) same second) in
       ((λ i. (is ∙ sym is') i ∷ more i), end)
+  same_samples _ _ old block new xs known size first second = absurd (omega (arith, size))
 
 -- bytes that are known
 pub known_bytes : (bytes : Option (List ℕ)) → IsSome bytes → (xs : List ℕ) × (bytes ≡ Some xs)
