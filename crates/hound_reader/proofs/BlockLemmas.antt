@@ -141,12 +141,7 @@ module _ {A : Type 0} (refusal : SampleFormat → ℕ → ℕ → Option ReadRef
       old.spec_ex.bytes_per_sample (map Ok values) old.reader new
       → Gives (map Ok values) old
       (later old (length values) (length values * old.spec_ex.bytes_per_sample) new)
-  samples_are_items [] old new few same = λ i. record old {
-    reader = same i;
-    samples_read = (let e : old.samples_read + 0 ≡ old.samples_read = omega arith in e i);
-    bytes_read =
-        (let e : old.bytes_read + 0 * old.spec_ex.bytes_per_sample ≡ old.bytes_read = omega arith in e i);
-  }
+  samples_are_items [] old new few same = grind (arith, common_steps)
   samples_are_items (value ∷ values) old new few (mid, read, rest) =
       let width = old.spec_ex.bytes_per_sample in
       let next = later old 1 width mid in (
@@ -155,11 +150,8 @@ module _ {A : Type 0} (refusal : SampleFormat → ℕ → ℕ → Option ReadRef
             (width, refl, a_container_is_taken (refusal_at refusal old.spec_ex) _ _ _ _ value read) in
             grind (arith, common_steps, taken, read)),
         subst (Gives (map Ok values) next)
-            (λ i. record old {
-              reader = new;
-              samples_read = (let e : old.samples_read + 1 + length values ≡ old.samples_read + suc (length values) = omega arith in e i);
-              bytes_read = (let e : old.bytes_read + width + length values * width ≡ old.bytes_read + suc (length values) * width = omega arith in e i);
-            })
+            (let e : later next (length values) (length values * width) new
+            ≡ later old (suc (length values)) (suc (length values) * width) new = grind (arith, common_steps) in e)
             (samples_are_items values next new (omega (arith, few)) rest),
       )
 
@@ -196,11 +188,7 @@ module _ {A : Type 0} (refusal : SampleFormat → ℕ → ℕ → Option ReadRef
       let next = later old k (k * width) mid in
       let last : ReaderState (Option (List ℕ)) = later next 1 torn new in
       subst (Gives (map Ok values ++ (Err (error_of_item reason fault) ∷ [])) old)
-      (λ i. record old {
-        reader = new;
-        samples_read = (let e : old.samples_read + k + 1 ≡ old.samples_read + (k + 1) = omega arith in e i);
-        bytes_read = (let e : old.bytes_read + k * width + torn ≡ old.bytes_read + (k * width + torn) = omega arith in e i);
-      })
+      (let e : last ≡ later old (k + 1) (k * width + torn) new = grind (arith, common_steps) in e)
       (items_more (map Ok values) _ old next last
       (samples_are_items values old mid (omega (arith, few)) before)
       (let taken : CountsTaken (λ (bytes : Option (List ℕ)). bytes) next last =
@@ -279,26 +267,9 @@ module _ {R A : Type 0} (left : R → Option (List ℕ))
   items_of_bytes [] old new same = ap (over_bytes left) same
   items_of_bytes (item ∷ items) old new (mid, step, rest) = (
     over_bytes left mid,
-    record {
-      inside = step.inside;
-      counted = step.counted;
-      read = step.read;
-      untouched = λ some. ap left (step.untouched some);
-      bytes = step.bytes;
-      taken = step.taken;
-      spec_ex = step.spec_ex;
-      num_samples = step.num_samples;
-    },
+    grind (arith, common_steps),
     items_of_bytes items mid new rest,
   )
-
--- more was taken
-taken_more : (old mid new : Option (List ℕ)) (n m : ℕ) → WhereKnown old mid (AreTaken n)
-    → WhereKnown mid new (AreTaken m) → WhereKnown old new (AreTaken (n + m))
-taken_more old mid new n m before after = grind (arith, common_steps, length-drop, drop-drop)
-
-none_taken : (bytes : Option (List ℕ)) → WhereKnown bytes bytes (AreTaken 0)
-none_taken bytes = grind (arith, common_steps)
 
 module _ {A : Type 0} (refusal : SampleFormat → ℕ → ℕ → Option ReadRefusal)
     (meaning : SampleFormat → ℕ → ℕ → List ℕ → A) where
@@ -306,26 +277,12 @@ module _ {A : Type 0} (refusal : SampleFormat → ℕ → ℕ → Option ReadRef
   pub run_takes : (items : List (Result A Error)) (old new : ReaderState (Option (List ℕ)))
       → Gives refusal meaning items old new → CountsTaken (λ (bytes : Option (List ℕ)). bytes) old new
       × (new.spec_ex ≡ old.spec_ex) × (new.num_samples ≡ old.num_samples)
-  run_takes [] old new same = (
-    (
-      0,
-      ap (λ (s : ReaderState (Option (List ℕ))). s.bytes_read) same ∙ omega arith,
-      subst (λ (s : ReaderState (Option (List ℕ))). WhereKnown old.reader s.reader (AreTaken 0)) (sym same) (none_taken old.reader),
-    ),
-    ap (λ (s : ReaderState (Option (List ℕ))). s.spec_ex) same,
-    ap (λ (s : ReaderState (Option (List ℕ))). s.num_samples) same,
-  )
+  run_takes [] old new same =
+      ((0, grind (arith, common_steps), grind (arith, common_steps)), grind (arith, common_steps), grind (arith, common_steps))
   run_takes (item ∷ items) old new (mid, step, rest) =
-      let ((more, counted, known), spec_ex, num_samples) = run_takes items mid new rest in
-      let (n, count, taken) = step.taken in (
-        (
-          n + more,
-          counted ∙ omega (arith, count),
-          taken_more old.reader mid.reader new.reader n more taken known,
-        ),
-        spec_ex ∙ step.spec_ex,
-        num_samples ∙ step.num_samples,
-      )
+      let ((more, counted, known), _, _) = run_takes items mid new rest in
+      let (n, count, taken) = step.taken in
+      ((n + more, grind (arith, common_steps), grind (arith, common_steps, length-drop, drop-drop)), grind (arith, common_steps), grind (arith, common_steps))
 
   -- a value that was read of known bytes
   value_read : (r : Option ReadRefusal) (m : List ℕ → A) (width : ℕ) (xs : List ℕ)
@@ -348,13 +305,7 @@ module _ {A : Type 0} (refusal : SampleFormat → ℕ → ℕ → Option ReadRef
       let (is', left') = value_read r m width xs mid'.reader other
       (subst (λ b. Reads r m width b mid'.reader (Ok other)) known step'.read) in
       let same : mid' ≡ mid =
-      λ i. record {
-        reader = (left' ∙ sym left) i;
-        spec_ex = (step'.spec_ex ∙ sym step.spec_ex) i;
-        num_samples = (step'.num_samples ∙ sym step.num_samples) i;
-        samples_read = (step'.counted ∙ sym step.counted) i;
-        bytes_read = (step'.bytes ∙ sym step.bytes) i;
-      } in
+      grind (arith, common_steps) in
       let (more, end) = same_samples samples others mid block new (drop width xs) left (omega (arith, size)) first
       (subst (λ s. Gives refusal meaning (map Ok others) s new) same second) in
       ((λ i. (is ∙ sym is') i ∷ more i), end)
