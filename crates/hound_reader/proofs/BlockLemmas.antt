@@ -1,21 +1,16 @@
 -- Samples that were read at once, as items.
 use Rattle.std.proofs.lemmas.Grind.{common_steps}
 use Rattle.std.proofs.Common.{◌≡◌, ℕ, suc, ◌+◌, ◌-◌, ◌*◌, ◌^◌, ◌<◌, ◌≤◌, min, List, [], ◌∷◌, ◌++◌, map, length, take, drop, refl, sym, ap, ◌∙◌, subst, arith, Option, None, Some, Result, Ok, Err}
-use Rattle.std.proofs.lemmas.Bool.{false≢true}
 use Rattle.std.proofs.lemmas.List.{drop-drop, length-drop, length-take-le, length-append, take-append-le, drop-append-le, take-append-drop}
-use Rattle.std.proofs.lemmas.Option.{same_Some}
 use Rattle.std.specs.Prelude.{IsSome}
 use Rattle.std.specs.declared.io.Error.{Error as IoFault}
 use Rattle.hound_number.specs.{WhereKnown}
 use Rattle.hound_spec.specs.declared.error.Error.{Error}
-use Rattle.hound_spec.specs.declared.error.Error.TheVariants.{IoError}
 use Rattle.hound_spec.specs.declared.spec.SampleFormat.{SampleFormat}
-use Rattle.hound_sample.specs.{FillsFront, items_of, answer_of, ReadsEach, ReadRefusal, other_format, Reads, error_of_read, ReadsItem, reason_of, error_of_item}
-use Rattle.hound_number.proofs.KnownSteps.{known_both}
+use Rattle.hound_sample.specs.{FillsFront, items_of, answer_of, ReadsEach, ReadRefusal, Reads, error_of_read, ReadsItem, reason_of, error_of_item}
 use Rattle.std.proofs.lemmas.Nat.{mul-le}
-use Rattle.hound_reader.specs.Reader.{ReadsBlock, requested, GivesItemsOfBytes, over_bytes, HasGiven, taken_without, GivesItems, ReaderState, IsNext, AreTaken, TookBytes, CountsTaken, refusal_at, meaning_at, samples_left}
+use Rattle.hound_reader.specs.Reader.{ReadsBlock, requested, GivesItemsOfBytes, over_bytes, HasGiven, taken_without, GivesItems, ReaderState, IsNext, AreTaken, CountsTaken, refusal_at, meaning_at, samples_left}
 use Rattle.hound_sample.specs.declared.item.ItemError.{ItemError}
-use Rattle.hound_sample.specs.declared.item.ItemError.TheVariants.{Failed}
 use Rattle.hound_reader.proofs.ItemLemmas.{a_container_is_taken, later}
 
 -- an Ok of a type that doesn't read the samples

@@ -7,7 +7,6 @@ pub mod Gives
 pub mod ItemLemmas
 pub mod ReaderLemmas
 pub mod SeekLemmas
-pub mod SourceReads
 pub mod TakenLemmas
 pub mod Unique
 pub mod WalkLemmas

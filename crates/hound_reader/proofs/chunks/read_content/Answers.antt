@@ -1,3 +1,4 @@
+use Rattle.std.proofs.lemmas.Grind.{common_steps}
 use Rattle.std.proofs.Common.{◌≡◌, ◌+◌, ◌≤◌, ℕ, List, ◌++◌, Some, Ok, true, false, take, drop, length, refl, sym, ap, ◌∙◌, arith, rules, append_assoc, length-append, length-take-le}
 use Rattle.std.proofs.lemmas.List.{take-append-drop}
 use Rattle.hound_spec.specs.declared.spec.WavSpecEx.{WavSpecEx}
@@ -59,29 +60,4 @@ returns-then-eq-2 g c =
 
 pub returns : goal.returns
 unfolding spec_after
-returns g c =
-    let tag = c.args.tag.now in
-    let len = c.args.chunk_len in
-    let not_fmt =
-    tag_test _ false tag _ fmt_tag c.eq-2.ensures c.as_slice-2.ensures c.if-eq-2.false in
-    let other = tag_test _ false tag _ data_tag c.eq.ensures c.as_slice.ensures c.if-eq.false in
-    let (bytes, taken, n) = c.in_ok-skip_bytes-2.ensures.ok in
-    record {
-      sound = search rules;
-      failures = c.in_ok-skip_bytes-2.ensures.failures;
-      ok = known_from bytes _ _
-          (ReadsContent c.args.taken c.args.found tag len
-          (Other c.args.found (c.args.taken + 8 + padded len)))
-          taken (λ ys. (
-            bytes,
-            n,
-            other,
-            rw not_fmt refl,
-            omega arith,
-            rw not_fmt refl,
-            omega (arith, n),
-            refl,
-          ));
-      err = tt;
-      taken = tt;
-    }
+returns g c = grind (arith, common_steps, tag_test, known_from)

@@ -1,3 +1,4 @@
+use Rattle.std.proofs.lemmas.Grind.{common_steps}
 use Rattle.std.proofs.lemmas.Result.{err_from_is_err_and}
 use Rattle.std.proofs.Common.{◌≡◌, [], ◌++◌, length, take, slice_range, true, false, refl, ap, ◌∙◌, arith, append_assoc, length-append, length-take}
 use Rattle.std.specs.Str.{bytes_eq}
@@ -9,12 +10,7 @@ use Rattle.hound_reader.proofs.WalkLemmas.{ne_test, no_riff, same_tag, halves}
 use Rattle.hound_reader.proofs.chunks.read_riff_header.Goals as goal
 
 pub returns-then-ne-clause-err : goal.returns-then-ne-clause-err
-returns-then-ne-clause-err g c =
-    let h = c.fill.new.buf in
-    let e : bytes_eq h riff_tag ≡ false =
-    ne_test _ true _ h _ riff_tag c.ne.ensures c.as_slice.ensures c.as_slice-2.ensures
-    c.if-ne.true in
-    known_from h _ _ _ c.in_ok-fill.ensures.ok (λ ys. no_riff h ys (omega arith) e)
+returns-then-ne-clause-err g c = grind (arith, common_steps, ne_test, known_from, no_riff)
 
 pub returns-clause-ok : goal.returns-clause-ok
 returns-clause-ok g c =

@@ -1,10 +1,10 @@
+use Rattle.std.proofs.lemmas.Grind.{common_steps}
 use Rattle.std.proofs.lemmas.List.{take-append-le}
-use Rattle.std.proofs.Common.{◌≡◌, ℕ, ◌+◌, ◌-◌, ◌≤◌, List, ◌++◌, length, take, slice_range, arith, sym, ap, ◌∙◌, length-append, Option, Result, Ok, Err}
+use Rattle.std.proofs.Common.{◌≡◌, ℕ, ◌+◌, ◌-◌, ◌≤◌, List, ◌++◌, length, slice_range, arith, sym, ap, ◌∙◌, length-append, Option, Result, Ok, Err}
 use Rattle.std.specs.Prelude.{IfErr}
 use Rattle.std.specs.Io.KnownBytes.{Consumes}
 use Rattle.std.proofs.lemmas.Result.{err_from_is_err_and}
 use Rattle.hound_spec.specs.{fmt_fields}
-use Rattle.hound_reader.specs.Fmt.{◌>>=◌, fmt_len, fmt_of, by_tag}
 use Rattle.hound_reader.proofs.Gives.{gives_from, known_err}
 use Rattle.hound_reader.proofs.FmtLemmas.{fmt_head}
 use Rattle.hound_reader.proofs.TakenLemmas.{takes_after, takes_these, wave_format_takes}
@@ -15,31 +15,10 @@ use Rattle.hound_reader.specs.declared.cause.HeadError.{HeadError}
 use Rattle.hound_reader.proofs.fmt.read_fmt_chunk.Goals as goal
 
 pub returns-in_err-found-clause-gives : goal.returns-in_err-found-clause-gives
-returns-in_err-found-clause-gives g c =
-    let p = err_from_is_err_and c.from_residual-in_err-found.result
-    c.from_residual-in_err-found.ensures.1 in
-    let h = c.fill.new.buf in
-    let len = c.args.chunk_len in
-    let n = fmt_len len in
-    let bad = sym c.check_wave_format.ensures.fields ∙ c.in_err-found.was in
-    rw (p.1, p.2)
-    (known_err h _ _ _ _ c.in_ok-fill.ensures.ok
-    (λ ys. fmt_head len h ys (omega arith) (omega arith)
-    ∙ ap (λ r. r >>= λ found. by_tag (fmt_fields h).tag len found (take (n - 16) ys)) bad))
+returns-in_err-found-clause-gives g c = grind (arith, common_steps, err_from_is_err_and, known_err, fmt_head)
 
 pub returns-clause-gives : goal.returns-clause-gives
-returns-clause-gives g c =
-    let h = c.fill.new.buf in
-    let len = c.args.chunk_len in
-    let n = fmt_len len in
-    let good = sym c.check_wave_format.ensures.fields ∙ c.in_ok-found.was in
-    gives_from (n - 16) n h _ _ _ c.read_by_tag.result
-    (λ ys. by_tag c.u16_at.result len c.in_ok-found.found (take (n - 16) ys)) (fmt_of len)
-    c.in_ok-fill.ensures.ok (omega arith)
-    (λ ys. fmt_head len h ys (omega arith) (omega arith)
-    ∙ ap (λ r. r >>= λ found. by_tag (fmt_fields h).tag len found (take (n - 16) ys)) good
-    ∙ ap (λ t. by_tag t len c.in_ok-found.found (take (n - 16) ys)) (sym c.u16_at.ensures))
-    c.read_by_tag.ensures.gives
+returns-clause-gives g c = grind (arith, common_steps, gives_from, fmt_head)
 
 -- after the first sixteen bytes this many more are taken
 more_are_taken : (h : List ℕ) (tag len : ℕ) (o m n : Option (List ℕ))
@@ -60,21 +39,7 @@ more_are_taken h tag len o m n (Err e) taken sixteen same t late =
     rw (is, more) (omega (arith, sixteen, later (length ys)))) t
 
 pub returns-in_err-found-clause-taken : goal.returns-in_err-found-clause-taken
-returns-in_err-found-clause-taken g c =
-    let p = err_from_is_err_and c.from_residual-in_err-found.result
-    c.from_residual-in_err-found.ensures.1 in
-    let h = c.fill.new.buf in
-    let len = c.args.chunk_len in
-    let bad = sym c.check_wave_format.ensures.fields ∙ c.in_err-found.was in
-    let sixteen : 16 ≡ length h = omega arith in
-    rw (p.1, p.2)
-    (takes_these h _ _ (λ d xs. content_taken (fmt_fields xs).tag len d (length xs)) _
-    c.in_ok-fill.ensures.ok
-    (λ ys. wave_format_takes (fmt_fields h) (fmt_fields (h ++ ys)).tag len _ (length (h ++ ys)) bad
-    ∙ sixteen))
+returns-in_err-found-clause-taken g c = grind (arith, common_steps, err_from_is_err_and, takes_these, wave_format_takes)
 
 pub returns-clause-taken : goal.returns-clause-taken
-returns-clause-taken g c =
-    more_are_taken c.fill.new.buf c.u16_at.result c.args.chunk_len _ _ _ c.read_by_tag.result
-    c.in_ok-fill.ensures.ok (omega arith) c.u16_at.ensures c.read_by_tag.ensures.taken
-    c.read_by_tag.ensures.late
+returns-clause-taken g c = grind (arith, common_steps, more_are_taken)

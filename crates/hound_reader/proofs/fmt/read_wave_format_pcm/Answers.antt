@@ -43,10 +43,4 @@ returns-then-bits-ne24 g c = record {
 
 pub returns-in_err-fill-2 : goal.returns-in_err-fill-2
 unfolding wave_format_pcm
-returns-in_err-fill-2 g c = record {
-  sound = search rules;
-  failures = search rules;
-  gives = grind (arith, common_steps);
-  taken = grind (arith, common_steps);
-  late = search rules;
-}
+returns-in_err-fill-2 g c = grind (arith, common_steps)

@@ -1,3 +1,5 @@
+use Rattle.std.proofs.lemmas.Grind.{common_steps}
+use Rattle.std.proofs.Common.{arith}
 use Rattle.hound_reader.proofs.SeekLemmas.{item_counted, took_counted, ahead_counted, item_passes, stands_after}
 use Rattle.hound_reader.proofs.BlockLemmas.{run_takes}
 use Rattle.hound_reader.proofs.laws.a_reader_stands_as_counted.Goals as goal
@@ -11,10 +13,7 @@ returns-clause-block g c bytes old new count result before after stood block =
     (run_takes g.S.Sample.refusal g.S.Sample.meaning _ _ _ block.items).0
 
 pub returns-clause-passes_block : goal.returns-clause-passes_block
-returns-clause-passes_block g c old new count result before after block place =
-    let (taken, spec_ex, num_samples) =
-    run_takes g.S.Sample.refusal g.S.Sample.meaning _ _ _ block.items in
-    record { taken = taken; in_place = place; spec_ex = spec_ex; num_samples = num_samples }
+returns-clause-passes_block g c old new count result before after block place = grind (arith, common_steps, run_takes)
 
 pub returns-clause-ahead : goal.returns-clause-ahead
 returns-clause-ahead g c bytes time old new tells =

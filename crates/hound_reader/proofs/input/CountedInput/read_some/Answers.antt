@@ -1,10 +1,7 @@
-use Rattle.hound_reader.proofs.SourceReads.{reads_told, counts_told}
+use Rattle.std.proofs.Common.{arith}
+use Rattle.std.proofs.lemmas.Grind.{common_steps}
+use Rattle.hound_medium.proofs.Reading.{get_consumes}
 use Rattle.hound_reader.proofs.input.CountedInput.read_some.Goals as goal
 
 pub returns-clause-bytes : goal.returns-clause-bytes
-returns-clause-bytes g c =
-    reads_told g.S.Placed.tells c.get.new.buf c.get.result _ _ c.get.ensures.gets
-
-pub returns-clause-failures : goal.returns-clause-failures
-returns-clause-failures g c =
-    counts_told g.S.Placed.tells c.get.new.buf c.get.result _ _ c.get.ensures.gets
+returns-clause-bytes g c = grind (arith, common_steps, get_consumes)

@@ -1,15 +1,12 @@
-use Rattle.std.proofs.Common.{◌≡◌, ℕ, drop}
+use Rattle.std.proofs.lemmas.Grind.{common_steps}
+use Rattle.std.proofs.Common.{arith}
 use Rattle.hound_number.proofs.KnownSteps.{known_weaker}
-use Rattle.hound_reader.specs.Grammar.{Readable, Unreadable}
+use Rattle.hound_reader.specs.Grammar.{Unreadable}
 use Rattle.hound_reader.proofs.ReaderLemmas.{opens_ok, refusal_told, opens_told, no_fault_ok, fails_told, is_told}
 use Rattle.hound_reader.proofs.reader.WavReader.new.Goals as goal
 
 pub returns-in-Ok-clause-found : goal.returns-in-Ok-clause-found
-returns-in-Ok-clause-found g c =
-    let head = c.in-Ok.head in
-    known_weaker _ _ _
-    (λ xs ys. (h : ℕ) × Readable xs head.spec_ex c.in-Ok.num_samples h × (ys ≡ drop h xs))
-    c.in-Ok.ensures.found (λ xs ys p. (head.data_start, p.0, p.1))
+returns-in-Ok-clause-found g c = grind (arith, common_steps, known_weaker)
 
 pub returns-in-Ok-clause-readable : goal.returns-in-Ok-clause-readable
 returns-in-Ok-clause-readable g c =

@@ -1,8 +1,7 @@
-use Rattle.std.proofs.Common.{◌≡◌, ◌<◌, ◌+◌, ◌*◌, ◌-◌, ◌++◌, ◌∙◌, drop, length, ap, subst, arith, Ok, Err, length-take, refl}
-use Rattle.std.specs.Prelude.{OnErr}
+use Rattle.std.proofs.lemmas.Grind.{common_steps}
+use Rattle.std.proofs.Common.{◌≡◌, ◌+◌, ◌*◌, ◌-◌, ◌++◌, ◌∙◌, drop, ap, subst, arith, Ok, Err, length-take, refl}
 use Rattle.hound_sample.specs.{error_of_item}
 use Rattle.hound_reader.specs.Reader.{ReadsBlock, over_bytes, ReaderState, samples_left, taken_without}
-use Rattle.hound_spec.specs.{greatest_u32}
 use Rattle.std.proofs.Math.Nat.{le-mul_of_pos_right}
 use Rattle.hound_reader.specs.declared.item.KeepingReader.{KeepingReader}
 use Rattle.hound_reader.proofs.BlockLemmas.{is_block, taken_few}
@@ -33,29 +32,7 @@ returns-in_default g c =
     (λ some. ap (λ (k : KeepingReader _). k.reader) (read.ensures.untouched some)) refl)
 
 pub invariant_of-self-2 : goal.invariant_of-self-2
-invariant_of-self-2 g c =
-    let read = c.read_many_since-given in
-    let part : read.new.answer.0 < length read.new.samples =
-    subst (λ a. OnErr a (read.new.answer.0 < length read.new.samples)) c.in-Err.is read.ensures.front.part in
-    let s = c.self.inside.spec_ex in
-    let few = taken_few c.in-Err.no_sample c.saturating_sub.result s.bytes_per_sample in
-    let i = c.self.invariant in
-    record {
-      sound = i.sound;
-      frames = i.frames;
-      samples = omega (
-        arith,
-        part,
-        read.auto.samples,
-        length-take c.min-wanted.result c.args.samples.now,
-        c.min-wanted.ensures,
-        c.samples_left.ensures,
-        ap (λ (s : ReaderState _). samples_left s) c.self.view_is,
-        c.self.ranges,
-        le-mul_of_pos_right {m = s.spec.channels} greatest_u32 i.sound.0,
-      );
-      bytes = omega (arith, i.bytes, few, c.taken_without.ensures);
-    }
+invariant_of-self-2 g c = grind (arith, common_steps, taken_few, length-take, le-mul_of_pos_right)
 
 pub returns : goal.returns
 returns g c =
