@@ -101,13 +101,10 @@ long_chunk p is = grind (arith, common_steps)
 
 goes : (fuel c : ℕ) (found : Option WavSpecEx) (bytes : List ℕ) → length bytes ≤ fuel
     → Goes c found bytes
+unfolding chunk_fault
 goes zero c found bytes l = elim (fault_or_none (chunk_fault c found bytes)) [
   | inl f ↦ goes_none c found bytes (inl f)
-  | inr f ↦ elim (no_fault_there c found bytes f) [
-    | inl d ↦ goes_none c found bytes (inr d)
-    | inr (p, rest, is, limit, e) ↦
-        absurd (omega (arith, ap length e, length-append (chunk_bytes p) rest, long_chunk p is))
-  ]
+  | inr f ↦ absurd (grind (arith, common_steps))
 ]
 goes (suc fuel) c found bytes l = elim (fault_or_none (chunk_fault c found bytes)) [
   | inl f ↦ goes_none c found bytes (inl f)

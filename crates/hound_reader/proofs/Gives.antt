@@ -1,7 +1,7 @@
 -- What reading gives, piece after piece.
 use Rattle.std.proofs.lemmas.Grind.{common_steps}
-use Rattle.std.proofs.Common.{◌≡◌, ℕ, ◌+◌, ◌≤◌, List, ◌++◌, length, take, drop, refl, sym, ap, ◌∙◌, arith, take_at, drop_at, length-append, Option, Result, Ok, Err}
-use Rattle.std.proofs.lemmas.List.{drop-drop}
+use Rattle.std.proofs.Common.{◌≡◌, ℕ, ◌+◌, ◌≤◌, List, ◌++◌, length, take, drop, sym, ap, ◌∙◌, arith, take_at, length-append, Option, Result, Ok, Err}
+use Rattle.std.proofs.Math.Seq.{drop-append-add}
 use Rattle.std.specs.Io.KnownBytes.{Consumes}
 use Rattle.hound_reader.specs.declared.cause.Cause.{Cause}
 use Rattle.hound_reader.specs.declared.cause.HeadError.{HeadError}
@@ -29,8 +29,7 @@ pub gives_from : {A : Type 0} (k j : ℕ) (h : List ℕ) (o m n : Option (List �
 gives_from k j h o m n (Ok x) f g t l e d = known_then h o m n _ _ t d (λ ys zs p. (
   e ys ∙ p.0,
   omega (arith, length-append h ys, p.1),
-  p.2 ∙ ap (drop k) (sym (drop_at h ys (length h) refl)) ∙ drop-drop k (length h) (h ++ ys)
-      ∙ ap (λ i. drop i (h ++ ys)) (sym l),
+  p.2 ∙ sym (drop-append-add h ys k) ∙ ap (λ i. drop i (h ++ ys)) (sym l),
 ))
 gives_from k j h o m n (Err (Failed e)) f g t l q d = tt
 gives_from k j h o m n (Err (Refused c)) f g t l q d =

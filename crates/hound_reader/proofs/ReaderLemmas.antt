@@ -1,8 +1,7 @@
 -- What a reader returns.
 use Rattle.std.proofs.lemmas.Grind.{common_steps}
-use Rattle.std.proofs.Common.{◌≡◌, ℕ, drop, inl, inr, ◌/◌, ◌∙◌, List, sym, ap, subst, Option, Some, Err, refl, arith}
+use Rattle.std.proofs.Common.{◌≡◌, ℕ, drop, inl, inr, ◌/◌, List, sym, ap, subst, Option, Err, refl, arith}
 use Rattle.std.specs.Prelude.{⊤, IfSome}
-use Rattle.std.proofs.lemmas.Option.{same_Some}
 use Rattle.hound_spec.specs.declared.spec.WavSpecEx.{WavSpecEx}
 use Rattle.hound_reader.specs.declared.cause.Cause.{Cause}
 use Rattle.hound_reader.specs.declared.cause.HeadError.{HeadError}
@@ -21,8 +20,7 @@ pub readable_one : (xs : List ℕ) (s t : WavSpecEx) (n m h k : ℕ) → Readabl
 readable_one xs s t n m h k a b =
     let g = heads_agree xs s t a.len b.len h k a.head b.head in (
       g.0,
-      a.count ∙ ap (λ l. l / s.bytes_per_sample) g.1
-          ∙ ap (λ (x : WavSpecEx). b.len / x.bytes_per_sample) g.0 ∙ sym b.count,
+      grind (arith, common_steps, g),
       g.2,
     )
 
@@ -31,9 +29,7 @@ pub readable_no_fault : (xs : List ℕ) (s : WavSpecEx) (n h : ℕ) (c : Cause) 
 readable_no_fault xs s n h c a (inl f) = head_no_fault xs s a.len h c a.head f
 readable_no_fault xs s n h c a (inr (t, len, k, head, fault)) =
     let g = heads_agree xs s t a.len len h k a.head head in
-    let there : data_fault s a.len ≡ Some c = rw (g.0, g.1) fault in
-    let none = a.frames in
-    cc
+    cc (g.0, g.1, fault, a.frames)
 
 pub unreadable_one : (xs : List ℕ) (c d : Cause) → Unreadable xs c → Unreadable xs d → c ≡ d
 unreadable_one xs c d (inl e) (inl f) = faults_agree xs c d e f
@@ -43,8 +39,7 @@ unreadable_one xs c d (inr (t, len, k, head, fault)) (inl f) =
     absurd (head_no_fault xs t len k d head f)
 unreadable_one xs c d (inr (s, m, h, a, e)) (inr (t, n, k, b, f)) =
     let g = heads_agree xs s t m n h k a b in
-    let there : data_fault s m ≡ Some d = rw (g.0, g.1) f in
-    same_Some c d (sym e ∙ there)
+    cc (g.0, g.1, e, f)
 
 -- a head can be read, or its data length is at fault
 file_of_head : (bytes : List ℕ) (s : WavSpecEx) (len h : ℕ) → Head bytes s len h → (a : Answer)

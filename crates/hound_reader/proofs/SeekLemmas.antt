@@ -135,12 +135,7 @@ module _ {R : Type 0} (left : R → Option (List ℕ)) (state : R → MediumStat
         → IsAtCount state start old → Follows left state calls old new
         → IsAtCount state start new × ((state new.reader).contents ≡ (state old.reader).contents)
         × (new.spec_ex ≡ old.spec_ex) × (new.num_samples ≡ old.num_samples)
-    stands_after start [] old new stood run = (
-      subst (IsAtCount state start) (sym run) stood,
-      ap (λ (r : ReaderState R). (state r.reader).contents) run,
-      ap (λ (r : ReaderState R). r.spec_ex) run,
-      ap (λ (r : ReaderState R). r.num_samples) run,
-    )
+    stands_after start [] old new stood run = grind (arith, common_steps)
     stands_after start (None ∷ calls) old new stood (mid, step, run) =
         let p = stands_after start calls mid new (passed start old mid stood step) run in
         (p.0, p.1 ∙ step.in_place.contents, p.2 ∙ step.spec_ex, p.3 ∙ step.num_samples)

@@ -1,13 +1,13 @@
 -- How many bytes are taken if the bytes are rejected, piece after piece.
 use Rattle.std.proofs.lemmas.Grind.{common_steps}
-use Rattle.std.proofs.Common.{◌≡◌, ℕ, ◌+◌, ◌≤◌, List, ◌++◌, length, drop, refl, sym, ap, ◌∙◌, subst, arith, inr, slice_range, append_assoc, drop_at, length-append, Option, None, Some, Result, Err}
-use Rattle.std.proofs.lemmas.List.{drop-drop}
+use Rattle.std.proofs.Common.{◌≡◌, ℕ, ◌+◌, ◌≤◌, List, ◌++◌, length, drop, sym, ◌∙◌, subst, arith, inr, slice_range, append_assoc, length-append, Option, Some, Result, Err}
+use Rattle.std.proofs.Math.Seq.{drop-append-add}
 use Rattle.std.specs.Io.KnownBytes.{Consumes}
 use Rattle.hound_number.specs.{WhereKnown, number}
 use Rattle.hound_number.proofs.KnownSteps.{known_both, known_then, known_weaker}
 use Rattle.hound_reader.specs.Walking.{Refuses, RefusedAfter, UnreadableAfter, TakesAll, TakesFor, chunk_taken, content_taken, Walked}
 use Rattle.hound_reader.specs.Reader.{AreTaken}
-use Rattle.hound_reader.specs.Grammar.{Head, Refused as Refused', chunk_fault, data_fault, joined, last_spec}
+use Rattle.hound_reader.specs.Grammar.{Head, Refused as Refused', chunk_fault, data_fault, joined}
 use Rattle.hound_spec.specs.{riff_tag, wave_tag, FmtFields, Extension, fmt_fields, greatest_u32}
 use Rattle.std.specs.Prelude.{IfErr}
 use Rattle.hound_reader.specs.Fmt.{by_subformat, wave_format}
@@ -22,8 +22,7 @@ pub taken_then : (h ys zs : List ℕ) (n : ℕ) → AreTaken n ys zs
     → AreTaken (length h + n) (h ++ ys) zs
 taken_then h ys zs n t = (
   omega (arith, t.0, length-append h ys),
-  t.1 ∙ ap (drop n) (sym (drop_at h ys (length h) refl)) ∙ drop-drop n (length h) (h ++ ys)
-      ∙ ap (λ i. drop i (h ++ ys)) (omega arith),
+  t.1 ∙ sym (drop-append-add h ys n),
 )
 
 -- h was taken, and then what an error takes, for a cause that P holds for
@@ -94,9 +93,8 @@ walk_takes o m n found taken (Refused c) walked fault t =
         w.chunks,
         ys,
         w.walk,
-        subst (λ i. chunk_fault i (last_spec None w.chunks) ys ≡ Some c) w.taken_is
-            (subst (λ f. chunk_fault taken f ys ≡ Some c) w.found_is p.0),
-        ap (λ i. 12 + i + chunk_taken i c ys) w.taken_is,
+        cc (w.taken_is, w.found_is, p.0),
+        cc w.taken_is,
       ),
       subst (λ bytes. AreTaken (12 + taken + k) bytes zs) (sym (w.walk.whole ∙ parted))
           (subst (λ i. AreTaken (i + k) (front ++ ys) zs)

@@ -139,9 +139,9 @@ heads_agree bytes s t m n h k a b =
     (data_ends _ b.size b.rest) in
     let e = same_front a.size b.size a.rest b.rest (a.four
     ∙ sym b.four) (append_cancel_left data_tag _ _ w.1) in (
-      same_Some s t (sym a.spec_is ∙ ap (last_spec None) w.0 ∙ b.spec_is),
-      sym a.data_len ∙ ap number e.0 ∙ b.data_len,
-      a.place ∙ ap (λ c. 12 + length (joined c) + 8) w.0 ∙ sym b.place,
+      cc (w.0, a.spec_is, b.spec_is),
+      cc (e.0, a.data_len, b.data_len),
+      cc (w.0, a.place, b.place),
     )
 
 pub head_no_fault : (bytes : List ℕ) (s : WavSpecEx) (m h : ℕ) (cause : Cause) → Head bytes s m h
@@ -151,19 +151,15 @@ head_no_fault bytes s m h cause a (inr (chunks, rest, walk, fault)) =
     let w = same_walks bytes a.chunks chunks _ _ a.walk walk (data_ends _ a.size a.rest)
     (fault_ends _ (last_spec None chunks) rest cause fault) in
     let none = data_sound (length (joined a.chunks)) s a.size a.rest a.limit a.four in
-    let there : chunk_fault (length (joined a.chunks)) (last_spec None a.chunks)
-    (data_tag ++ (a.size ++ a.rest)) ≡ Some cause = rw (w.0, w.1) fault in
-    let found = a.spec_is in
-    cc
+    cc (w.0, w.1, none, fault, a.spec_is)
 
 pub faults_agree : (bytes : List ℕ) (c d : Cause) → Refused bytes c → Refused bytes d → c ≡ d
 faults_agree bytes c d (inl e) (inl f) = same_Some c d (sym e ∙ f)
-faults_agree bytes c d (inl e) (inr (chunks, rest, walk, fault)) = let n =
-    no_front_fault bytes chunks rest walk in absurd (let h : ⊥ = cc in h)
-faults_agree bytes c d (inr (chunks, rest, walk, fault)) (inl f) = let n =
-    no_front_fault bytes chunks rest walk in absurd (let h : ⊥ = cc in h)
+faults_agree bytes c d (inl e) (inr (chunks, rest, walk, fault)) =
+    let n = no_front_fault bytes chunks rest walk in cc
+faults_agree bytes c d (inr (chunks, rest, walk, fault)) (inl f) =
+    let n = no_front_fault bytes chunks rest walk in cc
 faults_agree bytes c d (inr (ps, x, v, e)) (inr (qs, y, w, f)) =
     let s = same_walks bytes ps qs x y v w (fault_ends _ (last_spec None ps) x c e)
     (fault_ends _ (last_spec None qs) y d f) in
-    let there : chunk_fault (length (joined ps)) (last_spec None ps) x ≡ Some d = rw (s.0, s.1) f in
-    same_Some c d (sym e ∙ there)
+    cc (s.0, s.1, e, f)

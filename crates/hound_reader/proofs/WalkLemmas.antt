@@ -1,10 +1,8 @@
 -- The definitions of the walk at bytes in pieces.
 use Rattle.std.proofs.lemmas.Grind.{common_steps}
-use Rattle.std.proofs.Common.{◌≡◌, ℕ, ◌+◌, ◌≤◌, Bool, true, false, not, List, [], ◌∷◌, ◌++◌, length, take, drop, slice_range, refl, sym, ap, ◌∙◌, arith, take_at, drop_at, length-append, append-nil, append_assoc, le-ltb, length-take, length-drop, take_all, Option, Some, None}
-use Rattle.std.proofs.Math.Bool.{not-not}
+use Rattle.std.proofs.Common.{◌≡◌, ℕ, ◌+◌, ◌≤◌, Bool, true, false, not, List, [], ◌∷◌, ◌++◌, length, take, drop, slice_range, refl, sym, ap, ◌∙◌, arith, take_at, drop_at, length-append, append_assoc, le-ltb, length-take, length-drop, Option, Some, None}
 use Rattle.std.specs.Str.{bytes_eq}
 use Rattle.std.proofs.lemmas.Slice.Eq.{bytes_eq-Decides}
-use Rattle.std.proofs.lemmas.List.{take-append-drop}
 use Rattle.hound_spec.specs.declared.spec.WavSpecEx.{WavSpecEx}
 use Rattle.hound_reader.specs.declared.cause.Cause.TheVariants.{Format}
 use Rattle.hound_reader.specs.declared.cause.Reason.TheVariants.{NoRiffTag}
@@ -18,12 +16,11 @@ use Rattle.hound_reader.specs.Walking.{ReadsChunk, ReadsContent, Walked}
 -- what a test of the code shows
 pub tag_test : (r b : Bool) (tag now lit : List ℕ) → r ≡ bytes_eq tag now → now ≡ lit → r ≡ b
     → bytes_eq tag lit ≡ b
-tag_test r b tag now lit e l t = sym (e ∙ ap (bytes_eq tag) l) ∙ t
+tag_test r b tag now lit e l t = grind (arith, common_steps)
 
 pub ne_test : (r b : Bool) (x tag now lit : List ℕ) → r ≡ not (bytes_eq x now) → x ≡ tag → now ≡ lit
     → r ≡ b → bytes_eq tag lit ≡ not b
-ne_test r b x tag now lit e k l t = sym (ap (λ y. bytes_eq y lit) k) ∙ sym (ap (bytes_eq x) l)
-    ∙ sym (not-not (bytes_eq x now)) ∙ ap not (sym e ∙ t)
+ne_test r b x tag now lit e k l t = grind (arith, common_steps)
 
 pub same_tag : (tag lit : List ℕ) → bytes_eq tag lit ≡ true → tag ≡ lit
 same_tag tag lit e = (bytes_eq-Decides tag lit).0 e
@@ -37,8 +34,7 @@ no_riff h ys l e =
 
 -- eight bytes are a tag and a length
 pub halves : (h : List ℕ) → length h ≡ 8 → h ≡ take 4 h ++ slice_range h 4 8
-halves h l = sym (take-append-drop 4 h)
-    ∙ ap (λ t. take 4 h ++ t) (sym (take_all 4 (drop 4 h) (simp length-drop (omega arith))))
+halves h l = grind (arith, common_steps)
 
 pub chunk_from : (c : ℕ) (found : Option WavSpecEx) (h : List ℕ) (t : ChunkRead) (ys zs : List ℕ)
     → length h ≡ 8 → c + 8 ≤ greatest_u32
@@ -51,8 +47,7 @@ chunk_from c found h (Data spec n) ys zs l room (is, f, k, e) =
       size,
       simp (length-take, length-drop) (omega arith),
       sym k,
-      ap (λ t. t ++ ys) (halves h l ∙ ap (λ t. t ++ size) (same_tag (take 4 h) data_tag is))
-          ∙ append_assoc data_tag size ys ∙ ap (λ t. data_tag ++ (size ++ t)) e,
+      grind (arith, common_steps, halves h l, same_tag (take 4 h) data_tag is),
     )
 chunk_from c found h (Other next taken) ys zs l room (content, n, other, sound, limit, f, k, e) =
     let size = slice_range h 4 8 in
@@ -63,10 +58,7 @@ chunk_from c found h (Other next taken) ys zs l room (content, n, other, sound, 
       limit,
       f,
       omega (arith, k, length-append (take 4 h) (size ++ content), length-append size content),
-      ap (λ t. h ++ t) e ∙ ap (λ t. t ++ (content ++ zs)) (halves h l)
-          ∙ append_assoc (take 4 h) size (content ++ zs)
-          ∙ ap (λ t. take 4 h ++ t) (sym (append_assoc size content zs))
-          ∙ sym (append_assoc (take 4 h) (size ++ content) zs),
+      grind (arith, common_steps, halves h l),
     )
 
 Chunks-more : (c : ℕ) (ps : List Chunk) (p : Chunk) → Chunks c ps → IsChunk p
@@ -89,10 +81,7 @@ last_spec-more found (q ∷ ps) p =
 
 joined-more : (ps : List Chunk) (p : Chunk) (rest : List ℕ)
     → joined (ps ++ p ∷ []) ++ rest ≡ joined ps ++ (chunk_bytes p ++ rest)
-joined-more [] p rest = ap (λ t. t ++ rest) (append-nil (chunk_bytes p))
-joined-more (q ∷ ps) p rest = append_assoc (chunk_bytes q) (joined (ps ++ p ∷ [])) rest
-    ∙ ap (λ t. chunk_bytes q ++ t) (joined-more ps p rest)
-    ∙ sym (append_assoc (chunk_bytes q) (joined ps) (chunk_bytes p ++ rest))
+joined-more ps p rest = grind (arith, common_steps)
 
 length-joined-more : (ps : List Chunk) (p : Chunk)
     → length (joined (ps ++ p ∷ [])) ≡ length (joined ps) + length (chunk_bytes p)
@@ -110,10 +99,8 @@ walked_more xs ys zs c taken found next w (p, is, limit, f, k, e) = record {
         (ap (λ t. joined w.chunks ++ t) e ∙ sym (joined-more w.chunks p zs));
     each = Chunks-more 0 w.chunks p w.walk.each is (omega (arith, w.taken_is));
   };
-  found_is = f ∙ ap (λ g. spec_after g p.tag (number p.size) p.content) w.found_is
-      ∙ sym (last_spec-more None w.chunks p);
-  taken_is = k ∙ ap (λ i. i + length (chunk_bytes p)) w.taken_is
-      ∙ sym (length-joined-more w.chunks p);
+  found_is = grind (arith, common_steps, last_spec-more None w.chunks p);
+  taken_is = omega (arith, k, w.taken_is, length-joined-more w.chunks p);
 }
 
 -- whole chunks, and the header of the data
