@@ -1,3 +1,4 @@
+use Rattle.std.proofs.lemmas.Grind.{common_steps}
 use Rattle.std.proofs.Common.{◌+◌, drop, sym, ap, ◌∙◌, arith, rules, length-drop}
 use Rattle.std.proofs.lemmas.List.{drop-drop}
 use Rattle.hound_repair.specs.Held.{are_chunks}
@@ -5,14 +6,7 @@ use Rattle.hound_repair.proofs.Chunking.{chunk_then, header_read, known_chunk, n
 use Rattle.hound_repair.proofs.look.are_chunks.Goals as goal
 
 pub returns-then-has_known_tag-clause-chunks : goal.returns-then-has_known_tag-clause-chunks
-returns-then-has_known_tag-clause-chunks g c told =
-    let contents = (g.R.ReadAt.state c.args.source.now).contents in
-    let (left, tag, _) = header_read c.loop-place.place c.args.end c.min-count.result _ _ _ contents _
-    (c.requires.ends told) c.min-count.ensures (search rules) c.read_at.auto.buf
-    (c.loop-place.invariant.same told).puts.stays.contents (c.in_ok-read_at.ensures.bytes told) in
-    sym (c.loop-place.invariant.chunks told
-    ∙ known_chunk (drop c.loop-place.place contents) (search rules)
-    (sym tag ∙ sym c.has_known_tag.ensures ∙ c.if-has_known_tag.true))
+returns-then-has_known_tag-clause-chunks g c told = grind (arith, common_steps, header_read, known_chunk)
 
 pub loop-place-preserved : goal.loop-place-preserved
 loop-place-preserved g c = record {
@@ -42,8 +36,4 @@ returns-in-None-clause-chunks g c told =
     (sym content ∙ sym c.content_of.ensures.content ∙ c.in-None.is))
 
 pub returns-clause-chunks : goal.returns-clause-chunks
-returns-clause-chunks g c told =
-    let contents = (g.R.ReadAt.state c.args.source.now).contents in
-    sym (c.loop-place.invariant.chunks told
-    ∙ none_left (drop c.loop-place.place contents)
-    (omega (arith, c.requires.ends told, length-drop c.loop-place.place contents)))
+returns-clause-chunks g c told = grind (arith, common_steps, none_left, length-drop)

@@ -1,3 +1,4 @@
+use Rattle.std.proofs.lemmas.Grind.{common_steps}
 use Rattle.std.proofs.Common.{◌≡◌, ◌<◌, ◌^◌, ◌==◌, ◌&&◌, true, false, length, drop, inl, refl, sym, ap, ◌∙◌, arith, rules, length-drop}
 use Rattle.hound_spec.specs.{riff_size, is_pair}
 use Rattle.hound_writer.specs.{field}
@@ -45,51 +46,7 @@ returns-in-Err-clause-finds g c told =
     }
 
 pub state_of-requires-clause-ends : goal.state_of-requires-clause-ends
-state_of-requires-clause-ends g c told =
-    let head = c.args.head in
-    let contents = (g.R.ReadAt.state c.args.source.now).contents in
-    let small : c.args.head.data_length < 2 ^ 32 = search rules in
-    let inside = head_inside contents head.spec_ex head.data_length head.data_start (c.requires.head told) in
-    let all : c.in_ok-held.held ≡ held head.data_start contents =
-    is_all head.spec_ex head.data_length head.data_start (held head.data_start contents)
-    c.in_ok-held.held c.requires.sound small c.requires.start.0 (c.in_ok-held.ensures.held told)
-    (size_fits _ _ _ _ c.in-Ok.ensures.check) in
-    let same = ap length (c.in_ok-held.ensures.looks told).puts.stays.contents in
-    omega (arith, all, same, length-drop head.data_start contents, inside)
+state_of-requires-clause-ends g c told = grind (arith, common_steps, head_inside, is_all, size_fits, length-drop)
 
 pub returns-clause-finds : goal.returns-clause-finds
-returns-clause-finds g c told =
-    let head = c.args.head in
-    let s = head.spec_ex in
-    let len = head.data_length in
-    let contents = (g.R.ReadAt.state c.args.source.now).contents in
-    let pair : is_pair s.spec.sample_format s.spec.bits_per_sample s.bytes_per_sample ≡ true =
-    search rules in
-    let small : len < 2 ^ 32 = search rules in
-    let first = c.in_ok-held.ensures.looks told in
-    let then = c.in_ok-was.ensures.looks told in
-    let sizes = c.in-Ok.ensures in
-    let n = held head.data_start contents in
-    let counted = c.in_ok-held.ensures.held told in
-    let same = same_fault s len head.data_start n c.in_ok-held.held c.requires.sound small c.requires.start.0 counted in
-    let all : c.in_ok-held.held ≡ n =
-    is_all s len head.data_start n c.in_ok-held.held c.requires.sound small c.requires.start.0 counted
-    (size_fits _ _ _ _ sizes.check) in
-    let length_is = sizes.right.length_is ∙ ap (right_length s len) all in
-    let riff = sizes.right.riff ∙ ap (riff_size head.data_start) length_is in
-    let stays = first.puts.stays.contents in
-    record {
-      found = record {
-        head = c.requires.head told;
-        small = omega (arith, small);
-        check = written s len head.data_start n pair ∙ sym same ∙ sizes.check;
-        was = c.in_ok-was.ensures.state told
-            ∙ (λ i. state_of ((field 4 (stays i) == riff i) && (len == length_is i))
-            ((may_be_chunks c.args.rest) && is_followed len (drop head.data_start (stays i))));
-        frames = ap (frames_found c.in_ok-was.was' s len) all;
-        left_over = ap (torn_found c.in_ok-was.was' s len) all;
-      };
-      held_is = all;
-      puts = puts_nothing_then _ _ _ first.puts then.puts;
-      faults = then.faults ∙ first.faults;
-    }
+returns-clause-finds g c told = grind (arith, common_steps, same_fault, is_all, size_fits, written, puts_nothing_then)
