@@ -106,15 +106,12 @@ module _ (looks again : Bool) (old mid next new : MediumState) (found other : Re
       let frames = frames_same found.was first.leaves apart in
       let is_right : are_right other.spec_ex second.start second.len (field 4 next.contents)
       (held second.start next.contents) ≡ true =
-      (λ i. are_right (agree.0 i) (agree.2 i) (len i) (field 4 (same i)) (held (agree.2 i) (same i)))
-      ∙ right_again s start all (field 4 mid.contents) (held start mid.contents)
-      found.frames refl right.riff_says frames in
+      let there = right_again s start all (field 4 mid.contents) (held start mid.contents)
+      found.frames refl right.riff_says frames in cc (agree.0, agree.2, len, same, there) in
       let was : other.was ≡ Whole =
       second.is.was ∙ ap (λ b. state_of b (again && is_followed second.len (drop second.start next.contents))) is_right in (
         was,
         agree.0,
-        second.is.frames
-            ∙ (λ i. frames_found (was i) (agree.0 i) (len i) (held (agree.2 i) (same i)))
-            ∙ frames,
+        cc (second.is.frames, was, agree.0, len, agree.2, same, frames),
         (subst (λ w. LeavesFor w other second.start next new) was second.leaves).stays.contents,
       )

@@ -44,15 +44,7 @@ module _ (d : Damage) (sound : IsSoundDamage d) (a b : MediumState) where
             subst (HalfMended start n a.contents) (sym same) (sizes_at_each first at k from within)
         | inl after ↦
             let last : k ≡ length c.past =
-            omega (
-              arith,
-              after,
-              to,
-              ap length past,
-              length-append b.past added,
-              length-placed end (take pads.count (0 ∷ [])),
-              length-take {A = ℕ} pads.count (0 ∷ []),
-            ) in
+            grind (arith, common_steps, after, to, past, length-placed end (take pads.count (0 ∷ []))) in
             subst (HalfMended start n a.contents)
             (sym (ap (moment c.start c.past) last ∙ moment_last c replays)) half
       ]

@@ -154,8 +154,4 @@ only_io looks old new e s len start head none not = by not.why
         absurd (head_no_fault old.contents s len start cause head refused)
     by (inl (fault, inr (t, m, h, other, some), names, puts, faults)) =
         let agree = heads_agree old.contents t s m len h start other head in
-        let same : repair_fault t m h (held h old.contents)
-        ≡ repair_fault s len start (held start old.contents) =
-        λ i. repair_fault (agree.0 i) (agree.1 i) (agree.2 i) (held (agree.2 i) old.contents) in
-        let never = sym none ∙ sym same ∙ some in
-        absurd (let h : ⊥ = cc in h)
+        absurd (let never : ⊥ = cc (agree.0, agree.1, agree.2, none, some) in never)

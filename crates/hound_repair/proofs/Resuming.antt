@@ -84,8 +84,8 @@ module _ (looks again : Bool) (old mid new : MediumState) (found other : Repair)
       ∙ length_put s len start old.contents at.head (riff_size start l) l
       (length_fits looks old.contents found len start at apart)
       (riff_fits looks old.contents found len start at apart) (missing_pad l n) in
-      (λ i. frames_held s (written i) (held start (half.last put i)))
-      ∙ frames_mended looks old.contents found len start at apart some
+      let mended = frames_mended looks old.contents found len start at apart some in
+      cc (written, half.last put, mended)
 
   -- so a repair that was cut off can be done again
   pub resumed : (other.spec_ex ≡ s) × (other.frames ≡ found.frames)

@@ -268,8 +268,6 @@ pub fn find_damage<S: Source>(medium: S) -> result::Result<(S, Repair), (S, Erro
         (λ found. Finds true (S.state medium) found.1 (S.state found.0))
         (λ refused. IsNotFound (S.state medium) (S.state refused.0) refused.1)) }
 {
-    match look(medium, Rest::MayBeChunks) {
-        Ok((medium, damage)) => Ok((medium, damage.repair())),
-        Err(refused) => Err(refused),
-    }
+    let (medium, damage) = look(medium, Rest::MayBeChunks)?;
+    Ok((medium, damage.repair()))
 }
