@@ -1,6 +1,6 @@
 -- A file in each intermediate state of its repair.
 use Rattle.std.proofs.lemmas.Grind.{common_steps}
-use Rattle.std.proofs.Common.{◌≡◌, ℕ, ◌-◌, Bool, [], ◌∷◌, length, take, inl, inr, Result, IsTrue, sym, ap, ◌∙◌, subst, arith, length-append, length-take}
+use Rattle.std.proofs.Common.{◌≡◌, ℕ, ◌-◌, Bool, [], ◌∷◌, length, take, inl, inr, Result, IsTrue, sym, ap, ◌∙◌, subst, arith}
 use Rattle.std.proofs.lemmas.Bool.{cases_lt}
 use Rattle.hound_medium.specs.{moment, overlay, placed, MediumState}
 use Rattle.hound_medium.proofs.Overlays.{length-placed}

@@ -49,10 +49,7 @@ fn repair_with<M: Source + Medium>(medium: M, rest: Rest) -> result::Result<(M, 
     ensures repaired { WhereTells M.tells (RepairsMedium (may_be_chunks rest) M.state medium result) }
     ensures moments { WhereKeeps M.tells M.keeps (MendsMedium (may_be_chunks rest) M.state medium result) }
 {
-    let (medium, damage) = match look(medium, rest) {
-        Ok(found) => found,
-        Err(refused) => return Err(refused),
-    };
+    let (medium, damage) = look(medium, rest)?;
     if damage.was != RepairState::CutOff {
         return Ok((medium, damage.repair()));
     }

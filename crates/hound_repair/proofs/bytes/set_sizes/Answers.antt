@@ -1,6 +1,5 @@
 use Rattle.std.proofs.lemmas.Grind.{common_steps}
-use Rattle.std.proofs.Common.{◌≡◌, ◌+◌, ◌-◌, ◌∙◌, ap, arith}
-use borrow.Rule.Slice.PartMut.{put_mid}
+use Rattle.std.proofs.Common.{arith}
 use Rattle.hound_repair.proofs.InPlace.{two_put}
 use Rattle.hound_repair.proofs.bytes.set_sizes.Goals as goal
 

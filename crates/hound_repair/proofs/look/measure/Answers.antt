@@ -1,11 +1,8 @@
 use Rattle.std.proofs.lemmas.Grind.{common_steps}
-use Rattle.std.proofs.Common.{◌≡◌, ◌<◌, ◌^◌, ◌==◌, ◌&&◌, true, false, length, drop, inl, refl, sym, ap, ◌∙◌, arith, rules, length-drop}
-use Rattle.hound_spec.specs.{riff_size, is_pair}
-use Rattle.hound_writer.specs.{field}
+use Rattle.std.proofs.Common.{◌≡◌, ◌<◌, ◌^◌, true, false, inl, refl, sym, ◌∙◌, arith, rules, length-drop}
+use Rattle.hound_spec.specs.{is_pair}
 use Rattle.hound_writer.proofs.Heads.{head_inside}
-use Rattle.hound_repair.specs.Damages.{may_be_chunks}
-use Rattle.hound_repair.specs.Held.{is_followed, held, right_length}
-use Rattle.hound_repair.specs.Repairing.{frames_found, state_of, torn_found}
+use Rattle.hound_repair.specs.Held.{held}
 use Rattle.hound_repair.specs.declared.sizes.Sizes.{Sizes}
 use Rattle.hound_repair.proofs.Measuring.{fails_for, is_all, not_written, same_fault, written}
 use Rattle.hound_repair.proofs.RightSizes.{size_fits}

@@ -9,28 +9,28 @@ use Rattle.hound_repair.proofs.mend.repair_with.Goals as goal
 pub returns-then-ne-clause-repaired : goal.returns-then-ne-clause-repaired
 returns-then-ne-clause-repaired g c told =
     let state = g.M.Placed.state in
-    let finds = c.in-Ok.ensures.finds told in
-    subst (λ r. Repairs (may_be_chunks c.args.rest) (state c.args.medium) r (state c.in-Ok.found.0)) (sym c.repair.ensures)
-    (repairs_kept (may_be_chunks c.args.rest) _ _ _ _ _ finds.found c.in-Ok.ensures.sound.spec (search rules) finds.puts finds.faults)
+    let finds = c.in_ok-medium.ensures.finds told in
+    subst (λ r. Repairs (may_be_chunks c.args.rest) (state c.args.medium) r (state c.in_ok-medium.medium)) (sym c.repair.ensures)
+    (repairs_kept (may_be_chunks c.args.rest) _ _ _ _ _ finds.found c.in_ok-medium.ensures.sound.spec (search rules) finds.puts finds.faults)
 
-pub returns-in-Ok-put_sizes-clause-repaired : goal.returns-in-Ok-put_sizes-clause-repaired
-returns-in-Ok-put_sizes-clause-repaired g c told =
+pub returns-in-Ok-clause-repaired : goal.returns-in-Ok-clause-repaired
+returns-in-Ok-clause-repaired g c told =
     let state = g.M.Placed.state in
-    let puts = c.in-Ok-put_sizes.ensures.sizes told in
+    let puts = c.in-Ok.ensures.sizes told in
     subst (λ r. Repairs (may_be_chunks c.args.rest) (state c.args.medium) r (state c.put_sizes.new.medium))
-    (sym c.repair-in-Ok-put_sizes.ensures)
-    (put_ok (may_be_chunks c.args.rest) _ _ _ c.in-Ok.found.1 c.in-Ok.ensures.sound (c.in-Ok.ensures.finds told) (search rules)
+    (sym c.repair-in-Ok.ensures)
+    (put_ok (may_be_chunks c.args.rest) _ _ _ c.in_ok-medium.damage c.in_ok-medium.ensures.sound (c.in_ok-medium.ensures.finds told) (search rules)
     puts.contents puts.flushed puts.faults)
 
-pub returns-in-Ok-put_sizes-clause-moments : goal.returns-in-Ok-put_sizes-clause-moments
-returns-in-Ok-put_sizes-clause-moments g c told kept =
-    mends_at_each (may_be_chunks c.args.rest) _ _ (g.M.Placed.state c.put_sizes.new.medium) c.in-Ok.found.1 c.in-Ok.ensures.sound (c.in-Ok.ensures.finds told)
-    (search rules) (c.in-Ok-put_sizes.ensures.order told kept) (c.in-Ok-put_sizes.ensures.moments told kept)
+pub returns-in-Ok-clause-moments : goal.returns-in-Ok-clause-moments
+returns-in-Ok-clause-moments g c told kept =
+    mends_at_each (may_be_chunks c.args.rest) _ _ (g.M.Placed.state c.put_sizes.new.medium) c.in_ok-medium.damage c.in_ok-medium.ensures.sound (c.in_ok-medium.ensures.finds told)
+    (search rules) (c.in-Ok.ensures.order told kept) (c.in-Ok.ensures.moments told kept)
 
-pub returns-in-Err-put_sizes-clause-repaired : goal.returns-in-Err-put_sizes-clause-repaired
-returns-in-Err-put_sizes-clause-repaired g c told =
-    let puts = c.in-Err-put_sizes.ensures.sizes told in
-    let finds = c.in-Ok.ensures.finds told in
+pub returns-in-Err-clause-repaired : goal.returns-in-Err-clause-repaired
+returns-in-Err-clause-repaired g c told =
+    let puts = c.in-Err.ensures.sizes told in
+    let finds = c.in_ok-medium.ensures.finds told in
     record {
       why = inr (
         tt,
@@ -40,14 +40,14 @@ returns-in-Err-put_sizes-clause-repaired g c told =
           _,
           finds.found,
           search rules,
-          half_after (may_be_chunks c.args.rest) _ _ (g.M.Placed.state c.put_sizes.new.medium) c.in-Ok.found.1
-              c.in-Ok.ensures.sound finds (search rules) _ puts.half,
+          half_after (may_be_chunks c.args.rest) _ _ (g.M.Placed.state c.put_sizes.new.medium) c.in_ok-medium.damage
+              c.in_ok-medium.ensures.sound finds (search rules) _ puts.half,
         ),
         puts.faults ∙ ap one_more finds.faults,
       );
     }
 
-pub returns-in-Err-put_sizes-clause-moments : goal.returns-in-Err-put_sizes-clause-moments
-returns-in-Err-put_sizes-clause-moments g c told kept =
-    mends_at_each (may_be_chunks c.args.rest) _ _ (g.M.Placed.state c.put_sizes.new.medium) c.in-Ok.found.1 c.in-Ok.ensures.sound (c.in-Ok.ensures.finds told)
-    (search rules) (c.in-Err-put_sizes.ensures.order told kept) (c.in-Err-put_sizes.ensures.moments told kept)
+pub returns-in-Err-clause-moments : goal.returns-in-Err-clause-moments
+returns-in-Err-clause-moments g c told kept =
+    mends_at_each (may_be_chunks c.args.rest) _ _ (g.M.Placed.state c.put_sizes.new.medium) c.in_ok-medium.damage c.in_ok-medium.ensures.sound (c.in_ok-medium.ensures.finds told)
+    (search rules) (c.in-Err.ensures.order told kept) (c.in-Err.ensures.moments told kept)

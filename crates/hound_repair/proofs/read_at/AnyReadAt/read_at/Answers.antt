@@ -1,5 +1,5 @@
 use Rattle.std.proofs.lemmas.Grind.{common_steps}
-use Rattle.std.proofs.Common.{rules, arith}
+use Rattle.std.proofs.Common.{arith}
 use Rattle.hound_repair.proofs.Looking.{more_bytes}
 use Rattle.hound_repair.proofs.read_at.AnyReadAt.read_at.Goals as goal
 
