@@ -35,12 +35,8 @@ pub each_by_reason : {A : Type 0} (refusal : Option ReadRefusal) (meaning : List
     → reason ≡ reason_of e
     → ReadsEach refusal meaning width (map Ok values ++ (Err e ∷ [])) old new
     → ReadsEach refusal meaning width (map Ok values ++ (Err (error_of_item reason fault) ∷ [])) old new
-each_by_reason refusal meaning width [] e reason fault old new is (mid, read, same) = (
-  mid,
-  subst (λ r. Reads refusal meaning width old mid (Err (error_of_item r fault))) (sym is)
-      (error_by_reason refusal meaning width old mid e fault read),
-  same,
-)
+each_by_reason refusal meaning width [] e reason fault old new is (mid, read, same) =
+    let told = error_by_reason refusal meaning width old mid e fault read in (mid, rw is told, same)
 each_by_reason refusal meaning width (value ∷ values) e reason fault old new is (mid, read, rest) =
     (mid, read, each_by_reason refusal meaning width values e reason fault mid new is rest)
 

@@ -1,5 +1,6 @@
 -- What a counting reader has given, read after read.
-use Rattle.std.proofs.Common.{◌≡◌, ℕ, ◌+◌, ◌-◌, ◌^◌, min, List, length, drop, ap, sym, ◌∙◌, arith, length-append, drop_at, take, ◌≤◌, Option, None, Some}
+use Rattle.std.proofs.lemmas.Grind.{common_steps}
+use Rattle.std.proofs.Common.{◌≡◌, ℕ, ◌+◌, ◌-◌, ◌^◌, min, List, length, drop, ap, sym, ◌∙◌, arith, length-append, drop_at, take, ◌≤◌, Option, Some}
 use Rattle.std.proofs.lemmas.List.{drop-drop, length-take-le}
 use Rattle.std.specs.Io.KnownBytes.{Consumes}
 use Rattle.hound_reader.specs.Reader.{HasGiven}
@@ -8,9 +9,6 @@ use Rattle.hound_reader.specs.Reader.{HasGiven}
 pub given_read : (first old new : Option (List ℕ)) (given count sum : ℕ) (buf : List ℕ)
     → count ≤ length buf → HasGiven first given old → Consumes old new (take count buf)
     → sum ≡ min (given + count) (2 ^ 64 - 1) → HasGiven first sum new
-given_read None old new given count sum buf few h t s = tt
-given_read (Some xs) None new given count sum buf few h t s = absurd h
-given_read (Some xs) (Some ys) None given count sum buf few h t s = absurd t
 given_read (Some xs) (Some ys) (Some zs) given count sum buf few h t s =
     let n = length xs - length ys in
     let size = length-take-le count buf few in
@@ -22,3 +20,4 @@ given_read (Some xs) (Some ys) (Some zs) given count sum buf few h t s =
       tail ∙ ap (drop count) h.1 ∙ drop-drop count n xs ∙ ap (λ i. drop i xs) same,
       omega (arith, e, h.0, h.2, s),
     )
+given_read _ _ _ given count sum buf few h t s = grind (arith, common_steps)

@@ -147,8 +147,7 @@ ending_answer bytes size rest four e (ps, end, w, each, inl (cause, f)) = (
     record {
       size = size;
       four = four;
-      whole = e
-          ∙ ap (λ t. riff_tag ++ (size ++ (wave_tag ++ t))) w;
+      whole = cc (e, w);
       each = each;
     },
     rw (zero-add (length (joined ps))) at f,
@@ -164,8 +163,7 @@ ending_answer bytes size rest four e
         walk = record {
           size = size;
           four = four;
-          whole = e
-              ∙ ap (λ t. riff_tag ++ (size ++ (wave_tag ++ t))) (w ∙ ap (λ t. joined ps ++ t) d);
+          whole = cc (e, w, d);
           each = each;
         };
         four = dfour;

@@ -1,12 +1,11 @@
 -- The items of a run.
 use Rattle.std.proofs.lemmas.Grind.{common_steps}
-use Rattle.std.proofs.Common.{◌≡◌, ℕ, ◌+◌, ◌<◌, ◌≤◌, List, [], ◌∷◌, length, ap, ◌∙◌, subst, arith, Option, Some, None, Result, Ok}
+use Rattle.std.proofs.Common.{◌≡◌, ℕ, ◌+◌, ◌<◌, ◌≤◌, List, [], ◌∷◌, length, ap, ◌∙◌, arith, Option, Some, None, Result, Ok}
 use Rattle.std.specs.Prelude.{IfSome, IsSome}
 use Rattle.std.specs.declared.io.Error.{Error as IoFault}
 use Rattle.hound_number.specs.{WhereKnown}
 use Rattle.hound_spec.specs.declared.error.Error.{Error}
 use Rattle.hound_spec.specs.declared.spec.SampleFormat.{SampleFormat}
-use Rattle.hound_spec.specs.declared.spec.WavSpecEx.{WavSpecEx}
 use Rattle.hound_sample.specs.{ReadRefusal, Reads, answer_of}
 use Rattle.hound_reader.specs.Reader.{ReaderState, IsNext, AreTaken, refusal_at, meaning_at, samples_left, AreItems, GivesItems}
 use Rattle.hound_sample.specs.declared.item.ItemError.{ItemError}
@@ -59,30 +58,18 @@ module _ {R A : Type 0} (left : R → Option (List ℕ))
       → IfSome (left old.reader)
       (λ bytes. AreItems (refusal_at refusal old.spec_ex)
       (meaning_at meaning old.spec_ex) old.spec_ex.bytes_per_sample bytes items)
-  items_given [] old new run =
-      no_bytes (left old.reader) (refusal_at refusal old.spec_ex)
-      (meaning_at meaning old.spec_ex) old.spec_ex.bytes_per_sample
+  items_given [] old new run = grind (arith, common_steps)
   items_given (item ∷ items) old new (mid, step, run) =
-      let P : WavSpecEx → Type 0 =
-      λ s. IfSome (left mid.reader)
-      (λ bytes. AreItems (refusal_at refusal s)
-      (meaning_at meaning s) s.bytes_per_sample bytes items) in
-      item_more (refusal_at refusal old.spec_ex)
-      (meaning_at meaning old.spec_ex) old.spec_ex.bytes_per_sample (left old.reader)
-      (left mid.reader) item items step.read
-      (subst P step.spec_ex (items_given items mid new run))
+      let more = items_given items mid new run in
+      grind (arith, common_steps, item_more, step.read, step.spec_ex, more)
 
   -- and counts each of them
   pub items_counted : (items : List (Result A Error)) (old new : ReaderState R)
       → GivesItems left refusal meaning items old new
       → (new.samples_read ≡ old.samples_read + length items) × (length items ≤ samples_left old)
-  items_counted [] old new run =
-      (ap (λ (r : ReaderState R). r.samples_read) run ∙ omega arith, omega arith)
+  items_counted [] old new run = grind (arith, common_steps)
   items_counted (item ∷ items) old new (mid, step, run) =
-      let rest = items_counted items mid new run in (
-        omega (arith, rest.0, step.counted),
-        omega (arith, rest.1, step.counted, step.inside, step.num_samples),
-      )
+      let more = items_counted items mid new run in grind (arith, common_steps, more, step)
 
   -- a run leaves the number of samples of the file
   run_keeps : (items : List (Result A Error)) (old new : ReaderState R)

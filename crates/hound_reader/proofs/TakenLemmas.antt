@@ -96,10 +96,7 @@ walk_takes o m n found taken (Refused c) walked fault t =
         cc (w.taken_is, w.found_is, p.0),
         cc w.taken_is,
       ),
-      subst (λ bytes. AreTaken (12 + taken + k) bytes zs) (sym (w.walk.whole ∙ parted))
-          (subst (λ i. AreTaken (i + k) (front ++ ys) zs)
-          (omega (arith, w.walk.four, w.taken_is, length-append w.walk.size (wave_tag ++ body)))
-          (taken_then front ys zs k p.1)),
+      grind (arith, common_steps, w.walk.whole, parted, w.walk.four, w.taken_is, taken_then front ys zs k p.1),
     ))
 
 -- what is taken of bytes without a head shows why they have none

@@ -212,16 +212,11 @@ canonical_back s list w a =
     let div : length bytes / s.bytes_per_sample ≡ length list = ap (λ t. t / s.bytes_per_sample) n
     ∙ mul-div_cancel (length list) p.some in
     let whole : length bytes % s.bytes_per_sample ≡ 0 = ap (λ t. t % s.bytes_per_sample) n
-    ∙ mul-mod_left (length list) s.bytes_per_sample in
-    let t1 = eq-eqb (length bytes % s.bytes_per_sample) 0 whole in
-    let t2 =
-    eq-eqb ((length bytes / s.bytes_per_sample) % s.spec.channels) 0
-    (ap (λ t. t % s.spec.channels) div ∙ a.frames) in (
+    ∙ mul-mod_left (length list) s.bytes_per_sample in (
       record {
         len = length bytes;
         head = header_head s size (length bytes) behind w (omega (arith, a.fits, n));
-        frames =
-            rw (t1, t2) refl;
+        frames = grind (arith, common_steps, whole, div, a.frames);
         count = sym div;
       },
       ap (containers s.bytes_per_sample (length list))

@@ -1,6 +1,6 @@
 use Rattle.std.proofs.lemmas.Grind.{common_steps}
 use Rattle.std.proofs.lemmas.Result.{err_from_is_err_and}
-use Rattle.std.proofs.Common.{◌≡◌, [], ◌++◌, length, take, slice_range, true, false, refl, ap, ◌∙◌, arith, append_assoc, length-append, length-take}
+use Rattle.std.proofs.Common.{◌≡◌, [], ◌++◌, length, take, slice_range, true, false, refl, arith, length-append, length-take}
 use Rattle.std.specs.Str.{bytes_eq}
 use Rattle.std.proofs.KnownBytes.{Consumes-nil, Consumes-trans}
 use Rattle.hound_spec.specs.{riff_tag, wave_tag}
@@ -27,11 +27,7 @@ returns-clause-ok g c =
     (Consumes-trans _ _ _ _ _ c.in_ok-fill.ensures.ok c.in_ok-fill-2.ensures.ok) (λ ys. (
       size,
       simp length-take (omega arith),
-      append_assoc h k ys ∙ ap (λ t. t ++ (k ++ ys)) (same_tag h riff_tag e)
-          ∙ ap (λ t. riff_tag ++ (t ++ ys))
-          (halves k (omega arith)
-          ∙ ap (λ t. size ++ t) (same_tag (slice_range k 4 8) wave_tag d))
-          ∙ ap (λ t. riff_tag ++ t) (append_assoc size wave_tag ys),
+      grind (arith, common_steps, same_tag h riff_tag e, halves k, same_tag (slice_range k 4 8) wave_tag d),
       c.u32_at.ensures,
     ))
 

@@ -1,8 +1,6 @@
 use Rattle.std.proofs.Common.{◌≡◌, ◌<◌, ◌^◌, ℕ, ap, subst, sym, ◌∙◌, arith, ◌+◌, Some, Ok, Err}
-use Rattle.std.specs.Prelude.{IsSome}
 use Rattle.hound_spec.specs.declared.spec.WavSpecEx.{WavSpecEx}
-use Rattle.hound_sample.specs.{ReadsItem}
-use Rattle.hound_reader.specs.Reader.{AnswersNext, taken_without, ReaderState, meaning_at, refusal_at}
+use Rattle.hound_reader.specs.Reader.{AnswersNext, taken_without, ReaderState}
 use Rattle.hound_reader.specs.declared.item.KeepingReader.{KeepingReader}
 use Rattle.hound_reader.proofs.BlockLemmas.{no_sample_is_given}
 use Rattle.hound_reader.proofs.ItemLemmas.{a_sample_is_given}
@@ -25,16 +23,13 @@ returns-in-Ok-clause-answers g c =
       samples_read = r.samples_read + 1;
       bytes_read = r.bytes_read + taken;
     } in
-    let given = subst (λ s. ReadsItem (refusal_at refusal s) (meaning_at meaning s) s.bytes_per_sample
-    (left r.reader.reader) (left read.result.0.now.reader) read.new.answer) same read.ensures.answers in
+    let given = rw same at read.ensures.answers in
     subst (λ old. AnswersNext left refusal meaning (Some (Ok c.in-Ok.sample)) old
     (new c.args.spec_ex.bytes_per_sample)) c.self.view_is
     (a_sample_is_given left refusal meaning _ (new c.args.spec_ex.bytes_per_sample) read.new.answer
     read.result.0.now.fault c.in-Ok.sample (omega (arith, c.if-self.false))
     (ap new (ap (λ (s : WavSpecEx). s.bytes_per_sample) same)) (given read.result.0.now.fault)
-    (λ some. ap (λ (k : KeepingReader _). k.reader)
-    (read.ensures.untouched (subst (λ s. IsSome (refusal_at refusal s)) (sym same) some)))
-    c.in-Ok.is)
+    (λ some. ap (λ (k : KeepingReader _). k.reader) ((rw same at read.ensures.untouched) some)) c.in-Ok.is)
 
 pub returns-in-Err-clause-answers : goal.returns-in-Err-clause-answers
 returns-in-Err-clause-answers g c =
@@ -54,10 +49,7 @@ returns-in-Err-clause-answers g c =
       samples_read = r.samples_read + 1;
       bytes_read = r.bytes_read + taken;
     } in
-    let given = subst (λ a. ReadsItem (refusal_at refusal r.spec_ex) (meaning_at meaning r.spec_ex)
-    r.spec_ex.bytes_per_sample (left r.reader.reader) (left read.result.0.now.reader) a) c.in-Err.is
-    (subst (λ s. ReadsItem (refusal_at refusal s) (meaning_at meaning s) s.bytes_per_sample
-    (left r.reader.reader) (left read.result.0.now.reader) read.new.answer) same read.ensures.answers) in
+    let given = rw (same, c.in-Err.is) at read.ensures.answers in
     let small : r.spec_ex.bytes_per_sample < 2 ^ 64 =
     omega (arith, c.self.invariant.sound.2, c.self.invariant.sound.0) in
     subst (λ old. AnswersNext left refusal meaning (Some (Err reason)) old (new c.taken_without.result))
@@ -66,6 +58,5 @@ returns-in-Err-clause-answers g c =
     (omega (arith, c.if-self.false)) small
     (ap new (c.taken_without.ensures
     ∙ ap (λ (s : WavSpecEx). taken_without reason read.result.1 s.bytes_per_sample) same)) given
-    (λ some. ap (λ (k : KeepingReader _). k.reader)
-    (read.ensures.untouched (subst (λ s. IsSome (refusal_at refusal s)) (sym same) some)))
+    (λ some. ap (λ (k : KeepingReader _). k.reader) ((rw same at read.ensures.untouched) some))
     read.ensures.given)

@@ -1,7 +1,7 @@
 use Rattle.std.proofs.lemmas.Grind.{common_steps}
 use Rattle.std.proofs.Common.{◌≡◌, ◌+◌, ◌*◌, ◌-◌, ◌++◌, ◌∙◌, drop, ap, subst, arith, Ok, Err, length-take, refl}
 use Rattle.hound_sample.specs.{error_of_item}
-use Rattle.hound_reader.specs.Reader.{ReadsBlock, over_bytes, ReaderState, samples_left, taken_without}
+use Rattle.hound_reader.specs.Reader.{ReadsBlock, ReaderState, samples_left, taken_without}
 use Rattle.std.proofs.Math.Nat.{le-mul_of_pos_right}
 use Rattle.hound_reader.specs.declared.item.KeepingReader.{KeepingReader}
 use Rattle.hound_reader.proofs.BlockLemmas.{is_block, taken_few}
@@ -63,7 +63,4 @@ returns g c =
     read.auto.samples (omega (arith, c.self.ranges)) (omega (arith, c.self.ranges)) read.ensures.front
     (read.ensures.answers fault) read.ensures.given
     (λ some. ap (λ (k : KeepingReader _). k.reader) (read.ensures.untouched some))
-    (λ i. record (over_bytes g.R.Read.remaining new) {
-      samples_read = (let e : r.samples_read + k + 1 ≡ r.samples_read + (k + 1) = omega arith in e i);
-      bytes_read = (let e : r.bytes_read + k * width + c.taken_without.result ≡ r.bytes_read + (k * width + taken_without reason (read.result.1 - k * width) width) = omega (arith, torn) in e i);
-    })))
+    (grind (arith, common_steps, torn))))
