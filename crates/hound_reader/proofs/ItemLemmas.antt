@@ -37,11 +37,6 @@ pub a_sample_is_given : {R A : Type 0} (left : R → Option (List ℕ))
     → IsNext left refusal meaning (Some (Ok value)) old new
 a_sample_is_given left refusal meaning old new answer fault value inside is read untouched ok = grind (arith, common_steps, a_container_is_taken)
 
-no_bytes : {A : Type 0} (left : Option (List ℕ)) (refusal : Option ReadRefusal)
-    (meaning : List ℕ → A) (width : ℕ)
-    → IfSome left (λ bytes. AreItems refusal meaning width bytes [])
-no_bytes left refusal meaning width = grind (arith, common_steps)
-
 -- an item before items
 item_more : {A : Type 0} (refusal : Option ReadRefusal) (meaning : List ℕ → A) (width : ℕ)
     (old new : Option (List ℕ)) (item : Result A Error) (items : List (Result A Error))
