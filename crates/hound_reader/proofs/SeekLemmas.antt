@@ -3,7 +3,7 @@ use Rattle.std.proofs.lemmas.Grind.{common_steps}
 use Rattle.std.proofs.Common.{◌≡◌, ℕ, suc, ℤ, pos, ◌+ℤ◌, ◌-ℤ◌, ◌+◌, ◌-◌, ◌*◌, ◌/◌, ◌^◌, ◌<◌, ◌≤◌, List, [], ◌∷◌, length, drop, arith, subst, sym, ap, ◌∙◌, Option, Some, None, Result, Ok}
 use Rattle.std.proofs.Math.Nat.{mul_assoc, mul-le-mul_right}
 use Rattle.std.proofs.lemmas.Int.{ints}
-use Rattle.std.proofs.lemmas.List.{length-drop, drop-drop}
+use Rattle.std.proofs.lemmas.List.{drop-drop}
 use Rattle.hound_spec.specs.declared.error.Error.{Error}
 use Rattle.hound_spec.specs.declared.spec.SampleFormat.{SampleFormat}
 use Rattle.hound_sample.specs.{ReadRefusal}
@@ -67,8 +67,7 @@ module _ {R : Type 0} (state : R → MediumState) (start time : ℕ) (old new : 
       mul-le-mul_right width (frame_inside time old.spec_ex.spec.channels old.num_samples t) in
       let l : length (unread (state new.reader)) ≡ length (state old.reader).contents -
       (start + bytes_before time old.spec_ex) =
-      ap length sought_unread
-      ∙ length-drop (start + bytes_before time old.spec_ex) (state old.reader).contents in
+      grind (arith, common_steps, sought_unread) in
       omega (arith, p, l, whole)
 
 module _ {R A : Type 0} (state : R → MediumState) (left : R → Option (List ℕ))

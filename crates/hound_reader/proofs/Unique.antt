@@ -53,7 +53,7 @@ same_walk c i j (p ∷ ps) (q ∷ qs) x y (isp, lp, cp) (isq, lq, cq) e k l ex e
     same_walk (c + length (chunk_bytes p)) i j ps qs x y cp cq' one.1
     (omega (arith, length-append (chunk_bytes p) (joined ps)))
     (omega (arith, n, length-append (chunk_bytes q) (joined qs))) ex ey in
-    (ap (λ t. t ∷ ps) one.0 ∙ ap (λ t. q ∷ t) more.0, more.1)
+    (cc (one.0, more.0), more.1)
 
 content_sound : (c : ℕ) (found : Option WavSpecEx) (p : Chunk) (rest : List ℕ) → IsChunk p
     → c + 8 + padded (number p.size) ≤ greatest_u32

@@ -95,8 +95,7 @@ walked_more xs ys zs c taken found next w (p, is, limit, f, k, e) = record {
   walk = record {
     size = w.walk.size;
     four = w.walk.four;
-    whole = w.walk.whole ∙ ap (λ t. riff_tag ++ (w.walk.size ++ (wave_tag ++ t)))
-        (ap (λ t. joined w.chunks ++ t) e ∙ sym (joined-more w.chunks p zs));
+    whole = cc (w.walk.whole, e, joined-more w.chunks p zs);
     each = Chunks-more 0 w.chunks p w.walk.each is (omega (arith, w.taken_is));
   };
   found_is = grind (arith, common_steps, last_spec-more None w.chunks p);
@@ -116,15 +115,7 @@ head_from xs ys zs found taken spec len h w (is, limit, size, four, n, e) at =
     let parted : riff_tag ++ (start ++ (wave_tag ++ (body ++ (data_tag ++ (size ++ zs))))) ≡ front
     ++ zs = simp append_assoc in
     let place : h ≡ 12 + length body + 8 = omega (arith, at, w.taken_is) in
-    let long : length front ≡ h =
-    omega (
-      arith,
-      w.walk.four,
-      four,
-      place,
-      length-append start (wave_tag ++ (body ++ (data_tag ++ size))),
-      length-append body (data_tag ++ size),
-    ) in (
+    let long : length front ≡ h = grind (arith, common_steps, w.walk.four, four, place) in (
       record {
         chunks = w.chunks;
         size = size;

@@ -1,6 +1,6 @@
 -- A written header is a head, and the containers after it are read back.
 use Rattle.std.proofs.lemmas.Grind.{common_steps}
-use Rattle.std.proofs.Common.{◌≡◌, ℕ, suc, ◌+◌, ◌*◌, ◌/◌, ◌%◌, ◌^◌, ◌<◌, ◌≤◌, ◌==◌, true, false, List, [], ◌∷◌, ◌++◌, length, drop, append-nil, append_assoc, take_at, drop_at, length-append, refl, sym, ap, ◌∙◌, arith, le-ltb, eq-eqb, lit<, Ok}
+use Rattle.std.proofs.Common.{◌≡◌, ℕ, suc, ◌+◌, ◌*◌, ◌/◌, ◌%◌, ◌^◌, ◌<◌, ◌≤◌, ◌==◌, true, false, List, [], ◌∷◌, ◌++◌, length, drop, append_assoc, take_at, drop_at, length-append, refl, sym, ap, ◌∙◌, arith, le-ltb, eq-eqb, lit<, Ok}
 use Rattle.std.proofs.Math.Nat.{mul-mod_left, mul-div_cancel, mul-div_cancel_left, le-mul_of_pos_right}
 use Rattle.std.proofs.lemmas.Bool.{ne_eqb, cases_Bool, and_parts}
 use Rattle.std.proofs.lemmas.Bool.Decides.{nat_tests}
@@ -107,13 +107,11 @@ fmt_chunk len content = record { tag = fmt_tag; size = bytes_of 4 len; content =
 
 joined-one : (len : ℕ) (content rest : List ℕ)
     → joined (fmt_chunk len content ∷ []) ++ rest ≡ fmt_tag ++ (bytes_of 4 len ++ (content ++ rest))
-joined-one len content rest =
-    ap (λ t. fmt_tag ++ (bytes_of 4 len ++ (t ++ rest))) (append-nil content)
+joined-one len content rest = grind (arith, common_steps)
 
 length-joined-one : (len : ℕ) (content : List ℕ)
     → length (joined (fmt_chunk len content ∷ [])) ≡ 8 + length content
-length-joined-one len content =
-    ap (λ t. length (fmt_tag ++ (bytes_of 4 len ++ t))) (append-nil content) ∙ omega arith
+length-joined-one len content = grind (arith, common_steps)
 
 header-parts : (s : WavSpecEx) (size len n : ℕ) (content rest : List ℕ)
     → sized_fmt s ≡ bytes_of 4 n ++ content
@@ -123,9 +121,6 @@ header-parts : (s : WavSpecEx) (size len n : ℕ) (content rest : List ℕ)
     (fmt_tag ++ (bytes_of 4 n ++ (content ++ (data_tag ++ (bytes_of 4 len ++ rest)))))))
 unfolding header
 header-parts s size len n content rest e = grind (arith, common_steps)
-
-add_none : (n : ℕ) → n ≡ n + 0
-add_none n = omega arith
 
 -- a header with one fmt chunk that gives the spec
 head_of : (s : WavSpecEx) (size len n : ℕ) (content rest : List ℕ)
@@ -147,8 +142,7 @@ head_of s size len n content rest e back few even l read fits = record {
       record {
         tag = refl;
         size = refl;
-        content = l
-            ∙ sym (rw (back, even) (sym (add_none n)));
+        content = grind (arith, common_steps, l, back, even);
         other = refl;
         sound =
             rw back (ap fault_of read);

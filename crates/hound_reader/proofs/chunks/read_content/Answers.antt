@@ -1,6 +1,5 @@
 use Rattle.std.proofs.lemmas.Grind.{common_steps}
-use Rattle.std.proofs.Common.{◌≡◌, ◌+◌, ◌≤◌, ℕ, List, ◌++◌, Some, Ok, true, false, take, drop, length, refl, sym, ap, ◌∙◌, arith, rules, append_assoc, length-append, length-take-le}
-use Rattle.std.proofs.lemmas.List.{take-append-drop}
+use Rattle.std.proofs.Common.{◌≡◌, ◌+◌, ◌≤◌, ℕ, List, ◌++◌, Some, Ok, true, false, take, drop, length, refl, ◌∙◌, arith, rules, length-append, length-take-le}
 use Rattle.hound_spec.specs.declared.spec.WavSpecEx.{WavSpecEx}
 use Rattle.hound_number.proofs.Counting.{NoneFailed-trans}
 use Rattle.hound_reader.specs.Fmt.{fmt_len, fmt_of}
@@ -23,8 +22,7 @@ fmt_whole len found rest xs ys zs p e whole =
       take n xs ++ rest,
       omega (arith, length-append (take n xs) rest, length-take-le n xs p.1, whole),
       fmt_and_rest len xs rest p.1 ∙ p.0,
-      sym (take-append-drop n xs) ∙ ap (λ t. take n xs ++ t) (sym p.2 ∙ e)
-          ∙ sym (append_assoc (take n xs) rest zs),
+      grind (arith, common_steps, p.2, e),
     )
 
 pub returns-then-eq-2 : goal.returns-then-eq-2
