@@ -1,6 +1,6 @@
 -- What mending a file leaves.
 use Rattle.std.proofs.lemmas.Grind.{common_steps}
-use Rattle.std.proofs.Common.{◌≡◌, ℕ, ◌+◌, ◌-◌, ◌≤◌, List, [], ◌∷◌, ◌++◌, length, Bool, Result, Ok, sym, ◌∙◌, subst, arith, eqb-true, length-drop, length-take}
+use Rattle.std.proofs.Common.{◌≡◌, ℕ, ◌+◌, ◌-◌, ◌≤◌, List, [], ◌∷◌, ◌++◌, length, Bool, Result, Ok, ◌∙◌, arith, eqb-true, length-drop, length-take}
 use Rattle.std.proofs.lemmas.Bool.{and_parts}
 use Rattle.std.specs.declared.io.Error.{Error as IoFault}
 use Rattle.hound_spec.specs.{riff_size}
@@ -10,7 +10,7 @@ use Rattle.hound_reader.specs.{IsSoundSpec}
 use Rattle.hound_writer.specs.{PutsNothing, IsPatched, Patches, with_sizes}
 use Rattle.hound_repair.specs.Damages.{FindsDamage, IsSoundDamage, PutsPad, PutsSizes, repair_of}
 use Rattle.hound_repair.specs.Held.{held, mended, missing_pad}
-use Rattle.hound_repair.specs.Repairing.{HalfMended, HasRightSizes, IsFoundAt, LeavesFor, Repairs, UnlessFollowed, found_length}
+use Rattle.hound_repair.specs.Repairing.{HalfMended, IsFoundAt, Repairs, found_length}
 use Rattle.hound_repair.specs.declared.look.Damage.{Damage}
 use Rattle.hound_repair.specs.declared.sizes.Repair.{Repair}
 use Rattle.hound_repair.specs.declared.sizes.RepairState.TheVariants.{CutOff}
@@ -39,16 +39,12 @@ module _ (d : Damage) (sound : IsSoundDamage d) (a b : MediumState)
   held_is : d.held ≡ held start a.contents
   held_is = omega (arith, ends, length-drop start a.contents)
 
-  half_put : {T E : Type 0} (r : Result T E) (p : Patches (start - 4) d.sizes.riff_size n r a b)
-      → IsPatched (start - 4) (riff_size start n) a.contents n p.half.0 b.contents
-  half_put r p = grind (arith, common_steps)
-
   -- the sizes were put, and then the pad byte
   pub put_both : {T E : Type 0} (keeps : Bool) (x : Unit {0}) (result : Result T E)
       (c : MediumState) → missing_pad n d.held ≡ 0 ∷ []
       → Patches {E = IoFault} (start - 4) d.sizes.riff_size n (Ok x) a b
       → PutsPad keeps (start + d.held) result b c → PutsSizes d result a c
-  put_both keeps x result c missing patches pads = grind (arith, common_steps, overlay_at_end, mended_by, held_is, half_put, length-take)
+  put_both keeps x result c missing patches pads = grind (arith, common_steps, overlay_at_end, length-take)
 
 -- a file that wasn't cut off is left as it is
 pub repairs_kept : (looks : Bool) (old new : MediumState) (found : Repair) (len start : ℕ)
@@ -73,11 +69,8 @@ repairs_cut looks old new found len start at sound cut is flushed faults = recor
   len = len;
   start = start;
   is = at;
-  leaves = subst (λ w. LeavesFor w found start old new) (sym cut) (is, flushed);
-  sizes = subst (λ w. UnlessFollowed w (HasRightSizes found start new.contents)) (sym cut)
-      (subst (HasRightSizes found start) (sym is)
-      (right_sizes_put looks old.contents found len start at
-      (λ followed. let never = sym cut ∙ followed in cc) sound));
+  leaves = grind (arith, common_steps, cut, is, flushed);
+  sizes = grind (arith, common_steps, cut, is, right_sizes_put looks old.contents found len start at);
   faults = faults;
 }
 

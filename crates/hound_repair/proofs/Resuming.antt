@@ -67,7 +67,7 @@ module _ (looks again : Bool) (old mid new : MediumState) (found other : Repair)
   right = length_of looks old.contents found len start at apart
 
   head_now : Head mid.contents s says start
-  head_now = grind (arith, common_steps, head_with, long, inside, length-append, take-append-le, behind)
+  head_now = grind (arith, common_steps, head_with, length-append, take-append-le)
 
   -- before the pad byte
   frames_before : length half.pad ≡ 0
