@@ -1,5 +1,6 @@
-use Rattle.std.proofs.Common.{rules}
-use Rattle.hound_repair.proofs.Mending.{put_both}
+use Rattle.std.proofs.Common.{arith, rules}
+use Rattle.std.proofs.lemmas.Grind.{common_steps}
+use Rattle.hound_repair.proofs.Mending.{before_pad, mended_by, put_both}
 use Rattle.hound_repair.proofs.Halves.{pad_at_each, pad_flushed, sizes_at_each}
 use Rattle.hound_repair.proofs.mend.put_sizes.Goals as goal
 
@@ -27,3 +28,9 @@ returns-then-lacks_pad-clause-order g c told kept =
 pub returns-clause-moments : goal.returns-clause-moments
 returns-clause-moments g c told kept =
     sizes_at_each c.args.damage c.requires.sound _ _ _ (c.in_ok-patch.ensures.moments told kept)
+
+pub returns-in_err-patch-clause-sizes : goal.returns-in_err-patch-clause-sizes
+returns-in_err-patch-clause-sizes g c told = grind (arith, common_steps, before_pad)
+
+pub returns-clause-sizes : goal.returns-clause-sizes
+returns-clause-sizes g c told = grind (arith, common_steps, before_pad, mended_by)
