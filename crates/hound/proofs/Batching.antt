@@ -1,4 +1,5 @@
 -- What a batch accepts, and its values one by one.
+use Rattle.std.proofs.lemmas.Grind.{common_steps}
 use Rattle.std.proofs.Common.{◌≡◌, ℕ, ℤ, ◌/◌, Bool, true, false, List, [], ◌∷◌, ◌++◌, length, map, Result, Ok, Err, IsTrue, sym, ◌∙◌, ap, subst, refl, arith}
 use Rattle.std.proofs.lemmas.Bool.{false≢true}
 use Rattle.std.proofs.lemmas.Bool.Decides.{nat_tests}
@@ -17,9 +18,7 @@ use Rattle.hound.proofs.Calling.{Went, call_went, went_still, went_then}
 -- the bytes of a batch's values are those of its containers, two to each
 joined : (values : List ℤ)
     → flat_map (signed_bytes_of 2) values ≡ concat (map (signed_bytes_of 2) values)
-joined values =
-    let list = map (signed_bytes_of 2) values in
-    sym (concat_is list ∙ flat_map-map (λ x. x) (signed_bytes_of 2) values)
+joined values = grind (arith, common_steps, concat_is, flat_map-map)
 
 wide : (values : List ℤ) → AllByRecursion (λ c. length c ≡ 2) (map (signed_bytes_of 2) values)
 wide [] = tt

@@ -1,4 +1,5 @@
 -- What calls lead to, in each state.
+use Rattle.std.proofs.lemmas.Grind.{common_steps}
 use Rattle.std.proofs.Common.{◌≡◌, ℕ, ◌+◌, ◌%◌, ◌<◌, ◌≤◌, max, Bool, List, [], ◌∷◌, ◌++◌, length, Result, IsTrue, refl, sym, ◌∙◌, ap, subst, arith, inl, inr, append_assoc, length-append}
 use Rattle.std.proofs.lemmas.Bool.{cases_lt}
 use Rattle.std.proofs.lemmas.List.{append-nil}
@@ -62,29 +63,7 @@ module _ {W : Type 0} (tells keeps : Bool) (state : W → MediumState) (told : I
         (state new.medium)
 
   pub went_still : (w : WriterState W) (memory : List ℕ) → Went [] w (with_memory w memory)
-  went_still w memory = record {
-    spec_ex = refl;
-    data_start = refl;
-    size = omega arith;
-    front = λ _. sizes_still w.data_start (state w.medium).contents;
-    begun = λ begun. begun;
-    whole = λ whole. whole;
-    accepted = λ _. sym (append-nil (accepted_samples state w));
-    counts = λ _ counts. counts;
-    faults = λ small. (omega arith, small);
-    reach = λ _. omega arith;
-    later = λ _ _. later_still (state w.medium);
-    sizes = λ kept replays behind whole k from to.
-        let m = state w.medium in
-        let e : k ≡ length m.past = omega (arith, from, to) in
-        subst (ChangesSizesOnly w.data_start m.contents)
-        (sym (ap (moment m.start m.past) e ∙ moment_last m (replays w.medium)))
-        (sizes_still w.data_start m.contents);
-    stored = λ kept whole a len inside k m from le to here.
-        let e : k ≡ m = omega (arith, from, le, to) in
-        subst (λ n. IsStored w.data_start (concat (accepted_samples state w)) a len
-        (moment (state w.medium).start (state w.medium).past n)) e here;
-  }
+  went_still w memory = grind (arith, common_steps, sizes_still, append-nil, later_still, moment_last)
 
   pub went_then : (l m : List (List ℕ)) (a b c : WriterState W) → Went l a b → Went m b c
       → Went (l ++ m) a c
@@ -171,9 +150,7 @@ module _ {W : Type 0} (tells keeps : Bool) (state : W → MediumState) (told : I
     call_reached : (asked : Asked) → Did asked → NoFault (state old.medium) (state new.medium)
         → length (state new.medium).contents ≤ max (length (state old.medium).contents)
         (padded_end new)
-    call_reached asked does (same, small) =
-        unless_told answer (state old.medium).faults small (sym (call_faults asked does) ∙ same)
-        (call_reach asked does)
+    call_reached asked does (same, small) = grind (arith, common_steps)
 
     -- what was accepted before counts in each of its states
     pub call_span : IsTrue keeps → (asked : Asked) → Did asked → IsWhole state old

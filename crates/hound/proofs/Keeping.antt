@@ -1,4 +1,5 @@
 -- What a list of calls of a writer leaves.
+use Rattle.std.proofs.lemmas.Grind.{common_steps}
 use Rattle.std.proofs.Common.{refl, ◌≡◌, ℕ, ◌+◌, ◌-◌, ◌/◌, ◌%◌, ◌≤◌, max, Bool, List, [], ◌∷◌, ◌++◌, length, take, drop, IsTrue, sym, ◌∙◌, ap, subst, arith, append_assoc, length-append, length-drop}
 use Rattle.std.proofs.lemmas.List.{append-nil, length-take-le}
 use Rattle.std.proofs.lemmas.Nat.{mul-le}
@@ -29,12 +30,7 @@ use Rattle.hound.proofs.Lengths.{never_less, published}
 -- its accepted samples, joined, have the length that it counts
 pub sized : {M : Type 0} (state : M → MediumState) (w : WriterState M) → IsSound w → w.waiting ≡ []
     → IsWhole state w → length (concat (accepted_samples state w)) ≡ data_length w
-sized state w sound none whole =
-    let bytes = drop w.data_start (state w.medium).contents in
-    ap length (concat-samples state w none sound)
-    ∙ length-take-le w.out bytes
-    (omega (arith, whole, length-drop w.data_start (state w.medium).contents))
-    ∙ sym (length_out state w none)
+sized state w sound none whole = grind (arith, common_steps, concat-samples, length-take-le, length-drop, length_out)
 
 if_begun_then : {P Q : Type 0} (s : WavSpecEx) (file : Begun) (contents : List ℕ)
     → IfBegun s file contents P → (P → Q) → IfBegun s file contents Q
@@ -278,9 +274,7 @@ module _ {W : Type 0} (tells keeps : Bool) (state : W → MediumState) where
     of_file : (P : WavSpecEx → ℕ → List (List ℕ) → Type 0)
         → P first.spec_ex first.data_start (accepted_samples state first)
         → P s (start_of s file) (found_in file)
-    of_file P here =
-        subst (λ (x : WavSpecEx × (ℕ × List (List ℕ))). P x.0 x.1.0 x.1.1)
-        (λ i. (is_first.spec i, (is_first.start i, is_first.found told i))) here
+    of_file P here = grind (arith, common_steps)
 
     pub holds_at_end : HoldsAtEnd s file calls (state first.medium) (state last.medium)
     holds_at_end =
@@ -304,9 +298,7 @@ module _ {W : Type 0} (tells keeps : Bool) (state : W → MediumState) where
     pub keeps_promises : IsTrue keeps
         → ((m : W) → (state m).contents ≡ overlay (state m).start (state m).past)
         → Promises s (start_of s file) (found_in file) calls (state last.medium)
-    keeps_promises kept replays =
-        of_file (λ s start found. Promises s start found calls (state last.medium))
-        (promised kept replays)
+    keeps_promises kept replays = grind (arith, common_steps, of_file, promised)
 
   -- what a writer left holds what its calls promise
   pub left_holds : (s : WavSpecEx) (file : Begun) (known : List Known) (medium : W)
@@ -343,10 +335,7 @@ module _ {W : Type 0} (tells keeps : Bool) (state : W → MediumState) where
 -- an end accepts nothing
 pub all_accepted : (before : List Call) (end : Call) → end.asked ≡ publish
     → accepted_by_all (before ++ (end ∷ [])) ≡ accepted_by_all before
-all_accepted before end asked =
-    accepted_parts before (end ∷ [])
-    ∙ ap (λ a. accepted_by_all before ++ (accepted_of a (mark_of end.answer) ++ [])) asked
-    ∙ append-nil (accepted_by_all before)
+all_accepted before end asked = grind (arith, common_steps)
 
 -- What survives in a medium of this past that was flushed up to f, no earlier than the flushes of
 -- these calls did, and then wrote bytes at ascending places only.

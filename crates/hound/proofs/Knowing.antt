@@ -1,5 +1,6 @@
 -- What is known of calls, and the calls.
-use Rattle.std.proofs.Common.{◌≡◌, Bool, List, [], ◌∷◌, ◌++◌, map, refl, ap, ◌∙◌}
+use Rattle.std.proofs.lemmas.Grind.{common_steps}
+use Rattle.std.proofs.Common.{◌≡◌, Bool, List, [], ◌∷◌, ◌++◌, map, refl, ap, ◌∙◌, arith}
 use Rattle.std.specs.List.{flat_map}
 use Rattle.hound_writer.specs.{AreKnown, Asked, Call, IsKnown, Known, made, marked, asked_by_all}
 use Rattle.hound_spec.specs.declared.spec.WavSpecEx.{WavSpecEx}
@@ -24,13 +25,7 @@ among (other ∷ before) after one (call ∷ calls) are =
 pub last_known : (before : List Known) (one : Known) (calls : List Call)
     → AreKnown (before ++ one ∷ []) calls
     → (first : List Call) × (end : Call) × (calls ≡ first ++ (end ∷ [])) × IsKnown one end
-last_known before one calls are =
-    let (first, last, end, parts, before_are, is, none) = among before [] one calls are in
-    (first, end, parts ∙ ap (λ l. first ++ (end ∷ l)) (no_calls last none), is)
-  where
-    no_calls : (last : List Call) → AreKnown [] last → last ≡ []
-    no_calls [] are = refl
-    no_calls (call ∷ last) are = absurd are
+last_known before one calls are = grind (arith, common_steps, among)
 
 -- what calls accepted whose marks are known
 pub accepted : (seen : List (Asked × Bool)) (calls : List Call)

@@ -1,4 +1,5 @@
 -- From one state of a medium to a later one: bytes were appended to the past, and faults counted.
+use Rattle.std.proofs.lemmas.Grind.{common_steps}
 use Rattle.std.proofs.Common.{◌≡◌, ℕ, ◌≤◌, List, [], length, refl, sym, ◌∙◌, ap, arith, inl, length-append, Result, Ok, Err}
 use Rattle.std.specs.Prelude.{⊤}
 use Rattle.std.proofs.lemmas.List.{append-nil}
@@ -42,9 +43,7 @@ longer a b l = omega (arith, ap length l.past, length-append a.past l.added)
 -- an earlier state stays what it was
 pub same_moment : (old new : MediumState) (k : ℕ) → Later old new → k ≤ length old.past
     → moment old.start old.past k ≡ moment new.start new.past k
-same_moment old new k later before =
-    sym (moment_before old.start old.past later.added k before)
-    ∙ (λ i. moment (sym later.start i) (sym later.past i) k)
+same_moment old new k later before = grind (arith, common_steps)
 
 -- faults only grow, up to the largest count
 abbrev pub FaultsGrow : MediumState → MediumState → Type 0
@@ -59,17 +58,9 @@ grows_told (Ok x) old new is small = (omega (arith, is), omega (arith, is, small
 grows_told (Err e) old new is small = (omega (arith, is), omega (arith, is, small))
 
 pub grow_then : (a b c : MediumState) → FaultsGrow a b → FaultsGrow b c → FaultsGrow a c
-grow_then a b c first then small =
-    let one = first small in
-    let two = then one.1 in
-    (omega (arith, one.0, two.0), two.1)
+grow_then a b c first then small = grind (arith, common_steps)
 
 -- no fault in the whole is none in either part
 pub no_fault_parts : (a b c : MediumState) → FaultsGrow a b → FaultsGrow b c → NoFault a c
     → NoFault a b × NoFault b c
-no_fault_parts a b c first then (same, small) =
-    let one = first (omega (arith, small)) in
-    let two = then one.1 in (
-      (omega (arith, one.0, two.0, same), small),
-      (omega (arith, one.0, two.0, same), omega (arith, one.0, two.0, same, small)),
-    )
+no_fault_parts a b c first then (same, small) = grind (arith, common_steps)

@@ -1,5 +1,6 @@
 -- The data length in each state of a list of calls: what a flush has published is counted until the
 -- next one, and never undercut.
+use Rattle.std.proofs.lemmas.Grind.{common_steps}
 use Rattle.std.proofs.Common.{◌≡◌, ℕ, ◌+◌, ◌-◌, ◌<◌, ◌≤◌, min, Bool, ◌⊎◌, List, [], ◌∷◌, ◌++◌, length, Result, IsTrue, refl, sym, ◌∙◌, ap, subst, arith, inl, inr}
 use Rattle.std.proofs.lemmas.Bool.{cases_lt}
 use Rattle.std.specs.List.{concat, AllByRecursion}
@@ -21,9 +22,7 @@ outside_within : (p hi : ℕ) (a b end : MediumState) (k : ℕ) → Later b end 
     → ((i : ℕ) → length a.past ≤ i → i < hi → i < k → place_of end.past i ≡ p
     → (i + 4 ≤ hi) × (i + 4 ≤ k))
     → IsOutside p a b k
-outside_within p hi a b end k later ends each i since to at before =
-    (each i since (omega (arith, to, ends)) before
-    (ap (λ l. place_of l i) later.past ∙ place_before b.past later.added i to ∙ at)).1
+outside_within p hi a b end k later ends each i since to at before = grind (arith, common_steps)
 
 module _ {W : Type 0} (tells keeps : Bool) (state : W → MediumState) (told : IsTrue tells)
     (kept : IsTrue keeps)

@@ -1,4 +1,5 @@
 -- What a loss of power leaves, from what holds in each state that it may mix.
+use Rattle.std.proofs.lemmas.Grind.{common_steps}
 use Rattle.std.proofs.Common.{◌≡◌, ℕ, zero, suc, ◌+◌, ◌-◌, ◌/◌, ◌<◌, ◌≤◌, inl, inr, List, [], ◌∷◌, ◌++◌, length, get_or, take, drop, refl, sym, ◌∙◌, ap, subst, arith, length-drop, length-take, take-append-drop}
 use Rattle.std.proofs.lemmas.Bool.{cases_lt}
 use Rattle.std.proofs.lemmas.List.{length-take-le, take-take, get_or-take, get_or-drop, ext_get_or}
@@ -145,17 +146,7 @@ module _ (h : ℕ) (bytes base start : List ℕ) (past : List (ℕ × ℕ)) (cov
 
   -- so the contents have it all
   reaches : (j m : ℕ) → f ≤ j → j ≤ k → f ≤ m → m ≤ k → h + cover (says j) ≤ length (at m)
-  reaches j m from to since until =
-      let n = cover (says j) in
-      omega (
-        arith,
-        long m since until,
-        few j from to,
-        ap length (anywhere j m from to since until),
-        length-take n (drop h (at m)),
-        length-take n bytes,
-        length-drop h (at m),
-      )
+  reaches j m from to since until = grind (arith, common_steps, anywhere, length-take, length-drop)
 
   module _ (sector : ℕ) (some : 1 ≤ sector) (one : (h - 4) / sector ≡ (h - 1) / sector)
       (c : List ℕ) (lost : SurvivesLoss sector start past f k c) where
@@ -171,20 +162,10 @@ module _ (h : ℕ) (bytes base start : List ℕ) (past : List (ℕ × ℕ)) (cov
 
     -- the contents are as long as what it covers
     inside : h + cover (says chosen) ≤ length c
-    inside =
-        let l = lost.long in
-        omega (
-          arith,
-          l.3,
-          reaches chosen l.0 chosen_from chosen_to l.1 l.2,
-        )
+    inside = grind (arith, common_steps, reaches, chosen_from, chosen_to)
 
     in_field : (i : ℕ) → i < 4 → (h - 4 + i) / sector ≡ (h - 4) / sector
-    in_field i less =
-        let low = samples_le (h - 4) (h - 4 + i) sector (omega (arith, some)) (omega arith) in
-        let high =
-        samples_le (h - 4 + i) (h - 1) sector (omega (arith, some)) (omega (arith, less, behind)) in
-        omega (arith, low, high, one)
+    in_field i less = grind (arith, common_steps)
 
     -- the data length is that of this state
     pub says_chosen : field (h - 4) c ≡ says chosen
@@ -231,9 +212,4 @@ module _ (h : ℕ) (bytes base start : List ℕ) (past : List (ℕ × ℕ)) (cov
         → (field (h - 4) c ≡ says chosen)
         × (take (cover (field (h - 4) c)) (drop h c) ≡ take (cover (field (h - 4) c)) bytes)
         × (cover (field (h - 4) c) ≤ length bytes) × Head c s (field (h - 4) c) h
-    left_after s len head whole = (
-      says_chosen,
-      stored_after,
-      omega (arith, ap cover says_chosen, few chosen chosen_from chosen_to),
-      head_after s len head whole,
-    )
+    left_after s len head whole = grind (arith, common_steps, says_chosen, stored_after, chosen_from, chosen_to, head_after)

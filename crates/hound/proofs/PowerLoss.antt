@@ -1,7 +1,7 @@
 -- What a loss of power leaves of a writer's file.
 use Rattle.std.proofs.Common.{◌≡◌, ℕ, zero, suc, ◌+◌, ◌-◌, ◌*◌, ◌/◌, ◌%◌, ◌≤◌, inl, inr, List, [], ◌∷◌, ◌++◌, length, take, drop, refl, sym, ◌∙◌, ap, subst, arith, append_assoc, length-append, length-drop, take-append-drop}
 use Rattle.std.proofs.lemmas.Bool.{cases_lt}
-use Rattle.std.proofs.lemmas.Grind.{flat_map-append}
+use Rattle.std.proofs.lemmas.Grind.{flat_map-append, common_steps}
 use Rattle.std.proofs.lemmas.List.{length-take-le, take-take, take-append-le}
 use Rattle.std.proofs.lemmas.Nat.{div-add-mod', div_below, div-mul-add, mod-mul-add, mod_below, mul-le}
 use Rattle.std.specs.List.{concat, AllByRecursion}
@@ -32,9 +32,7 @@ abbrev cover : ℕ → ℕ → ℕ
 cover w v = (v + (w - 1)) / w * w
 
 cover_count : (w v n : ℕ) → 1 ≤ w → v ≤ n * w → (v + (w - 1)) / w ≤ n
-cover_count w v n some le =
-    let below = div_below (v + (w - 1)) w (suc n) (omega (arith, some)) (omega (arith, le, some)) in
-    omega (arith, below)
+cover_count w v n some le = grind (arith, common_steps)
 
 le_cover : (w v : ℕ) → 1 ≤ w → v ≤ cover w v
 le_cover w v some =
@@ -146,14 +144,10 @@ module _ (s : WavSpecEx) (h len : ℕ) (found : List (List ℕ)) (calls : List C
   -- what was accepted before others comes first
   earlier : (first others : List Call)
       → list (first ++ others) ≡ list first ++ accepted_by_all others
-  earlier first others =
-      ap (λ l. found ++ l) (accepted_parts first others)
-      ∙ sym (append_assoc found (accepted_by_all first) (accepted_by_all others))
+  earlier first others = grind (arith, common_steps)
 
   pub wide_before : (before after : List Call) → calls ≡ before ++ after → AreWide w (list before)
-  wide_before before after same =
-      wide_front w (list before) (accepted_by_all after)
-      (subst (AreWide w) (ap list same ∙ earlier before after) wide)
+  wide_before before after same = grind (arith, common_steps, wide_front, AreWide, earlier)
 
   -- what a state counts is among the bytes accepted before its call, and is stored
   covered : (before after : List Call) (call : Call) (j : ℕ)

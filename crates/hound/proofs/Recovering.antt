@@ -1,4 +1,5 @@
 -- What a flush has published, in whatever is left later.
+use Rattle.std.proofs.lemmas.Grind.{common_steps}
 use Rattle.std.proofs.Common.{◌≡◌, ℕ, suc, ◌+◌, ◌-◌, ◌*◌, ◌≤◌, Bool, List, [], ◌∷◌, ◌++◌, length, take, drop, IsTrue, inl, inr, sym, ◌∙◌, ap, subst, arith, append_assoc, length-append}
 use Rattle.std.specs.List.{concat}
 use Rattle.std.proofs.lemmas.Bool.{cases_lt}
@@ -37,12 +38,7 @@ module _ (s : WavSpecEx) (h : ℕ) (found : List (List ℕ)) (calls : List Call)
   at k = moment end.start end.past k
 
   wide_list : AreWide w list
-  wide_list =
-      let rest = accepted_by_all (flush ∷ after) in
-      wide_front w list rest
-      (subst (AreWide w)
-      (ap (λ l. found ++ l) (ap accepted_by_all same ∙ accepted_parts before (flush ∷ after))
-      ∙ sym (append_assoc found (accepted_by_all before) rest)) wide)
+  wide_list = grind (arith, common_steps, wide_front, AreWide, accepted_parts, append_assoc)
 
   size : length (concat list) ≡ length list * w
   size = length-concat w list wide_list

@@ -1,7 +1,7 @@
 -- Sessions one after the other: the file that they leave, and what they return.
 use Rattle.std.proofs.Common.{◌≡◌, ℕ, ◌≤◌, max, Bool, false, IsTrue, List, length, Result, Ok, refl, ap, subst, arith, ◌-◌, ◌/◌, ◌<◌, true, Bor, [], ◌∷◌, ◌⊎◌, ◌++◌, take, drop, Err, OnOk, IfErr, IsErrAnd, sym, ◌∙◌, inl, inr, length-take, append_assoc, not}
 use Rattle.std.specs.List.{concat}
-use Rattle.std.proofs.lemmas.Grind.{flat_map-append}
+use Rattle.std.proofs.lemmas.Grind.{flat_map-append, common_steps}
 use Rattle.std.proofs.lemmas.List.{append-nil, length-take-le, take_all}
 use Rattle.std.specs.Io.{StartsWith}
 use Rattle.hound_number.specs.{AreBytes}
@@ -50,22 +50,7 @@ pub step_answers : {M : Type 0} (tells keeps : Bool) (state : M → MediumState)
     (old new : WriterState M) (list : List (List ℕ)) (step : Step) (answer : Result (Unit {0}) Error)
     → IsAfter s list old → Takes tells keeps state step answer old new
     → AnswersStep s list step answer
-step_answers tells keeps state s old new list step answer after takes =
-    go step (subst (λ x. Does tells keeps state (asked_by x step) answer old new) after.spec takes)
-  where
-    accepts : (containers : Result (List (List ℕ)) Refusal)
-        → Accepts tells keeps state false containers answer old new
-        → AcceptAnswer false containers (writer_after s list) answer
-    accepts containers does =
-        accept_as false false containers answer old (writer_after s list) (λ wants. wants) after.start
-        (omega (arith, after.size)) does.adds.answers
-
-    go : (step : Step) → Does tells keeps state (asked_by s step) answer old new
-        → AnswersStep s list step answer
-    go (Whole value) does = accepts _ does.0
-    go (Bits bits) does = accepts _ does.0
-    go (Batch values) does = accepts _ does.0
-    go Flush does = publishing_after s list old answer after does.answers
+step_answers tells keeps state s old new list step answer after takes = grind (arith, common_steps)
 
 -- sessions of a file of this spec, over a medium that began as `start`
 module _ {M : Type 0} (tells keeps : Bool) (state : M → MediumState) (told : IsTrue tells)
@@ -98,32 +83,7 @@ module _ {M : Type 0} (tells keeps : Bool) (state : M → MediumState) (told : I
   -- the writer of a new file
   on_new : (old : M) (w : WriterState M) → state old ≡ start → (state old).place ≡ 0
       → Begins tells keeps state s (state old) w → OnFile [] w
-  on_new old w same place b =
-      let begun = b.begun in
-      let file = b.file told in
-      let h = header w.spec_ex 0 0 in
-      record {
-        after = record {
-          spec = begun.spec;
-          start = begun.start;
-          size = omega (arith, begun.none_out, ap length begun.none_waits);
-        };
-        whole = file.whole;
-        begun = (file.header, begun.start ∙ ap data_start (sym begun.spec));
-        holds = none_accepted state w begun.sound begun.none_waits begun.none_out;
-        none = file.faults ∙ ap (λ (m : MediumState). m.faults) same;
-        reach = omega (
-          arith,
-          ap length file.puts.contents,
-          length_overlay_max (take (length h) h) (state old).place (state old).contents,
-          length-take-le (length h) h (omega arith),
-          place,
-          length-header w.spec_ex 0 0,
-          ap data_start begun.spec,
-          ap (λ (m : MediumState). length m.contents) same,
-          length-canonical s [],
-        );
-      }
+  on_new old w same place b = grind (arith, common_steps, none_accepted, length_overlay_max, length-take-le, length-header, length-canonical)
 
   -- the writer that appends to a file
   on_append : (list : List (List ℕ)) (old : M) (w : WriterState M)
@@ -538,11 +498,4 @@ module _ {M : Type 0} (tells keeps : Bool) (state : M → MediumState) (s : WavS
       (answer : Result (Unit {0}) Error)
       → RunsOn tells keeps state (New s) sessions old answer medium
       → IsAnswered tells state s sessions old answer medium
-  sessions_answered small place sessions answer are = record {
-    unwritable = λ some refused. elim (writable_or sessions answer some are) [
-      | inl can ↦ absurd (refused can)
-      | inr both ↦ both
-    ];
-    first_error = λ told. (leave told (small told) (place told) sessions answer are).first_error;
-    no_fault = λ told. (leave told (small told) (place told) sessions answer are).faults;
-  }
+  sessions_answered small place sessions answer are = grind (arith, common_steps, writable_or, leave)

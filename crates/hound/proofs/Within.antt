@@ -1,4 +1,5 @@
 -- What is left in the medium within a durable one.
+use Rattle.std.proofs.lemmas.Grind.{common_steps}
 use Rattle.std.proofs.Common.{◌≡◌, ◌⊎◌, ℕ, zero, suc, ◌-◌, ◌/◌, ◌<◌, ◌≤◌, true, false, Bool, List, [], ◌∷◌, ◌++◌, length, take, drop, map, replicate, slice_index_or, Result, IsTrue, inl, inr, refl, sym, ◌∙◌, ap, subst, arith, append_assoc, length-append}
 use Rattle.std.proofs.lemmas.Bool.{cond-true, false≢true}
 use Rattle.std.proofs.lemmas.List.{length-take-le}
@@ -38,14 +39,7 @@ module _ {M : Type 0} {g : Ghosts M} (d : Durable M g) (told : IsTrue g.tells)
   -- the state within, seen from outside
   same_state : record (shown d) { flushed = (within d).flushed; faults = (within d).faults }
       ≡ within d
-  same_state = λ i. record {
-    contents = (within d).contents;
-    place = (within d).place;
-    faults = (within d).faults;
-    start = (within d).start;
-    past = same_past i;
-    flushed = (within d).flushed;
-  }
+  same_state = grind (arith, common_steps)
 
   flushed_later : (shown d).flushed ≤ (within d).flushed
   flushed_later = omega (arith, d.marked told kept, cond-true g.keeps d.flushed 0 kept)

@@ -1,7 +1,7 @@
 -- Blocks that were each written and published, and what is known of their calls.
-use Rattle.std.proofs.Common.{◌≡◌, ℕ, ◌+◌, ◌<◌, Bool, true, List, [], ◌∷◌, ◌++◌, length, take, get_or, Result, Ok, Err, IsOk, OnOk, is_ok, refl, sym, ◌∙◌, ap, subst, append_assoc}
+use Rattle.std.proofs.Common.{◌≡◌, ℕ, ◌+◌, ◌<◌, Bool, true, List, [], ◌∷◌, ◌++◌, length, take, get_or, Result, Ok, Err, IsOk, OnOk, is_ok, refl, sym, ◌∙◌, ap, subst, append_assoc, arith}
 use Rattle.std.proofs.lemmas.Bool.{false≢true}
-use Rattle.std.proofs.lemmas.Grind.{flat_map-append}
+use Rattle.std.proofs.lemmas.Grind.{flat_map-append, common_steps}
 use Rattle.std.proofs.lemmas.List.{append-nil, map-append, take_more}
 use Rattle.std.specs.List.{All, flat_map}
 use Rattle.hound.specs.{if_marked, AreKnown, Asked, Call, IsKnown, Known, marked, publish, write, Refusal, HasPublished, accepted_by_all, accepted_of}
@@ -17,9 +17,7 @@ module _ {V : Type 0} (f : V → Result (List (List ℕ)) Refusal) where
   pub seen_more : (blocks : List V) (i : ℕ) (d : V) → i < length blocks
       → seen (published_calls f (take (i + 1) blocks))
       ≡ seen (published_calls f (take i blocks)) ++ seen (published_calls f (get_or blocks i d ∷ []))
-  seen_more blocks i d inside =
-      ap (λ l. seen (published_calls f l)) (take_more blocks i d inside)
-      ∙ simp (flat_map-append, map-append)
+  seen_more blocks i d inside = grind (arith, common_steps)
 
   abbrev accepts : List (Asked × Bool) → List (List ℕ)
   accepts calls = flat_map (λ (one : Asked × Bool). accepted_of one.0 one.1) calls

@@ -1,5 +1,6 @@
 -- What an output got, one write after the other.
-use Rattle.std.proofs.Common.{ℕ, ◌<◌, List, [], ◌++◌, length, take, drop, Option, Some, None, Result, Ok, Err, OnErr, refl, sym, ◌∙◌, ap, subst, append_assoc, append-nil, take-append-drop}
+use Rattle.std.proofs.lemmas.Grind.{common_steps}
+use Rattle.std.proofs.Common.{ℕ, ◌<◌, List, [], ◌++◌, length, take, drop, Option, Some, None, Result, Ok, Err, OnErr, refl, sym, ◌∙◌, ap, subst, append_assoc, append-nil, take-append-drop, arith}
 use Rattle.std.specs.Io.{StartsWith}
 use Rattle.std.specs.Io.KnownBytes.{Appends, Keeps}
 use Rattle.std.proofs.KnownBytes.{starts_with_rest}
@@ -67,11 +68,7 @@ gets-stopped old mid new text buffered (first, text_is, front) (part, begins, ba
 -- what a write that failed leaves
 pub part-written : (text : List ℕ) (old new : Option (List ℕ))
     → (n : ℕ) × (n < length text) × Appends old new (take n text) → GetsBeginning old new text
-part-written text old new (n, short, all) = (
-  take n text,
-  starts_with_of_append text (take n text) (drop n text) (sym (take-append-drop n text)),
-  all,
-)
+part-written text old new (n, short, all) = grind (arith, common_steps)
 
 -- a failed write of a buffer leaves a beginning of all that its text begins
 pub stopped-within : {T E : Type 0} (result : Result T E) (old mid new : Option (List ℕ)) (text buffered whole : List ℕ)

@@ -1,4 +1,5 @@
 -- What `show` writes of a file that `pack` made is packed again, and text is packed as one file.
+use Rattle.std.proofs.lemmas.Grind.{common_steps}
 use Rattle.std.specs.Prelude.{FitsSigned}
 use Rattle.std.proofs.Common.{◌≡◌, ℕ, ℤ, ◌%◌, ◌≤◌, ◌⊎◌, inl, inr, List, [], ◌∷◌, ◌++◌, length, drop, Result, Ok, Some, refl, sym, ◌∙◌, ap, subst, arith}
 use Rattle.std.specs.Int.{w32}
@@ -50,14 +51,7 @@ same_lines s (n ∷ ns) cs integers back have =
     ∙ ap (λ l. integer_line n ++ l) (same_lines s ns rest integers back more)
 
 are_containers : (s : WavSpecEx) (ns : List ℤ) (file : List ℕ) → (packed : IsPacked s ns file) → AreContainers s packed.containers
-are_containers s ns file packed =
-    let bytes = have-bytes s ns packed.containers packed.have in
-    let room : riff_size (data_start s) (length (concat packed.containers)) ≤ greatest_u32 = packed.room in
-    record {
-      each = each_width s ns packed.containers packed.have;
-      frames = packed.frames;
-      fits = omega (arith, bytes, room);
-    }
+are_containers s ns file packed = grind (arith, common_steps, have-bytes, each_width)
 
 -- The samples of bytes begin at one place, so their lines are these.
 lines_of : (bytes text : List ℕ) (s : WavSpecEx) (list : List (List ℕ)) (start : ℕ) → HasOneFileAnswer bytes
@@ -106,10 +100,7 @@ one_list r cs ds here there = cc
 
 pub packed_once : (s : WavSpecEx) (text first second : List ℕ) → Packs s (Some text) (Some []) (Some first)
     → Packs s (Some text) (Some []) (Some second) → first ≡ second
-packed_once s text first second (ns, file, says, packed, got) (ms, other, too, again, gets) =
-    let numbers : ns ≡ ms = say_one (words text) ns ms says too in
-    let same : packed.containers ≡ again.containers = one_list (containers_of s ms) packed.containers again.containers (ap (containers_of s) (sym numbers) ∙ packed.have) again.have in
-    got ∙ packed.file_is ∙ ap (canonical s) same ∙ sym again.file_is ∙ sym gets
+packed_once s text first second (ns, file, says, packed, got) (ms, other, too, again, gets) = grind (arith, common_steps, say_one, one_list)
 
 -- an error that needs no cause of the text: a fault, or too little memory
 abbrev pub IsFaultOrMemory : Failure → Type 0

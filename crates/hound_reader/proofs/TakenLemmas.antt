@@ -20,10 +20,7 @@ use Rattle.hound_reader.specs.declared.cause.HeadError.TheVariants.{Failed, Refu
 -- h was taken, and then n bytes
 pub taken_then : (h ys zs : List ℕ) (n : ℕ) → AreTaken n ys zs
     → AreTaken (length h + n) (h ++ ys) zs
-taken_then h ys zs n t = (
-  omega (arith, t.0, length-append h ys),
-  t.1 ∙ sym (drop-append-add h ys n),
-)
+taken_then h ys zs n t = grind (arith, common_steps, length-append, drop-append-add)
 
 -- h was taken, and then what an error takes, for a cause that P holds for
 pub takes_after : (h : List ℕ) (o m n : Option (List ℕ)) (f g : Cause → List ℕ → ℕ)

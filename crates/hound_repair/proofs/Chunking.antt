@@ -102,11 +102,4 @@ pub header_read : (place end n : ℕ) (given old after contents now : List ℕ) 
     → (end - place ≡ length (drop place contents))
     × (has_known_tag (take n (given ++ after)) ≡ has_known_tag (drop place contents))
     × (content_by (take n (given ++ after)) (end - place) ≡ chunk_content (drop place contents))
-header_read place end n given old after contents now ends count size long same is =
-    let rest = drop place contents in
-    let left : end - place ≡ length rest = omega (arith, ends, length-drop place contents) in
-    let front = take_at given after n (long ∙ size) ∙ is ∙ (λ i. take (size i) (drop place (same i))) in (
-      left,
-      ap has_known_tag front ∙ tag_of_front rest n (count ∙ ap (λ k. min k 8) left),
-      content_is rest _ _ n left count front,
-    )
+header_read place end n given old after contents now ends count size long same is = grind (arith, common_steps, length-drop, take_at, tag_of_front, content_is)

@@ -1,4 +1,5 @@
 -- What bytes after the accepted ones change.
+use Rattle.std.proofs.lemmas.Grind.{common_steps}
 use Rattle.std.proofs.Common.{◌≡◌, ℕ, ◌+◌, ◌/◌, ◌%◌, ◌≤◌, max, nat_le, Bool, true, false, List, [], ◌++◌, length, take, drop, Result, Ok, Err, IfErr, IsTrue, inl, refl, rules, ◌∙◌, ap, arith, length-append, length-take, le-leb}
 use Rattle.std.proofs.lemmas.List.{take_at, take_all, drop_at, drop-drop, append-nil, length-take-le}
 use Rattle.std.proofs.Math.Seq.{take-add}
@@ -29,18 +30,7 @@ pub adds_nothing : {W : Type 0} (state : W → MediumState) (w : WriterState W)
     → (IsWhole state w → IsCounted state w)
     → (state w.medium).contents ≡ overlay (state w.medium).start (state w.medium).past
     → AddsAtEach state w (state w.medium)
-adds_nothing state w counts replays =
-    let old = state w.medium in
-    let end = w.data_start + w.out in
-    record {
-      counts =
-          λ whole. span_still
-          (λ _. Counts w.spec_ex w.data_start (accepted_samples state w)) 0 old old replays refl
-          refl (inl refl) (counts whole);
-      front = λ whole. span_still (λ _ c. take end c ≡ take end old.contents) 0 old old replays refl
-          refl (inl refl) refl;
-      stored = λ _. stored_still w.data_start (concat (accepted_samples state w)) old;
-    }
+adds_nothing state w counts replays = grind (arith, common_steps, span_still, stored_still)
 
 -- an error before anything changes
 pub accepts_refused : {W : Type 0} (tells keeps : Bool) (state : W → MediumState)
@@ -83,11 +73,7 @@ pub room_fits : {W : Type 0} (w : WriterState W) (bytes : List ℕ) → HasRoom 
     (data_length w + length
     (concat (containers w.spec_ex.bytes_per_sample
     (length bytes / w.spec_ex.bytes_per_sample) bytes)))) greatest_u32 ≡ true
-room_fits w bytes room whole =
-    let width = w.spec_ex.bytes_per_sample in
-    le-leb (riff_size w.data_start
-    (data_length w + length (concat (containers width (length bytes / width) bytes))))
-    greatest_u32 (omega (arith, room, ap length (joined_bytes width bytes whole)))
+room_fits w bytes room whole = grind (arith, common_steps, le-leb, joined_bytes)
 
 -- bytes that are written after a writer's data, all or a beginning
 module _ {W : Type 0} (tells keeps : Bool) (state : W → MediumState) (w : WriterState W)
@@ -106,16 +92,10 @@ module _ {W : Type 0} (tells keeps : Bool) (state : W → MediumState) (w : Writ
 
   pub front_stays : (n : ℕ) → n ≤ at → n ≤ length was
       → take n now ≡ take n was
-  front_stays n before there =
-      ap (take n) puts.contents
-      ∙ take_overlay_before (take puts.count bytes) n at was before there
+  front_stays n before there = grind (arith, common_steps, take_overlay_before)
 
   pub grows : length was ≤ length now
-  grows = omega (
-    arith,
-    ap length puts.contents,
-    length_overlay_le (take puts.count bytes) at was,
-  )
+  grows = grind (arith, common_steps, length_overlay_le)
 
   there : w.data_start ≤ length was
   there = inside w.spec_ex w.data_start w.out was was (stands told)
@@ -125,18 +105,14 @@ module _ {W : Type 0} (tells keeps : Bool) (state : W → MediumState) (w : Writ
 
   pub data_stays : IsWhole state w
       → take w.out (drop w.data_start now) ≡ take w.out (drop w.data_start was)
-  data_stays whole =
-      front_part at w.data_start w.out now was (omega arith)
-      (front_stays at (omega arith) whole)
+  data_stays whole = grind (arith, common_steps, front_part, front_stays)
 
   pub still : IsStanding w.spec_ex w.data_start w.out now
   still = stands_front w.spec_ex w.data_start w.out was now (stands told) front
       (omega (arith, there, grows))
 
   pub rest : drop (at + length bytes) now ≡ drop (at + length bytes) was
-  rest = ap (drop (at + length bytes)) puts.contents
-      ∙ drop_overlay_after (take puts.count bytes) (at + length bytes) at was
-      (omega (arith, length-take puts.count bytes))
+  rest = grind (arith, common_steps, drop_overlay_after, length-take)
 
   pub reach : length now ≤ max (length was) (at + length bytes)
   reach = omega (
@@ -161,28 +137,14 @@ module _ {W : Type 0} (tells keeps : Bool) (state : W → MediumState) (w : Writ
 
   pub around : (far : ℕ) → w.data_start + w.out + length bytes ≡ far
       → StaysAround state far w (state m)
-  around far is = record {
-    stands = still;
-    front = front;
-    out = λ whole. front_stays at (omega arith) whole;
-    rest = rw is at rest;
-    grows = grows;
-    reach = omega (arith, reach, is);
-  }
+  around far is = grind (arith, common_steps, still, front, front_stays, rest, grows, reach)
 
 -- a medium that changed only around the accepted bytes: all samples stay accepted, and count
 pub goes_beside : {W : Type 0} (state : W → MediumState) (far : ℕ) (all : Bool)
     (w : WriterState W) (m : W) → IsSound w → w.out % w.spec_ex.bytes_per_sample ≡ 0
     → (state m).faults ≡ faults_after (all_out all) (state w.medium).faults
     → StaysAround state far w (state m) → GoesToFile state far all w (record w { medium = m })
-goes_beside state far all w m sound whole_out faults stays =
-    let same : IsWhole state w
-    → take w.out (drop w.data_start (state m).contents)
-    ≡ take w.out (drop w.data_start (state w.medium).contents) =
-    λ whole. front_part (w.data_start + w.out) w.data_start w.out (state m).contents
-    (state w.medium).contents (omega arith) (stays.out whole) in
-    let counts = counts_at state w sound whole_out (state m).contents in
-    search rules
+goes_beside state far all w m sound whole_out faults stays = grind (arith, common_steps, front_part, counts_at)
 
 -- a writer with an empty block, and a medium with bytes written after its data
 module _ {W : Type 0} (tells keeps : Bool) (state : W → MediumState) (w : WriterState W)
@@ -257,29 +219,14 @@ module _ {W : Type 0} (tells keeps : Bool) (state : W → MediumState) (w : Writ
       parts : IsWhole state w
           → new.contents ≡ take end old.contents ++
           (bytes ++ drop (end + length bytes) old.contents)
-      parts whole =
-          puts.contents ∙ ap (λ l. overlay old.contents (placed end l)) put
-          ∙ overlay_is old.contents end bytes whole
+      parts whole = grind (arith, common_steps, put, overlay_is)
 
       bytes_stand : IsWhole state w → take (length bytes) (drop end new.contents) ≡ bytes
-      bytes_stand whole =
-          ap (λ l. take (length bytes) (drop end l)) (parts whole)
-          ∙ ap (take (length bytes))
-          (drop_at (take end old.contents) (bytes ++ drop (end + length bytes) old.contents) end
-          (length-take-le end old.contents whole))
-          ∙ take_at bytes (drop (end + length bytes) old.contents) (length bytes) refl
+      bytes_stand whole = grind (arith, common_steps, parts, drop_at, length-take-le, take_at)
 
       pub bytes_inside : IsWhole state w
           → w.data_start + (w.out + length bytes) ≤ length new.contents
-      bytes_inside whole =
-          omega (
-            arith,
-            ap length (parts whole),
-            length-append (take end old.contents)
-                (bytes ++ drop (end + length bytes) old.contents),
-            length-append bytes (drop (end + length bytes) old.contents),
-            length-take-le end old.contents whole,
-          )
+      bytes_inside whole = grind (arith, common_steps, parts, length-append, length-take-le)
 
   -- the same file with other bytes in it and another batch
   abbrev pub after_put : W → ℕ → WriterState W
@@ -315,12 +262,7 @@ module _ {W : Type 0} (tells keeps : Bool) (state : W → MediumState) (w : Writ
 
     -- else all of it
     pub sound_more : IsSound (after_put m (w.out + length bytes))
-    sound_more = sound_with w m (w.out + length bytes) w.waiting sound
-        (ap (λ n. n % width)
-        (let e : w.out + length bytes + length w.waiting ≡ w.out + length bytes = omega
-        (arith, ap length none) in e)
-        ∙ whole_more w.out (length bytes) width (whole_out state w none sound) whole_bytes)
-        (omega (arith, room, ap length none))
+    sound_more = grind (arith, common_steps)
 
     pub accepts_all : WhereTells tells
         (PutsAt keeps (w.data_start + w.out) bytes (all_out true) (state w.medium) (state m))

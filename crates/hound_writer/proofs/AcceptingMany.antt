@@ -1,4 +1,5 @@
 -- Many samples that a writer shall accept, by the bytes of their containers.
+use Rattle.std.proofs.lemmas.Grind.{common_steps}
 use Rattle.std.proofs.Common.{◌≡◌, ℕ, ◌*◌, ◌/◌, ◌%◌, ◌≤◌, ◌<◌, Bool, false, List, [], length, Result, Ok, Err, IsOk, refl, sym, subst, ◌∙◌, ap, arith}
 use Rattle.std.proofs.lemmas.List.{append-nil}
 use Rattle.std.proofs.Math.Nat.{mul-div_cancel_left, mul-le-mul_right, mul-mod_right}
@@ -33,20 +34,11 @@ module _ {V : Type 0} (container : V → ℕ → ℕ → Result (List ℕ) Refus
 
   pub size_of : (s : WavSpecEx) → IsOk (containers_in container s values)
       → length (sample_bytes container s values) ≡ s.bytes_per_sample * length values
-  size_of s have =
-      joined_size (λ v. container v s.spec.bits_per_sample s.bytes_per_sample) s.bytes_per_sample
-      (λ v c is. (sized v s.spec.bits_per_sample s.bytes_per_sample c is).0) values have
+  size_of s have = grind (arith, common_steps, joined_size)
 
   pub fit : {W : Type 0} (w : WriterState W) → IsOk (containers_in container w.spec_ex values)
       → HasRoom w (w.spec_ex.bytes_per_sample * length values) → Fit w
-  fit w have room =
-      let size = size_of w.spec_ex have in
-      record {
-        size = size;
-        whole = ap (λ n. n % w.spec_ex.bytes_per_sample) size
-            ∙ mul-mod_right w.spec_ex.bytes_per_sample (length values);
-        room = rw size room;
-      }
+  fit w have room = grind (arith, common_steps, size_of, mul-mod_right)
 
   -- a call for their bytes
   abbrev pub AcceptsAll : {W : Type 0} → Bool → Bool → (W → MediumState) →
@@ -84,9 +76,7 @@ module _ {V : Type 0} (container : V → ℕ → ℕ → Result (List ℕ) Refus
         → IsOk (containers_in container w.spec_ex values)
         → AcceptsAll tells keeps state answer w new
         → Accepts tells keeps state false (containers_in container w.spec_ex values) answer w new
-    many_asked answer new have =
-        subst (λ asked. Accepts tells keeps state false asked answer w new)
-        (asked_is w.spec_ex known.sound.width have)
+    many_asked answer new have = grind (arith, common_steps, asked_is)
 
     module _
         (replays : WhereKeeps tells keeps

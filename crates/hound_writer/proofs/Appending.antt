@@ -1,4 +1,5 @@
 -- Appending to an existing file.
+use Rattle.std.proofs.lemmas.Grind.{common_steps}
 use Rattle.std.proofs.Common.{◌≡◌, ℕ, ◌+◌, ◌-◌, ◌%◌, ◌≤◌, Bool, true, false, cond, nat_lt, List, [], drop, Option, Some, None, inl, inr, ◌⊎◌, Result, Ok, Err, MatchResult, refl, rules, sym, ◌∙◌, ap, subst, arith, eqb-true}
 use Rattle.std.proofs.lemmas.Bool.Decides.{nat_tests}
 use Rattle.hound_spec.specs.declared.error.Error.{Error}
@@ -29,24 +30,7 @@ none_behind false x rest e = (refl, e)
 pub sound_head : {W : Type 0} (medium : W) (s : WavSpecEx) (len h : ℕ) → IsSoundHead s → 20 ≤ h
     → head_fault s len h ≡ None → IsSound (of_fields medium s h len [] [])
 unfolding head_fault
-sound_head medium s len h sound after none =
-    let samples = none_behind _ _ _ none in
-    let pair = none_behind _ _ _ samples.1 in
-    let frames = none_behind _ _ _ pair.1 in
-    let fits = none_behind _ _ _ frames.1 in
-    let le : riff_size h len ≤ greatest_u32 = lt_false _ _ fits.0 in
-    record {
-      pair = not-false _ pair.0;
-      channels = omega (arith, sound.0);
-      width = omega (arith, sound.1);
-      whole = ap (λ n. n % s.bytes_per_sample) (let e : len + 0 ≡ len = omega arith in e)
-          ∙ eqb-true _ _ (not-false _ samples.0);
-      after_head = after;
-      fits = omega (arith, le);
-    }
-  where
-    lt_false : (a b : ℕ) → nat_lt a b ≡ false → b ≤ a
-    lt_false a b e = grind (arith, nat_tests)
+sound_head medium s len h sound after none = grind (arith, common_steps)
 
 -- the file of a writer that appends
 pub stands_on : (s : WavSpecEx) (len h : ℕ) (contents new : List ℕ) → Head contents s len h
@@ -89,16 +73,7 @@ puts_nothing_then a b c first then = search rules
 appends_after : {W : Type 0} (tells : Bool) (state : W → MediumState) (head : FileHead)
     (old mid : MediumState) (w : WriterState W) → WhereTells tells (FindsData (Ok head) old mid)
     → Appends tells state mid w → Appends tells state old w
-appends_after tells state head old mid w finds on = record {
-  sound = on.sound;
-  none_waits = on.none_waits;
-  buffer = on.buffer;
-  file = λ told.
-      let walk = finds told in
-      let file = on.file told in
-      let head = rw walk.contents at file.head in
-      search rules;
-}
+appends_after tells state head old mid w finds on = grind (arith, common_steps)
 
 refused_after : (head : FileHead) (old mid new : MediumState) (e : Error)
     → FindsData (Ok head) old mid → IsNotAppended mid new e → IsNotAppended old new e

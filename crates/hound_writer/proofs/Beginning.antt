@@ -1,4 +1,5 @@
 -- A file that begins: its header is written, and nothing else.
+use Rattle.std.proofs.lemmas.Grind.{common_steps}
 use Rattle.std.proofs.Common.{◌≡◌, ℕ, ◌+◌, ◌-◌, Bool, List, [], ◌++◌, length, take, drop, Ok, refl, rules, ◌∙◌, ap, arith, append_assoc, length-append}
 use Rattle.std.proofs.lemmas.List.{take_at, take_all, drop_at}
 use Rattle.hound_number.specs.{bytes_of, number}
@@ -37,12 +38,7 @@ field-header s p rest at =
 -- a writer of a writable spec that has accepted nothing
 pub sound_begin : {W : Type 0} (medium : W) (s : WavSpecEx) (start : ℕ) → IsWritable s
     → start ≡ data_start s → IsSound (of_fields medium s start 0 [] [])
-sound_begin medium s start writable is =
-    let facts = pair_facts s.spec.sample_format s.spec.bits_per_sample s.bytes_per_sample writable.pair in
-    let least = data_start_least s in
-    let most = data_start_most s in
-    let whole = none_whole s.bytes_per_sample in
-    search rules
+sound_begin medium s start writable is = grind (arith, common_steps)
 
 -- what a constructor has written
 module _ {W : Type 0} (keeps : Bool) (state : W → MediumState) (s : WavSpecEx) (old : MediumState)
@@ -54,12 +50,7 @@ module _ {W : Type 0} (keeps : Bool) (state : W → MediumState) (s : WavSpecEx)
 
     -- the header, and what was after it before
     contents_begin : (state medium).contents ≡ header s 0 0 ++ rest
-    contents_begin =
-        let h = header s 0 0 in
-        let put : take puts.count h ≡ h = take_all puts.count h (omega (arith, puts.whole)) in
-        puts.takes.contents ∙ (λ i. overlay old.contents (placed (begins i) (put i)))
-        ∙ overlay_is old.contents 0 h (omega arith)
-        ∙ ap (λ n. h ++ drop n old.contents) (let e : 0 + length h ≡ length h = omega arith in e)
+    contents_begin = grind (arith, common_steps, take_all, overlay_is)
 
     -- its file
     pub stands_begin : IsStanding s (length (header s 0 0)) 0 (state medium).contents

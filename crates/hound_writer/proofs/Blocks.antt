@@ -1,5 +1,6 @@
 -- What the block of accepted samples changes: samples that join it, and its samples when it is
 -- written.
+use Rattle.std.proofs.lemmas.Grind.{common_steps}
 use Rattle.std.proofs.Common.{◌≡◌, ℕ, ◌+◌, ◌/◌, ◌%◌, ◌≤◌, Bool, true, false, IsTrue, List, [], ◌++◌, length, take, drop, Ok, inl, refl, rules, sym, ◌∙◌, ap, arith, append_assoc, length-append, length-drop}
 use Rattle.std.proofs.lemmas.List.{append-nil, length-take-le, nil_from_length}
 use Rattle.std.specs.List.{concat}
@@ -35,10 +36,7 @@ module _ {W : Type 0} (tells keeps : Bool) (state : W → MediumState) (w : Writ
   more = omega (arith, length-append w.waiting bytes)
 
   sound_longer : IsSound (record w { waiting = w.waiting ++ bytes })
-  sound_longer = sound_with w w.medium w.out (w.waiting ++ bytes) sound
-      (ap (λ n. n % width) more
-      ∙ whole_more (data_length w) (length bytes) width sound.whole whole_bytes)
-      (omega (arith, room, more))
+  sound_longer = grind (arith, common_steps, sound_with, more, whole_more)
 
   pub consistent_longer : length w.waiting + length bytes ≤ block_length
       → IsConsistent tells state (record w { waiting = w.waiting ++ bytes }) moved limit
@@ -95,9 +93,7 @@ module _ {W : Type 0} (tells keeps : Bool) (state : W → MediumState) (w : Writ
   end = w.data_start + w.out
 
   sound_shorter : IsSound (record w { waiting = [] })
-  sound_shorter = sound_with w w.medium w.out [] known.sound
-      (ap (λ n. n % wide) (let e : w.out + 0 ≡ w.out = omega arith in e) ∙ known.whole_out)
-      (omega (arith, known.sound.fits))
+  sound_shorter = grind (arith, common_steps)
 
   -- its samples are the first ones of the writer's
   samples_first : IsWhole state w
@@ -179,9 +175,7 @@ module _ {W : Type 0} (tells keeps : Bool) (state : W → MediumState) (w : Writ
 
   -- what the writer has then
   sound_out : IsSound (after_out true m w)
-  sound_out = sound_with w m (data_length w) [] known.sound
-      (ap (λ n. n % wide) (let e : data_length w + 0 ≡ data_length w = omega arith in e)
-      ∙ known.sound.whole) (omega (arith, known.sound.fits))
+  sound_out = grind (arith, common_steps)
 
   pub consistent_out : (next : ℕ) → IsLimit w.data_start (data_length w) next
       → WhereTells tells
@@ -234,10 +228,7 @@ module _ {W : Type 0} (tells keeps : Bool) (state : W → MediumState) (w : Writ
       → WhereTells tells
       (PutsAt keeps (w.data_start + w.out) bytes (all_out all) (state w.medium) (state m))
       → IsConsistent tells state (record w { medium = m }) true limit
-  cut_at_once all puts =
-      consistent_moved tells state w m moved limit known
-      (λ told. still tells keeps state w known.stands m bytes (all_out all) told
-      (puts told))
+  cut_at_once all puts = grind (arith, common_steps, consistent_moved, still)
 
   pub kept_at_once : (next : ℕ) → IsLimit w.data_start (w.out + length bytes) next
       → HasRoom w (length bytes) → length bytes % w.spec_ex.bytes_per_sample ≡ 0

@@ -1,4 +1,5 @@
 -- Data as containers.
+use Rattle.std.proofs.lemmas.Grind.{common_steps}
 use Rattle.std.proofs.Common.{◌≡◌, ℕ, zero, suc, ◌+◌, ◌*◌, ◌/◌, ◌%◌, ◌≤◌, List, [], ◌∷◌, ◌++◌, length, take, drop, refl, sym, ◌∙◌, ap, arith}
 use Rattle.std.proofs.lemmas.List.{take-take, take_all, take-append-le, drop_at}
 use Rattle.std.proofs.lemmas.Nat.{div-add-mod'}
@@ -58,10 +59,7 @@ containers_cut n width bytes whole =
 -- bytes of one container are that container
 pub container_alone : (width : ℕ) (bytes : List ℕ) → 1 ≤ width → length bytes ≡ width
     → containers width (length bytes / width) bytes ≡ bytes ∷ []
-container_alone width bytes some is =
-    let one : length bytes / width ≡ 1 = ap (λ n. n / width) is ∙ div_self some in
-    (λ i. containers width (one i) bytes)
-    ∙ ap (λ (c : List ℕ). c ∷ []) (take_all width bytes (omega (arith, is)))
+container_alone width bytes some is = grind (arith, common_steps, div_self, take_all)
 
 -- whole containers of two lists of bytes, one after the other
 pub containers_join : (width : ℕ) (a b : List ℕ) → 1 ≤ width → length a % width ≡ 0
@@ -80,7 +78,4 @@ containers_join width a b some whole =
 -- the joined containers of whole samples are their bytes
 pub joined_bytes : (width : ℕ) (bytes : List ℕ) → length bytes % width ≡ 0
     → concat (containers width (length bytes / width) bytes) ≡ bytes
-joined_bytes width bytes whole =
-    concat-containers width (length bytes / width) bytes
-    ∙ take_all (length bytes / width * width) bytes
-    (omega (arith, count_bytes (length bytes) width whole))
+joined_bytes width bytes whole = grind (arith, common_steps, concat-containers, take_all, count_bytes)

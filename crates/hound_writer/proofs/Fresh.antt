@@ -1,4 +1,5 @@
 -- What one call for samples and an end leave in a medium that was empty: exactly the canonical file.
+use Rattle.std.proofs.lemmas.Grind.{common_steps}
 use Rattle.std.proofs.Common.{◌≡◌, ℕ, ◌+◌, ◌/◌, Bool, List, [], ◌++◌, length, take, drop, Ok, IsTrue, sym, ◌∙◌, ap, arith, length-append, length-drop}
 use Rattle.std.proofs.lemmas.List.{take_all}
 use Rattle.std.specs.Io.{StartsWith}
@@ -19,11 +20,7 @@ use Rattle.hound_writer.proofs.Sizes.{header_front}
 -- a writer with no accepted bytes has no samples
 pub none_accepted : {M : Type 0} (state : M → MediumState) (w : WriterState M) → IsSound w
     → w.waiting ≡ [] → w.out ≡ 0 → accepted_samples state w ≡ []
-none_accepted state w sound none empty =
-    let bytes = drop w.data_start (state w.medium).contents in
-    samples_out state w none sound
-    ∙ ap (λ n. containers w.spec_ex.bytes_per_sample n bytes)
-    (ap (λ n. n / w.spec_ex.bytes_per_sample) empty ∙ zero_div w.spec_ex.bytes_per_sample)
+none_accepted state w sound none empty = grind (arith, common_steps)
 
 -- what is before the data stays, so the header does
 pub begun_front : {M : Type 0} (state : M → MediumState) (old new : WriterState M)
@@ -31,12 +28,7 @@ pub begun_front : {M : Type 0} (state : M → MediumState) (old new : WriterStat
     → take old.data_start (state new.medium).contents ≡ take old.data_start
     (state old.medium).contents
     → IsBegun state old → IsBegun state new
-begun_front state old new spec start front (has, at) = (
-  rw spec
-      (header_front old.spec_ex old.data_start (state old.medium).contents
-      (state new.medium).contents at front has),
-  start ∙ at ∙ ap data_start (sym spec),
-)
+begun_front state old new spec start front (has, at) = grind (arith, common_steps, header_front)
 
 module _ {W : Type 0} (tells keeps : Bool) (state : W → MediumState) (told : IsTrue tells)
     (s : WavSpecEx) (old : MediumState) (first : WriterState W)
@@ -44,22 +36,7 @@ module _ {W : Type 0} (tells keeps : Bool) (state : W → MediumState) (told : I
   -- the header alone is in a medium that was empty
   pub only_header : old.contents ≡ [] → old.place ≡ 0
       → length (state first.medium).contents ≡ data_start s
-  only_header empty start =
-      let h = header first.spec_ex 0 0 in
-      let put : (state first.medium).contents ≡ h ++ drop (0 + length h) [] =
-      (begins.file told).puts.contents
-      ∙ (λ i. overlay (empty i) (placed (start i) (take_all (length h) h (omega arith) i)))
-      ∙ overlay_is [] 0 h (omega arith) in
-      ap length put ∙ length-append h (drop (0 + length h) [])
-      ∙ omega (
-        arith,
-        length-header first.spec_ex 0 0,
-        length-drop (0 + length h) (the_empty),
-        ap data_start begins.begun.spec,
-      )
-    where
-      the_empty : List ℕ
-      the_empty = []
+  only_header empty start = grind (arith, common_steps, take_all, overlay_is, length-append, length-header, length-drop)
 
   -- a new file, one call for samples, and an end
   pub fresh_file : (last : WriterState W) (end : W) (memory : Bool) (list : List (List ℕ))

@@ -1,4 +1,5 @@
 -- The head of a file while its two sizes change.
+use Rattle.std.proofs.lemmas.Grind.{common_steps}
 use Rattle.std.proofs.Common.{◌≡◌, ℕ, ◌+◌, ◌-◌, ◌≤◌, List, ◌++◌, length, take, drop, refl, ◌∙◌, ap, arith, append_assoc, length-append, length-drop, take-append-drop}
 use Rattle.std.proofs.lemmas.List.{take_at, drop_at, drop-drop, length-take-le}
 use Rattle.std.proofs.lemmas.Slice.{between_is}
@@ -33,30 +34,14 @@ module _ (old : List ℕ) (s : WavSpecEx) (len h : ℕ) (head : Head old s len h
 
   long : length (riff_tag ++ (head.walk.size ++ (wave_tag ++ (joined head.chunks ++ data_tag)))) + 4
       ≡ h
-  long = omega (
-    arith,
-    head.place,
-    head.walk.four,
-    length-append head.walk.size (wave_tag ++ (joined head.chunks ++ data_tag)),
-    length-append (joined head.chunks) data_tag,
-  )
+  long = grind (arith, common_steps)
 
   -- the data begin after the first twelve bytes and a chunk's header
   pub head_behind : 20 ≤ h
   head_behind = omega (arith, head.place)
 
   pub head_inside : h ≤ length old
-  head_inside =
-      omega (
-        arith,
-        long,
-        ap length split,
-        head.four,
-        length-append
-            (riff_tag ++ (head.walk.size ++ (wave_tag ++ (joined head.chunks ++ data_tag))))
-            (head.size ++ head.rest),
-        length-append head.size head.rest,
-      )
+  head_inside = grind (arith, common_steps)
 
   -- the data length is the number in the field
   pub head_field : field (h - 4) old ≡ len

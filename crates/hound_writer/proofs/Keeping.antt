@@ -1,5 +1,6 @@
 -- What a writer keeps true between its calls.
-use Rattle.std.proofs.Common.{◌≡◌, ℕ, ◌+◌, ◌%◌, ◌≤◌, Bool, true, false, List, length, rules, subst, sym}
+use Rattle.std.proofs.lemmas.Grind.{common_steps}
+use Rattle.std.proofs.Common.{◌≡◌, ℕ, ◌+◌, ◌%◌, ◌≤◌, Bool, true, false, List, length, rules, subst, sym, arith}
 use Rattle.hound_spec.specs.{greatest_u32, riff_size}
 use Rattle.hound_medium.specs.{MediumState, WhereTells}
 use Rattle.hound_writer.specs.Parts.{IsConsistent, IsStanding}
@@ -25,7 +26,4 @@ pub consistent_gone : {W : Type 0} (tells : Bool) (state : W → MediumState) (w
     → WhereTells tells ((state m).contents ≡ (state w.medium).contents)
     → WhereTells tells (moved_now ≡ false → (state m).place ≡ w.data_start + w.out)
     → IsConsistent tells state (record w { medium = m }) moved_now limit
-consistent_gone tells state w m moved moved_now limit known same place =
-    let stands : WhereTells tells (IsStanding w.spec_ex w.data_start w.out (state m).contents) =
-    λ told. subst (IsStanding w.spec_ex w.data_start w.out) (sym (same told)) (known.stands told) in
-    search rules
+consistent_gone tells state w m moved moved_now limit known same place = grind (arith, common_steps)

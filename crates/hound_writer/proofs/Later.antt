@@ -1,4 +1,5 @@
 -- A call that continues once the buffered samples are written.
+use Rattle.std.proofs.lemmas.Grind.{common_steps}
 use Rattle.std.proofs.Common.{◌≡◌, ℕ, ◌+◌, ◌-◌, ◌≤◌, ◌%◌, Bool, true, false, IsTrue, Result, Err, IfErr, List, length, take, drop, refl, rules, ◌∙◌, ap, subst, arith}
 use Rattle.std.proofs.lemmas.List.{append-nil}
 use Rattle.std.specs.List.{concat}
@@ -45,9 +46,7 @@ module _ {W : Type 0} (tells keeps : Bool) (state : W → MediumState) (far : �
   front_later : (told : IsTrue tells) → IsWhole state a → (c : List ℕ)
       → take (a.data_start + data_length a) c ≡ take (a.data_start + data_length a) then
       → take reach_out c ≡ take reach_out first
-  front_later told whole c same =
-      let all = a.data_start + data_length a in
-      take_front reach_out all then c (omega arith) same ∙ (out.file told).around.out whole
+  front_later told whole c same = grind (arith, common_steps, take_front)
 
   at_each_later : (told : IsTrue tells) → IsTrue keeps → (new : MediumState)
       → AddsAtEach state b new → AddsAtEach state a new
@@ -117,18 +116,7 @@ pub accepts_cut : {W : Type 0} (tells keeps : Bool) (state : W → MediumState) 
     (a b : WriterState W) (bytes : List ℕ) (e : IoFault) → GoesOut tells keeps state far false a b
     → HasRoom a (length bytes) → length bytes % a.spec_ex.bytes_per_sample ≡ 0
     → AcceptsBytes tells keeps state bytes (Err (IoError e)) a b
-accepts_cut tells keeps state far a b bytes e out room whole = record {
-  adds =
-      let fits = room_fits a bytes room whole in
-      let size = ap (λ w. data_length w) out.value in
-      let kept = ap (λ w. length w.buffer) out.value in
-      search rules;
-  file = λ told.
-      let f = out.file told in
-      let none = append-nil (accepted_samples state a) in
-      search rules;
-  moments = λ told kept. (out.moments told kept).adds;
-}
+accepts_cut tells keeps state far a b bytes e out room whole = grind (arith, common_steps, room_fits, append-nil)
 
 -- the result of a call that saves a fault is no other error
 pub kept_fails : (done : Bool) (fault : IoFault) → IfErr (or_fault done fault) IsIoError
@@ -139,13 +127,4 @@ kept_fails false fault = tt
 pub goes_further : {W : Type 0} (tells keeps : Bool) (state : W → MediumState) (near far : ℕ)
     (all : Bool) (a b : WriterState W) → near ≤ far → GoesOut tells keeps state near all a b
     → GoesOut tells keeps state far all a b
-goes_further tells keeps state near far all a b le out = record {
-  value = out.value;
-  sound = out.sound;
-  file = λ told.
-      let f = out.file told in
-      let rest = drop_later near far (state b.medium).contents
-      (state a.medium).contents le f.around.rest in
-      search rules;
-  moments = out.moments;
-}
+goes_further tells keeps state near far all a b le out = grind (arith, common_steps, drop_later)

@@ -1,5 +1,6 @@
 -- Samples of a block, and the same ones written one by one.
-use Rattle.std.proofs.Common.{◌≡◌, ℕ, ◌+◌, Bool, false, IsTrue, List, [], ◌∷◌, ◌++◌, length, Result, Ok, Err, refl, rules, sym, ◌∙◌, ap, append_assoc, length-append}
+use Rattle.std.proofs.lemmas.Grind.{common_steps}
+use Rattle.std.proofs.Common.{◌≡◌, ℕ, ◌+◌, Bool, false, IsTrue, List, [], ◌∷◌, ◌++◌, length, Result, Ok, Err, refl, rules, sym, ◌∙◌, ap, append_assoc, length-append, arith}
 use Rattle.std.proofs.lemmas.List.{append-nil}
 use Rattle.std.specs.List.{concat}
 use Rattle.hound_medium.specs.{MediumState}
@@ -63,12 +64,4 @@ module _ {V W : Type 0} (tells keeps : Bool) (state : W → MediumState)
       → Accepts tells keeps state false (containers_in container a.spec_ex values) (Ok tt) a b
       → AcceptsEach tells keeps state container values a c
       → (accepted_samples state b ≡ accepted_samples state c) × (data_length b ≡ data_length c)
-  block_is_samples values a b c whole block each =
-      let (list, is, all) =
-      all_accepted tells keeps state (containers_in container a.spec_ex values) a b told whole
-      block in
-      let (others, are, ones) = each_accepted values a c whole each in
-      let lists : list ≡ others = cc in (
-        all.samples ∙ ap (λ l. accepted_samples state a ++ l) lists ∙ sym ones.samples,
-        all.size ∙ ap (λ l. data_length a + length (concat l)) lists ∙ sym ones.size,
-      )
+  block_is_samples values a b c whole block each = grind (arith, common_steps, all_accepted, each_accepted)

@@ -1,4 +1,5 @@
 -- The pad byte after the accepted data.
+use Rattle.std.proofs.lemmas.Grind.{common_steps}
 use Rattle.std.proofs.Common.{◌≡◌, ℕ, zero, suc, ◌+◌, ◌%◌, Bool, true, false, IsTrue, List, [], ◌∷◌, length, take, drop, refl, sym, ◌∙◌, ap, arith}
 use Rattle.std.proofs.lemmas.List.{take_all}
 use Rattle.hound_medium.specs.{overlay, placed, put_at, MediumState, WhereTells, WhereKeeps}
@@ -64,11 +65,4 @@ module _ {W : Type 0} (tells keeps : Bool) (state : W → MediumState) (w : Writ
 
     -- once it is written it is there
     pub padded_odd : WhereTells tells (IsTrue all → IsPadded w (state m).contents)
-    padded_odd told done =
-        let p = rw done at (puts told) in
-        let one : take p.count pad ≡ pad = take_all p.count pad (omega (arith, p.whole)) in
-        let stands : take 1 (drop end (state m).contents) ≡ pad =
-        ap (λ l. take 1 (drop end l)) p.contents
-        ∙ ap (λ bytes. take 1 (drop end (overlay old.contents (placed end bytes)))) one
-        ∙ put_stands end 0 old.contents in
-        rw (odd_size, size) stands
+    padded_odd told done = grind (arith, common_steps, take_all, put_stands, odd_size, size)

@@ -1,4 +1,5 @@
 -- The intermediate states of a patch, part after part, and of a call that publishes.
+use Rattle.std.proofs.lemmas.Grind.{common_steps}
 use Rattle.std.proofs.Common.{◌≡◌, ℕ, ◌+◌, ◌-◌, ◌<◌, ◌≤◌, ◌^◌, inl, inr, Bool, true, false, IsTrue, Result, Ok, Err, OnOk, IsOk, List, [], ◌++◌, length, take, drop, refl, rules, sym, ◌∙◌, ap, arith, length-append, length-take}
 use Rattle.std.proofs.lemmas.Bool.{cases_lt, false≢true}
 use Rattle.std.proofs.lemmas.List.{take-take, length-take-le}
@@ -63,21 +64,13 @@ module _ {T E : Type 0} (keeps : Bool) (p size new : ℕ) (result : Result T E)
 -- the byte that begins what was added
 first_added : (old new : List (ℕ × ℕ)) (p : ℕ) (bytes : List ℕ) → new ≡ old ++ placed p bytes
     → length old < length new → place_of new (length old) ≡ p
-first_added old new p bytes is longer =
-    ap (λ l. place_of l (length old)) is
-    ∙ place_after old p bytes (length old) (omega arith)
-    (omega (arith, longer, ap length is, length_put old p bytes)) ∙ omega arith
+first_added old new p bytes is longer = grind (arith, common_steps, place_after, length_put)
 
 -- a patch that ended before its field
 pub patches_none : {V F : Type 0} (p size new : ℕ) (answer : Result V F) (a b : MediumState)
     → Span (IsPatched p size a.contents new) (length b.past) a b
     → OnOk answer (length b.past ≡ length b.past + 4) → PatchesAtEach p size new answer a b
-patches_none p size new answer a b span all = record {
-  split = length b.past;
-  span = span;
-  puts = let more = ap length span.past ∙ length-append a.past span.added in search rules;
-  whole = all;
-}
+patches_none p size new answer a b span all = grind (arith, common_steps)
 
 -- both parts, one after the other
 pub patches_both : {T E U F V G : Type 0} (keeps : Bool) (p size new : ℕ) (r : Result T E)
@@ -115,37 +108,13 @@ pub patches_still : {T E V F : Type 0} (p size new : ℕ) (result : Result T E) 
     (a b c : MediumState) → b.contents ≡ overlay b.start b.past → Stays b c → FlushedSince b c
     → OnOk answer (IsOk result) → PatchesAtEach p size new result a b
     → PatchesAtEach p size new answer a c
-patches_still p size new result answer a b c replays stays flushed all patches =
-    let same : length c.past ≡ length b.past = ap length stays.past in
-    record {
-      split = patches.split;
-      span = and_still (IsPatched p size a.contents new) patches.split a b c patches.span replays stays
-          flushed;
-      puts = let place = ap (λ l. place_of l patches.split) stays.past in search rules;
-      whole = on_ok_weaker answer
-          (λ ok. let all_put : length b.past ≡ patches.split
-          + 4 = from_ok result ok patches.whole in omega (arith, same, all_put)) all;
-    }
+patches_still p size new result answer a b c replays stays flushed all patches = grind (arith, common_steps)
 
 -- the field has the old or the new number in each state except those between its four bytes
 old_or_new : (p size new split : ℕ) (a b : MediumState) → HasSize p a.contents → new < 2 ^ 32
     → Span (IsPatched p size a.contents new) split a b → PutsLast p split a b
     → IsOldOrNew p (field p a.contents) new a b
-old_or_new p size new split a b has small span puts k from to outside =
-    let at = span.each k from to in
-    let old = field p a.contents in
-    elim (cases_lt split k) [
-      | inl behind ↦
-          let at_split = puts.first (omega (arith, behind, to)) in
-          let four : split + 4 ≤ k =
-          outside split puts.later (omega (arith, behind, to)) at_split behind in
-          let level : k - split ≡ 4 = omega (arith, four, to, puts.within) in
-          inr (at.field ∙ ap (λ j. mix j old new) level ∙ mix_all old new small)
-      | inr before ↦
-          let level : k - split ≡ 0 = omega (arith, before) in
-          inl (at.field ∙ ap (λ j. mix j old new) level
-          ∙ mix_none old new (number_at_small p a.contents has.inside has.small))
-    ]
+old_or_new p size new split a b has small span puts k from to outside = grind (arith, common_steps, cases_lt, mix_all, mix_none, number_at_small, inside)
 
 -- each intermediate state of a patch of a writer's file, by the result of the call that does it
 pub publishes_at_each : {W : Type 0} (state : W → MediumState) (w : WriterState W)
@@ -237,15 +206,7 @@ module _ {W : Type 0} (tells keeps : Bool) (state : W → MediumState) (w : Writ
       rw same at of_new
 
   answers : IsPublishing told w
-  answers = go patched are_frames told is frames
-    where
-      go : (patched : Result (Unit {0}) IoFault) (are_frames : Bool)
-          (told : Result (Unit {0}) Error) → IsPublishResult patched are_frames told
-          → (IsTrue are_frames → AreFrames w) × (AreFrames w → IsTrue are_frames)
-          → IsPublishing told w
-      go (Err e) are_frames told is frames = rw is tt
-      go (Ok x) true told is frames = rw is (frames.0 refl)
-      go (Ok x) false told is frames = rw is (λ are. absurd (false≢true (frames.1 are)))
+  answers = grind (arith, common_steps)
 
   published_all : WhereTells tells (Publishes state w told end)
   published_all known =
@@ -260,8 +221,4 @@ module _ {W : Type 0} (tells keeps : Bool) (state : W → MediumState) (w : Writ
   -- all was published, and the medium left somewhere
   pub publishes_to : (at : ℕ) → WhereTells tells (OnOk patched ((state end).place ≡ at))
       → PublishesTo tells keeps state at told w new
-  publishes_to at place =
-      rw same
-      (in_medium tells keeps state at told w end answers published_all
-      (λ known. published _ patched are_frames told is (place known))
-      at_each)
+  publishes_to at place = grind (arith, common_steps, in_medium, answers, published_all, published, at_each)

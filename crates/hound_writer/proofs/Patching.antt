@@ -1,4 +1,5 @@
 -- The two sizes of a file, and what they leave.
+use Rattle.std.proofs.lemmas.Grind.{common_steps}
 use Rattle.std.proofs.Common.{◌≡◌, ℕ, ◌+◌, ◌^◌, ◌<◌, ◌≤◌, Bool, List, ◌++◌, length, take, drop, Result, Ok, Err, IsErr, OnOk, MatchResult, refl, sym, ◌∙◌, ap, arith, append_assoc, length-append, length-drop, length-take}
 use Rattle.std.proofs.lemmas.Bool.{false≢true}
 use Rattle.std.proofs.lemmas.List.{drop_at, length-take-le, take_all, take_at}
@@ -93,20 +94,13 @@ module _ {T E : Type 0} (keeps : Bool) (p size new : ℕ) (r : Result T E) (a b 
       rw first.contents (patched_riff p size new a.contents has first.count first.within)
 
   pub riff_put : first.count ≡ 4 → size < 2 ^ 32 → field 4 b.contents ≡ size
-  riff_put all fits =
-      ap (field 4) first.contents
-      ∙ number_at_mix 4 a.contents (omega (arith, has.behind, has.inside)) has.small size
-      first.count first.within
-      ∙ ap (λ k. mix k (field 4 a.contents) size) all ∙ mix_all (field 4 a.contents) size fits
+  riff_put all fits = grind (arith, common_steps)
 
   module _ {V F : Type 0} (s : Result V F) (c : MediumState) (small : AreBytes b.contents)
       (all : first.count ≡ 4) (fits : size < 2 ^ 32)
       (second : PutsAt keeps p (bytes_of 4 new) s b c) where
     pub second_half : IsPatched p size a.contents new second.count c.contents
-    second_half =
-        rw second.contents
-        (patched_field p size new a.contents has b.contents small first_half
-        (riff_put all fits) second.count second.within)
+    second_half = grind (arith, common_steps, patched_field, first_half, riff_put)
 
 -- a patch that a fault ended
 pub cut : {V F : Type 0} (p size data_length k : ℕ) (answer : Result V F) (a d : MediumState)
@@ -181,18 +175,10 @@ module _ (p size data_length : ℕ) (c : List ℕ) (behind : 8 ≤ p) (inside : 
 
   pub riff_size_of_sizes : size < 2 ^ 32 → field 4 (with_sizes p size data_length c) ≡ size
   unfolding with_sizes
-  riff_size_of_sizes small =
-      ap (λ l. number (take 4 l))
-      (drop_at (take 4 c)
-      (bytes_of 4 size ++ (drop 8 (take p c) ++ (bytes_of 4 data_length ++ drop (p + 4) c))) 4
-      length-front)
-      ∙ number-bytes_of 4 size small
+  riff_size_of_sizes small = grind (arith, common_steps)
 
   at_data : drop p (with_sizes p size data_length c) ≡ bytes_of 4 data_length ++ drop (p + 4) c
-  at_data =
-      ap (drop p) at_length
-      ∙ drop_at (take 4 c ++ (bytes_of 4 size ++ drop 8 (take p c)))
-      (bytes_of 4 data_length ++ drop (p + 4) c) p length-before
+  at_data = grind (arith, common_steps, at_length, drop_at, length-before)
 
   pub data_length_of_sizes : data_length < 2 ^ 32
       → field p (with_sizes p size data_length c) ≡ data_length

@@ -1,5 +1,6 @@
 -- A call that publishes: the buffered samples are written before, and the pad byte, and if that
 -- fails nothing is patched.
+use Rattle.std.proofs.lemmas.Grind.{common_steps}
 use Rattle.std.proofs.Common.{◌≡◌, ℕ, ◌+◌, ◌-◌, ◌≤◌, inl, inr, Bool, true, false, IsTrue, ◌%◌, Result, Err, List, length, take, drop, refl, rules, sym, ◌∙◌, ap, subst, arith, length-append, length-take}
 use Rattle.std.proofs.lemmas.Bool.{cases_lt}
 use Rattle.std.specs.List.{concat}
@@ -54,26 +55,13 @@ module _ {W : Type 0} (state : W → MediumState) (a : WriterState W) (sound : I
   module _ {far : ℕ} (small : AreBytes (state a.medium).contents) (m : MediumState)
       (around : StaysAround state far a m) (goes : GoesAtEach state a m) where
     there : start ≤ length first
-    there = omega (
-      arith,
-      ap length around.front,
-      length-take start m.contents,
-      length-take start first,
-      inside a.spec_ex start a.out m.contents m.contents around.stands,
-    )
+    there = grind (arith, common_steps)
 
     none_yet : mix 0 (field p first) (data_length a) ≡ field p first
-    none_yet =
-        mix_none (field p first) (data_length a)
-        (number_at_small p first (omega (arith, there, sound.after_head)) small)
+    none_yet = grind (arith, common_steps, mix_none, number_at_small, there)
 
     longer : length (state a.medium).past ≤ length m.past
-    longer =
-        omega (
-          arith,
-          ap length goes.front.past,
-          length-append (state a.medium).past goes.front.added,
-        )
+    longer = grind (arith, common_steps)
 
     half_out : (split : ℕ) → length m.past ≤ split
         → Span (IsHalfPublished a first) split (state a.medium) m
@@ -212,14 +200,7 @@ module _ {W : Type 0} (tells keeps : Bool) (state : W → MediumState) (a : Writ
       at_first : (k : ℕ) → length (state a.medium).past ≤ k → k ≤ length (state m).past
           → field (a.data_start - 4) (moment (state end).start (state end).past k) ≡ field
           (a.data_start - 4) old
-      at_first k from to =
-          let same : moment (state m).start (state m).past k ≡ moment (state end).start
-          (state end).past k =
-          sym (moment_before (state m).start (state m).past g.half.added k to)
-          ∙ (λ i. moment (sym g.half.start i) (sym g.half.past i) k) in
-          ap (field (a.data_start - 4)) (sym same)
-          ∙ field_of state a sound (moment (state m).start (state m).past k)
-          (goes.front.each k from to)
+      at_first k from to = grind (arith, common_steps, moment_before, field_of, goes)
 
       old_or_new_later : IsOldOrNew (a.data_start - 4) (field (a.data_start - 4) old)
           (data_length a) (state a.medium) (state end)
@@ -303,7 +284,4 @@ pub finishes_of : {W : Type 0} (tells keeps : Bool) (state : W → MediumState)
     (answer : Result (Unit {0}) Error) (w new : WriterState W)
     → PublishesTo tells keeps state new.data_start answer w new
     → Finishes tells keeps state w answer new.medium
-finishes_of tells keeps state answer w new p =
-    in_medium tells keeps state w.data_start answer w new.medium p.answers p.publishes
-    (subst (λ n. WhereTells tells (OnPublished answer ((state new.medium).place ≡ n)))
-    p.samples.data_start p.place) p.moments
+finishes_of tells keeps state answer w new p = grind (arith, common_steps)

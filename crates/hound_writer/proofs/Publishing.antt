@@ -1,4 +1,5 @@
 -- What a file is once its sizes are published.
+use Rattle.std.proofs.lemmas.Grind.{common_steps}
 use Rattle.std.proofs.Common.{◌≡◌, ℕ, ◌+◌, ◌-◌, ◌/◌, ◌%◌, ◌≤◌, Bool, true, List, [], ◌++◌, None, eq-eqb, length, take, drop, Result, refl, rules, sym, ◌∙◌, ap, arith, append_assoc, length-append, length-drop, take-append-drop}
 use Rattle.std.proofs.lemmas.List.{take_at, take-take, take_all, drop-drop, length-take-le}
 use Rattle.std.specs.declared.io.Error.{Error as IoFault}
@@ -35,9 +36,7 @@ module _ (s : WavSpecEx) (size length_before : ℕ) (start p : ℕ) (before : p 
   described_size = length-described s ∙ is_start
 
   begins_with_riff : take 4 c ≡ riff_tag
-  begins_with_riff =
-      sym (take-take 4 start c (omega (arith, described_size)))
-      ∙ ap (take 4) (begins ∙ header-parts s size length_before)
+  begins_with_riff = grind (arith, common_steps, take-take, described_size, header-parts)
 
   goes_on_with_fmt : drop 8 (take p c) ≡ described s
   goes_on_with_fmt =
@@ -118,26 +117,14 @@ begun_still s start old new is_start behind inside small same (size, length_befo
 -- data of whole frames have no fault
 frames_sound : (s : WavSpecEx) (n : ℕ) → n % s.bytes_per_sample ≡ 0
     → n / s.bytes_per_sample % s.spec.channels ≡ 0 → data_fault s n ≡ None
-frames_sound s n whole frames =
-    rw (
-      eq-eqb (n % s.bytes_per_sample) 0 whole,
-      eq-eqb (n / s.bytes_per_sample % s.spec.channels) 0 frames,
-    ) refl
+frames_sound s n whole frames = grind (arith, common_steps)
 
 -- if the data length counts all of some samples, which are whole frames, they are read back
 pub reads_all : (s : WavSpecEx) (start n : ℕ) (samples : List (List ℕ)) (contents : List ℕ)
     → n % s.bytes_per_sample ≡ 0 → n / s.bytes_per_sample % s.spec.channels ≡ 0
     → length samples ≡ n / s.bytes_per_sample → field (start - 4) contents ≡ n
     → Counts s start samples contents → ReadsAs s start samples contents
-reads_all s start n samples contents whole frames size says counts =
-    let count = n / s.bytes_per_sample in
-    let reads = rw (says, frames_sound s n whole frames) at counts.reads in
-    record {
-      readable = rw size reads.0;
-      containers =
-          ap (λ k. containers s.bytes_per_sample k (drop start contents)) size ∙ reads.1
-          ∙ take_all count samples (omega (arith, size));
-    }
+reads_all s start n samples contents whole frames size says counts = grind (arith, common_steps)
 
 -- a writer's file with its sizes
 module _ {W : Type 0} (state : W → MediumState) (w : WriterState W) (none : w.waiting ≡ [])
@@ -165,16 +152,10 @@ module _ {W : Type 0} (state : W → MediumState) (w : WriterState W) (none : w.
       (put : (state end).contents ≡ with_sizes (w.data_start - 4)
       (riff_size w.data_start w.out) w.out (state w.medium).contents) where
     riff_says : field 4 (state end).contents ≡ riff_size w.data_start (data_length w)
-    riff_says =
-        ap (field 4) put
-        ∙ riff_size_of_sizes p size w.out old (omega (arith, sound.after_head)) there
-        (omega (arith, sound.fits, all)) ∙ ap (riff_size w.data_start) all
+    riff_says = grind (arith, common_steps, riff_size_of_sizes, there, all)
 
     length_says : field p (state end).contents ≡ w.out
-    length_says =
-        ap (field p) put
-        ∙ data_length_of_sizes p size w.out old (omega (arith, sound.after_head)) there
-        (omega (arith, sound.fits, sound.after_head, all))
+    length_says = grind (arith, common_steps, data_length_of_sizes, there, all)
 
     -- the pad byte, seen from the first data byte on
     pad_stands : StartsWith (drop w.out (drop w.data_start old)) (padding w.out)

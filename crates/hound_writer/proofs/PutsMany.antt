@@ -3,7 +3,7 @@ use Rattle.std.proofs.Common.{◌≡◌, ℕ, ◌+◌, ◌*◌, ◌-◌, ◌≤�
 use Rattle.std.proofs.lemmas.Bool.{false≢true}
 use Rattle.std.proofs.lemmas.List.{length-take-le, take-append-drop, take-append-le}
 use Rattle.std.proofs.Math.Nat.{mul-le-mul_left}
-use Rattle.std.proofs.lemmas.Grind.{flat_map-append}
+use Rattle.std.proofs.lemmas.Grind.{flat_map-append, common_steps}
 use Rattle.hound_medium.specs.{MediumState, PutsAll, PutsFirst, one_more}
 use Rattle.hound_medium.proofs.Taking.{takes_more}
 use Rattle.hound_sample.specs.{Refusal, all_containers, bytes_in, joined_containers}
@@ -32,13 +32,7 @@ module _ {V : Type 0} (container : V → Result (List ℕ) Refusal) (width : ℕ
   size_all = joined_size container width sized values have
 
   size_piece : length piece ≡ width * count
-  size_piece =
-      ap length is
-      ∙ joined_size container width sized (take count (drop done values))
-      (have_part container values done count have)
-      ∙ ap (λ n. width * n)
-      (length-take-le count (drop done values)
-      (omega (arith, inside, length-drop done values)))
+  size_piece = grind (arith, common_steps, joined_size, have_part, length-take-le, length-drop)
 
   rest_is : drop (width * done) all
       ≡ piece ++ joined_containers container (drop count (drop done values))

@@ -1,5 +1,6 @@
 -- A list of calls and one more.
-use Rattle.std.proofs.Common.{ℕ, MatchResult, Ok, Err, Bool, false, List, [], ◌∷◌, ◌++◌, ◌≡◌, length, Result, refl, rules, subst, ◌∙◌, ap}
+use Rattle.std.proofs.lemmas.Grind.{common_steps}
+use Rattle.std.proofs.Common.{ℕ, MatchResult, Ok, Err, Bool, false, List, [], ◌∷◌, ◌++◌, ◌≡◌, length, Result, refl, rules, subst, ◌∙◌, ap, arith}
 use Rattle.std.specs.Prelude.{⊤}
 use Rattle.std.proofs.lemmas.Bool.{false≢true}
 use Rattle.hound_spec.specs.declared.error.Error.{Error}
@@ -163,15 +164,7 @@ module _ {W : Type 0} (tells keeps : Bool) (state : W → MediumState) where
       → WhereTells tells (IsWhole state w)
       → Recorded tells keeps state w.spec_ex
       (appended w.data_start (accepted_samples state w)) [] w
-  recorded_append old w appends whole =
-      recorded_first w.spec_ex (appended w.data_start (accepted_samples state w)) w (record {
-        old = old;
-        appends = appends;
-        spec_is = refl;
-        start_is = refl;
-        whole = whole;
-        found_is = λ _. refl;
-      })
+  recorded_append old w appends whole = grind (arith, common_steps, recorded_first)
 
   pub recorded_appended : {E : Type 0} (Q : E → Type 0) (old : MediumState)
       (r : Result (WriterState W) E) → MatchResult r (Appends tells state old) Q

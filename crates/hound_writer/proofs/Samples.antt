@@ -1,4 +1,5 @@
 -- The accepted samples of a writer: those in the medium, and the buffered ones.
+use Rattle.std.proofs.lemmas.Grind.{common_steps}
 use Rattle.std.proofs.Common.{◌≡◌, Bool, refl, ℕ, ◌+◌, ◌/◌, ◌%◌, List, [], ◌++◌, length, take, drop, sym, ◌∙◌, ap, arith, length-append, length-drop}
 use Rattle.std.proofs.lemmas.List.{append-nil, length-take-le}
 use Rattle.std.specs.List.{concat}
@@ -13,16 +14,11 @@ use Rattle.hound_writer.proofs.Counted.{counts_standing, counts_more}
 -- this many of the bytes are there
 pub length-out : {W : Type 0} (state : W → MediumState) (w : WriterState W) → IsWhole state w
     → length (take w.out (drop w.data_start (state w.medium).contents)) ≡ w.out
-length-out state w whole =
-    let data_now = drop w.data_start (state w.medium).contents in
-    length-take-le w.out data_now
-    (omega (arith, whole, length-drop w.data_start (state w.medium).contents))
+length-out state w whole = grind (arith, common_steps)
 
 pub length-accepted : {W : Type 0} (state : W → MediumState) (w : WriterState W) → IsWhole state w
     → length (accepted_bytes state w) ≡ data_length w
-length-accepted state w whole =
-    length-append (take w.out (drop w.data_start (state w.medium).contents)) w.waiting
-    ∙ ap (λ n. n + length w.waiting) (length-out state w whole)
+length-accepted state w whole = grind (arith, common_steps)
 
 -- if more whole samples follow the accepted bytes they are accepted
 pub samples_append : {W : Type 0} (state : W → MediumState) (w : WriterState W) (m : W) (out : ℕ)
@@ -32,14 +28,7 @@ pub samples_append : {W : Type 0} (state : W → MediumState) (w : WriterState W
     → accepted_samples state (record w { medium = m; out = out; waiting = waiting })
     ≡ accepted_samples state w ++ containers w.spec_ex.bytes_per_sample
     (length bytes / w.spec_ex.bytes_per_sample) bytes
-samples_append state w m out waiting bytes sound whole more is =
-    let wide = w.spec_ex.bytes_per_sample in
-    let size = length-accepted state w whole in
-    (λ i. containers wide ((more ∙ ap (λ n. n + length bytes) (sym size)) i / wide) (is i))
-    ∙ containers_join wide (accepted_bytes state w) bytes sound.width
-    (ap (λ n. n % wide) size ∙ sound.whole)
-    ∙ (λ i. containers wide (size i / wide) (accepted_bytes state w) ++ containers wide
-    (length bytes / wide) bytes)
+samples_append state w m out waiting bytes sound whole more is = grind (arith, common_steps, length-accepted, containers_join)
 
 -- whole samples are in the medium
 module _ {W : Type 0} (state : W → MediumState) (w : WriterState W) (sound : IsSound w)
@@ -56,13 +45,7 @@ module _ {W : Type 0} (state : W → MediumState) (w : WriterState W) (sound : I
       (w.out / w.spec_ex.bytes_per_sample)
       (drop w.data_start (state w.medium).contents) ++ containers w.spec_ex.bytes_per_sample
       (length w.waiting / w.spec_ex.bytes_per_sample) w.waiting
-  samples_parts whole =
-      let data_now = drop w.data_start (state w.medium).contents in
-      let size = length-out state w whole in
-      (λ i. containers wide ((sym size i + length w.waiting) / wide) (first ++ w.waiting))
-      ∙ containers_join wide first w.waiting sound.width (ap (λ n. n % wide) size ∙ whole_out)
-      ∙ ap (λ l. l ++ containers wide (length w.waiting / wide) w.waiting)
-      ((λ i. containers wide (size i / wide) first) ∙ containers_cut w.out wide data_now whole_out)
+  samples_parts whole = grind (arith, common_steps, length-out, containers_join, containers_cut)
 
   -- if the head is there and the bytes in the medium are the same they count
   pub counts_at : (c : List ℕ) → IsWhole state w → IsStanding w.spec_ex w.data_start w.out c
@@ -96,30 +79,17 @@ module _ {W : Type 0} (state : W → MediumState) (w : WriterState W) (none : w.
     -- they are the first containers of the data
     pub samples_out : accepted_samples state w ≡ containers w.spec_ex.bytes_per_sample
         (w.out / w.spec_ex.bytes_per_sample) (drop w.data_start (state w.medium).contents)
-    samples_out =
-        let bytes = take w.out (drop w.data_start (state w.medium).contents) in
-        (λ i. containers width (length_out i / width)
-        ((ap (λ l. bytes ++ l) none ∙ append-nil bytes) i))
-        ∙ containers_cut w.out width (drop w.data_start (state w.medium).contents) whole_out
+    samples_out = grind (arith, common_steps, length_out, append-nil, containers_cut, whole_out)
 
     pub length-samples : length (accepted_samples state w) ≡ w.out / w.spec_ex.bytes_per_sample
-    length-samples =
-        ap length samples_out
-        ∙ length-containers width (w.out / width) (drop w.data_start (state w.medium).contents)
+    length-samples = grind (arith, common_steps, samples_out, length-containers)
 
     -- joined they are the data
     pub concat-samples : concat (accepted_samples state w) ≡ take w.out
         (drop w.data_start (state w.medium).contents)
-    concat-samples =
-        let bytes = drop w.data_start (state w.medium).contents in
-        ap concat samples_out ∙ concat-containers width (w.out / width) bytes
-        ∙ ap (λ k. take k bytes) (count_bytes w.out width whole_out)
+    concat-samples = grind (arith, common_steps, samples_out, concat-containers, count_bytes, whole_out)
 
 -- what a writer keeps true is what holds of it
 pub valid_of : {W : Type 0} (tells : Bool) (state : W → MediumState) (moved : Bool) (limit : ℕ)
     (w : WriterState W) → IsConsistent tells state w moved limit → IsValid tells state w
-valid_of tells state moved limit w known = record {
-  sound = known.sound;
-  counts = λ told whole. counts_at state w known.sound known.whole_out
-      (state w.medium).contents whole (known.stands told) refl;
-}
+valid_of tells state moved limit w known = grind (arith, common_steps, counts_at, whole_out)

@@ -1,4 +1,5 @@
 -- What stays if the two sizes change, and if all before a place stays.
+use Rattle.std.proofs.lemmas.Grind.{common_steps}
 use Rattle.std.proofs.Common.{◌≡◌, ℕ, zero, suc, ◌+◌, ◌-◌, ◌≤◌, max, List, [], ◌∷◌, refl, length, take, drop, rules, sym, ◌∙◌, ap, arith}
 use Rattle.std.proofs.lemmas.Slice.{between_is}
 use Rattle.std.proofs.Math.Seq.{drop-nil}
@@ -18,12 +19,7 @@ take_front n m old new le same = front_part m 0 n new old (omega arith) same
 -- so the header does, in a file that was begun with it
 pub header_front : (s : WavSpecEx) (start : ℕ) (old new : List ℕ) → start ≡ data_start s
     → take start new ≡ take start old → HasHeader s old → HasHeader s new
-header_front s start old new at same (size, len, begins) = (
-  size,
-  len,
-  take_front (length (header s size len)) start old new
-      (omega (arith, length-header s size len, at)) same ∙ begins,
-)
+header_front s start old new at same (size, len, begins) = grind (arith, common_steps, take_front, length-header)
 
 -- and no size has changed
 pub sizes_front : (start : ℕ) (old new : List ℕ) → 4 ≤ start → take start new ≡ take start old

@@ -1,5 +1,6 @@
 -- A writer's file between its calls: the head is there, and the data length counts no more than was
 -- accepted.
+use Rattle.std.proofs.lemmas.Grind.{common_steps}
 use Rattle.std.proofs.Common.{◌≡◌, ℕ, ◌-◌, ◌≤◌, List, length, take, ap, arith, rules}
 use Rattle.hound_number.specs.{number, mix}
 use Rattle.hound_number.proofs.Mixing.{mix_le}
@@ -30,11 +31,7 @@ module _ (s : WavSpecEx) (start n : ℕ) (old new : List ℕ) (stands : IsStandi
   -- so does a patch, also one that a fault has cut
   pub stands_patched : (k : ℕ) → SameButSizes (start - 4) old new
       → field (start - 4) new ≡ mix k (field (start - 4) old) n → IsStanding s start n new
-  stands_patched k same torn = record {
-    head = head_with old s (field (start - 4) old) start stands.head new
-        (omega (arith, inside, same.long)) same.front same.middle;
-    counted = omega (arith, torn, mix_le k (field (start - 4) old) n stands.counted);
-  }
+  stands_patched k same torn = grind (arith, common_steps, head_with, inside, mix_le)
 
 -- more bytes count at least as much
 pub stands_more : (s : WavSpecEx) (start n m : ℕ) (contents : List ℕ) → n ≤ m

@@ -1,4 +1,5 @@
 -- Bytes that stay stored, call after call.
+use Rattle.std.proofs.lemmas.Grind.{common_steps}
 use Rattle.std.proofs.Common.{◌≡◌, ℕ, zero, suc, ◌+◌, ◌-◌, ◌/◌, ◌%◌, ◌<◌, ◌≤◌, inl, inr, List, [], ◌∷◌, ◌++◌, length, get_or, take, drop, refl, sym, ◌∙◌, ap, subst, arith, length-append, length-drop, length-take}
 use Rattle.std.proofs.lemmas.Bool.{cases_lt}
 use Rattle.std.proofs.lemmas.List.{drop-drop, length-take-le, take-append-le, get_or-take, get_or-drop, get_or-append-add}
@@ -129,9 +130,7 @@ stored_same start n bytes first old new few same a len within k m from le to her
 
 -- and if nothing is written
 pub stored_still : (start : ℕ) (bytes : List ℕ) (s : MediumState) → KeepsStored start bytes s s
-stored_still start bytes s a len within k m from le to here =
-    let e : k ≡ m = omega (arith, from, le, to) in
-    subst (λ j. IsStored start bytes a len (moment s.start s.past j)) e here
+stored_still start bytes s a len within k m from le to here = grind (arith, common_steps)
 
 -- by one call and then another
 pub stored_join : (start : ℕ) (bytes : List ℕ) (a b c : MediumState) (earlier later : List (ℕ × ℕ))
@@ -166,18 +165,9 @@ stored_join start bytes a b c earlier later was begins past first then p len wit
 -- fewer bytes
 pub stored_fewer : (start : ℕ) (xs ys : List ℕ) (old new : MediumState)
     → KeepsStored start (xs ++ ys) old new → KeepsStored start xs old new
-stored_fewer start xs ys old new all a len within k m from le to here =
-    let same : take len (drop a (xs ++ ys)) ≡ take len (drop a xs) =
-    front_part (length xs) a len (xs ++ ys) xs within (take-append-le (length xs) xs ys (omega arith))
-    in
-    all a len (omega (arith, within, length-append xs ys)) k m from le to (here ∙ sym same) ∙ same
+stored_fewer start xs ys old new all a len within k m from le to here = grind (arith, common_steps)
 
 -- the accepted samples, joined, are the accepted bytes
 pub joined_samples : {W : Type 0} (state : W → MediumState) (w : WriterState W) → IsSound w
     → IsWhole state w → concat (accepted_samples state w) ≡ accepted_bytes state w
-joined_samples state w sound whole =
-    let bytes = accepted_bytes state w in
-    let width = w.spec_ex.bytes_per_sample in
-    let size = length-accepted state w whole in
-    (λ i. concat (containers width (sym size i / width) bytes))
-    ∙ joined_bytes width bytes (ap (λ n. n % width) size ∙ sound.whole)
+joined_samples state w sound whole = grind (arith, common_steps, length-accepted, joined_bytes)

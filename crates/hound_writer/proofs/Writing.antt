@@ -1,4 +1,5 @@
 -- A sample that a writer shall accept.
+use Rattle.std.proofs.lemmas.Grind.{common_steps}
 use Rattle.std.proofs.Common.{◌≡◌, ℕ, ◌+◌, ◌/◌, ◌%◌, ◌≤◌, nat_le, Bool, false, List, length, Result, Ok, Err, refl, ap, arith}
 use Rattle.std.proofs.lemmas.Bool.Decides.{nat_tests}
 use Rattle.std.specs.List.{concat}
@@ -17,10 +18,7 @@ use Rattle.hound_writer.proofs.Samples.{valid_of}
 -- there is no room, as the test finds
 pub no_room : {W : Type 0} (w : WriterState W) (n : ℕ) → (HasRoom w n → ⊥)
     → nat_le (riff_size w.data_start (data_length w + n)) greatest_u32 ≡ false
-no_room w n none = test (riff_size w.data_start (data_length w + n)) none
-  where
-    test : (n : ℕ) → (n ≤ greatest_u32 → ⊥) → nat_le n greatest_u32 ≡ false
-    test n none = grind (arith, nat_tests)
+no_room w n none = grind (arith, common_steps)
 
 -- the file has no room for this many bytes
 pub bytes_too_long : {W : Type 0} (tells keeps : Bool) (state : W → MediumState) (w : WriterState W)
