@@ -32,7 +32,6 @@ impl Model for Block {
 
 impl Block {
     /// An empty block.
-    #[inline(always)]
     pub(crate) fn new() -> Block
         ensures { result ≡ [] }
     {

@@ -101,7 +101,6 @@ impl<W: Medium> Output<W> {
     ghost use Rattle.hound_writer.specs.Writer.{AreFrames, HasRoom, IsPadded, IsSound, IsValid, data_end, data_length, padded_end, sample_count};
 
     /// A file whose data begin at this place and have this length, with its medium after them.
-    #[inline(always)]
     pub(crate) fn at_end(
         writer: W,
         spec_ex: WavSpecEx,

@@ -138,7 +138,6 @@ impl<W: Medium> WavWriter<W> {
     }
 
     // A writer of this file, whose medium had no fault yet.
-    #[inline(always)]
     pub(crate) fn over(output: Output<W>) -> WavWriter<W>
         ensures { result ≡ output }
     {
