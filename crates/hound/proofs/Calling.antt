@@ -9,7 +9,7 @@ use Rattle.hound_spec.specs.{data_start}
 use Rattle.hound_medium.specs.{moment, overlay, MediumState, Span}
 use Rattle.hound_medium.proofs.Spans.{moment_last}
 use Rattle.hound_writer.specs.{UnlessFailed, faults_told, mark_of, IsStored, KeepsStored, Asked, Call, Does, Lead, publish, put, with_memory, Counts, ChangesSizesOnly, WriterState, HasHeader, IsBegun, IsCounted, IsWhole, accepted_samples, data_length, padded_end}
-use Rattle.hound_writer.proofs.Answers.{unless_failed, unless_then, unless_told, where_marked}
+use Rattle.hound_writer.proofs.Answers.{unless_failed, unless_then, where_marked}
 use Rattle.hound_writer.proofs.Fresh.{begun_front}
 use Rattle.hound_writer.proofs.Sizes.{sizes_front, sizes_then, take_front}
 use Rattle.hound_writer.proofs.Storing.{stored_fewer, stored_join}

@@ -18,7 +18,7 @@ use Rattle.hound_reader.proofs.Unique.{heads_agree}
 use Rattle.hound_writer.specs.{Accepts, AcceptAnswer, IsPublishing, IsIoError, mark_of, Does, Asked, publish, put, WriterState, data_length, HasHeader, IsWhole, IsBegun, accepted_samples, padded_end, field, Appends, IsAppendFault, AppendFault, appendable, faulty, Begins, Finishes, ReadsAs}
 use Rattle.hound_writer.proofs.Answers.{accept_as, all_marked, where_marked, no_io, publishing_as, refused_of}
 use Rattle.hound_writer.proofs.Accepting.{length_overlay_max}
-use Rattle.hound_writer.proofs.AppendAnswers.{no_head_fault, one_append_answer}
+use Rattle.hound_writer.proofs.AppendAnswers.{one_append_answer}
 use Rattle.hound_writer.proofs.Fresh.{none_accepted}
 use Rattle.hound_writer.proofs.Heads.{head_field, head_inside}
 use Rattle.hound_writer.proofs.Samples.{length_out, samples_out}

@@ -16,11 +16,6 @@ module _ (c : List ℕ) (at : ℕ) (bs : List ℕ) (inside : at + length bs ≤ 
   front : length (take at c) ≡ at
   front = length-take-le at c (omega (arith, inside))
 
-  -- what was before them stays
-  pub take_before : (n : ℕ) → n ≤ at → take n (overlay c (placed at bs)) ≡ take n c
-  unfolding new
-  take_before n h = grind (arith, common_steps, parts)
-
   -- what was after them stays
   pub drop_behind : (n : ℕ) → at + length bs ≤ n → drop n (overlay c (placed at bs)) ≡ drop n c
   unfolding new
@@ -37,10 +32,6 @@ module _ (c : List ℕ) (at : ℕ) (bs : List ℕ) (inside : at + length bs ≤ 
       ∙ ap (drop m) (drop_at (take at c ++ bs) (drop (at + length bs) c) (at + length bs) size)
       ∙ drop-drop m (at + length bs) c
       ∙ ap (λ k. drop k c) (sym e)
-
-  pub same_size : length (overlay c (placed at bs)) ≡ length c
-  unfolding new
-  same_size = grind (arith, common_steps, parts)
 
   -- from their place on: the bytes, and what was after them
   pub drop_to : drop at (overlay c (placed at bs)) ≡ bs ++ drop (at + length bs) c

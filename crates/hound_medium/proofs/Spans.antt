@@ -70,11 +70,6 @@ module _ (At : ℕ → List ℕ → Type 0) (split : ℕ) where
   pub join : (a b c : MediumState) → Span At split a b → Span At split b c → Span At split a c
   join a b c first then = grind (arith, common_steps)
 
-  -- a span, and then a call that writes nothing
-  pub and_still : (a b c : MediumState) → Span At split a b → b.contents ≡ overlay b.start b.past
-      → Stays b c → FlushedSince b c → Span At split a c
-  and_still a b c span replays stays flushed = grind (arith, common_steps)
-
 -- what holds at the end of a span that is at level 0 throughout
 pub span_end_zero : (At : ℕ → List ℕ → Type 0) (old new : MediumState)
     → new.contents ≡ overlay new.start new.past → Span At (length new.past) old new

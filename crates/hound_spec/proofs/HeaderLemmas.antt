@@ -47,9 +47,6 @@ and_then more all old new so_far adds = adds ∙ ap (λ l. l ++ more) so_far
 pub data_start_least : (s : WavSpecEx) → 44 ≤ data_start s
 data_start_least s = grind (arith, common_steps)
 
-pub data_start_most : (s : WavSpecEx) → data_start s ≤ 68
-data_start_most s = grind (arith, common_steps)
-
 -- what a header has between the RIFF size and the data length
 abbrev pub described : WavSpecEx → List ℕ
 described s = wave_tag ++ (fmt_tag ++ (sized_fmt s ++ data_tag))

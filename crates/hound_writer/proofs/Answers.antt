@@ -118,13 +118,6 @@ pub refused_of : {P : Type 0} (e : Error) → (IsIoError e → ⊥) → OnRefuse
 refused_of (IoError e) none here = absurd (none tt)
 refused_of e none here = here
 
--- what holds unless the medium failed holds if it didn't
-pub unless_told : {P : Type 0} (answer : Result (Unit {0}) Error) (f : ℕ) → f < 18446744073709551615
-    → faults_told answer f ≡ f → UnlessFailed answer P → P
-unless_told (Err (IoError e)) f small same here = absurd (omega (arith, small, same))
-unless_told (Ok x) f small same here = here
-unless_told (Err e) f small same here = here
-
 -- a call that publishes and meets no fault has published all
 pub all_marked : {M : Type 0} (answer : Result (Unit {0}) Error) (w : WriterState M) (f : ℕ)
     → f < 18446744073709551615 → faults_told answer f ≡ f → IsPublishing answer w

@@ -11,7 +11,7 @@ use Rattle.hound_number.proofs.Mixing.{mix_none, mix_all}
 use Rattle.hound_medium.specs.{placed, overlay, moment, MediumState, Stays, WhereTells, WhereKeeps, Span, FlushedSince}
 use Rattle.hound_spec.specs.{riff_size}
 use Rattle.hound_medium.proofs.Outcomes.{from_ok}
-use Rattle.hound_medium.proofs.Spans.{span_puts, span_end_zero, span_weaker, join, and_still}
+use Rattle.hound_medium.proofs.Spans.{span_puts, span_end_zero, span_weaker, join}
 use Rattle.hound_medium.proofs.Torn.{number_at_small}
 use Rattle.hound_spec.specs.declared.error.Error.{Error}
 use Rattle.hound_writer.specs.Writer.{Counts, field, WriterState, AreFrames, IsPadded, IsSound, IsWhole, accepted_samples, data_length, data_end}

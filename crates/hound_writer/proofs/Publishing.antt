@@ -114,11 +114,6 @@ begun_still s start old new is_start behind inside small same (size, length_befo
           ∙ take_at (header s r n) (drop start old) (length (header s r n)) refl,
     )
 
--- data of whole frames have no fault
-frames_sound : (s : WavSpecEx) (n : ℕ) → n % s.bytes_per_sample ≡ 0
-    → n / s.bytes_per_sample % s.spec.channels ≡ 0 → data_fault s n ≡ None
-frames_sound s n whole frames = grind (arith, common_steps)
-
 -- if the data length counts all of some samples, which are whole frames, they are read back
 pub reads_all : (s : WavSpecEx) (start n : ℕ) (samples : List (List ℕ)) (contents : List ℕ)
     → n % s.bytes_per_sample ≡ 0 → n / s.bytes_per_sample % s.spec.channels ≡ 0
