@@ -1,7 +1,7 @@
 -- What a list of calls of a writer leaves.
 use Rattle.std.proofs.lemmas.Grind.{common_steps}
 use Rattle.std.proofs.Common.{refl, ◌≡◌, ℕ, ◌+◌, ◌-◌, ◌/◌, ◌%◌, ◌≤◌, max, Bool, List, [], ◌∷◌, ◌++◌, length, take, drop, IsTrue, sym, ◌∙◌, ap, subst, arith, append_assoc, length-append, length-drop}
-use Rattle.std.proofs.lemmas.List.{append-nil, length-take-le}
+use Rattle.std.proofs.lemmas.List.{length-take-le}
 use Rattle.std.proofs.lemmas.Nat.{mul-le}
 use Rattle.std.proofs.Math.Nat.{div-mul-le_self}
 use Rattle.std.specs.List.{concat, AllByRecursion}
@@ -13,18 +13,18 @@ use Rattle.hound_medium.specs.{moment, overlay, MediumState, WhereKeeps, WhereTe
 use Rattle.hound_medium.proofs.Spans.{moment_last}
 use Rattle.hound_durable.specs.{Ascends}
 use Rattle.hound_reader.specs.{Head, IsSoundSpec}
-use Rattle.hound_writer.specs.{mark_of, Begun, Call, Does, Known, Lead, Left, Opens, appended, found_in, new_file, publish, start_of, with_memory, Counts, ChangesSizesOnly, field, WriterState, HasHeader, IsBegun, IsCounted, IsSound, IsWhole, accepted_bytes, accepted_samples, data_length}
+use Rattle.hound_writer.specs.{Begun, Call, Does, Known, Lead, Left, Opens, appended, found_in, new_file, publish, start_of, with_memory, Counts, ChangesSizesOnly, field, WriterState, HasHeader, IsBegun, IsCounted, IsSound, IsWhole, accepted_bytes, accepted_samples, data_length}
 use Rattle.hound_writer.proofs.Containers.{none_whole, zero_div}
 use Rattle.hound_writer.proofs.Fresh.{none_accepted}
 use Rattle.hound_writer.proofs.Publishing.{reads_all}
 use Rattle.hound_writer.proofs.Heads.{head_inside, head_with}
 use Rattle.hound_writer.proofs.Samples.{concat-samples, length-out, length_out}
-use Rattle.hound.specs.Headline.{CanonicalAtEnd, HeadAtEach, Holds, HoldsAtEnd, IfBegun, Keeps, Kept, NoFault, Promises, SurvivesAtEnd, accepted_by_all, accepted_of, begins_at}
+use Rattle.hound.specs.Headline.{CanonicalAtEnd, HeadAtEach, Holds, HoldsAtEnd, IfBegun, Keeps, Kept, NoFault, Promises, SurvivesAtEnd, accepted_by_all, begins_at}
 use Rattle.hound.proofs.Calling.{Went, begin, counted, in_order, length-concat-append, made, stays_flushed, stored, went}
 use Rattle.hound.proofs.Later.{no_fault_parts, same_moment}
 use Rattle.hound_writer.proofs.Answers.{all_marked, where_marked}
 use Rattle.hound.proofs.Losing.{moments_grow}
-use Rattle.hound.proofs.PowerLoss.{accepted_parts, after_losses, wide_containers}
+use Rattle.hound.proofs.PowerLoss.{after_losses, wide_containers}
 use Rattle.hound.proofs.Lengths.{never_less, published}
 
 -- its accepted samples, joined, have the length that it counts

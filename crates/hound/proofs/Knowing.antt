@@ -1,6 +1,6 @@
 -- What is known of calls, and the calls.
 use Rattle.std.proofs.lemmas.Grind.{common_steps}
-use Rattle.std.proofs.Common.{◌≡◌, Bool, List, [], ◌∷◌, ◌++◌, map, refl, ap, ◌∙◌, arith}
+use Rattle.std.proofs.Common.{◌≡◌, Bool, List, [], ◌∷◌, ◌++◌, map, refl, ap, arith}
 use Rattle.std.specs.List.{flat_map}
 use Rattle.hound_writer.specs.{AreKnown, Asked, Call, IsKnown, Known, made, marked, asked_by_all}
 use Rattle.hound_spec.specs.declared.spec.WavSpecEx.{WavSpecEx}

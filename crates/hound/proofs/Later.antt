@@ -1,12 +1,12 @@
 -- From one state of a medium to a later one: bytes were appended to the past, and faults counted.
 use Rattle.std.proofs.lemmas.Grind.{common_steps}
-use Rattle.std.proofs.Common.{◌≡◌, ℕ, ◌≤◌, List, [], length, refl, sym, ◌∙◌, ap, arith, inl, length-append, Result, Ok, Err}
+use Rattle.std.proofs.Common.{◌≡◌, ℕ, ◌≤◌, List, [], length, refl, sym, ap, arith, inl, length-append, Result, Ok, Err}
 use Rattle.std.specs.Prelude.{⊤}
 use Rattle.std.proofs.lemmas.List.{append-nil}
 use Rattle.hound_spec.specs.declared.error.Error.{Error}
 use Rattle.hound_spec.specs.declared.error.Error.TheVariants.{IoError}
 use Rattle.hound_medium.specs.{moment, MediumState, Span}
-use Rattle.hound_medium.proofs.Spans.{join, moment_before}
+use Rattle.hound_medium.proofs.Spans.{join}
 use Rattle.hound_writer.specs.{faults_told}
 use Rattle.hound.specs.Headline.{NoFault}
 

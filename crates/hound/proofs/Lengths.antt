@@ -10,7 +10,6 @@ use Rattle.hound_medium.specs.{moment, overlay, MediumState}
 use Rattle.hound_medium.proofs.Overlays.{front_part}
 use Rattle.hound_medium.proofs.Spans.{moment_last}
 use Rattle.hound_durable.specs.{place_of}
-use Rattle.hound_durable.proofs.Ascending.{place_before}
 use Rattle.hound_writer.specs.{Asked, Call, Does, Lead, publish, put, with_memory, IsOldOrNew, IsOutside, field, WriterState, IsWhole, accepted_samples, data_length}
 use Rattle.hound.specs.Headline.{HasPublished, IsUncut, NeverLess, PublishedByFlushes, accepted_by_all, begins_at}
 use Rattle.hound_writer.proofs.Answers.{where_marked}

@@ -11,7 +11,6 @@ use Rattle.hound_medium.proofs.Overlays.{front_part, length-put_at, overlay-appe
 use Rattle.hound_medium.proofs.Inside.{drop_behind}
 use Rattle.hound_reader.specs.{Head}
 use Rattle.hound_writer.specs.{ChangesSizesOnly, field, IsStored}
-use Rattle.hound_writer.proofs.Counted.{samples_le}
 use Rattle.hound_writer.proofs.Heads.{head_with}
 use Rattle.hound_durable.specs.{Ascends, SurvivesLoss, place_of}
 

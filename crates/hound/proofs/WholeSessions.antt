@@ -1,5 +1,5 @@
 -- Sessions one after the other: the file that they leave, and what they return.
-use Rattle.std.proofs.Common.{◌≡◌, ℕ, ◌≤◌, max, Bool, false, IsTrue, List, length, Result, Ok, refl, ap, subst, arith, ◌-◌, ◌/◌, ◌<◌, true, Bor, [], ◌∷◌, ◌⊎◌, ◌++◌, take, drop, Err, OnOk, IfErr, IsErrAnd, sym, ◌∙◌, inl, inr, length-take, append_assoc, not}
+use Rattle.std.proofs.Common.{◌≡◌, ℕ, ◌≤◌, max, Bool, IsTrue, List, length, Result, Ok, refl, ap, subst, arith, ◌-◌, ◌/◌, ◌<◌, true, Bor, [], ◌∷◌, ◌⊎◌, ◌++◌, drop, Err, OnOk, IfErr, IsErrAnd, sym, ◌∙◌, inl, inr, length-take, append_assoc, not}
 use Rattle.std.specs.List.{concat}
 use Rattle.std.proofs.lemmas.Grind.{flat_map-append, common_steps}
 use Rattle.std.proofs.lemmas.List.{append-nil, length-take-le, take_all}
@@ -10,20 +10,19 @@ use Rattle.hound_spec.specs.declared.spec.WavSpecEx.{WavSpecEx}
 use Rattle.hound_spec.specs.{data_start, header, canonical, riff_size, IsWritable, greatest_u32}
 use Rattle.hound_spec.specs.declared.error.Error.TheVariants.{IoError, Unsupported}
 use Rattle.hound_spec.proofs.HeaderLemmas.{length-canonical, length-header, data_start_least}
-use Rattle.hound_sample.specs.{Refusal, containers}
+use Rattle.hound_sample.specs.{containers}
 use Rattle.hound_medium.specs.{MediumState, one_more}
 use Rattle.hound_medium.proofs.Torn.{number_at_small}
 use Rattle.hound_reader.proofs.Exists.{one_answer}
 use Rattle.hound_reader.proofs.Unique.{heads_agree}
-use Rattle.hound_writer.specs.{Accepts, AcceptAnswer, IsPublishing, IsIoError, mark_of, Does, Asked, publish, put, WriterState, data_length, HasHeader, IsWhole, IsBegun, accepted_samples, padded_end, field, Appends, IsAppendFault, AppendFault, appendable, faulty, Begins, Finishes, ReadsAs}
-use Rattle.hound_writer.proofs.Answers.{accept_as, all_marked, where_marked, no_io, publishing_as, refused_of}
+use Rattle.hound_writer.specs.{IsPublishing, IsIoError, mark_of, Does, Asked, publish, put, WriterState, data_length, HasHeader, IsWhole, IsBegun, accepted_samples, padded_end, field, Appends, IsAppendFault, AppendFault, appendable, faulty, Begins, Finishes, ReadsAs}
+use Rattle.hound_writer.proofs.Answers.{all_marked, where_marked, no_io, publishing_as, refused_of}
 use Rattle.hound_writer.proofs.Accepting.{length_overlay_max}
-use Rattle.hound_writer.proofs.AppendAnswers.{one_append_answer}
+use Rattle.hound_writer.proofs.AppendAnswers.{no_head_fault, one_append_answer}
 use Rattle.hound_writer.proofs.Fresh.{none_accepted}
 use Rattle.hound_writer.proofs.Heads.{head_field, head_inside}
 use Rattle.hound_writer.proofs.Samples.{length_out, samples_out}
 use Rattle.hound.specs.declared.session.Step.{Step}
-use Rattle.hound.specs.declared.session.Step.TheVariants.{Whole, Bits, Batch, Flush}
 use Rattle.hound.specs.Sessions.{AnswersStep, writer_after, AnswersAll, AnswersSession, IsAnswered, RunsFrom, RunsOn, RunsOnce, RunsUntil, StopsAt, StopsShort, all_steps}
 use Rattle.hound.specs.Run.{Takes, asked_by, accepted_by, containers_of}
 use Rattle.hound.specs.declared.session.Begin.{Begin}

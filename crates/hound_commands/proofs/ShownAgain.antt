@@ -1,12 +1,12 @@
 -- What `show` writes of a file that `pack` made is packed again, and text is packed as one file.
 use Rattle.std.proofs.lemmas.Grind.{common_steps}
 use Rattle.std.specs.Prelude.{FitsSigned}
-use Rattle.std.proofs.Common.{◌≡◌, ℕ, ℤ, ◌%◌, ◌≤◌, ◌⊎◌, inl, inr, List, [], ◌∷◌, ◌++◌, length, drop, Result, Ok, Some, refl, sym, ◌∙◌, ap, subst, arith}
+use Rattle.std.proofs.Common.{◌≡◌, ℕ, ℤ, ◌%◌, ◌⊎◌, inl, inr, List, [], ◌∷◌, ◌++◌, length, drop, Result, Ok, Some, refl, sym, ◌∙◌, ap, subst, arith}
 use Rattle.std.specs.Int.{w32}
-use Rattle.std.specs.List.{AllByRecursion, concat, flat_map}
+use Rattle.std.specs.List.{AllByRecursion, flat_map}
 use Rattle.hound_reader.specs.{HasOneFileAnswer, readable, Readable, AreContainers}
 use Rattle.hound_sample.specs.{Refusal, containers, int_container, int_meaning}
-use Rattle.hound_spec.specs.{greatest_u32, canonical, data_start, riff_size, IsWritable, with_default_width}
+use Rattle.hound_spec.specs.{canonical, data_start, IsWritable, with_default_width}
 use Rattle.hound_spec.specs.declared.error.Error.{Error}
 use Rattle.hound_spec.specs.declared.error.Error.TheVariants as errors
 use Rattle.hound_spec.specs.declared.spec.SampleFormat.TheVariants.{Int}

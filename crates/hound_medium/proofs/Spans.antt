@@ -3,7 +3,7 @@ use Rattle.std.proofs.lemmas.Grind.{common_steps}
 use Rattle.std.proofs.Common.{◌≡◌, ℕ, ◌+◌, ◌-◌, ◌≤◌, List, ◌++◌, length, take, Result, Ok, Err, sym, ◌∙◌, ap, subst, arith, inl, inr, length-append}
 use Rattle.std.proofs.lemmas.List.{take-append-le, take_all}
 use Rattle.std.proofs.Math.Seq.{take-append-add}
-use Rattle.hound_medium.specs.State.{placed, overlay, moment, MediumState, Flushes, Stays, Span, FlushedSince}
+use Rattle.hound_medium.specs.State.{placed, overlay, moment, MediumState, Flushes, Span, FlushedSince}
 use Rattle.hound_medium.proofs.Overlays.{overlay-append, length-placed, take-placed}
 
 -- an intermediate state of a past stays what it was, however the past continues

@@ -1,6 +1,6 @@
 -- How many bytes are taken if the bytes are rejected, piece after piece.
 use Rattle.std.proofs.lemmas.Grind.{common_steps}
-use Rattle.std.proofs.Common.{◌≡◌, ℕ, ◌+◌, ◌≤◌, List, ◌++◌, length, drop, sym, ◌∙◌, subst, arith, inr, slice_range, append_assoc, length-append, Option, Some, Result, Err}
+use Rattle.std.proofs.Common.{◌≡◌, ℕ, ◌+◌, ◌≤◌, List, ◌++◌, length, drop, sym, subst, arith, inr, slice_range, append_assoc, length-append, Option, Some, Result, Err}
 use Rattle.std.proofs.Math.Seq.{drop-append-add}
 use Rattle.std.specs.Io.KnownBytes.{Consumes}
 use Rattle.hound_number.specs.{WhereKnown, number}

@@ -1,6 +1,6 @@
 -- What bytes after the accepted ones change.
 use Rattle.std.proofs.lemmas.Grind.{common_steps}
-use Rattle.std.proofs.Common.{◌≡◌, ℕ, ◌+◌, ◌/◌, ◌%◌, ◌≤◌, max, nat_le, Bool, true, false, List, [], ◌++◌, length, take, drop, Result, Ok, Err, IfErr, IsTrue, inl, refl, rules, ◌∙◌, ap, arith, length-append, length-take, le-leb}
+use Rattle.std.proofs.Common.{◌≡◌, ℕ, ◌+◌, ◌/◌, ◌%◌, ◌≤◌, max, nat_le, Bool, true, false, List, [], ◌++◌, length, take, drop, Result, Ok, Err, IfErr, IsTrue, inl, refl, rules, ap, arith, length-append, length-take, le-leb}
 use Rattle.std.proofs.lemmas.List.{take_at, take_all, drop_at, drop-drop, append-nil, length-take-le}
 use Rattle.std.proofs.Math.Seq.{take-add}
 use Rattle.std.specs.List.{concat}
@@ -16,8 +16,7 @@ use Rattle.hound_writer.specs.Accepting.{AcceptsBytes, Accepts, AddsAtEach, Acce
 use Rattle.hound_writer.specs.Parts.{all_out, GoesAtEach, GoesToFile, PutsAt, IsStanding, StaysAround}
 use Rattle.hound_writer.specs.Writer.{Counts, WriterState, HasRoom, IsCounted, IsSound, IsWhole, accepted_samples, data_length}
 use Rattle.hound_writer.proofs.Answers.{accept_as, on_refused, refused_then, unless_failed}
-use Rattle.hound_writer.proofs.Containers.{joined_bytes, whole_more}
-use Rattle.hound_writer.proofs.Keeping.{sound_with}
+use Rattle.hound_writer.proofs.Containers.{joined_bytes}
 use Rattle.hound_writer.proofs.PutsFrom.{puts_from}
 use Rattle.hound_writer.proofs.Storing.{stored_same, stored_still}
 use Rattle.hound_writer.proofs.Samples.{concat-samples, counts_at, samples_append, whole_out}

@@ -45,3 +45,17 @@ one_append_answer bytes (a, is, one) =
   where
     same : (b : AppendAnswer) → (c : Answer) × Answers bytes c × (b ≡ append_of c) → b ≡ append_of a
     same b (c, at, from) = from ∙ ap append_of (one c at)
+
+-- a head of whole samples and frames can be appended to, if its size fits
+pub no_head_fault : (s : WavSpecEx) (len h : ℕ) → IsWritable s → data_fault s len ≡ None
+    → riff_size h len ≤ greatest_u32 → head_fault s len h ≡ None
+unfolding head_fault
+no_head_fault s len h writable none fits =
+    let samples = none_behind (not (eqb (len % s.bytes_per_sample) 0)) _ _ none in
+    let frames = none_behind (not (eqb (len / s.bytes_per_sample % s.spec.channels) 0)) _ _
+    samples.1 in
+    let a = not-false _ samples.0 in
+    let b = writable.pair in
+    let c = not-false _ frames.0 in
+    let d = le-ltb greatest_u32 (riff_size h len) fits in
+    rw (a, b, c, d) refl

@@ -1,17 +1,14 @@
 -- Appending to an existing file.
 use Rattle.std.proofs.lemmas.Grind.{common_steps}
-use Rattle.std.proofs.Common.{◌≡◌, ℕ, ◌+◌, ◌-◌, ◌%◌, ◌≤◌, Bool, true, false, cond, nat_lt, List, [], drop, Option, Some, None, inl, inr, ◌⊎◌, Result, Ok, Err, MatchResult, refl, rules, sym, ◌∙◌, ap, subst, arith, eqb-true}
-use Rattle.std.proofs.lemmas.Bool.Decides.{nat_tests}
+use Rattle.std.proofs.Common.{◌≡◌, ℕ, ◌+◌, ◌-◌, ◌≤◌, Bool, true, false, cond, List, [], drop, Option, Some, None, inl, inr, ◌⊎◌, Result, Ok, Err, MatchResult, refl, rules, sym, ◌∙◌, ap, subst, arith}
 use Rattle.hound_spec.specs.declared.error.Error.{Error}
 use Rattle.hound_spec.specs.declared.spec.WavSpecEx.{WavSpecEx}
-use Rattle.hound_spec.specs.{riff_size, greatest_u32}
 use Rattle.hound_medium.specs.{MediumState, Goes, WhereTells, one_more}
 use Rattle.hound_reader.specs.declared.chunks.FileHead.{FileHead}
 use Rattle.hound_reader.specs.declared.cause.Cause.{Cause}
 use Rattle.hound_reader.specs.declared.cause.HeadError.{HeadError}
 use Rattle.hound_reader.specs.declared.cause.HeadError.TheVariants.{Failed, Refused}
 use Rattle.hound_reader.specs.{IsSoundSpec as IsSoundHead, Head, Refused as RefusedFor, ReportsError, FindsData}
-use Rattle.std.proofs.lemmas.Bool.{not-false}
 use Rattle.std.specs.declared.io.Error.{Error as IoFault}
 use Rattle.hound_writer.specs.Accepting.{IsIoError}
 use Rattle.hound_writer.specs.Parts.{of_fields, IsStanding}

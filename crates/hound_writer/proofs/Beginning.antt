@@ -3,18 +3,16 @@ use Rattle.std.proofs.lemmas.Grind.{common_steps}
 use Rattle.std.proofs.Common.{◌≡◌, ℕ, ◌+◌, ◌-◌, Bool, List, [], ◌++◌, length, take, drop, Ok, refl, rules, ◌∙◌, ap, arith, append_assoc, length-append}
 use Rattle.std.proofs.lemmas.List.{take_at, take_all, drop_at}
 use Rattle.hound_number.specs.{bytes_of, number}
-use Rattle.hound_medium.specs.{placed, overlay, MediumState, PutsAll}
+use Rattle.hound_medium.specs.{MediumState, PutsAll}
 use Rattle.hound_medium.proofs.Overlays.{overlay_is}
 use Rattle.hound_spec.specs.declared.spec.WavSpecEx.{WavSpecEx}
 use Rattle.hound_spec.specs.{riff_tag, data_start, header, IsWritable}
 use Rattle.hound_spec.proofs.HeaderLemmas.{described, header-parts, length-header, length-described, data_start_least}
-use Rattle.hound_spec.proofs.WritableLemmas.{pair_facts}
 use Rattle.hound_reader.proofs.WrittenLemmas.{header_head}
 use Rattle.std.specs.declared.io.Error.{Error as IoFault}
 use Rattle.hound_writer.specs.Beginning.{PutsHeader}
 use Rattle.hound_writer.specs.Parts.{of_fields, IsStanding}
 use Rattle.hound_writer.specs.Writer.{field, IsSound, IsWhole, HasHeader}
-use Rattle.hound_writer.proofs.Containers.{none_whole}
 use Rattle.hound_writer.proofs.Samples.{counts_at, whole_out}
 
 -- the data length of a header with 0 in it

@@ -1,20 +1,17 @@
 -- What one call for samples and an end leave in a medium that was empty: exactly the canonical file.
 use Rattle.std.proofs.lemmas.Grind.{common_steps}
-use Rattle.std.proofs.Common.{◌≡◌, ℕ, ◌+◌, ◌/◌, Bool, List, [], ◌++◌, length, take, drop, Ok, IsTrue, sym, ◌∙◌, ap, arith, length-append, length-drop}
+use Rattle.std.proofs.Common.{◌≡◌, ℕ, ◌+◌, Bool, List, [], ◌++◌, length, take, Ok, IsTrue, sym, ◌∙◌, ap, arith, length-append, length-drop}
 use Rattle.std.proofs.lemmas.List.{take_all}
 use Rattle.std.specs.Io.{StartsWith}
 use Rattle.hound_spec.specs.declared.spec.WavSpecEx.{WavSpecEx}
 use Rattle.hound_spec.specs.{header, data_start, canonical}
 use Rattle.hound_spec.proofs.HeaderLemmas.{length-canonical, length-header}
-use Rattle.hound_sample.specs.{containers}
-use Rattle.hound_medium.specs.{placed, overlay, MediumState}
+use Rattle.hound_medium.specs.{MediumState}
 use Rattle.hound_medium.proofs.Overlays.{overlay_is}
 use Rattle.hound_writer.specs.Accepting.{Accepts}
 use Rattle.hound_writer.specs.Beginning.{Begins}
 use Rattle.hound_writer.specs.Publishing.{Finishes}
 use Rattle.hound_writer.specs.Writer.{WriterState, IsBegun, IsSound, accepted_samples, data_length}
-use Rattle.hound_writer.proofs.Containers.{zero_div}
-use Rattle.hound_writer.proofs.Samples.{samples_out}
 use Rattle.hound_writer.proofs.Sizes.{header_front}
 
 -- a writer with no accepted bytes has no samples

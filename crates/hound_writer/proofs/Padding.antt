@@ -1,8 +1,8 @@
 -- The pad byte after the accepted data.
 use Rattle.std.proofs.lemmas.Grind.{common_steps}
-use Rattle.std.proofs.Common.{◌≡◌, ℕ, zero, suc, ◌+◌, ◌%◌, Bool, true, false, IsTrue, List, [], ◌∷◌, length, take, drop, refl, sym, ◌∙◌, ap, arith}
+use Rattle.std.proofs.Common.{◌≡◌, ℕ, zero, suc, ◌+◌, ◌%◌, Bool, true, false, IsTrue, List, [], ◌∷◌, length, take, drop, refl, sym, ap, arith}
 use Rattle.std.proofs.lemmas.List.{take_all}
-use Rattle.hound_medium.specs.{overlay, placed, put_at, MediumState, WhereTells, WhereKeeps}
+use Rattle.hound_medium.specs.{overlay, put_at, MediumState, WhereTells, WhereKeeps}
 use Rattle.hound_writer.specs.Parts.{GoesOut, after_out, all_out, IsConsistent, PutsAt}
 use Rattle.hound_writer.specs.Writer.{WriterState, IsPadded, data_length, padded_end}
 use Rattle.hound_writer.proofs.Accepting.{around, at_each, goes_at_each, goes_beside}

@@ -4,7 +4,7 @@ use Rattle.std.proofs.Common.{◌≡◌, ℕ, ◌+◌, ◌^◌, ◌<◌, ◌≤�
 use Rattle.std.proofs.lemmas.Bool.{false≢true}
 use Rattle.std.proofs.lemmas.List.{drop_at, length-take-le, take_all, take_at}
 use Rattle.hound_number.specs.{number, bytes_of, mix, AreBytes}
-use Rattle.hound_number.proofs.Mixing.{mix_all, mix_none}
+use Rattle.hound_number.proofs.Mixing.{mix_none}
 use Rattle.hound_spec.proofs.FmtLemmas.{number-bytes_of}
 use Rattle.hound_medium.specs.{placed, overlay, MediumState, Flushes, faults_after, one_more}
 use Rattle.hound_medium.proofs.Outcomes.{on_ok}

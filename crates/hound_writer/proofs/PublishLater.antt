@@ -1,7 +1,7 @@
 -- A call that publishes: the buffered samples are written before, and the pad byte, and if that
 -- fails nothing is patched.
 use Rattle.std.proofs.lemmas.Grind.{common_steps}
-use Rattle.std.proofs.Common.{◌≡◌, ℕ, ◌+◌, ◌-◌, ◌≤◌, inl, inr, Bool, true, false, IsTrue, ◌%◌, Result, Err, List, length, take, drop, refl, rules, sym, ◌∙◌, ap, subst, arith, length-append, length-take}
+use Rattle.std.proofs.Common.{◌≡◌, ℕ, ◌+◌, ◌-◌, ◌≤◌, inl, inr, Bool, true, false, IsTrue, ◌%◌, Result, Err, List, length, take, drop, refl, rules, sym, ◌∙◌, ap, arith}
 use Rattle.std.proofs.lemmas.Bool.{cases_lt}
 use Rattle.std.specs.List.{concat}
 use Rattle.std.specs.declared.io.Error.{Error as IoFault}
@@ -13,7 +13,7 @@ use Rattle.hound_medium.proofs.Spans.{join, moment_before, span_weaker}
 use Rattle.hound_medium.proofs.Torn.{number_at_small}
 use Rattle.hound_spec.specs.declared.error.Error.{Error}
 use Rattle.hound_spec.specs.declared.error.Error.TheVariants.{IoError}
-use Rattle.hound_writer.specs.Accepting.{OnPublished, faults_told}
+use Rattle.hound_writer.specs.Accepting.{faults_told}
 use Rattle.hound_writer.specs.Parts.{GoesAtEach, GoesOut, StaysAround, after_out}
 use Rattle.hound_writer.specs.Writer.{Counts, ChangesSizesOnly, field, WriterState, IsBegun, IsPadded, IsSound, HasHeader, accepted_samples, data_length, padded_end}
 use Rattle.hound_durable.specs.{place_of}
@@ -23,7 +23,6 @@ use Rattle.hound_writer.proofs.Answers.{publishing_as}
 use Rattle.hound_writer.proofs.Later.{goes_further, length_same}
 use Rattle.hound_writer.proofs.Publishing.{in_medium}
 use Rattle.hound_writer.proofs.Sizes.{header_front, sizes_front, sizes_then, take_front}
-use Rattle.hound_writer.proofs.Standing.{inside}
 use Rattle.hound_writer.proofs.Storing.{stored_join}
 
 -- bytes before the data that stay

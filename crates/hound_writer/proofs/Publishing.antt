@@ -1,7 +1,7 @@
 -- What a file is once its sizes are published.
 use Rattle.std.proofs.lemmas.Grind.{common_steps}
-use Rattle.std.proofs.Common.{◌≡◌, ℕ, ◌+◌, ◌-◌, ◌/◌, ◌%◌, ◌≤◌, Bool, true, List, [], ◌++◌, None, eq-eqb, length, take, drop, Result, refl, rules, sym, ◌∙◌, ap, arith, append_assoc, length-append, length-drop, take-append-drop}
-use Rattle.std.proofs.lemmas.List.{take_at, take-take, take_all, drop-drop, length-take-le}
+use Rattle.std.proofs.Common.{◌≡◌, ℕ, ◌+◌, ◌-◌, ◌/◌, ◌%◌, ◌≤◌, Bool, true, List, [], ◌++◌, length, take, drop, Result, refl, rules, sym, ◌∙◌, ap, arith, append_assoc, length-append, length-drop, take-append-drop}
+use Rattle.std.proofs.lemmas.List.{take_at, take-take, drop-drop, length-take-le}
 use Rattle.std.specs.declared.io.Error.{Error as IoFault}
 use Rattle.std.specs.Io.{StartsWith}
 use Rattle.std.specs.List.{concat}
@@ -23,7 +23,6 @@ use Rattle.hound_writer.proofs.Answers.{published, told_faults, told_ok}
 use Rattle.hound_writer.proofs.Keeping.{consistent_moved}
 use Rattle.hound_writer.proofs.Later.{drop_later}
 use Rattle.hound_writer.proofs.Samples.{concat-samples, counts_at, length-samples, length_out, whole_out}
-use Rattle.hound_reader.specs.{data_fault}
 use Rattle.hound_writer.proofs.Patching.{riff_size_of_sizes, data_length_of_sizes}
 use Rattle.hound_writer.proofs.Heads.{in_parts}
 use Rattle.hound_writer.proofs.Standing.{inside, stands_patched}

@@ -1,7 +1,7 @@
 -- The accepted samples of a writer: those in the medium, and the buffered ones.
 use Rattle.std.proofs.lemmas.Grind.{common_steps}
-use Rattle.std.proofs.Common.{◌≡◌, Bool, refl, ℕ, ◌+◌, ◌/◌, ◌%◌, List, [], ◌++◌, length, take, drop, sym, ◌∙◌, ap, arith, length-append, length-drop}
-use Rattle.std.proofs.lemmas.List.{append-nil, length-take-le}
+use Rattle.std.proofs.Common.{◌≡◌, Bool, ℕ, ◌+◌, ◌/◌, ◌%◌, List, [], ◌++◌, length, take, drop, sym, ◌∙◌, ap, arith}
+use Rattle.std.proofs.lemmas.List.{append-nil}
 use Rattle.std.specs.List.{concat}
 use Rattle.hound_medium.specs.{MediumState}
 use Rattle.hound_sample.specs.{containers}

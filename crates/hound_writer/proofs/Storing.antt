@@ -1,14 +1,13 @@
 -- Bytes that stay stored, call after call.
 use Rattle.std.proofs.lemmas.Grind.{common_steps}
-use Rattle.std.proofs.Common.{◌≡◌, ℕ, zero, suc, ◌+◌, ◌-◌, ◌/◌, ◌%◌, ◌<◌, ◌≤◌, inl, inr, List, [], ◌∷◌, ◌++◌, length, get_or, take, drop, refl, sym, ◌∙◌, ap, subst, arith, length-append, length-drop, length-take}
+use Rattle.std.proofs.Common.{◌≡◌, ℕ, zero, suc, ◌+◌, ◌-◌, ◌<◌, ◌≤◌, inl, inr, List, [], ◌∷◌, ◌++◌, length, get_or, take, drop, refl, sym, ◌∙◌, ap, subst, arith, length-append, length-drop, length-take}
 use Rattle.std.proofs.lemmas.Bool.{cases_lt}
-use Rattle.std.proofs.lemmas.List.{drop-drop, length-take-le, take-append-le, get_or-take, get_or-drop, get_or-append-add}
+use Rattle.std.proofs.lemmas.List.{drop-drop, length-take-le, get_or-take, get_or-drop, get_or-append-add}
 use Rattle.std.proofs.Math.Seq.{get_or-append_right}
 use Rattle.std.specs.List.{concat}
 use Rattle.hound_medium.specs.{moment, placed, put_at, MediumState}
 use Rattle.hound_medium.proofs.Overlays.{front_part, overlay_more}
 use Rattle.hound_medium.proofs.Spans.{moment_before}
-use Rattle.hound_sample.specs.{containers}
 use Rattle.hound_durable.specs.{place_of}
 use Rattle.hound_writer.specs.Accepting.{IsStored, KeepsStored, StaysTrue}
 use Rattle.hound_writer.specs.Writer.{WriterState, IsSound, IsWhole, accepted_bytes, accepted_samples}
