@@ -74,8 +74,7 @@ IsLast steps marks n None = HasNone steps marks 0 n
 IsLast steps marks n (Some i) =
     (i < n) × IsCheckpoint steps marks i × HasNone steps marks (i + 1) n
 
--- Samples that were asked for follow those that were accepted before, and the file is read as all of
--- these.
+-- the samples of a call follow those that were accepted before, and the file is read as all of these
 abbrev pub IsPublished : {M : Type 0} → (M → MediumState) → Result (List (List ℕ)) Refusal →
     WriterState M → WriterState M → Type 0
 IsPublished state asked old new = (list : List (List ℕ)) × (asked ≡ Ok list)

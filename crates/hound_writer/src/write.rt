@@ -50,7 +50,6 @@ impl<W: Medium> Model for WavWriter<W> {
 }
 
 // Writes the header with both sizes 0, and returns where the data begin.
-#[inline(always)]
 fn begin<W: Medium>(writer: &mut W, spec_ex: WavSpecEx) -> Result<u64>
     requires { WhereTells W.tells ((W.state writer.old).place ≡ 0) }
     ensures begins { MatchResult result

@@ -5,7 +5,7 @@ use Rattle.std.proofs.lemmas.List.{take_all}
 use Rattle.hound.specs.{moment, overlay, new_file, data_start, held, IsNoPad, field, accepted_by_all}
 use Rattle.hound_callers.proofs.recording.record_twelve_and_repair.Goals as goal
 
--- what holds of a result where this is told
+-- what holds of a result where a premise of it is there
 if_told : {T E Told : Type 0} (r : Result T E) {P Q : T → Type 0} (R : E → Type 0)
     → (Told → MatchResult r P R) → ((x : T) → (Told → P x) → Q x) → MatchResult r Q (λ _. ⊤)
 if_told (Ok x) R is then = then x is
