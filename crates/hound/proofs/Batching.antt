@@ -1,7 +1,6 @@
 -- What a batch accepts, and its values one by one.
 use Rattle.std.proofs.lemmas.Grind.{common_steps}
-use Rattle.std.proofs.Common.{◌≡◌, ℕ, ℤ, ◌/◌, Bool, true, false, List, [], ◌∷◌, ◌++◌, length, map, Result, Ok, Err, IsTrue, sym, ◌∙◌, ap, subst, refl, arith}
-use Rattle.std.proofs.lemmas.Bool.{false≢true}
+use Rattle.std.proofs.Common.{◌≡◌, ℕ, ℤ, ◌/◌, Bool, true, List, [], ◌∷◌, ◌++◌, length, map, Result, Ok, Err, IsTrue, sym, ◌∙◌, ap, subst, refl, arith}
 use Rattle.std.proofs.lemmas.Bool.Decides.{nat_tests}
 use Rattle.std.proofs.lemmas.List.{append-nil}
 use Rattle.std.proofs.lemmas.List.Concat.{concat_is}
@@ -36,7 +35,7 @@ short_container v bits width c sixteen is =
 -- what an Ok accepts of one value
 one_taken : {M : Type 0} (w : WriterState M) (container : Result (List ℕ) Refusal) (bytes : List ℕ)
     → ((c : List ℕ) → container ≡ Ok c → c ≡ bytes)
-    → AcceptAnswer false (one container) w (Ok (tt {0}))
+    → AcceptAnswer (one container) w (Ok (tt {0}))
     → if_marked true (one container) ≡ bytes ∷ []
 one_taken w (Ok c) bytes same answers = ap (λ (x : List ℕ). x ∷ []) (same c refl)
 one_taken w (Err refusal) bytes same answers = cc
@@ -53,7 +52,7 @@ module _ {M : Type 0} (tells keeps : Bool) (state : M → MediumState) (told : I
       let s = old.spec_ex in
       let container = int_container v s.spec.bits_per_sample s.bytes_per_sample in
       let first = call_went tells keeps state told (Ok tt) old.buffer old mid (write (one container))
-      (accepts, λ no. absurd (false≢true no)) in
+      accepts in
       let bytes = signed_bytes_of 2 v in
       went_then tells keeps state told (bytes ∷ []) (map (signed_bytes_of 2) values) old mid new
       (subst (λ l. Went tells keeps state told l old mid)
@@ -66,7 +65,7 @@ module _ {M : Type 0} (tells keeps : Bool) (state : M → MediumState) (told : I
   pub same_samples : (values : List ℤ) (first a b c : WriterState M) → IsWhole state first
       → first.spec_ex.spec.bits_per_sample ≡ 16 → first.spec_ex.bytes_per_sample ≡ 2
       → IsSameFile first a
-      → Accepts tells keeps state false
+      → Accepts tells keeps state
       (Ok (containers a.spec_ex.bytes_per_sample
       (length (short_bytes values) / a.spec_ex.bytes_per_sample) (short_bytes values))) (Ok tt) a b
       → AcceptsEach tells keeps state int_container values first c
@@ -88,7 +87,7 @@ module _ {M : Type 0} (tells keeps : Bool) (state : M → MediumState) (told : I
       (subst (Went tells keeps state told [] first) (same_but_memory first a stays)
       (went_still tells keeps state told first a.buffer))
       (call_went tells keeps state told (Ok tt) a.buffer a b (write (Ok list))
-      (batch, λ no. absurd (false≢true no))) in
+      batch) in
       let l = each_went values first c sixteen each in (
         t.accepted whole ∙ ap (λ x. accepted_samples state first ++ x) same
             ∙ sym (l.accepted whole),

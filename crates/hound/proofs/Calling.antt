@@ -8,7 +8,7 @@ use Rattle.hound_spec.specs.declared.error.Error.{Error}
 use Rattle.hound_spec.specs.{data_start}
 use Rattle.hound_medium.specs.{moment, overlay, MediumState, Span}
 use Rattle.hound_medium.proofs.Spans.{moment_last}
-use Rattle.hound_writer.specs.{UnlessFailed, faults_told, mark_of, IsStored, KeepsStored, Asked, Call, Does, Lead, publish, put, with_memory, Counts, ChangesSizesOnly, WriterState, HasHeader, IsBegun, IsCounted, IsWhole, accepted_samples, data_length, padded_end}
+use Rattle.hound_writer.specs.{UnlessFailed, faults_told, mark_of, IsStored, KeepsStored, Asked, Call, Does, Lead, publish, write, with_memory, Counts, ChangesSizesOnly, WriterState, HasHeader, IsBegun, IsCounted, IsWhole, accepted_samples, data_length, padded_end}
 use Rattle.hound_writer.proofs.Answers.{unless_failed, unless_then, where_marked}
 use Rattle.hound_writer.proofs.Fresh.{begun_front}
 use Rattle.hound_writer.proofs.Sizes.{sizes_front, sizes_then, take_front}
@@ -128,14 +128,14 @@ module _ {W : Type 0} (tells keeps : Bool) (state : W → MediumState) (told : I
     -- its faults are counted
     pub call_faults : (asked : Asked) → Did asked
         → (state new.medium).faults ≡ faults_told answer (state old.medium).faults
-    call_faults (put allocates containers) (a, m) = (a.file told).faults
+    call_faults (write containers) a = (a.file told).faults
     call_faults publish c = (c.publishes told).faults
 
     -- and unless it met one, the contents end no later than before, or at the end of the data
     pub call_reach : (asked : Asked) → Did asked
         → UnlessFailed answer (length (state new.medium).contents
         ≤ max (length (state old.medium).contents) (padded_end new))
-    call_reach (put allocates containers) (a, m) =
+    call_reach (write containers) a =
         unless_then answer (λ le. omega (arith, le)) (a.file told).reach
     call_reach publish c =
         unless_failed answer
@@ -156,7 +156,7 @@ module _ {W : Type 0} (tells keeps : Bool) (state : W → MediumState) (told : I
     pub call_span : IsTrue keeps → (asked : Asked) → Did asked → IsWhole state old
         → Span (λ _. Counts old.spec_ex old.data_start (accepted_samples state old)) 0
         (state old.medium) (state new.medium)
-    call_span kept (put allocates containers) (a, m) whole = (a.moments told kept).counts whole
+    call_span kept (write containers) a whole = (a.moments told kept).counts whole
     call_span kept publish c whole = (c.moments told kept).counts whole
 
     call_later : (asked : Asked) → Did asked → IsTrue keeps → IsWhole state old
@@ -165,7 +165,7 @@ module _ {W : Type 0} (tells keeps : Bool) (state : W → MediumState) (told : I
         span_later _ 0 (state old.medium) (state new.medium) (call_span kept asked does whole)
 
     pub call_went : (asked : Asked) → Did asked → Went (accepted_of asked (mark_of answer)) old new
-    call_went (put allocates containers) (a, m) = record {
+    call_went (write containers) a = record {
       spec_ex = a.adds.spec_ex;
       data_start = a.adds.data_start;
       size = a.adds.data_length;
@@ -176,8 +176,8 @@ module _ {W : Type 0} (tells keeps : Bool) (state : W → MediumState) (told : I
       accepted = (a.file told).accepted;
       counts = λ whole _. (a.file told).counts whole;
       faults = grows_told answer (state old.medium) (state new.medium) (a.file told).faults;
-      reach = call_reached (put allocates containers) (a, m);
-      later = call_later (put allocates containers) (a, m);
+      reach = call_reached (write containers) a;
+      later = call_later (write containers) a;
       sizes = λ kept replays behind whole k from to.
           let c = moment (state new.medium).start (state new.medium).past k in
           sizes_front old.data_start (state old.medium).contents c behind

@@ -10,7 +10,7 @@ use Rattle.hound_medium.specs.{moment, overlay, MediumState}
 use Rattle.hound_medium.proofs.Overlays.{front_part}
 use Rattle.hound_medium.proofs.Spans.{moment_last}
 use Rattle.hound_durable.specs.{place_of}
-use Rattle.hound_writer.specs.{Asked, Call, Does, Lead, publish, put, with_memory, IsOldOrNew, IsOutside, field, WriterState, IsWhole, accepted_samples, data_length}
+use Rattle.hound_writer.specs.{Asked, Call, Does, Lead, publish, write, with_memory, IsOldOrNew, IsOutside, field, WriterState, IsWhole, accepted_samples, data_length}
 use Rattle.hound.specs.Headline.{HasPublished, IsUncut, NeverLess, PublishedByFlushes, accepted_by_all, begins_at}
 use Rattle.hound_writer.proofs.Answers.{where_marked}
 use Rattle.hound.proofs.Calling.{begin, call_went, later, lead_parts, length-concat-append, made, went}
@@ -37,11 +37,11 @@ module _ {W : Type 0} (tells keeps : Bool) (state : W → MediumState) (told : I
       → (asked ≡ publish → ⊥)
       ⊎ (P (data_length old) × IsOutside p (state old.medium) (state new.medium) k)
       → P (field p (moment (state new.medium).start (state new.medium).past k))
-  call_field (put allocates list) answer memory old new does at behind whole has_it k from to fine =
+  call_field (write list) answer memory old new does at behind whole has_it k from to fine =
       subst P
       (ap number (sym (front_part (old.data_start + old.out) p 4
       (moment (state new.medium).start (state new.medium).past k) (state old.medium).contents
-      (omega (arith, at, behind)) (((does.0.moments told kept).front whole).each k from to)))) has_it
+      (omega (arith, at, behind)) (((does.moments told kept).front whole).each k from to)))) has_it
   call_field publish answer memory old new does at behind whole has_it k from to (inl none) =
       absurd (none refl)
   call_field publish answer memory old new does at behind whole has_it k from to

@@ -7,7 +7,7 @@ use Rattle.std.specs.Io.{StartsWith}
 use Rattle.hound_number.specs.{AreBytes}
 use Rattle.hound_spec.specs.declared.error.Error.{Error}
 use Rattle.hound_spec.specs.declared.spec.WavSpecEx.{WavSpecEx}
-use Rattle.hound_spec.specs.{data_start, header, canonical, riff_size, IsWritable, greatest_u32}
+use Rattle.hound_spec.specs.{data_start, canonical, riff_size, IsWritable, greatest_u32}
 use Rattle.hound_spec.specs.declared.error.Error.TheVariants.{IoError, Unsupported}
 use Rattle.hound_spec.proofs.HeaderLemmas.{length-canonical, length-header, data_start_least}
 use Rattle.hound_sample.specs.{containers}
@@ -15,7 +15,7 @@ use Rattle.hound_medium.specs.{MediumState, one_more}
 use Rattle.hound_medium.proofs.Torn.{number_at_small}
 use Rattle.hound_reader.proofs.Exists.{one_answer}
 use Rattle.hound_reader.proofs.Unique.{heads_agree}
-use Rattle.hound_writer.specs.{IsPublishing, IsIoError, mark_of, Does, Asked, publish, put, WriterState, data_length, HasHeader, IsWhole, IsBegun, accepted_samples, padded_end, field, Appends, IsAppendFault, AppendFault, appendable, faulty, Begins, Finishes, ReadsAs}
+use Rattle.hound_writer.specs.{IsPublishing, IsIoError, mark_of, Does, Asked, publish, write, WriterState, data_length, HasHeader, IsWhole, IsBegun, accepted_samples, padded_end, field, Appends, IsAppendFault, AppendFault, appendable, faulty, Begins, Finishes, ReadsAs}
 use Rattle.hound_writer.proofs.Answers.{all_marked, where_marked, no_io, publishing_as, refused_of}
 use Rattle.hound_writer.proofs.Accepting.{length_overlay_max}
 use Rattle.hound_writer.proofs.AppendAnswers.{no_head_fault, one_append_answer}
@@ -160,8 +160,8 @@ module _ {M : Type 0} (tells keeps : Bool) (state : M → MediumState) (told : I
   on_refused : (list : List (List ℕ)) (asked : Asked) (e : Error) (old new : WriterState M)
       → (IsIoError e → ⊥) → OnFile list old → Does tells keeps state asked (Err e) old new
       → NoFault (state old.medium) (state new.medium) → OnFile list new
-  on_refused list (put allocates asked) e old new no_io on does none =
-      subst (OnFile list) (sym (refused_of e no_io does.0.adds.refused)) on
+  on_refused list (write asked) e old new no_io on does none =
+      subst (OnFile list) (sym (refused_of e no_io does.adds.refused)) on
   on_refused list publish e old new no_io on does none =
       subst (λ l. OnFile l new) (append-nil list)
       (on_call list publish (Err e) old new on does none.0

@@ -8,11 +8,11 @@ use Rattle.hound_spec.specs.{canonical, data_start}
 use Rattle.hound_medium.specs.{moment, MediumState}
 use Rattle.hound_durable.specs.{Ascends, SurvivesLoss, place_of}
 use Rattle.hound_reader.specs.{Head, IsSoundSpec}
-use Rattle.hound_writer.specs.{if_marked, mark_of, IsStored, Asked, Begun, Call, Known, LeftBy, appended, found_in, new_file, publish, put, start_of, Counts, field, HasHeader}
+use Rattle.hound_writer.specs.{if_marked, mark_of, IsStored, Asked, Begun, Call, Known, LeftBy, appended, found_in, new_file, publish, write, start_of, Counts, field, HasHeader}
 
 -- what a call accepted, by what it asked and its mark
 abbrev pub accepted_of : Asked → Bool → List (List ℕ)
-accepted_of (put allocates containers) mark = if_marked mark containers
+accepted_of (write containers) mark = if_marked mark containers
 accepted_of publish mark = []
 
 -- what calls accepted, in their order

@@ -7,7 +7,7 @@ use Rattle.hound_spec.specs.declared.error.Error.TheVariants.{Unsupported, IoErr
 use Rattle.hound_spec.specs.declared.spec.WavSpecEx.{WavSpecEx}
 use Rattle.hound_spec.specs.{data_start, IsWritable, canonical}
 use Rattle.hound_medium.specs.{MediumState, WhereTells, Goes}
-use Rattle.hound_writer.specs.{AcceptAnswer, IsIoError, IsPublishing, Asked, publish, put, WriterState, Finishes}
+use Rattle.hound_writer.specs.{AcceptAnswer, IsIoError, IsPublishing, Asked, publish, write, WriterState, Finishes}
 use Rattle.hound.specs.declared.session.Step.{Step}
 use Rattle.hound.specs.Run.{accepted_by, asked_by, containers_of, BeginsAs, IsNotBegunAs, Takes}
 use Rattle.std.specs.Io.{StartsWith}
@@ -28,8 +28,7 @@ writer_after s list = record {
 
 -- what such a writer returns for a call
 abbrev pub AnswersCall : WavSpecEx → List (List ℕ) → Asked → Result (Unit {0}) Error → Type 0
-AnswersCall s list (put allocates containers) answer =
-    AcceptAnswer allocates containers (writer_after s list) answer
+AnswersCall s list (write containers) answer = AcceptAnswer containers (writer_after s list) answer
 AnswersCall s list publish answer = IsPublishing answer (writer_after s list)
 
 -- what such a writer returns for a step

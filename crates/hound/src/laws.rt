@@ -1,5 +1,5 @@
 // What holds for every run.
-ghost use Rattle.std.specs.Prelude.{◌≡◌, ◌<◌, ◌≤◌, ◌-◌, ◌/◌, ℕ, Bool, false, IsTrue, List, [], ◌∷◌, ◌++◌, Ok, Result, length, map};
+ghost use Rattle.std.specs.Prelude.{◌≡◌, ◌<◌, ◌≤◌, ◌-◌, ◌/◌, ℕ, Bool, IsTrue, List, [], ◌∷◌, ◌++◌, Ok, Result, length, map};
 ghost use Rattle.std.specs.List.{flat_map};
 ghost use Rattle.hound_spec.specs.declared.error.Error.{Error};
 ghost use Rattle.hound_spec.specs.declared.spec.WavSpecEx.{WavSpecEx};
@@ -33,7 +33,7 @@ pub fn a_batch_is_its_values<M: Medium>(values: &[i16])
     ensures { WhereTells M.tells ((first a b c : WriterState M) → IsWhole M.state first →
         first.spec_ex.spec.bits_per_sample ≡ 16 → first.spec_ex.bytes_per_sample ≡ 2 →
         IsSameFile first a →
-        Accepts M.tells M.keeps M.state false (Ok (containers a.spec_ex.bytes_per_sample (length (short_bytes values.now) / a.spec_ex.bytes_per_sample) (short_bytes values.now))) (Ok tt) a b → AcceptsEach M.tells M.keeps M.state int_container values.now first c →
+        Accepts M.tells M.keeps M.state (Ok (containers a.spec_ex.bytes_per_sample (length (short_bytes values.now) / a.spec_ex.bytes_per_sample) (short_bytes values.now))) (Ok tt) a b → AcceptsEach M.tells M.keeps M.state int_container values.now first c →
         (accepted_samples M.state b ≡ accepted_samples M.state c) × (data_length b ≡ data_length c)) }
 {}
 

@@ -1,5 +1,5 @@
 // Steps taken with a writer.
-ghost use Rattle.std.specs.Prelude.{◌≡◌, false};
+ghost use Rattle.std.specs.Prelude.{◌≡◌};
 ghost use Rattle.hound_writer.specs.{Accepts};
 ghost use Rattle.hound.specs.Run.{Takes, is_sixteen, batch_containers};
 
@@ -17,7 +17,7 @@ fn is_sixteen(spec: WavSpec) -> bool
 
 // Writes a batch, of samples of sixteen bits only.
 fn write_batch<M: Medium>(writer: &mut WavWriter<M>, values: &[i16]) -> Result<()>
-    ensures { Accepts M.tells M.keeps M.state false (batch_containers writer.old.spec_ex values.now)
+    ensures { Accepts M.tells M.keeps M.state (batch_containers writer.old.spec_ex values.now)
         result writer.old writer.new }
 {
     if !is_sixteen(writer.spec()) {

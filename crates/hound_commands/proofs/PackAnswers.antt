@@ -7,7 +7,7 @@ use Rattle.hound_sample.specs.{Refusal, too_wide, unsupported, fits, if_fits, in
 use Rattle.hound_spec.specs.{greatest_u32, data_start, riff_size, IsPair}
 use Rattle.hound_medium.specs.{MediumState}
 use Rattle.hound_spec.specs.declared.error.Error.{Error}
-use Rattle.hound_spec.specs.declared.error.Error.TheVariants.{IoError, OutOfMemory, TooLong, TooWide, UnfinishedSample}
+use Rattle.hound_spec.specs.declared.error.Error.TheVariants.{IoError, TooLong, TooWide, UnfinishedSample}
 use Rattle.hound_spec.specs.declared.spec.SampleFormat.TheVariants.{Int}
 use Rattle.hound_spec.specs.declared.spec.WavSpecEx.{WavSpecEx}
 use Rattle.hound_reader.proofs.WrittenLemmas.{length-concat}
@@ -79,17 +79,16 @@ module _ {W : Type 0} (s : WavSpecEx) (integers : s.spec.sample_format ≡ Int) 
       ap (λ d. riff_size d (data_length first + length (concat cs))) begun.start
       ∙ ap (riff_size (data_start s)) (let e : data_length first + length (concat cs) ≡ length (concat cs) = omega (arith, nothing) in e)
 
-  fit_error : (b : Bool) (e : Error) → FitAnswer {T = Unit {0}} b false (Err e)
+  fit_error : (b : Bool) (e : Error) → FitAnswer {T = Unit {0}} b (Err e)
       → (b ≡ false → IsPackError s ns TooLong) → IsPackFailure s ns (failure_of e)
   fit_error true (IoError f) fit long = tt
-  fit_error true OutOfMemory fit long = tt
   fit_error true e fit long = absurd fit
   fit_error false e fit long =
       subst (λ x. IsPackFailure s ns (failure_of x)) (let is : TooLong ≡ e = cc in is) (long refl)
 
   -- an error of the call for samples names its cause
   pub write_refused : (asked : Result (List (List ℕ)) Refusal) → containers_of s ns ≡ asked
-      → (e : Error) → AcceptAnswer {T = Unit {0}} false asked first (Err e)
+      → (e : Error) → AcceptAnswer {T = Unit {0}} asked first (Err e)
       → IsPackFailure s ns (failure_of e)
   write_refused (Err too_wide) is e answer =
       subst (λ x. IsPackFailure s ns (failure_of x)) (let wide : TooWide ≡ e = cc in wide)
@@ -110,14 +109,14 @@ module _ {W : Type 0} (s : WavSpecEx) (integers : s.spec.sample_format ≡ Int) 
 
   -- what an Ok accepts: containers, with room for them
   pub write_accepted : (asked : Result (List (List ℕ)) Refusal) → containers_of s ns ≡ asked
-      → AcceptAnswer {T = Unit {0}} false asked first (Ok tt)
+      → AcceptAnswer {T = Unit {0}} asked first (Ok tt)
       → (cs : List (List ℕ)) × (containers_of s ns ≡ Ok cs) × HasRoom s cs
   write_accepted (Err refusal) is answer = cc
   write_accepted (Ok cs) is answer = (cs, is, by_test _ refl answer)
     where
       by_test : (b : Bool)
           → nat_le (riff_size first.data_start (data_length first + length (concat cs))) greatest_u32 ≡ b
-          → FitAnswer {T = Unit {0}} b false (Ok tt) → HasRoom s cs
+          → FitAnswer {T = Unit {0}} b (Ok tt) → HasRoom s cs
       by_test true size fit = omega (arith, leb-true _ _ size, room_is cs)
       by_test false size fit = cc
 
@@ -156,7 +155,7 @@ module _ {W : Type 0} {tells keeps : Bool} {state : W → MediumState} (s : WavS
     (integers : s.spec.sample_format ≡ Int) (ns : List ℤ) (old : MediumState)
     (first last : WriterState W) (end : W) (begins : Begins tells keeps state s old first)
     (asked : Result (List (List ℕ)) Refusal) (is : containers_of s ns ≡ asked)
-    (accepts : Accepts tells keeps state false asked (Ok tt) first last)
+    (accepts : Accepts tells keeps state asked (Ok tt) first last)
     (answer : Result (Unit {0}) Error) (finishes : Finishes tells keeps state last answer end) where
   -- an Ok makes the file of the numbers
   pub file_made : IsTrue tells → old.contents ≡ [] → old.place ≡ 0 → answer ≡ Ok tt
@@ -165,7 +164,7 @@ module _ {W : Type 0} {tells keeps : Bool} {state : W → MediumState} (s : WavS
       let b = begins.begun in
       let (cs, have, room) = write_accepted s integers ns first b asked is accepts.adds.answers in
       let accepted =
-      subst (λ a. Accepts tells keeps state false a (Ok tt) first last) (sym is ∙ have) accepts in
+      subst (λ a. Accepts tells keeps state a (Ok tt) first last) (sym is ∙ have) accepts in
       let finished = subst (λ a. Finishes tells keeps state last a end) ok finishes in
       record {
         writable = b.writable;
@@ -174,7 +173,7 @@ module _ {W : Type 0} {tells keeps : Bool} {state : W → MediumState} (s : WavS
         room = room;
         frames = frames_are s integers ns first b last cs have accepted.adds.spec_ex
             accepted.adds.data_length finished.answers;
-        file_is = fresh_file tells keeps state told s old first begins last end false cs empty start
+        file_is = fresh_file tells keeps state told s old first begins last end cs empty start
             accepted finished;
       }
 
@@ -184,7 +183,7 @@ module _ {W : Type 0} {tells keeps : Bool} {state : W → MediumState} (s : WavS
       let b = begins.begun in
       let (cs, have, room) = write_accepted s integers ns first b asked is accepts.adds.answers in
       let accepted =
-      subst (λ a. Accepts tells keeps state false a (Ok tt) first last) (sym is ∙ have) accepts in
+      subst (λ a. Accepts tells keeps state a (Ok tt) first last) (sym is ∙ have) accepts in
       end_refused s integers ns first b last cs have accepted.adds.spec_ex
       accepted.adds.data_length room e
       (subst (λ a. IsPublishing a last) failed finishes.answers)

@@ -33,15 +33,15 @@ adds_nothing state w counts replays = grind (arith, common_steps, span_still, st
 
 -- an error before anything changes
 pub accepts_refused : {W : Type 0} (tells keeps : Bool) (state : W → MediumState)
-    (w : WriterState W) (memory : Bool) (asked : Result (List (List ℕ)) Refusal) (e : Error)
+    (w : WriterState W) (asked : Result (List (List ℕ)) Refusal) (e : Error)
     → WhereTells tells (IsWhole state w → IsCounted state w)
     → WhereKeeps tells keeps
     ((state w.medium).contents ≡ overlay (state w.medium).start (state w.medium).past)
     → mark_of {T = Unit {0}} (Err e) ≡ false
     → ((faults : ℕ) → faults ≡ faults_told {T = Unit {0}} (Err e) faults)
-    → AcceptAnswer {T = Unit {0}} memory asked w (Err e)
-    → Accepts tells keeps state memory asked (Err e) w w
-accepts_refused tells keeps state w memory asked e counts replays mark faults answers =
+    → AcceptAnswer {T = Unit {0}} asked w (Err e)
+    → Accepts tells keeps state asked (Err e) w w
+accepts_refused tells keeps state w asked e counts replays mark faults answers =
     let old = state w.medium in
     let nothing : if_marked (mark_of {T = Unit {0}} (Err e)) asked ≡ [] =
     ap (λ m. if_marked m asked) mark in
@@ -58,11 +58,11 @@ pub type_refuses : {W : Type 0} (tells keeps : Bool) (state : W → MediumState)
     (refusal : Refusal) → WhereTells tells (IsWhole state w → IsCounted state w)
     → WhereKeeps tells keeps
     ((state w.medium).contents ≡ overlay (state w.medium).start (state w.medium).past)
-    → Accepts tells keeps state false (Err refusal) (Err (error_of refusal)) w w
+    → Accepts tells keeps state (Err refusal) (Err (error_of refusal)) w w
 type_refuses tells keeps state w too_wide counts replays =
-    accepts_refused tells keeps state w false _ _ counts replays refl (λ _. refl) refl
+    accepts_refused tells keeps state w _ _ counts replays refl (λ _. refl) refl
 type_refuses tells keeps state w unsupported counts replays =
-    accepts_refused tells keeps state w false _ _ counts replays refl (λ _. refl) refl
+    accepts_refused tells keeps state w _ _ counts replays refl (λ _. refl) refl
 
 -- whole containers for which there is room fit
 pub room_fits : {W : Type 0} (w : WriterState W) (bytes : List ℕ) → HasRoom w (length bytes)
@@ -316,15 +316,15 @@ not_refused P (Err e) failed = absurd failed
 -- the same for writers that hold other memory, which the call leaves as it is
 pub accepts_beside : {W : Type 0} (tells keeps : Bool) (state : W → MediumState)
     (asked : Result (List (List ℕ)) Refusal) (answer : Result (Unit {0}) Error)
-    (a b : WriterState W) (memory : List ℕ) → Accepts tells keeps state false asked answer a b
-    → Accepts tells keeps state false asked answer (record a { buffer = memory })
+    (a b : WriterState W) (memory : List ℕ) → Accepts tells keeps state asked answer a b
+    → Accepts tells keeps state asked answer (record a { buffer = memory })
     (record b { buffer = memory })
 accepts_beside tells keeps state asked answer a b memory accepts =
     let adds = accepts.adds in
     record {
       adds =
-          let answers = accept_as false false asked answer a (record a { buffer = memory })
-          (λ wants. wants) refl refl adds.answers in
+          let answers = accept_as asked answer a (record a { buffer = memory }) refl refl
+          adds.answers in
           let refused = refused_then answer
           (ap (λ (w : WriterState _). record w { buffer = memory })) adds.refused in
           search rules;

@@ -1,6 +1,6 @@
 -- Many samples that a writer shall accept, by the bytes of their containers.
 use Rattle.std.proofs.lemmas.Grind.{common_steps}
-use Rattle.std.proofs.Common.{◌≡◌, ℕ, ◌*◌, ◌/◌, ◌%◌, ◌≤◌, ◌<◌, Bool, false, List, [], length, Result, Ok, Err, IsOk, refl, sym, subst, ◌∙◌, ap, arith}
+use Rattle.std.proofs.Common.{◌≡◌, ℕ, ◌*◌, ◌/◌, ◌%◌, ◌≤◌, ◌<◌, Bool, List, [], length, Result, Ok, Err, IsOk, refl, sym, subst, ◌∙◌, ap, arith}
 use Rattle.std.proofs.lemmas.List.{append-nil}
 use Rattle.std.proofs.Math.Nat.{mul-div_cancel_left, mul-le-mul_right, mul-mod_right}
 use Rattle.std.specs.List.{concat}
@@ -75,7 +75,7 @@ module _ {V : Type 0} (container : V → ℕ → ℕ → Result (List ℕ) Refus
     pub many_asked : (answer : Result (Unit {0}) Error) (new : WriterState W)
         → IsOk (containers_in container w.spec_ex values)
         → AcceptsAll tells keeps state answer w new
-        → Accepts tells keeps state false (containers_in container w.spec_ex values) answer w new
+        → Accepts tells keeps state (containers_in container w.spec_ex values) answer w new
     many_asked answer new have = grind (arith, common_steps, asked_is)
 
     module _
@@ -88,12 +88,12 @@ module _ {V : Type 0} (container : V → ℕ → ℕ → Result (List ℕ) Refus
       pub many_refused : (outcome : Outcome) (fault : IoFault)
           → outcome ≡ outcome_of (containers_in container w.spec_ex values)
           → (outcome ≡ Accepted → ⊥)
-          → Accepts tells keeps state false (containers_in container w.spec_ex values)
+          → Accepts tells keeps state (containers_in container w.spec_ex values)
           (result_of outcome fault) w w
       many_refused outcome fault is other = go (containers_in container w.spec_ex values) is
         where
           go : (asked : Result (List (List ℕ)) Refusal) → outcome ≡ outcome_of asked
-              → Accepts tells keeps state false asked (result_of outcome fault) w w
+              → Accepts tells keeps state asked (result_of outcome fault) w w
           go (Ok list) is = absurd (other is)
           go (Err too_wide) is = rw is (type_refuses tells keeps state w too_wide counts replays)
           go (Err unsupported) is =
@@ -102,7 +102,7 @@ module _ {V : Type 0} (container : V → ℕ → ℕ → Result (List ℕ) Refus
       -- the file has no room for all of them
       pub many_too_long : IsOk (containers_in container w.spec_ex values)
           → (HasRoom w (length values * w.spec_ex.bytes_per_sample) → ⊥)
-          → Accepts tells keeps state false (containers_in container w.spec_ex values)
+          → Accepts tells keeps state (containers_in container w.spec_ex values)
           (Err TooLong) w w
       many_too_long have none =
           let size = size_of w.spec_ex have in
@@ -118,7 +118,7 @@ module _ {V : Type 0} (container : V → ℕ → ℕ → Result (List ℕ) Refus
 
       -- a sample takes a byte at least
       pub too_many : IsOk (containers_in container w.spec_ex values) → greatest_u32 < length values
-          → Accepts tells keeps state false (containers_in container w.spec_ex values)
+          → Accepts tells keeps state (containers_in container w.spec_ex values)
           (Err TooLong) w w
       too_many have many =
           let wide : 1 * length values ≤ w.spec_ex.bytes_per_sample * length values =

@@ -1,10 +1,10 @@
 -- What holds by the result of a call.
-use Rattle.std.proofs.Common.{◌≡◌, ℕ, ◌+◌, ◌/◌, ◌%◌, nat_le, Bool, true, false, IsTrue, List, length, Result, Ok, Err, OnOk, refl, subst, sym, ◌∙◌, ◌<◌, arith}
+use Rattle.std.proofs.Common.{◌≡◌, ℕ, ◌+◌, ◌/◌, ◌%◌, nat_le, Bool, true, false, List, length, Result, Ok, Err, OnOk, refl, subst, sym, ◌∙◌, ◌<◌, arith}
 use Rattle.std.proofs.lemmas.Bool.{false≢true}
 use Rattle.std.specs.List.{concat}
 use Rattle.std.specs.declared.io.Error.{Error as IoFault}
 use Rattle.hound_spec.specs.declared.error.Error.{Error}
-use Rattle.hound_spec.specs.declared.error.Error.TheVariants.{IoError, OutOfMemory, UnfinishedSample}
+use Rattle.hound_spec.specs.declared.error.Error.TheVariants.{IoError, UnfinishedSample}
 use Rattle.hound_spec.specs.{greatest_u32, riff_size}
 use Rattle.hound_medium.specs.{faults_after}
 use Rattle.hound_sample.specs.{Refusal}
@@ -64,26 +64,15 @@ told_faults (Err e) are_frames told old new is here = rw is here
 told_faults (Ok x) true told old new is here = rw is here
 told_faults (Ok x) false told old new is here = rw is here
 
--- a result that may lack memory may do so if more may lack it
-pub fit_as : (fits memory more : Bool) (answer : Result (Unit {0}) Error)
-    → (IsTrue memory → IsTrue more) → FitAnswer fits memory answer → FitAnswer fits more answer
-fit_as false memory more answer weaker is = is
-fit_as true memory more (Ok x) weaker is = tt
-fit_as true memory more (Err OutOfMemory) weaker is = weaker is
-fit_as true memory more (Err (IoError e)) weaker is = tt
-fit_as true memory more (Err e) weaker is = absurd is
-
 -- writers of as many bytes after the same head return the same for the same containers
-pub accept_as : {V W : Type 0} (memory more : Bool) (asked : Result (List (List ℕ)) Refusal)
+pub accept_as : {V W : Type 0} (asked : Result (List (List ℕ)) Refusal)
     (answer : Result (Unit {0}) Error) (w : WriterState W) (v : WriterState V)
-    → (IsTrue memory → IsTrue more) → w.data_start ≡ v.data_start → data_length w ≡ data_length v
-    → AcceptAnswer memory asked w answer → AcceptAnswer more asked v answer
-accept_as memory more (Err refusal) answer w v weaker start size is = is
-accept_as memory more (Ok list) answer w v weaker start size is =
-    fit_as (nat_le (riff_size v.data_start (data_length v + length (concat list))) greatest_u32)
-    memory more answer weaker
-    (subst (λ n. FitAnswer (nat_le n greatest_u32) memory answer)
-    (λ i. riff_size (start i) (size i + length (concat list))) is)
+    → w.data_start ≡ v.data_start → data_length w ≡ data_length v
+    → AcceptAnswer asked w answer → AcceptAnswer asked v answer
+accept_as (Err refusal) answer w v start size is = is
+accept_as (Ok list) answer w v start size is =
+    subst (λ n. FitAnswer (nat_le n greatest_u32) answer)
+    (λ i. riff_size (start i) (size i + length (concat list))) is
 
 -- and so they do if they publish
 pub publishing_as : {V W : Type 0} (answer : Result (Unit {0}) Error) (w : WriterState W)

@@ -1,5 +1,5 @@
 -- Batches of samples of sixteen bits.
-use Rattle.std.proofs.Common.{◌≡◌, ℕ, ℤ, pos, negsuc, ◌*◌, ◌^◌, ◌&&◌, ◌≤◌, Bool, cond, false, List, [], ◌∷◌, ◌++◌, length, Option, None, Some, unwrap_or, Result, Ok, Err, IsOk, is_ok, FitsSigned, w16, refl, ◌∙◌, ap, arith, length-append, lt-ltb}
+use Rattle.std.proofs.Common.{◌≡◌, ℕ, ℤ, pos, negsuc, ◌*◌, ◌^◌, ◌&&◌, ◌≤◌, Bool, cond, List, [], ◌∷◌, ◌++◌, length, Option, None, Some, unwrap_or, Result, Ok, Err, IsOk, is_ok, FitsSigned, w16, refl, ◌∙◌, ap, arith, length-append, lt-ltb}
 use Rattle.std.proofs.lemmas.List.{append-nil}
 use Rattle.hound_number.specs.{signed_bytes_of}
 use Rattle.hound_spec.specs.declared.error.Error.{Error}
@@ -55,7 +55,7 @@ joined_short (v ∷ values) short =
 pub batch_accepted : {W : Type 0} (tells keeps : Bool) (state : W → MediumState)
     (answer : Result (Unit {0}) Error) (a b : WriterState W) (values : List ℤ) (memory : List ℕ)
     → AreShort values → a.spec_ex.spec.bits_per_sample ≡ 16 → a.spec_ex.bytes_per_sample ≡ 2
-    → Accepts tells keeps state false (containers_in int_container a.spec_ex values) answer a b
+    → Accepts tells keeps state (containers_in int_container a.spec_ex values) answer a b
     → AcceptsBytes tells keeps state (short_bytes values) answer (record a { buffer = memory })
     (record b { buffer = memory })
 batch_accepted tells keeps state answer a b values memory short bits width accepts =

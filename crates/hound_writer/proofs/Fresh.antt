@@ -36,11 +36,11 @@ module _ {W : Type 0} (tells keeps : Bool) (state : W → MediumState) (told : I
   only_header empty start = grind (arith, common_steps, take_all, overlay_is, length-append, length-header, length-drop)
 
   -- a new file, one call for samples, and an end
-  pub fresh_file : (last : WriterState W) (end : W) (memory : Bool) (list : List (List ℕ))
+  pub fresh_file : (last : WriterState W) (end : W) (list : List (List ℕ))
       → old.contents ≡ [] → old.place ≡ 0
-      → Accepts tells keeps state memory (Ok list) (Ok tt) first last
+      → Accepts tells keeps state (Ok list) (Ok tt) first last
       → Finishes tells keeps state last (Ok tt) end → (state end).contents ≡ canonical s list
-  fresh_file last end memory list empty start accepts finishes =
+  fresh_file last end list empty start accepts finishes =
       let b = begins.begun in
       let f = begins.file told in
       let a = accepts.file told in

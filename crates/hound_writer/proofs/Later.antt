@@ -75,18 +75,17 @@ module _ {W : Type 0} (tells keeps : Bool) (state : W → MediumState) (far : �
       }
 
   accepts_after : far ≤ data_end a
-      → (memory : Bool) (asked : Result (List (List ℕ)) Refusal) (answer : Result (Unit {0}) Error)
+      → (asked : Result (List (List ℕ)) Refusal) (answer : Result (Unit {0}) Error)
       (c : WriterState W) → IfErr answer IsIoError
-      → Accepts tells keeps state memory asked answer b c
-      → Accepts tells keeps state memory asked answer a c
-  accepts_after near memory asked answer c failed accepts =
+      → Accepts tells keeps state asked answer b c
+      → Accepts tells keeps state asked answer a c
+  accepts_after near asked answer c failed accepts =
       let adds = accepts.adds in
       let end : data_end a ≤ data_end c =
       omega (arith, adds.data_start, adds.data_length, length_same) in
       record {
         adds =
-            let answers = accept_as memory memory asked answer b a (λ wants. wants) refl length_same
-            adds.answers in
+            let answers = accept_as asked answer b a refl length_same adds.answers in
             let refused = not_refused (c ≡ a) answer failed in
             let same = length_same in
             search rules;
@@ -105,11 +104,11 @@ pub accepts_later : {W : Type 0} (tells keeps : Bool) (state : W → MediumState
     (a b c : WriterState W) (asked : Result (List (List ℕ)) Refusal)
     (answer : Result (Unit {0}) Error)
     → GoesOut tells keeps state (data_end a) true a b → IfErr answer IsIoError
-    → Accepts tells keeps state false asked answer (after_out true b.medium a) c
-    → Accepts tells keeps state false asked answer a c
+    → Accepts tells keeps state asked answer (after_out true b.medium a) c
+    → Accepts tells keeps state asked answer a c
 accepts_later tells keeps state a b c asked answer out failed accepts =
     accepts_after tells keeps state (data_end a) a b.medium
-    (rw out.value at out) (omega arith) false asked answer c failed accepts
+    (rw out.value at out) (omega arith) asked answer c failed accepts
 
 -- containers that aren't, since those weren't written
 pub accepts_cut : {W : Type 0} (tells keeps : Bool) (state : W → MediumState) (far : ℕ)

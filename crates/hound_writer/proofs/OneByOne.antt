@@ -1,6 +1,6 @@
 -- Samples of a block, and the same ones written one by one.
 use Rattle.std.proofs.lemmas.Grind.{common_steps}
-use Rattle.std.proofs.Common.{◌≡◌, ℕ, ◌+◌, Bool, false, IsTrue, List, [], ◌∷◌, ◌++◌, length, Result, Ok, Err, refl, rules, sym, ◌∙◌, ap, append_assoc, length-append, arith}
+use Rattle.std.proofs.Common.{◌≡◌, ℕ, ◌+◌, Bool, IsTrue, List, [], ◌∷◌, ◌++◌, length, Result, Ok, Err, refl, rules, sym, ◌∙◌, ap, append_assoc, length-append, arith}
 use Rattle.std.proofs.lemmas.List.{append-nil}
 use Rattle.std.specs.List.{concat}
 use Rattle.hound_medium.specs.{MediumState}
@@ -17,7 +17,7 @@ pub record HasMore {W : Type 0} (state : W → MediumState) (list : List (List �
 -- an Ok accepted all containers of its call, which are there
 pub all_accepted : {W : Type 0} (tells keeps : Bool) (state : W → MediumState)
     (asked : Result (List (List ℕ)) Refusal) (old new : WriterState W) → IsTrue tells
-    → IsWhole state old → Accepts tells keeps state false asked (Ok tt) old new
+    → IsWhole state old → Accepts tells keeps state asked (Ok tt) old new
     → (list : List (List ℕ)) × (asked ≡ Ok list) × HasMore state list old new
 all_accepted tells keeps state (Err refusal) old new told whole accepts = let h =
     accepts.adds.answers in absurd (cc h)
@@ -42,7 +42,7 @@ module _ {V W : Type 0} (tells keeps : Bool) (state : W → MediumState)
     where
       go : (asked : Result (List ℕ) Refusal)
           → container value old.spec_ex.spec.bits_per_sample old.spec_ex.bytes_per_sample ≡ asked
-          → Accepts tells keeps state false (one asked) (Ok tt) old mid
+          → Accepts tells keeps state (one asked) (Ok tt) old mid
           → (list : List (List ℕ)) × (containers_in container mid.spec_ex values ≡ Ok list)
           × HasMore state list mid new
           → (list : List (List ℕ))
@@ -61,7 +61,7 @@ module _ {V W : Type 0} (tells keeps : Bool) (state : W → MediumState)
       )
 
   pub block_is_samples : (values : List V) (a b c : WriterState W) → IsWhole state a
-      → Accepts tells keeps state false (containers_in container a.spec_ex values) (Ok tt) a b
+      → Accepts tells keeps state (containers_in container a.spec_ex values) (Ok tt) a b
       → AcceptsEach tells keeps state container values a c
       → (accepted_samples state b ≡ accepted_samples state c) × (data_length b ≡ data_length c)
   block_is_samples values a b c whole block each = grind (arith, common_steps, all_accepted, each_accepted)

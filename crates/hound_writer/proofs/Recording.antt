@@ -1,8 +1,7 @@
 -- A list of calls and one more.
 use Rattle.std.proofs.lemmas.Grind.{common_steps}
-use Rattle.std.proofs.Common.{ℕ, MatchResult, Ok, Err, Bool, false, List, [], ◌∷◌, ◌++◌, ◌≡◌, length, Result, refl, rules, subst, ◌∙◌, ap, arith}
+use Rattle.std.proofs.Common.{ℕ, MatchResult, Ok, Err, Bool, List, [], ◌∷◌, ◌++◌, ◌≡◌, length, Result, refl, rules, subst, ◌∙◌, ap, arith}
 use Rattle.std.specs.Prelude.{⊤}
-use Rattle.std.proofs.lemmas.Bool.{false≢true}
 use Rattle.hound_spec.specs.declared.error.Error.{Error}
 use Rattle.hound_spec.specs.declared.spec.WavSpecEx.{WavSpecEx}
 use Rattle.hound_medium.specs.{MediumState, WhereTells}
@@ -13,7 +12,7 @@ use Rattle.hound_writer.specs.Batch.{IsSameFile}
 use Rattle.hound_writer.specs.Beginning.{Begins}
 use Rattle.hound_writer.specs.Publishing.{Checkpoints, Finishes, PublishesTo}
 use Rattle.hound_writer.specs.Writer.{WriterState, IsWhole, accepted_samples}
-use Rattle.hound_writer.specs.Calls.{AreKnown, Asked, put, write, publish, Call, Does, Begun, IsKnown, Known, Lead, Left, Opens, Recorded, asked_by_all, appended, new_file, with_memory}
+use Rattle.hound_writer.specs.Calls.{AreKnown, Asked, write, publish, Call, Does, Begun, IsKnown, Known, Lead, Left, Opens, Recorded, asked_by_all, appended, new_file, with_memory}
 use Rattle.hound_writer.proofs.Answers.{on_published_then}
 
 -- a writer of the same file is the same but for its memory
@@ -68,7 +67,7 @@ module _ {W : Type 0} (tells keeps : Bool) (state : W → MediumState) where
   -- the spec stays
   pub call_spec : (asked : Asked) (answer : Result (Unit {0}) Error) (a b : WriterState W)
       → Does tells keeps state asked answer a b → b.spec_ex ≡ a.spec_ex
-  call_spec (put allocates containers) answer a b (accepts, reuses) = accepts.adds.spec_ex
+  call_spec (write containers) answer a b accepts = accepts.adds.spec_ex
   call_spec publish answer a b does = does.samples.spec_ex
 
   pub lead_spec : (calls : List Call) (a b : WriterState W) → Lead tells keeps state calls a b
@@ -120,13 +119,13 @@ module _ {W : Type 0} (tells keeps : Bool) (state : W → MediumState) where
       (s : WavSpecEx) (file : Begun) (known : List Known) (b c : WriterState W)
       → ((asked : Asked) → IsKnown (one asked) (call_at asked answer b))
       → Recorded tells keeps state s file known b
-      → Accepts tells keeps state false (wanted b.spec_ex) answer b c
+      → Accepts tells keeps state (wanted b.spec_ex) answer b c
       → Recorded tells keeps state s file (known ++ one (write (wanted s)) ∷ []) c
   recorded_write one wanted answer s file known b c is so_far accepts =
       subst (λ x. Recorded tells keeps state s file (known ++ one (write (wanted x)) ∷ []) c)
       (recorded_spec s file known b so_far)
       (recorded_more (one (write (wanted b.spec_ex))) (write (wanted b.spec_ex)) answer s file known
-      b c (is (write (wanted b.spec_ex))) so_far (accepts, λ no. absurd (false≢true no)))
+      b c (is (write (wanted b.spec_ex))) so_far accepts)
 
   pub recorded_flush : (one : Known) (answer : Result (Unit {0}) Error) (s : WavSpecEx)
       (file : Begun) (known : List Known) (b c : WriterState W)

@@ -29,7 +29,7 @@ pub bytes_too_long : {W : Type 0} (tells keeps : Bool) (state : W → MediumStat
 bytes_too_long tells keeps state w bytes counts replays whole none =
     let width = w.spec_ex.bytes_per_sample in
     let list = containers width (length bytes / width) bytes in
-    accepts_refused tells keeps state w false (Ok list) TooLong counts replays refl (λ _. refl)
+    accepts_refused tells keeps state w (Ok list) TooLong counts replays refl (λ _. refl)
     (rw (no_room w (length (concat list))
     (λ room. none (omega (arith, room, ap length (joined_bytes width bytes whole))))) refl)
 
@@ -47,7 +47,7 @@ module _ {W : Type 0} (tells keeps : Bool) (state : W → MediumState) (moved : 
   pub sample_refused : (asked : Result (List ℕ) Refusal) (e : Error) → IsEncoded asked (Err e)
       → WhereKeeps tells keeps
       ((state w.medium).contents ≡ overlay (state w.medium).start (state w.medium).past)
-      → Accepts tells keeps state false (one asked) (Err e) w w
+      → Accepts tells keeps state (one asked) (Err e) w w
   sample_refused (Ok c) e is replays = cc
   sample_refused (Err refusal) e is replays =
       let same : e ≡ error_of refusal = cc in
@@ -58,7 +58,7 @@ module _ {W : Type 0} (tells keeps : Bool) (state : W → MediumState) (moved : 
   pub sample_accepts : (asked : Result (List ℕ) Refusal) (bytes : List ℕ)
       (answer : Result (Unit {0}) Error) (new : WriterState W) → asked ≡ Ok bytes
       → length bytes ≡ w.spec_ex.bytes_per_sample → AcceptsBytes tells keeps state bytes answer w new
-      → Accepts tells keeps state false (one asked) answer w new
+      → Accepts tells keeps state (one asked) answer w new
   sample_accepts asked bytes answer new is size accepts =
       rw is
       (rw (container_alone w.spec_ex.bytes_per_sample bytes known.sound.width size) at accepts)

@@ -1,8 +1,8 @@
 -- What a call for samples returns and leaves, whether it accepts them or not, for one or many.
-use Rattle.std.specs.Prelude.{◌≡◌, ℕ, ◌+◌, ◌/◌, ⊤, nat_le, Bool, true, false, IsTrue, List, [], ◌∷◌, length, Result, Ok, Err, ◌≤◌, take, drop, max, ◌++◌, ℤ, IsOk}
+use Rattle.std.specs.Prelude.{◌≡◌, ℕ, ◌+◌, ◌/◌, ⊤, nat_le, Bool, true, false, List, [], ◌∷◌, length, Result, Ok, Err, ◌≤◌, take, drop, max, ◌++◌, ℤ, IsOk}
 use Rattle.std.specs.List.{concat, flat_map}
 use Rattle.hound_spec.specs.declared.error.Error.{Error}
-use Rattle.hound_spec.specs.declared.error.Error.TheVariants.{IoError, UnfinishedSample, TooLong, OutOfMemory}
+use Rattle.hound_spec.specs.declared.error.Error.TheVariants.{IoError, UnfinishedSample, TooLong}
 use Rattle.hound_spec.specs.{riff_size, greatest_u32}
 use Rattle.hound_sample.specs.{Refusal, containers, error_of, int_container, too_wide, unsupported, all_containers, joined_containers}
 use Rattle.hound_medium.specs.{one_more, moment, MediumState, WhereTells, WhereKeeps, Span}
@@ -57,23 +57,19 @@ abbrev pub one : Result (List ℕ) Refusal → Result (List (List ℕ)) Refusal
 one (Ok container) = Ok (container ∷ [])
 one (Err refusal) = Err refusal
 
--- The result for containers, by whether the RIFF size has room for them: Ok, an `IoError`, or, if
--- the call allocates, that there is no memory.
-abbrev pub FitAnswer : {T : Type 0} → Bool → Bool → Result T Error → Type 0
-FitAnswer false memory answer = answer ≡ Err TooLong
-FitAnswer true memory (Ok x) = ⊤
-FitAnswer true memory (Err (IoError e)) = ⊤
-FitAnswer true memory (Err OutOfMemory) = IsTrue memory
-FitAnswer true memory (Err _) = ⊥
+-- the result for containers, by whether the RIFF size has room for them: Ok or an `IoError`, or that
+-- the file would be too long
+abbrev pub FitAnswer : {T : Type 0} → Bool → Result T Error → Type 0
+FitAnswer true answer = OnRefused answer ⊥
+FitAnswer false answer = answer ≡ Err TooLong
 
--- the result for a sample or a batch: the error of the type, or that the file would be too long, or
--- as above
-abbrev pub AcceptAnswer : {T W : Type 0} → Bool → Result (List (List ℕ)) Refusal → WriterState W →
+-- the result for a sample or a batch: the error of the type, or as above
+abbrev pub AcceptAnswer : {T W : Type 0} → Result (List (List ℕ)) Refusal → WriterState W →
     Result T Error → Type 0
-AcceptAnswer memory (Err refusal) w answer = answer ≡ Err (error_of refusal)
-AcceptAnswer memory (Ok list) w answer =
+AcceptAnswer (Err refusal) w answer = answer ≡ Err (error_of refusal)
+AcceptAnswer (Ok list) w answer =
     let size = riff_size w.data_start (data_length w + length (concat list)) in
-    FitAnswer (nat_le size greatest_u32) memory answer
+    FitAnswer (nat_le size greatest_u32) answer
 
 -- the result of a call that publishes: Ok exactly for whole frames, else `UnfinishedSample`; or an
 -- `IoError`
@@ -103,10 +99,9 @@ KeepsStored start bytes old new =
 -- What a call with these containers did to its writer, by its result, over every medium: it accepts
 -- all of them or none, and an error of the type or the size leaves the writer and its medium as
 -- they were.
-pub record Adds {W : Type 0} (memory : Bool) (asked : Result (List (List ℕ)) Refusal)
-    (answer : Result (Unit {0}) Error)
-    (old new : WriterState W) : Type 0 where
-  pub answers : AcceptAnswer memory asked old answer
+pub record Adds {W : Type 0} (asked : Result (List (List ℕ)) Refusal)
+    (answer : Result (Unit {0}) Error) (old new : WriterState W) : Type 0 where
+  pub answers : AcceptAnswer asked old answer
   pub refused : OnRefused answer (new ≡ old)
   pub spec_ex : new.spec_ex ≡ old.spec_ex
   pub data_start : new.data_start ≡ old.data_start
@@ -148,11 +143,11 @@ pub record AddsAtEach {W : Type 0} (state : W → MediumState) (old : WriterStat
   pub stored : IsWhole state old →
       KeepsStored old.data_start (concat (accepted_samples state old)) (state old.medium) new
 
--- What a call with these containers does, by its result; it may lack memory.
-pub record Accepts {W : Type 0} (tells keeps : Bool) (state : W → MediumState) (memory : Bool)
+-- What a call with these containers does, by its result.
+pub record Accepts {W : Type 0} (tells keeps : Bool) (state : W → MediumState)
     (asked : Result (List (List ℕ)) Refusal) (answer : Result (Unit {0}) Error)
     (old new : WriterState W) : Type 0 where
-  pub adds : Adds memory asked answer old new
+  pub adds : Adds asked answer old new
   pub file : WhereTells tells (AddsToFile state asked answer old new)
   pub moments : WhereKeeps tells keeps (AddsAtEach state old (state new.medium))
 
@@ -165,7 +160,7 @@ whole_containers s bytes =
 abbrev pub AcceptsBytes : {W : Type 0} → Bool → Bool → (W → MediumState) → List ℕ →
     Result (Unit {0}) Error → WriterState W → WriterState W → Type 0
 AcceptsBytes tells keeps state bytes answer old new =
-    Accepts tells keeps state false (whole_containers old.spec_ex bytes) answer old new
+    Accepts tells keeps state (whole_containers old.spec_ex bytes) answer old new
 
 -- the outcome of samples by their containers only
 abbrev pub outcome_of : {T : Type 0} → Result T Refusal → Outcome
@@ -199,7 +194,7 @@ abbrev pub AcceptsEach : {V W : Type 0} → Bool → Bool → (W → MediumState
 AcceptsEach tells keeps state container [] old new = new ≡ old
 AcceptsEach {V} {W} tells keeps state container (value ∷ values) old new =
     (mid : WriterState W)
-    × Accepts tells keeps state false
+    × Accepts tells keeps state
     (one (container value old.spec_ex.spec.bits_per_sample old.spec_ex.bytes_per_sample)) (Ok tt)
     old mid
     × AcceptsEach tells keeps state container values mid new

@@ -1,8 +1,6 @@
 -- A list of calls of a writer, from its constructor on.
-use Rattle.std.specs.Prelude.{◌≡◌, ℕ, ◌≤◌, ◌&&◌, ⊤, nat_lt, Bool, true, false, IsTrue, List, [], ◌∷◌, ◌++◌, length, Option, None, Some, IfSome, Result, Ok, Err}
-use Rattle.std.specs.List.{concat}
+use Rattle.std.specs.Prelude.{◌≡◌, ℕ, ⊤, Bool, List, [], ◌∷◌, ◌++◌, length, Option, None, Some, IfSome, Result}
 use Rattle.hound_spec.specs.declared.error.Error.{Error}
-use Rattle.hound_spec.specs.declared.error.Error.TheVariants.{IoError}
 use Rattle.hound_spec.specs.declared.spec.WavSpecEx.{WavSpecEx}
 use Rattle.hound_spec.specs.{data_start}
 use Rattle.hound_medium.specs.{MediumState, WhereTells}
@@ -13,19 +11,11 @@ use Rattle.hound_writer.specs.Beginning.{Begins}
 use Rattle.hound_writer.specs.Publishing.{LeavesWriter}
 use Rattle.hound_writer.specs.Writer.{WriterState, IsWhole, accepted_samples}
 
--- What a call asks of a writer: to accept these containers, or none, with the reason, maybe in
--- memory that it takes for them first; or to publish what was accepted, by a flush or an end.
+-- What a call asks of a writer: to accept these containers, or none, with the reason; or to publish
+-- what was accepted, by a flush or an end.
 pub data Asked : Type 0 where
-  put : Bool → Result (List (List ℕ)) Refusal → Asked
+  write : Result (List (List ℕ)) Refusal → Asked
   publish : Asked
-
--- samples, in no memory but what the writer has
-abbrev pub write : Result (List (List ℕ)) Refusal → Asked
-write containers = put false containers
-
--- a batch that takes its memory first
-abbrev pub batch : Result (List (List ℕ)) Refusal → Asked
-batch containers = put true containers
 
 -- A call: what it asked, what it returned, and the length of the medium's past when it began.
 pub record Call : Type 0 where
@@ -62,24 +52,11 @@ AreKnown [] [] = ⊤
 AreKnown (one ∷ known) (call ∷ calls) = IsKnown one call × AreKnown known calls
 AreKnown _ _ = ⊥
 
--- the memory that a batch of these containers needs
-abbrev pub size_of : Result (List (List ℕ)) Refusal → ℕ
-size_of (Ok list) = length (concat list)
-size_of (Err refusal) = 0
-
--- P for a batch that had its memory: for an Ok and for an `IoError`
-abbrev pub OnBatched : {T : Type 0} → Result T Error → Type 0 → Type 0
-OnBatched (Ok x) P = P
-OnBatched (Err (IoError e)) P = P
-OnBatched (Err _) P = ⊤
-
 -- what a call did to its writer, by what it asked and what it returned
 abbrev pub Does : {W : Type 0} → Bool → Bool → (W → MediumState) → Asked →
     Result (Unit {0}) Error → WriterState W → WriterState W → Type 0
-Does tells keeps state (put allocates containers) answer old new =
-    Accepts tells keeps state (allocates && nat_lt (length old.buffer) (size_of containers))
-    containers answer old new
-    × (IsTrue allocates → OnBatched answer (size_of containers ≤ length new.buffer))
+Does tells keeps state (write containers) answer old new =
+    Accepts tells keeps state containers answer old new
 Does tells keeps state publish answer old new = LeavesWriter tells keeps state answer old new
 
 -- the writer with this memory for batches

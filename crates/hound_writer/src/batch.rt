@@ -1,5 +1,5 @@
 // Batches of samples of sixteen bits.
-ghost use Rattle.std.specs.Prelude.{◌≡◌, ◌+◌, ◌*◌, ◌^◌, ◌≤◌, ◌<◌, length, max, [], take, IfOk, IfErr, OnOk, Ok, Err, false};
+ghost use Rattle.std.specs.Prelude.{◌≡◌, ◌+◌, ◌*◌, ◌^◌, ◌≤◌, ◌<◌, length, max, [], take, IfOk, IfErr, OnOk, Ok, Err};
 ghost use Rattle.std.specs.Borrow.{sem, RestsIfErr};
 ghost use Rattle.hound_number.specs.{signed_bytes_of};
 ghost use Rattle.hound_spec.specs.declared.error.Error.TheVariants.{OutOfMemory, TooLong};
@@ -51,7 +51,7 @@ impl<W: Medium, B: BatchMemory> SampleWriter16<'_, W, B> {
     #[inline]
     pub fn flush(self) -> Result<()>
         requires { remaining self ≡ 0 }
-        ensures accepts { let old = batch_writer self.entry in Accepts W.tells W.keeps W.state false
+        ensures accepts { let old = batch_writer self.entry in Accepts W.tells W.keeps W.state
             (whole_containers old.spec_ex (batch_bytes self.entry)) result old self.exit.0.now }
         ensures buffer { self.exit.0.now.buffer ≡ (batch_writer self.entry).buffer }
         ensures recorded { Extends W.tells W.keeps W.state

@@ -92,7 +92,7 @@ fn publish_result(patched: io::Result<()>, are_frames: bool) -> Result<()>
 }
 
 impl<W: Medium> Output<W> {
-    ghost use Rattle.std.specs.Prelude.{◌≡◌, ◌+◌, ◌*◌, ◌-◌, ◌/◌, ◌%◌, ◌≤◌, ◌^◌, ◌↔◌, [], false, IsTrue, IsOk, Ok, OnOk, length, take};
+    ghost use Rattle.std.specs.Prelude.{◌≡◌, ◌+◌, ◌*◌, ◌-◌, ◌/◌, ◌%◌, ◌≤◌, ◌^◌, ◌↔◌, [], IsTrue, IsOk, Ok, OnOk, length, take};
     ghost use Rattle.hound_spec.specs.{riff_size};
     ghost use Rattle.hound_medium.specs.{WhereTells, WhereKeeps};
     ghost use Rattle.hound_writer.specs.Accepting.{Accepts, AcceptsBytes, one, containers_in, sample_bytes};
@@ -224,7 +224,7 @@ impl<W: Medium> Output<W> {
     /// Accepts a sample, or returns why it doesn't, and saves a fault.
     #[inline(always)]
     pub(crate) fn accept_sample<S: Sample>(&mut self, sample: S, fault: &mut io::Error) -> Outcome
-        ensures accepts { Accepts W.tells W.keeps W.state false
+        ensures accepts { Accepts W.tells W.keeps W.state
             (one (S.container sample self.old.spec_ex.spec.bits_per_sample self.old.spec_ex.bytes_per_sample)) (result_of result fault.new) self.old self.new }
         ensures buffer { self.new.buffer ≡ self.old.buffer }
     {
@@ -325,7 +325,7 @@ impl<W: Medium> Output<W> {
         samples: &[S],
         fault: &mut io::Error,
     ) -> Outcome
-        ensures accepts { Accepts W.tells W.keeps W.state false
+        ensures accepts { Accepts W.tells W.keeps W.state
             (containers_in S.container self.old.spec_ex samples.now) (result_of result fault.new) self.old self.new }
         ensures buffer { self.new.buffer ≡ self.old.buffer }
     {

@@ -72,7 +72,7 @@ fn begin<W: Medium>(writer: &mut W, spec_ex: WavSpecEx) -> Result<u64>
 }
 
 impl<W: Medium> WavWriter<W> {
-    ghost use Rattle.std.specs.Prelude.{◌≡◌, ◌+◌, ◌-◌, ◌/◌, ⊤, [], false, Ok, Err, Result, MatchResult};
+    ghost use Rattle.std.specs.Prelude.{◌≡◌, ◌+◌, ◌-◌, ◌/◌, ⊤, [], Ok, Err, Result, MatchResult};
     ghost use Rattle.hound_spec.specs.declared.error.Error.{Error};
     ghost use Rattle.hound_spec.specs.{with_default_width};
     ghost use Rattle.hound_medium.specs.{WhereTells};
@@ -155,7 +155,7 @@ impl<W: Medium> WavWriter<W> {
     /// accepted, and writing can continue: the next sample goes where this one should have gone.
     #[inline(always)]
     pub fn write_sample<S: Sample>(&mut self, sample: S) -> Result<()>
-        ensures accepts { Accepts W.tells W.keeps W.state false
+        ensures accepts { Accepts W.tells W.keeps W.state
             (one (S.container sample self.old.spec_ex.spec.bits_per_sample self.old.spec_ex.bytes_per_sample)) result self.old self.new }
         ensures buffer { self.new.buffer ≡ self.old.buffer }
         ensures recorded { Extends W.tells W.keeps W.state
@@ -183,7 +183,7 @@ impl<W: Medium> WavWriter<W> {
     /// have gone.
     #[inline(always)]
     pub fn write_samples<S: Sample + Copy>(&mut self, samples: &[S]) -> Result<()>
-        ensures accepts { Accepts W.tells W.keeps W.state false
+        ensures accepts { Accepts W.tells W.keeps W.state
             (containers_in S.container self.old.spec_ex samples.now) result self.old self.new }
         ensures buffer { self.new.buffer ≡ self.old.buffer }
         ensures recorded { Extends W.tells W.keeps W.state

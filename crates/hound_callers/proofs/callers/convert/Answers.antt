@@ -1,4 +1,4 @@
-use Rattle.std.proofs.Common.{◌≡◌, ◌∙◌, ap, refl, ℕ, ◌+◌, ◌-◌, ◌/◌, ◌<◌, ◌≤◌, false, List, [], ◌∷◌, length, Result, Ok, Err, length-append, arith}
+use Rattle.std.proofs.Common.{◌≡◌, ◌∙◌, ap, refl, ℕ, ◌+◌, ◌-◌, ◌/◌, ◌<◌, ◌≤◌, List, [], ◌∷◌, length, Result, Ok, Err, length-append, arith}
 use Rattle.std.specs.List.{concat}
 use Rattle.std.proofs.Math.Nat.{add-div_right}
 use Rattle.hound.specs.{Adds, one, Refusal, int_container-in_width, WriterState, data_length, sample_count}
@@ -8,7 +8,7 @@ use Rattle.hound_callers.proofs.callers.convert.Goals as goal
 counted : {M : Type 0} (asked : Result (List ℕ) Refusal) (old new : WriterState M)
     → ((c : List ℕ) → asked ≡ Ok c → let width = old.spec_ex.bytes_per_sample in (length c ≡ width)
     × (1 ≤ width) × (width ≤ 4))
-    → Adds false (one asked) (Ok tt) old new → sample_count new ≡ sample_count old + 1
+    → Adds (one asked) (Ok tt) old new → sample_count new ≡ sample_count old + 1
 counted (Err refusal) old new sized adds = let h = adds.answers in absurd (cc h)
 counted (Ok c) old new sized adds =
     let (size, some, _) = sized c refl in

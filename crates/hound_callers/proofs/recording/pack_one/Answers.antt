@@ -1,6 +1,5 @@
 use Rattle.std.proofs.Common.{◌≡◌, [], ◌∷◌, true, Ok, arith, inr, length, of_z, refl, rules, subst, to_z, w32}
 use Rattle.std.proofs.Math.Facts.{to_z-of_z}
-use Rattle.std.proofs.lemmas.Bool.{false≢true}
 use Rattle.hound.specs.{Call, canonical, Finishes, Ran, Takes, asked_by, containers_of}
 use Rattle.hound.specs.declared.session.Begin.TheVariants.{New}
 use Rattle.hound.specs.declared.session.End.TheVariants.{Finalize}
@@ -21,7 +20,7 @@ returns-in_default-Ok g c =
     let takes : Takes W.tells W.keeps W.state (Whole same) (Ok tt) first last =
     subst (λ r. Takes W.tells W.keeps W.state (Whole same) r first last)
     (is_ok write.result c.in_default.not-Err)
-    (write.ensures.accepts, λ no. absurd (false≢true no)) in
+    write.ensures.accepts in
     let finishes : Finishes W.tells W.keeps W.state last (Ok tt) end.result.0 =
     subst (λ r. Finishes W.tells W.keeps W.state last r end.result.0) c.in_default-Ok.is-1
     end.ensures.finishes in

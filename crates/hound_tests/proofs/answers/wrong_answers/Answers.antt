@@ -1,5 +1,4 @@
 use Rattle.std.proofs.Common.{ℕ, ◌+◌, pos, Bool, true, false, nat_le, List, [], ◌∷◌, length, Result, Ok, Err, sym, subst, arith, inl, inr}
-use Rattle.std.proofs.lemmas.Bool.{false≢true}
 use Rattle.std.specs.List.{concat}
 use Rattle.hound.specs.{AcceptAnswer, FitAnswer, Refusal, int_container, too_wide, unsupported, greatest_u32, riff_size, AnswersSession, AnswersStep, writer_after, batch_containers, containers_of, WriterState, data_length}
 use Rattle.hound.specs.declared.Error.TheVariants.{OutOfMemory, TooLong, UnfinishedSample}
@@ -46,16 +45,16 @@ unfolding int_container
 returns-clause-unfinished_end c (inl (e, is, step)) = cc
 returns-clause-unfinished_end c (inr (step, end)) = omega (arith, end)
 
--- a writer that needs no memory lacks none
+-- a call for samples lacks no memory
 no_memory : {M : Type 0} (asked : Result (List (List ℕ)) Refusal) (w : WriterState M)
-    → AcceptAnswer {T = Unit {0}} false asked w (Err OutOfMemory) → ⊥
+    → AcceptAnswer {T = Unit {0}} asked w (Err OutOfMemory) → ⊥
 no_memory (Err too_wide) w answers = cc
 no_memory (Err unsupported) w answers = cc
 no_memory (Ok list) w answers =
     fits (nat_le (riff_size w.data_start (data_length w + length (concat list))) greatest_u32) answers
   where
-    fits : (room : Bool) → FitAnswer {T = Unit {0}} room false (Err OutOfMemory) → ⊥
-    fits true answers = false≢true answers
+    fits : (room : Bool) → FitAnswer {T = Unit {0}} room (Err OutOfMemory) → ⊥
+    fits true answers = answers
     fits false answers = cc
 
 pub returns-clause-batch_memory : goal.returns-clause-batch_memory

@@ -1,4 +1,4 @@
-use Rattle.std.proofs.Common.{◌∙◌, ap, false, refl, subst, sym, take}
+use Rattle.std.proofs.Common.{◌∙◌, ap, refl, subst, sym, take}
 use Rattle.hound_writer.specs.Accepting.{Accepts, mark_of, short_bytes, whole_containers}
 use Rattle.hound_writer.specs.Batch.{batch_bytes, batch_writer}
 use Rattle.hound_writer.specs.Calls.{made, marked}
@@ -15,7 +15,7 @@ returns-clause-accepts g c =
     let items = g.B.BatchMemory.samples batch.memory in
     let write = c.write_samples-accepted in
     let same = c.deref.ensures.value ∙ c.into_vec-memory.ensures in
-    subst (Accepts W.tells W.keeps W.state false (whole_containers w.spec_ex (batch_bytes batch))
+    subst (Accepts W.tells W.keeps W.state (whole_containers w.spec_ex (batch_bytes batch))
     write.result (batch_writer batch))
     ((λ j. record write.new.self { buffer = short_bytes (sym c.into_vec-memory.ensures j) })
     ∙ ap (λ (w : WriterState _). record w { buffer = short_bytes c.into_vec-memory.result.items })
