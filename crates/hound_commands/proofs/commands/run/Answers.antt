@@ -1,3 +1,4 @@
+use Rattle.std.proofs.lemmas.Grind.{common_steps}
 use Rattle.std.proofs.Common.{rules, ◌≡◌, ℕ, ◌≤◌, ◌<◌, List, [], ◌∷◌, codes, get_or, length, Result, Ok, Err, IfErr, MatchResult, inl, inr, sym, subst, arith}
 use Rattle.std.specs.Borrow.{Bor}
 use Rattle.hound_spec.specs.declared.spec.WavSpec.{WavSpec}
@@ -38,3 +39,15 @@ returns-clause-failed g c = λ one. elim c.if-words-lt2.branch [
       pack_words c.args.words.now _ w.in-Some.spec w.in-pack.len_at_least w.in-pack.len_below w.in-pack.is-pack w.in-Some.ensures.said in
       (failure, inr (w.in-Some.spec, packs, subst (λ o. PacksUntil g.O.Write.contents (with_default_width w.in-Some.spec) (g.R.Read.remaining c.args.input.now) failure c.args.output.now o) (sym w.output-is) until))
 ]
+
+pub returns-in-None-clause-usage : goal.returns-in-None-clause-usage
+returns-in-None-clause-usage g c = grind (arith, common_steps)
+
+pub returns-clause-usage : goal.returns-clause-usage
+returns-clause-usage g c = grind (arith, common_steps)
+
+pub returns-clause-success : goal.returns-clause-success
+returns-clause-success g c = grind (arith, common_steps)
+
+pub returns-clause-shown : goal.returns-clause-shown
+returns-clause-shown g c = grind (arith, common_steps)

@@ -43,3 +43,6 @@ returns-in_err-found-clause-taken g c = grind (arith, common_steps, err_from_is_
 
 pub returns-clause-taken : goal.returns-clause-taken
 returns-clause-taken g c = grind (arith, common_steps, more_are_taken)
+
+pub returns-in_err-fill-clause-taken : goal.returns-in_err-fill-clause-taken
+returns-in_err-fill-clause-taken g c = grind (arith, common_steps)

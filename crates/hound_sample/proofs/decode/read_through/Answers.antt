@@ -60,3 +60,27 @@ returns-in-Err-clause-front g c = grind (arith, common_steps, wanted_fit, length
 
 pub loop-done-preserved : goal.loop-done-preserved
 loop-done-preserved g c = grind (arith, common_steps, wanted_fit, length-take-le, count_all, length-drop, le-div_iff_mul-le, decoded, front_of_front, div-mul-le_self, length-append, drop-put_mid, drop_further, each_behind)
+
+pub slice_bounds-read_piece-end-in-loop-done : goal.slice_bounds-read_piece-end-in-loop-done
+slice_bounds-read_piece-end-in-loop-done g c = grind (arith, common_steps)
+
+pub slice_bounds-decode_each-end : goal.slice_bounds-decode_each-end
+slice_bounds-decode_each-end g c = grind (arith, common_steps)
+
+pub slice_bounds-decode_each-end-in-loop-done : goal.slice_bounds-decode_each-end-in-loop-done
+slice_bounds-decode_each-end-in-loop-done g c = grind (arith, common_steps)
+
+pub overflow_add-done : goal.overflow_add-done
+overflow_add-done g c = grind (arith, common_steps)
+
+pub slice_bounds-decode_each-end-in-loop-done-2 : goal.slice_bounds-decode_each-end-in-loop-done-2
+slice_bounds-decode_each-end-in-loop-done-2 g c = grind (arith, common_steps)
+
+pub decode_each-requires-clause-whole : goal.decode_each-requires-clause-whole
+decode_each-requires-clause-whole g c = grind (arith, common_steps)
+
+pub overflow_add-done-in-loop-done : goal.overflow_add-done-in-loop-done
+overflow_add-done-in-loop-done g c = grind (arith, common_steps)
+
+pub loop-done-smaller : goal.loop-done-smaller
+loop-done-smaller g c = grind (arith, common_steps)

@@ -1,3 +1,4 @@
+use Rattle.std.proofs.lemmas.Grind.{common_steps}
 use Rattle.std.proofs.Common.{◌≡◌, ◌∙◌, ap, ◌+◌, ◌-◌, length, take, arith, length-take-le}
 use Rattle.hound_durable.specs.Losses.{place_of}
 use Rattle.hound_durable.proofs.Ascending.{length_put, below_more, ascends_more, place_after}
@@ -61,3 +62,6 @@ invariant_of-self-2-clause-ascends g c tells keeps =
     rw (puts.takes.past keeps, puts.takes.flushed)
     (ascends_more old.past old.place d.end old.flushed (take c.in_ok-n.n c.args.bytes.now)
     (d.covered tells keeps) (omega (arith, d.after, d.is_there tells)) (d.ascends tells keeps))
+
+pub invariant_of-self-2-clause-known : goal.invariant_of-self-2-clause-known
+invariant_of-self-2-clause-known g c = grind (arith, common_steps)

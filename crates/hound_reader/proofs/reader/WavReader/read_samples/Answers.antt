@@ -64,3 +64,9 @@ returns g c =
     (read.ensures.answers fault) read.ensures.given
     (λ some. ap (λ (k : KeepingReader _). k.reader) (read.ensures.untouched some))
     (grind (arith, common_steps, torn))))
+
+pub overflow_add-self-2 : goal.overflow_add-self-2
+overflow_add-self-2 g c = grind (arith, common_steps)
+
+pub overflow_add-self-4 : goal.overflow_add-self-4
+overflow_add-self-4 g c = grind (arith, common_steps)

@@ -1,4 +1,5 @@
-use Rattle.std.proofs.Common.{◌∙◌, Ok, Err, sym}
+use Rattle.std.proofs.lemmas.Grind.{common_steps}
+use Rattle.std.proofs.Common.{◌∙◌, Ok, Err, sym, arith}
 use Rattle.std.proofs.lemmas.Bool.{false≢true}
 use Rattle.hound_spec.specs.declared.error.Error.TheVariants.{IoError}
 use Rattle.hound_writer.proofs.AcceptingMany.{looked_at, many_asked, many_refused, many_too_long, too_many}
@@ -64,3 +65,6 @@ returns-clause-accepts g c =
     W.state _ _ _ c.self.invariant (Ok tt) _
     (sym c.have_containers.ensures ∙ c.if-not-have_containers.false)
     (rw (← c.self.view_is) at c.if-not-accept_encoded.ensures.accepts))
+
+pub has_room-requires : goal.has_room-requires
+has_room-requires g c = grind (arith, common_steps)

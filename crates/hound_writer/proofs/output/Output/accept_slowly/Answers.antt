@@ -1,7 +1,7 @@
 use Rattle.std.proofs.Common.{◌≡◌, Ok, ap, arith, rules, sym, ◌∙◌, length, take}
 use Rattle.std.proofs.lemmas.Bool.{false≢true}
 use Rattle.hound_writer.proofs.Containers.{one_whole}
-use Rattle.hound_writer.proofs.Later.{accepts_later}
+use Rattle.hound_writer.proofs.Later.{accepts_cut, accepts_later}
 use Rattle.hound_writer.proofs.Writing.{bytes_too_long}
 use Rattle.hound_writer.proofs.output.Output.accept_slowly.Goals as goal
 
@@ -18,6 +18,16 @@ returns-then-not-has_room-clause-accepts g c =
     (λ room.
     absurd (false≢true (sym c.if-not-has_room.true
     ∙ c.has_room.ensures.room.1 (omega (arith, room, size, same)))))
+
+pub returns-then-not-put_block-clause-accepts : goal.returns-then-not-put_block-clause-accepts
+returns-then-not-put_block-clause-accepts g c =
+    let W = g.W.Placed in
+    let w = c.args.self.now in
+    let bytes = take w.spec_ex.bytes_per_sample c.args.container in
+    let size : length bytes ≡ w.spec_ex.bytes_per_sample = search rules in
+    let room = c.has_room.ensures.room.0 c.if-not-has_room.false in
+    accepts_cut W.tells W.keeps W.state _ w _ bytes c.put_block.new.fault c.if-not-put_block.ensures
+    (search (rules, room, size)) (one_whole _ _ size)
 
 pub returns-clause-accepts : goal.returns-clause-accepts
 returns-clause-accepts g c =

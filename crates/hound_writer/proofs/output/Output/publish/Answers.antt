@@ -1,4 +1,5 @@
-use Rattle.std.proofs.Common.{◌∙◌, Ok, ap, inl, refl}
+use Rattle.std.proofs.lemmas.Grind.{common_steps}
+use Rattle.std.proofs.Common.{◌∙◌, Ok, ap, inl, refl, arith}
 use Rattle.std.proofs.lemmas.Bool.{true≢false}
 use Rattle.hound_medium.specs.{one_more}
 use Rattle.hound_writer.proofs.Keeping.{consistent_gone}
@@ -49,3 +50,6 @@ returns-clause-moments g c tells keeps =
     (patches_still _ _ _ _ (Ok tt) _ _ _ (g.met.W.Medium.replays _ tells keeps) go.stays
     (inl go.flushed) refl
     (rw c.riff_size-riff_size.ensures at (c.in_ok-patch.ensures.moments tells keeps)))
+
+pub patch-requires-clause-inside : goal.patch-requires-clause-inside
+patch-requires-clause-inside g c = grind (arith, common_steps)
