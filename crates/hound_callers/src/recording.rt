@@ -1,7 +1,7 @@
 // Recorders that make their calls themselves.
-ghost use Rattle.std.specs.Prelude.{◌≡◌, ◌⊎◌, ◌-◌, ◌/◌, ◌<◌, ◌≤◌, ℕ, true, List, ◌∷◌, ◌++◌, [], ⊤, Ok, MatchResult, IsFalse, IsOk, IsTrue, OnErr, OnOk, drop, length, map, take};
+ghost use Rattle.std.specs.Prelude.{◌≡◌, ◌⊎◌, ◌-◌, ◌/◌, ◌<◌, ◌≤◌, ℕ, true, List, ◌∷◌, ◌++◌, [], ⊤, Ok, MatchResult, IsFalse, IsOk, IfErr, IsTrue, OnErr, OnOk, drop, length, map, take};
 ghost use Rattle.std.specs.List.{All, flat_map};
-ghost use Rattle.hound.specs.{one, Begun, Call, Known, Left, Recorded, made, new_file, publish, write, containers, int_container, Around, within, HasPublished, Kept, KeptWithin, accepted_by_all, canonical, data_start, held, AcceptsEach, Ascends, WritesToBatch, containers_in, fits, remaining, signed_bytes_of, IsNoPad, ReadsFrames, IsSixteen, Ran, asked_by, containers_of, field, MediumState, WhereKeeps, WhereTells, WriterState, IsWhole, accepted_samples, data_length, WavSpecEx};
+ghost use Rattle.hound.specs.{AcceptAnswer, IsPublishing, one, Begun, Call, Known, Left, Recorded, made, new_file, publish, write, containers, int_container, Around, within, HasPublished, Kept, KeptWithin, accepted_by_all, canonical, data_start, held, AcceptsEach, Ascends, WritesToBatch, containers_in, fits, remaining, signed_bytes_of, IsNoPad, ReadsFrames, IsSixteen, Ran, asked_by, containers_of, field, MediumState, WhereKeeps, WhereTells, WriterState, IsWhole, accepted_samples, data_length, WavSpecEx};
 ghost use Rattle.hound.specs.declared.session.Begin.TheVariants.{New};
 ghost use Rattle.hound.specs.declared.session.End.TheVariants.{Finalize};
 ghost use Rattle.hound.specs.declared.session.Step.TheVariants.{Whole};
@@ -325,7 +325,8 @@ pub fn record_mixed<M: Source + Medium>(
 }
 
 /// Writes samples by one call and publishes them: the file is then read as the samples before and all
-/// of these (`published`), which are those that calls of their own would have written (`same`).
+/// of these (`published`), which are those that calls of their own would have written (`same`). An
+/// error is one of `write_samples` or of `flush` (`err`).
 pub fn record_at_once<S: Sample + Copy, M: Medium>(
     writer: &mut WavWriter<M>,
     samples: &[S],
@@ -335,6 +336,9 @@ pub fn record_at_once<S: Sample + Copy, M: Medium>(
     ensures same { WhereTells M.tells (IsWhole M.state writer.old → OnOk result ((each : WriterState M) →
         AcceptsEach M.tells M.keeps M.state S.container samples.now writer.old each →
         accepted_samples M.state writer.new ≡ accepted_samples M.state each)) }
+    ensures err { IfErr result (λ _. AcceptAnswer
+        (containers_in S.container writer.old.spec_ex samples.now) writer.old result
+        ⊎ IsPublishing result writer.new) }
 {
     a_block_is_its_samples::<S, M>();
     writer.write_samples(samples)?;

@@ -4,7 +4,7 @@ use Rattle.std.proofs.Common.{◌≡◌, ℕ, ◌+◌, Bool, List, [], ◌++◌,
 use Rattle.std.proofs.lemmas.List.{take_all}
 use Rattle.std.specs.Io.{StartsWith}
 use Rattle.hound_spec.specs.declared.spec.WavSpecEx.{WavSpecEx}
-use Rattle.hound_spec.specs.{header, data_start, canonical}
+use Rattle.hound_spec.specs.{data_start, canonical}
 use Rattle.hound_spec.proofs.HeaderLemmas.{length-canonical, length-header}
 use Rattle.hound_medium.specs.{MediumState}
 use Rattle.hound_medium.proofs.Overlays.{overlay_is}

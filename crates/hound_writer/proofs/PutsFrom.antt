@@ -1,6 +1,6 @@
 -- Where the bytes of one call of `put` went.
 use Rattle.std.proofs.lemmas.Grind.{common_steps}
-use Rattle.std.proofs.Common.{◌≡◌, ℕ, ◌+◌, ◌-◌, ◌≤◌, List, ◌++◌, arith}
+use Rattle.std.proofs.Common.{◌≡◌, ℕ, ◌≤◌, List, ◌++◌, arith}
 use Rattle.hound_medium.specs.{placed, MediumState}
 use Rattle.hound_durable.proofs.Ascending.{length_put, place_after}
 use Rattle.hound_writer.specs.Publishing.{PutsFrom}

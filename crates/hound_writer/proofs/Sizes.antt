@@ -5,7 +5,7 @@ use Rattle.std.proofs.lemmas.Slice.{between_is}
 use Rattle.std.proofs.Math.Seq.{drop-nil}
 use Rattle.hound_number.specs.{number}
 use Rattle.hound_spec.specs.declared.spec.WavSpecEx.{WavSpecEx}
-use Rattle.hound_spec.specs.{data_start, header}
+use Rattle.hound_spec.specs.{data_start}
 use Rattle.hound_spec.proofs.HeaderLemmas.{length-header}
 use Rattle.hound_medium.specs.{placed, overlay, put_at}
 use Rattle.hound_medium.proofs.Overlays.{front_part, length-put_at, length_overlay_le, take_overlay_before}

@@ -1,4 +1,4 @@
-use Rattle.std.proofs.Common.{◌≡◌, ◌/◌, ℕ, List, Result, Ok, Err, OnOk, length, refl, sym, ap, subst, ◌∙◌, false, rules}
+use Rattle.std.proofs.Common.{◌≡◌, ◌/◌, ℕ, List, Result, Ok, Err, OnOk, length, refl, sym, ap, subst, ◌∙◌, rules}
 use Rattle.std.proofs.lemmas.List.{take_all}
 use Rattle.std.specs.List.{flat_map}
 use Rattle.hound.specs.{Accepts, batch_bytes, batch_writer, containers, short_bytes, signed_bytes_of, accepted_samples, data_length, Error}
