@@ -5,6 +5,7 @@ use hound_repair::{
     a_second_repair_writes_nothing, find_damage, repair, repair_to_end,
 };
 use std::alloc::Global;
+use std::io::Cursor;
 use std::test::Fail;
 
 // All before the data: mono, 44100 Hz, 16 bits, both sizes 0.
@@ -55,6 +56,16 @@ fn a_length_of_zero_is_mended(rt: HostRuntime) -> Result<(), Fail> {
     assert_eq!(rt; bytes.as_slice() == mended.as_slice(), true);
     let (_, found) = repair(Tape::new(bytes)).ok().ok_or("whole")?;
     assert_eq!(rt; numbers(found), (2, 1, false, true));
+    Ok(())
+}
+
+// A cursor can be looked at, as every source; nothing writes into one.
+#[test]
+fn a_cursor_is_looked_at(rt: HostRuntime) -> Result<(), Fail> {
+    let cut = file(rt.alloc(), MONO_16, 0, 0, b"\x02\0\xfd\xff\x05")?;
+    let (cursor, found) = find_damage(Cursor::new(cut)).ok().ok_or("found")?;
+    assert_eq!(rt; numbers(found), (2, 1, true, false));
+    assert_eq!(rt; cursor.get_ref().len(), 49);
     Ok(())
 }
 
