@@ -2,3 +2,4 @@ pub mod Codes
 pub mod Reading
 pub mod Writing
 pub mod Repairing
+pub mod Walks

@@ -4,31 +4,7 @@ ghost use Rattle.hound_reader.specs.{Head, IsDataPlace, IsSoundSpec, Readable, R
 ghost use Rattle.hound_c.specs.Codes.{IsHeadFault};
 
 use crate::fault::Fault;
-use hound_number::Input;
-use hound_reader::{FileHead, HeadError, read_until_data, read_until_samples};
-use std::io;
-
-/// Bytes that are read from the front; no read of them fails.
-#[derive(Drop)]
-struct Window<'a> {
-    rest: &'a [u8],
-}
-
-impl Input for Window<'_> {
-    ghost use Rattle.std.specs.Prelude.{Some};
-
-    ghost left = { λ w. Some w.rest.now };
-
-    ghost account = { λ _. Some (record { failures = 0; kept = tt }) };
-
-    #[inline(always)]
-    fn read_some(&mut self, buf: &mut [u8]) -> io::Result<usize> {
-        let n = buf.len().min(self.rest.len());
-        buf[..n].copy_from_slice(&self.rest[..n]);
-        self.rest = &self.rest[n..];
-        Ok(n)
-    }
-}
+use hound_reader::{FileHead, count_samples, find_by_parts};
 
 /// Walks over a file up to its data.
 pub(crate) fn find_head(file: &[u8]) -> Result<FileHead, Fault>
@@ -38,11 +14,9 @@ pub(crate) fn find_head(file: &[u8]) -> Result<FileHead, Fault>
     ensures inside { IfOk result (λ h. h.data_start ≤ length file.now) }
     ensures refused { IfErr result (IsHeadFault (Refused file.now)) }
 {
-    let mut window = Window { rest: file };
-    match read_until_data(&mut window) {
+    match find_by_parts(file) {
         Ok(head) => Ok(head),
-        Err(HeadError::Refused(cause)) => Err(Fault::Head(cause)),
-        Err(HeadError::Failed(_)) => unreachable!(),
+        Err(cause) => Err(Fault::Head(cause)),
     }
 }
 
@@ -54,10 +28,9 @@ pub(crate) fn find_samples(file: &[u8]) -> Result<(FileHead, u32), Fault>
     ensures inside { IfOk result (λ r. r.0.data_start ≤ length file.now) }
     ensures unreadable { IfErr result (IsHeadFault (Unreadable file.now)) }
 {
-    let mut window = Window { rest: file };
-    match read_until_samples(&mut window) {
-        Ok(found) => Ok(found),
-        Err(HeadError::Refused(cause)) => Err(Fault::Head(cause)),
-        Err(HeadError::Failed(_)) => unreachable!(),
+    let head = find_head(file)?;
+    match count_samples(head) {
+        Ok(samples) => Ok((head, samples)),
+        Err(cause) => Err(Fault::Head(cause)),
     }
 }

@@ -24,6 +24,18 @@ pub struct HoundInfo {
     pub data_start: u64,
 }
 
+/// A walk to the data.
+#[repr(C)]
+#[derive(Clone, Copy)]
+pub struct HoundWalk {
+    pub place: u64,
+    pub spec: HoundSpec,
+    pub length: u32,
+    pub taken: u32,
+    pub part: u32,
+    pub fmt_length: u32,
+}
+
 /// What a repair found.
 #[repr(C)]
 #[derive(Clone, Copy)]

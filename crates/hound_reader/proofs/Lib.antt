@@ -10,4 +10,5 @@ pub mod SeekLemmas
 pub mod TakenLemmas
 pub mod Unique
 pub mod WalkLemmas
+pub mod PartLemmas
 pub mod WrittenLemmas

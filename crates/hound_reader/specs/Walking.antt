@@ -5,13 +5,15 @@ use Rattle.hound_number.specs.{Account, WhereKnown, NoneFailed, OneFailed, numbe
 use Rattle.hound_reader.specs.declared.cause.HeadError.{HeadError}
 use Rattle.hound_reader.specs.declared.cause.HeadError.TheVariants.{Failed, Refused}
 use Rattle.hound_reader.specs.declared.cause.Cause.{Cause}
-use Rattle.hound_spec.specs.{greatest_u32, extensible, fmt_fields, padded, data_tag}
-use Rattle.hound_reader.specs.Grammar.{joined, last_spec, chunk_fault, Chunk, IsChunk, chunk_bytes, spec_after, fmt_fault, front_fault, Head, Walk, data_fault}
+use Rattle.hound_spec.specs.{greatest_u32, extensible, fmt_fields, padded, fmt_tag, data_tag}
+use Rattle.hound_reader.specs.Grammar.{joined, last_spec, chunk_fault, Chunk, IsChunk, chunk_bytes, spec_after, fmt_fault, front_fault, content_fault, Head, Walk, data_fault}
 use Rattle.hound_reader.specs.Fmt.{fmt_len, IsSoundSpec}
 use Rattle.std.specs.Str.{bytes_eq}
 use Rattle.hound_spec.specs.declared.spec.WavSpecEx.{WavSpecEx}
 use Rattle.hound_reader.specs.declared.chunks.ChunkRead.{ChunkRead}
 use Rattle.hound_reader.specs.declared.chunks.ChunkRead.TheVariants.{Data, Other}
+use Rattle.hound_reader.specs.declared.chunks.Content.{Content}
+use Rattle.hound_reader.specs.declared.chunks.Content.TheVariants as contents
 use Rattle.hound_reader.specs.Reader.{AreTaken}
 use Rattle.hound_reader.specs.Refusals.{reason_text}
 use Rattle.hound_spec.specs.declared.error.Error.{Error}
@@ -185,3 +187,13 @@ pub record Walks {R Kept A : Type 0} (account : R → Option (Account Kept))
   pub err : IfErr result (λ e. Refuses e (λ c.
       WhereKnown (left old) (left new) (λ xs ys. fault xs ≡ Some c)))
   pub taken : IfErr result (TakesFor (left old) (left new) n)
+
+-- what a header says of the content of its chunk, c bytes after the WAVE tag
+abbrev pub SaysContent : ℕ → Option WavSpecEx → List ℕ → ℕ → Result Content Cause → Type 0
+SaysContent c found tag len (Err cause) = ((rest : List ℕ) → content_fault c found tag len rest ≡ Some cause)
+    × ((kind n : ℕ) → content_taken kind len cause n ≡ 0)
+SaysContent c found tag len (Ok (contents.Data spec)) = (bytes_eq tag data_tag ≡ true) × (found ≡ Some spec)
+SaysContent c found tag len (Ok contents.Fmt) = (bytes_eq tag data_tag ≡ false)
+    × (bytes_eq tag fmt_tag ≡ true) × (c + 8 + padded len ≤ greatest_u32)
+SaysContent c found tag len (Ok contents.Other) = (bytes_eq tag data_tag ≡ false)
+    × (bytes_eq tag fmt_tag ≡ false) × (c + 8 + padded len ≤ greatest_u32)

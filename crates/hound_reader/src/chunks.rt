@@ -4,7 +4,7 @@ ghost use Rattle.std.specs.Prelude.{◌≡◌, ℕ, ◌+◌, ◌++◌, ◌<◌, 
 ghost use Rattle.std.specs.Io.KnownBytes.{Consumes};
 ghost use Rattle.hound_number.specs.{WhereKnown, number};
 ghost use Rattle.hound_spec.specs.{fmt_fields, greatest_u32, padded, riff_tag, wave_tag};
-ghost use Rattle.hound_reader.specs.Walking.{CountsFailed, Refuses, Walks, TakesFront, RefusedAfter, TakesAll, chunk_taken, content_takes, ReadsChunk, ReadsContent, IsSoundOption, IsSoundChunk};
+ghost use Rattle.hound_reader.specs.Walking.{CountsFailed, Refuses, Walks, TakesFront, RefusedAfter, TakesAll, chunk_taken, content_takes, ReadsChunk, ReadsContent, SaysContent, IsSoundOption, IsSoundChunk};
 ghost use Rattle.hound_reader.specs.Fmt.{IsSoundSpec};
 ghost use Rattle.hound_reader.specs.Grammar.{Head, IsDataPlace, Refused, front_fault, content_fault, chunk_fault};
 ghost use Rattle.hound_reader.specs.Sources.{FindsData, unread};
@@ -82,6 +82,45 @@ pub(crate) fn read_riff_header<R: Input>(reader: &mut R) -> Result<u32, HeadErro
     Ok(u32_at(&rest, 0))
 }
 
+/// What a chunk's header says of its content.
+#[derive(Clone, Copy)]
+pub enum Content {
+    /// The data, of this spec.
+    Data(WavSpecEx),
+    /// A fmt chunk.
+    Fmt,
+    /// Another chunk.
+    Other,
+}
+
+// What a chunk's header says, before its content is read.
+#[tactic(auto, unfolding(crate::specs::Grammar::content_fault))]
+#[inline(always)]
+pub(crate) fn content_of(
+    tag: &[u8],
+    chunk_len: u32,
+    found: Option<WavSpecEx>,
+    taken: u32,
+) -> Result<Content, Cause>
+    ensures says { SaysContent taken found tag.now chunk_len result }
+{
+    if tag == b"data".as_slice() {
+        return match found {
+            None => Err(Cause::Format(Reason::NoFmtChunk)),
+            Some(spec_ex) => Ok(Content::Data(spec_ex)),
+        };
+    }
+    // With the pad byte after an odd length.
+    let content = chunk_len as u64 + chunk_len as u64 % 2;
+    if taken as u64 + 8 + content > u32::MAX as u64 {
+        return Err(Cause::Format(Reason::NoDataChunk));
+    }
+    if tag == b"fmt ".as_slice() {
+        return Ok(Content::Fmt);
+    }
+    Ok(Content::Other)
+}
+
 // Takes the content of a chunk, after the eight bytes of its header.
 #[tactic(auto, unfolding(crate::specs::Grammar::content_fault))]
 fn read_content<R: Input>(
@@ -97,26 +136,21 @@ fn read_content<R: Input>(
         (ReadsContent taken found tag.now chunk_len) (content_fault taken found tag.now chunk_len)
         (content_takes chunk_len) reader.old reader.new result }
 {
-    if tag == b"data".as_slice() {
-        return match found {
-            None => Err(HeadError::Refused(Cause::Format(Reason::NoFmtChunk))),
-            Some(spec_ex) => Ok(ChunkRead::Data(spec_ex, chunk_len)),
-        };
+    match content_of(tag, chunk_len, found, taken)? {
+        Content::Data(spec_ex) => Ok(ChunkRead::Data(spec_ex, chunk_len)),
+        Content::Fmt => {
+            let content = chunk_len + chunk_len % 2;
+            let spec_ex = read_fmt_chunk(reader, chunk_len)?;
+            let rest = content - chunk_len.min(WAVEFORMATEXTENSIBLE_LENGTH);
+            skip_bytes(reader, rest)?;
+            Ok(ChunkRead::Other(Some(spec_ex), taken + 8 + content))
+        }
+        Content::Other => {
+            let content = chunk_len + chunk_len % 2;
+            skip_bytes(reader, content)?;
+            Ok(ChunkRead::Other(found, taken + 8 + content))
+        }
     }
-    // With the pad byte after an odd length.
-    let content = chunk_len as u64 + chunk_len as u64 % 2;
-    if content > 4_294_967_287 - taken as u64 {
-        return Err(HeadError::Refused(Cause::Format(Reason::NoDataChunk)));
-    }
-    let content = content as u32;
-    if tag == b"fmt ".as_slice() {
-        let spec_ex = read_fmt_chunk(reader, chunk_len)?;
-        let rest = content - chunk_len.min(WAVEFORMATEXTENSIBLE_LENGTH);
-        skip_bytes(reader, rest)?;
-        return Ok(ChunkRead::Other(Some(spec_ex), taken + 8 + content));
-    }
-    skip_bytes(reader, content)?;
-    Ok(ChunkRead::Other(found, taken + 8 + content))
 }
 
 // Takes one chunk, or the tag and length of the data chunk.
@@ -130,7 +164,7 @@ fn read_next_chunk<R: Input>(
     ensures { Walks R.account R.left (IsSoundChunk taken) (ReadsChunk taken found)
         (chunk_fault taken found) (chunk_taken taken) reader.old reader.new result }
 {
-    if taken > 4_294_967_287 {
+    if taken > u32::MAX - 8 {
         return Err(HeadError::Refused(Cause::Format(Reason::NoDataChunk)));
     }
     let mut head = [0; 8];

@@ -11,12 +11,14 @@ mod fmt;
 mod input;
 mod item;
 mod laws;
+mod parts;
 mod reader;
 mod samples;
 
 pub use cause::{Cause, HeadError, Reason, error_of};
-pub use chunks::{ChunkRead, FileHead, find_data, read_until_data};
+pub use chunks::{ChunkRead, Content, FileHead, find_data, read_until_data};
 pub use input::Counted;
+pub use parts::{HeadWalk, Part, Step, Window, count_samples, find_by_parts, take_part};
 pub use laws::{
     a_block_is_its_items, a_reader_stands_as_counted, a_seek_leads_to_its_frame,
     an_iterator_gives_what_it_hints, items_are_of_the_file, one_answer, written_is_head,

@@ -13,9 +13,10 @@ ghost use Rattle.hound_reader.specs.Reader.{AnswersNext, HasWholeFrames, samples
 ghost use Rattle.hound_reader.specs.Seeking.{Recounts, way_to};
 ghost use Rattle.hound_reader.specs.Samples.{lent_reader, lender, taken_reader};
 
-use crate::cause::{Cause, HeadError, Reason, error_of};
+use crate::cause::{Cause, HeadError, error_of};
 use crate::chunks::{FileHead, read_riff_header, read_until_data};
 use crate::item::{KeepingReader, error_of_item, read_item_since, read_many_since, taken_without};
+use crate::parts::count_samples;
 use crate::samples::{WavIntoSamples, WavSamples};
 use hound_medium::{Placed, Source};
 use hound_number::Input;
@@ -39,14 +40,7 @@ pub fn read_until_samples<R: Input>(reader: &mut R) -> result::Result<(FileHead,
     ensures frames { IfOk result (λ r. r.1 % r.0.spec_ex.spec.channels ≡ 0) }
 {
     let head = read_until_data(reader)?;
-    let width = head.spec_ex.bytes_per_sample as u32;
-    if head.data_length % width != 0 {
-        return Err(HeadError::Refused(Cause::Format(Reason::DataLength)));
-    }
-    let num_samples = head.data_length / width;
-    if num_samples % head.spec_ex.spec.channels as u32 != 0 {
-        return Err(HeadError::Refused(Cause::Format(Reason::FrameLength)));
-    }
+    let num_samples = count_samples(head)?;
     Ok((head, num_samples))
 }
 

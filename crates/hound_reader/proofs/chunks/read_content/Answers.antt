@@ -1,15 +1,14 @@
 use Rattle.std.proofs.lemmas.Grind.{common_steps}
-use Rattle.std.proofs.Common.{◌≡◌, ◌+◌, ◌≤◌, ℕ, List, ◌++◌, Some, Ok, true, false, take, drop, length, refl, ◌∙◌, arith, rules, length-append, length-take-le}
+use Rattle.std.proofs.Common.{◌≡◌, ◌+◌, ◌≤◌, ℕ, List, ◌++◌, Some, Ok, take, drop, length, refl, ◌∙◌, arith, rules, length-append, length-take-le}
 use Rattle.hound_spec.specs.declared.spec.WavSpecEx.{WavSpecEx}
 use Rattle.hound_number.proofs.Counting.{NoneFailed-trans}
 use Rattle.hound_reader.specs.Fmt.{fmt_len, fmt_of}
 use Rattle.hound_reader.proofs.FmtLemmas.{fmt_and_rest}
 use Rattle.hound_reader.specs.Grammar.{spec_after}
-use Rattle.hound_spec.specs.{fmt_tag, data_tag, padded}
+use Rattle.hound_spec.specs.{padded}
 use Rattle.hound_reader.specs.Walking.{ReadsContent}
 use Rattle.hound_reader.specs.declared.chunks.ChunkRead.TheVariants.{Other}
 use Rattle.hound_number.proofs.KnownSteps.{known_both, known_from}
-use Rattle.hound_reader.proofs.WalkLemmas.{tag_test}
 use Rattle.hound_reader.proofs.chunks.read_content.Goals as goal
 
 -- the used part of a fmt chunk, and the rest
@@ -25,21 +24,22 @@ fmt_whole len found rest xs ys zs p e whole =
       grind (arith, common_steps, p.2, e),
     )
 
-pub returns-then-eq-2 : goal.returns-then-eq-2
+pub returns-in_ok-skip_bytes-in-Fmt : goal.returns-in_ok-skip_bytes-in-Fmt
 unfolding spec_after
-returns-then-eq-2 g c =
+returns-in_ok-skip_bytes-in-Fmt g c =
     let tag = c.args.tag.now in
     let len = c.args.chunk_len in
-    let is_fmt = tag_test _ true tag _ fmt_tag c.eq-2.ensures c.as_slice-2.ensures c.if-eq-2.true in
-    let other = tag_test _ false tag _ data_tag c.eq.ensures c.as_slice.ensures c.if-eq.false in
-    let found = c.in_ok-spec_ex.spec_ex in
-    let (rest, taken, l) = c.in_ok-skip_bytes.ensures.ok in
+    let did = rw c.in-Fmt.is at c.in_ok-spec_ex.ensures in
+    let is_fmt = did.says.1 in
+    let other = did.says.0 in
+    let found = c.in_ok-spec_ex-in-Fmt.spec_ex in
+    let (rest, taken, l) = c.in_ok-skip_bytes-in-Fmt.ensures.ok in
     record {
       sound = search rules;
-      failures = NoneFailed-trans _ _ _ c.in_ok-spec_ex.ensures.failures c.in_ok-skip_bytes.ensures.failures;
+      failures = NoneFailed-trans _ _ _ c.in_ok-spec_ex-in-Fmt.ensures.failures c.in_ok-skip_bytes-in-Fmt.ensures.failures;
       ok = known_both _ _ _ _ (λ ys zs. ys ≡ rest ++ zs)
           (ReadsContent c.args.taken c.args.found tag len
-          (Other (Some found) (c.args.taken + 8 + padded len))) c.in_ok-spec_ex.ensures.gives
+          (Other (Some found) (c.args.taken + 8 + padded len))) c.in_ok-spec_ex-in-Fmt.ensures.gives
           (known_from rest _ _ (λ ys zs. ys ≡ rest ++ zs) taken (λ ys. refl))
           (λ xs ys zs p e.
           let (content, n, read, is) = fmt_whole len found rest xs ys zs p e (omega (arith, l)) in (
@@ -56,6 +56,28 @@ returns-then-eq-2 g c =
       taken = tt;
     }
 
-pub returns : goal.returns
+pub returns-in_ok-skip_bytes-in-Other : goal.returns-in_ok-skip_bytes-in-Other
 unfolding spec_after
-returns g c = grind (arith, common_steps, tag_test, known_from)
+returns-in_ok-skip_bytes-in-Other g c =
+    let tag = c.args.tag.now in
+    let len = c.args.chunk_len in
+    let did = rw c.in-Other.is at c.in_ok-spec_ex.ensures in
+    let (content, taken, l) = c.in_ok-skip_bytes-in-Other.ensures.ok in
+    record {
+      sound = search rules;
+      failures = c.in_ok-skip_bytes-in-Other.ensures.failures;
+      ok = known_from content _ _
+          (ReadsContent c.args.taken c.args.found tag len
+          (Other c.args.found (c.args.taken + 8 + padded len))) taken (λ ys. (
+            content,
+            l,
+            did.says.0,
+            rw did.says.1 refl,
+            omega arith,
+            rw did.says.1 refl,
+            omega (arith, l),
+            refl,
+          ));
+      err = tt;
+      taken = tt;
+    }
