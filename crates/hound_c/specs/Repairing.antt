@@ -1,12 +1,12 @@
 -- What repairing does.
-use Rattle.std.specs.Prelude.{◌≡◌, ◌⊎◌, ℕ, ◌<◌, List, length, take, Result, Ok, Err}
+use Rattle.std.specs.Prelude.{◌≡◌, ◌⊎◌, ℕ, ◌<◌, ◌≤◌, List, length, take, Result, Ok, Err}
 use Rattle.hound_reader.specs.declared.cause.Cause.TheVariants.{Unsupported}
 use Rattle.hound_writer.specs.{by_bytes, too_long}
 use Rattle.hound_repair.specs.{LacksRoom, RepairsBytes, IsRepairFault}
 use Rattle.hound_repair.specs.declared.sizes.Repair.{Repair}
 use Rattle.hound_repair.specs.declared.sizes.RepairState.{RepairState}
 use Rattle.hound_repair.specs.declared.sizes.RepairState.TheVariants.{Whole, CutOff, HasChunksAfterData}
-use Rattle.hound_c.specs.Writing.{spec_of}
+use Rattle.hound_c.specs.Writing.{IsExplicit, spec_of}
 use Rattle.hound_c.specs.declared.fault.Fault.{Fault}
 use Rattle.hound_c.specs.declared.fault.Fault.TheVariants.{Head, OtherPair, TooLong, NoRoom}
 use Rattle.hound_c.specs.declared.spec.HoundRepair.{HoundRepair}
@@ -20,6 +20,7 @@ state_code HasChunksAfterData = 2
 -- what was found, as C has it
 pub record IsReported (found : Repair) (c : HoundRepair) : Type 0 where
   pub spec : spec_of c.spec ≡ found.spec_ex
+  pub explicit : IsExplicit c.spec
   pub frames : c.frames ≡ found.frames
   pub left_over : c.left_over ≡ found.left_over
   pub state : c.state ≡ state_code found.was
@@ -32,10 +33,10 @@ IsFileFault used old TooLong = IsRepairFault (take used old) too_long
 IsFileFault used old NoRoom = (length old < used) ⊎ LacksRoom used old
 IsFileFault used old _ = ⊥
 
--- what repairing does, by its outcome: the first n bytes are what `repair` leaves of the file, and
--- what it found is reported; or all stays
+-- what repairing does, by its outcome: the first n bytes are what `repair` leaves of the file, all
+-- of them in the caller's memory, and what it found is reported; or all stays
 abbrev pub RepairsFile : ℕ → List ℕ → List ℕ → HoundRepair → HoundRepair → Result ℕ Fault → Type 0
-RepairsFile used old new was now (Ok n) =
-    (found : Repair) × RepairsBytes used n found old new × IsReported found now
+RepairsFile used old new was now (Ok n) = (used ≤ length old) × (n ≤ length new)
+    × (found : Repair) × RepairsBytes used n found old new × IsReported found now
 RepairsFile used old new was now (Err fault) = (new ≡ old) × (now ≡ was)
     × IsFileFault used old fault

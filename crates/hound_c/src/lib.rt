@@ -20,7 +20,7 @@ ghost use Rattle.hound_reader.specs.declared.cause.Cause.{Cause};
 ghost use Rattle.hound_c.specs.Codes.{Returns, fault_code};
 ghost use Rattle.hound_c.specs.Reading.{Decodes, Reads};
 ghost use Rattle.hound_c.specs.Repairing.{RepairsFile};
-ghost use Rattle.hound_c.specs.Writing.{Appends, Encodes, Sizes, Writes, spec_of};
+ghost use Rattle.hound_c.specs.Writing.{Appends, Encodes, IsExplicit, Sizes, Writes, spec_of};
 ghost use Rattle.hound_c.specs.declared.fault.Fault.TheVariants.{Head};
 
 use appending::append_block;
@@ -38,6 +38,7 @@ use writing::{encode_block, file_size, write_file};
 #[unsafe(no_mangle)]
 pub extern "C" fn hound_info(file: &[u8], info: &mut HoundInfo) -> i32
     ensures found { result ≡ pos 0 → Readable file.now (spec_of info.new.spec) info.new.samples info.new.data_start }
+    ensures explicit { result ≡ pos 0 → IsExplicit info.new.spec }
     ensures refused { (result ≡ pos 0 → ⊥) → (info.new ≡ info.old)
         × ((cause : Cause) × (result ≡ fault_code (Head cause)) × Unreadable file.now cause) }
 {

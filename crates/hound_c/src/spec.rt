@@ -1,6 +1,6 @@
 // The structs that C has; hound.h says what their fields are.
 ghost use Rattle.std.specs.Prelude.{◌≡◌, ◌<◌};
-ghost use Rattle.hound_c.specs.Writing.{spec_of};
+ghost use Rattle.hound_c.specs.Writing.{IsExplicit, spec_of};
 
 use hound_spec::{SampleFormat, WavSpec, WavSpecEx};
 
@@ -74,7 +74,8 @@ pub(crate) fn spec_of(spec: HoundSpec) -> WavSpecEx
 /// A spec that was found, for C.
 pub(crate) fn spec_for_c(spec_ex: WavSpecEx) -> HoundSpec
     requires { 0 < spec_ex.bytes_per_sample }
-    ensures { spec_of result ≡ spec_ex }
+    ensures same { spec_of result ≡ spec_ex }
+    ensures explicit { IsExplicit result }
 {
     let spec = spec_ex.spec;
     HoundSpec {

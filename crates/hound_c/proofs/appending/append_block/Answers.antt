@@ -1,12 +1,14 @@
-use Rattle.std.proofs.Common.{◌≡◌, ◌+◌, ◌-◌, ◌*◌, ◌%◌, ◌≤◌, ◌<◌, ◌^◌, ◌++◌, length, sym, ◌∙◌, ap, subst, arith, rules, length-append}
+use Rattle.std.proofs.Common.{◌≡◌, ◌+◌, ◌-◌, ◌*◌, ◌%◌, ◌≤◌, ◌<◌, ◌^◌, ◌++◌, length, take, drop, sym, ◌∙◌, ap, subst, arith, rules, length-append}
+use Rattle.std.proofs.lemmas.List.{drop-take, take-take}
 use Rattle.hound_spec.specs.{padding}
 use Rattle.hound_spec.proofs.HeaderLemmas.{length-padding}
-use Rattle.hound_sample.specs.{joined_containers}
-use Rattle.hound_writer.specs.{containers_in, with_sizes}
+use Rattle.hound_sample.specs.{containers, joined_containers}
+use Rattle.hound_writer.specs.{ReadsAs, containers_in, with_sizes}
+use Rattle.hound_sample.proofs.Containers.{containers_front}
 use Rattle.hound_sample.proofs.Joined.{joined}
 use Rattle.hound_c.specs.Writing.{AppendsSamples}
 use Rattle.hound_c.proofs.Checks.{passed}
-use Rattle.hound_c.proofs.Appended.{reads, rest, sizes_only, two}
+use Rattle.hound_c.proofs.Appended.{reads, two}
 use Rattle.hound_c.proofs.appending.append_block.Goals as goal
 
 pub returns-clause-appends : goal.returns-clause-appends
@@ -43,17 +45,30 @@ returns-clause-appends g c =
     let all : c.set_sizes.new.bytes ≡ new =
     c.set_sizes.ensures ∙ (λ i. with_sizes (h - 4) (n - 8) (dl_is i) (c.write_data_at.ensures i)) in
     let r = c.in_ok-head.ensures.readable in
+    let long : used ≡ h + (used - h) = omega (arith, within) in
+    let cut : drop h (take used file) ≡ take (used - h) (drop h file) =
+    ap (λ m. drop h (take m file)) long ∙ drop-take h (used - h) file in
+    let same : containers w samples (drop h file) ≡ containers w samples (drop h (take used file)) =
+    sym (containers_front w samples (drop h (take used file)) (drop h file)
+    (ap (take (samples * w)) cut ∙ take-take (samples * w) (used - h) (drop h file) (omega (arith, within)))) in
     subst (AppendsSamples c.args.format g.S.Sample.container values used n file) (sym all) (record {
       spec_ex = s;
       samples = samples;
       start = h;
       list = list;
+      within = inside;
       readable = r;
+      held = within;
       format_is = search rules;
+      pair = search rules;
       is = list_is;
-      reads = reads s samples h used n k (n - 8) list file added (padding dl) data_is size front within inside n_is room small
+      file = (c.in_ok-data_length.ensures.frames, c.in_ok-data_length.ensures.fits);
+      size = c.in_ok-data_length.ensures.end;
+      room = room;
+      bytes = λ i. with_sizes (h - 4) (n - 8) (sym total i * w) (take (h + samples * w) file
+          ++ ((j.bytes i ++ padding (c.in_ok-data_length.ensures.data i)) ++ drop (sym n_is i) file));
+      reads = subst (λ l. ReadsAs s h (l ++ list) (take n new)) same
+          (reads s samples h used n k (n - 8) list file added (padding dl) data_is size front within inside n_is room small
           r.len r.head c.in_ok-head.ensures.sound.1
-          (ap (λ m. m % s.spec.channels) (sym total) ∙ c.in_ok-data_length.ensures.frames) j.back;
-      front = sizes_only s samples h used n k (n - 8) list file added (padding dl) data_is size front within inside n_is room small;
-      rest = rest s samples h used n k (n - 8) list file added (padding dl) data_is size front within inside n_is room small;
+          (ap (λ m. m % s.spec.channels) (sym total) ∙ c.in_ok-data_length.ensures.frames) j.back);
     })

@@ -36,8 +36,10 @@ returns-clause-encodes g c =
     subst (λ t. Encodes c.args.format g.S.Sample.container t values c.args.out.now (c.store_containers.new.bytes ++ rest) (Ok n))
     c.spec_of-spec_ex.ensures (
       same,
+      search rules,
       list,
       list_is,
       take_at c.store_containers.new.bytes rest n size ∙ body_is ∙ j.bytes,
       drop_at c.store_containers.new.bytes rest n size,
+      refl,
     )

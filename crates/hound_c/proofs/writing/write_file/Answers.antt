@@ -5,7 +5,7 @@ use Rattle.std.proofs.lemmas.List.{length-take-le, take_at}
 use Rattle.std.proofs.lemmas.Slice.{drop-append-drop}
 use Rattle.hound_c.proofs.Puts.{drop_put, take_put}
 use Rattle.std.specs.List.{concat}
-use Rattle.hound_spec.specs.{canonical, data_start, header, padding, riff_size}
+use Rattle.hound_spec.specs.{canonical, data_start, greatest_u32, header, padding, riff_size}
 use Rattle.hound_spec.proofs.HeaderLemmas.{data_start_least, length-header, length-padding}
 use Rattle.hound_sample.specs.{joined_containers}
 use Rattle.hound_writer.specs.{containers_in}
@@ -74,4 +74,9 @@ returns-clause-writes g c =
           ∙ drop_put start k (head ++ drop start old) body size within end (omega (arith, end_is))
           ∙ drop-append-drop start old head end (omega (arith, end_is)) head_long,
       omega (arith, c.in_ok-data_length.ensures.end, c.data_start_of-data_start.ensures),
+      (
+        c.in_ok-data_length.ensures.frames,
+        subst (λ k. riff_size k (length values * w) ≤ greatest_u32) c.data_start_of-data_start.ensures
+            c.in_ok-data_length.ensures.fits,
+      ),
     )
