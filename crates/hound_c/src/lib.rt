@@ -10,29 +10,33 @@ mod head;
 mod reading;
 mod repairing;
 mod spec;
+mod walking;
 mod writing;
 
-ghost use Rattle.std.specs.Prelude.{◌≡◌, ◌*◌, ℕ, ℤ, length, pos};
-ghost use Rattle.hound_reader.specs.{Readable, Unreadable};
+ghost use Rattle.std.specs.Prelude.{◌≡◌, ◌*◌, ℕ, ℤ, List, length, pos};
+ghost use Rattle.hound_reader.specs.{IsAt, Readable, Unreadable};
 ghost use Rattle.hound_sample.specs.{int_container, pattern_container, float_refusal, int_meaning, int_refusal, pattern};
 ghost use Rattle.hound_spec.specs.declared.spec.SampleFormat.TheVariants.{Float, Int};
 ghost use Rattle.hound_reader.specs.declared.cause.Cause.{Cause};
 ghost use Rattle.hound_c.specs.Codes.{Returns, fault_code};
 ghost use Rattle.hound_c.specs.Reading.{Decodes, Reads};
 ghost use Rattle.hound_c.specs.Repairing.{RepairsFile};
-ghost use Rattle.hound_c.specs.Writing.{Appends, Encodes, IsExplicit, Sizes, Writes, spec_of};
+ghost use Rattle.hound_c.specs.Walks.{AreAsked, AsksOn, FindsHead, Steps, walk_of};
+ghost use Rattle.hound_c.specs.Writing.{Appends, Encodes, GivesHeader, GivesSizes, IsExplicit, Sizes, Writes, spec_of};
 ghost use Rattle.hound_c.specs.declared.fault.Fault.TheVariants.{Head};
 
 use appending::append_block;
-use fault::{code_of, code_of_fault};
+use fault::{Fault, code_of, code_of_fault};
 use head::find_samples;
+use hound_reader::{Step, count_samples, take_part};
 use hound_sample::FloatBits;
 use hound_spec::SampleFormat;
 use reading::{decode_block, read_block};
 use repairing::repair_file;
 use spec::spec_for_c;
-pub use spec::{HoundInfo, HoundRepair, HoundSpec};
-use writing::{encode_block, file_size, write_file};
+pub use spec::{HoundInfo, HoundRepair, HoundSpec, HoundWalk};
+use walking::{part_of, walk_for_c, walk_of};
+use writing::{encode_block, file_size, write_file, write_header, write_sizes};
 
 /// What is before the data: 0, or why it can't be read.
 #[unsafe(no_mangle)]
@@ -52,6 +56,38 @@ pub extern "C" fn hound_info(file: &[u8], info: &mut HoundInfo) -> i32
             0
         }
         Err(fault) => code_of_fault(fault),
+    }
+}
+
+/// Takes the part of a file that a walk asks for: 1 if the walk asks for another part, 0 if the data
+/// begin there, or why there are none.
+#[unsafe(no_mangle)]
+pub extern "C" fn hound_walk_next(walk: &mut HoundWalk, bytes: &[u8], info: &mut HoundInfo) -> i32
+    ensures steps { (file : List ℕ) → IsAt file (walk_of walk.old) → AreAsked bytes.now walk.old file
+        → Steps file result walk.new info.new }
+    ensures on { result ≡ pos 1 → AsksOn walk.old walk.new }
+    ensures found { result ≡ pos 0 → FindsHead walk.old info.new }
+    ensures stays { (result ≡ pos 1 → ⊥) → walk.new ≡ walk.old }
+    ensures kept { (result ≡ pos 0 → ⊥) → info.new ≡ info.old }
+{
+    let asked = walk_of(*walk);
+    match take_part(asked, part_of(asked, bytes)) {
+        Ok(Step::Next(next)) => {
+            *walk = walk_for_c(next);
+            1
+        }
+        Ok(Step::Data(head)) => match count_samples(head) {
+            Ok(samples) => {
+                *info = HoundInfo {
+                    spec: spec_for_c(head.spec_ex),
+                    samples,
+                    data_start: head.data_start,
+                };
+                0
+            }
+            Err(cause) => code_of_fault(Fault::Head(cause)),
+        },
+        Err(cause) => code_of_fault(Fault::Head(cause)),
     }
 }
 
@@ -85,6 +121,28 @@ pub extern "C" fn hound_size(spec: &HoundSpec, samples: u64) -> i64
     ensures { Returns result (Sizes (spec_of spec.now) samples) }
 {
     code_of(file_size(*spec, samples))
+}
+
+/// Writes the header of the file of so many samples.
+#[unsafe(no_mangle)]
+pub extern "C" fn hound_header(spec: &HoundSpec, samples: u64, out: &mut [u8]) -> i64
+    ensures { Returns result (GivesHeader (spec_of spec.now) samples out.old out.new) }
+{
+    code_of(write_header(*spec, samples, out))
+}
+
+/// Writes the RIFF size and the data length of the file of so many samples, whose data begin at a
+/// place.
+#[unsafe(no_mangle)]
+pub extern "C" fn hound_sizes(
+    spec: &HoundSpec,
+    data_start: u64,
+    samples: u64,
+    out: &mut [u8],
+) -> i64
+    ensures { Returns result (GivesSizes (spec_of spec.now) data_start samples out.old out.new) }
+{
+    code_of(write_sizes(*spec, data_start, samples, out))
 }
 
 /// Writes the whole file of these samples.
@@ -141,6 +199,22 @@ pub extern "C" fn hound_repair(file: &mut [u8], used: usize, found: &mut HoundRe
     ensures { Returns result (RepairsFile used file.old file.new found.old found.new) }
 {
     code_of(repair_file(file, used, found))
+}
+
+/// Decodes samples of a spec, of eight bits.
+#[unsafe(no_mangle)]
+pub extern "C" fn hound_decode_i8(spec: &HoundSpec, bytes: &[u8], out: &mut [i8]) -> i64
+    ensures { Returns result (Decodes (int_refusal 1) (λ _. int_meaning) (spec_of spec.now) bytes.now out.old out.new) }
+{
+    code_of(decode_block::<i8>(*spec, bytes, out))
+}
+
+/// Encodes samples of a spec.
+#[unsafe(no_mangle)]
+pub extern "C" fn hound_encode_i8(spec: &HoundSpec, samples: &[i8], out: &mut [u8]) -> i64
+    ensures { Returns result (Encodes Int int_container (spec_of spec.now) samples.now out.old out.new) }
+{
+    code_of(encode_block::<i8>(*spec, SampleFormat::Int, samples, out))
 }
 
 /// Decodes samples of a spec.

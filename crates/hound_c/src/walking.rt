@@ -1,6 +1,6 @@
 // The walk of a caller who hands in the bytes before the data.
-ghost use Rattle.std.specs.Prelude.{◌≡◌, IfSome};
-ghost use Rattle.hound_reader.specs.{IsSoundOption};
+ghost use Rattle.std.specs.Prelude.{◌≡◌, take};
+ghost use Rattle.hound_reader.specs.{IsSoundOption, part_length};
 ghost use Rattle.hound_c.specs.Walks.{Asks, found_of, walk_of};
 
 use crate::spec::{HoundSpec, HoundWalk, spec_for_c, spec_of};
@@ -40,6 +40,13 @@ pub(crate) fn walk_of(walk: HoundWalk) -> HeadWalk
             _ => Part::Fmt(walk.fmt_length),
         },
     }
+}
+
+/// The part that a walk asks for, of bytes that begin with it.
+pub(crate) fn part_of(walk: HeadWalk, bytes: &[u8]) -> &[u8]
+    ensures { result.now ≡ take (part_length walk.part) bytes.now }
+{
+    &bytes[..bytes.len().min(walk.length())]
 }
 
 // C's form of a spec that was found, or of none.

@@ -1,11 +1,12 @@
 // Whole files that are written.
 ghost use Rattle.std.specs.Prelude.{◌≡◌, ◌+◌, ◌*◌, ◌%◌, ◌^◌, ◌≤◌, ◌++◌, IsOk, IfOk, IfErr, length, take, drop};
-ghost use Rattle.hound_spec.specs.{greatest_u32, data_start, padded, padding, riff_size};
+ghost use Rattle.hound_spec.specs.{IsWritable, greatest_u32, data_start, header, padded, padding, riff_size};
 ghost use Rattle.hound_sample.specs.{all_containers, joined_containers};
-ghost use Rattle.hound_c.specs.Writing.{Encodes, IsSizeFault, Sizes, Writes, check_of, spec_of};
+ghost use Rattle.hound_c.specs.Writing.{Encodes, GivesHeader, GivesSizes, IsSizeFault, Sizes, Writes, check_of, spec_of};
 
 use crate::fault::Fault;
 use crate::spec::{HoundSpec, spec_of};
+use hound_number::le_u32;
 use hound_sample::{Sample, check_containers, have_containers, store_containers};
 use hound_spec::{Error, SampleFormat, WavSpecEx, header_of, is_pair};
 
@@ -61,6 +62,16 @@ fn data_start_of(spec_ex: WavSpecEx) -> usize
     }
 }
 
+// Writes the header to the front of `out`.
+fn put_header(spec_ex: WavSpecEx, riff_size: u32, data_length: u32, out: &mut [u8])
+    requires writable { IsWritable spec_ex }
+    requires room { data_start spec_ex ≤ length out.old }
+    ensures { out.new ≡ header spec_ex riff_size data_length ++ drop (data_start spec_ex) out.old }
+{
+    let header = header_of(spec_ex, riff_size, data_length);
+    out[..data_start_of(spec_ex)].copy_from_slice(header.as_slice());
+}
+
 /// How many bytes so many samples take, and how many the file that has them after a header of
 /// this many.
 pub(crate) fn sizes_of(
@@ -105,6 +116,59 @@ pub(crate) fn file_size(spec: HoundSpec, samples: u64) -> Result<usize, Fault>
     Ok(sizes_of(spec_ex, data_start_of(spec_ex), samples)?.1)
 }
 
+/// Writes the header of a file of so many samples to the front of `out`, and returns its length.
+pub(crate) fn write_header(spec: HoundSpec, samples: u64, out: &mut [u8]) -> Result<usize, Fault>
+    ensures gives { GivesHeader (spec_of spec) samples out.old out.new result }
+    ensures small { IfOk result (λ n. n ≤ 68) }
+{
+    let spec_ex = spec_of(spec);
+    if !spec_ex.is_writable() {
+        return Err(Fault::OtherPair);
+    }
+    let data_start = data_start_of(spec_ex);
+    let (data_length, size) = sizes_of(spec_ex, data_start, samples)?;
+    if data_start > out.len() {
+        return Err(Fault::NoRoom);
+    }
+    put_header(spec_ex, (size - 8) as u32, data_length, out);
+    Ok(data_start)
+}
+
+/// Writes the two sizes of a file of so many samples, whose data begin at a place, to the first eight
+/// bytes of `out`, and returns how many bytes that file has.
+pub(crate) fn write_sizes(
+    spec: HoundSpec,
+    data_start: u64,
+    samples: u64,
+    out: &mut [u8],
+) -> Result<usize, Fault>
+    ensures gives { GivesSizes (spec_of spec) data_start samples out.old out.new result }
+    ensures small { IfOk result (λ n. n ≤ 2 ^ 33) }
+{
+    let spec_ex = spec_of(spec);
+    let spec = spec_ex.spec;
+    if !is_pair(
+        spec.sample_format,
+        spec.bits_per_sample,
+        spec_ex.bytes_per_sample,
+    ) {
+        return Err(Fault::OtherPair);
+    }
+    if spec.channels == 0 || data_start < 20 {
+        return Err(Fault::OtherPair);
+    }
+    if data_start > u32::MAX as u64 + 8 {
+        return Err(Fault::TooLong);
+    }
+    if out.len() < 8 {
+        return Err(Fault::NoRoom);
+    }
+    let (data_length, size) = sizes_of(spec_ex, data_start as usize, samples)?;
+    out[..4].copy_from_slice(&le_u32((size - 8) as u32));
+    out[4..8].copy_from_slice(&le_u32(data_length));
+    Ok(size)
+}
+
 /// Writes the file of these samples to the front of `out`, and returns its length.
 pub(crate) fn write_file<S: Sample + Copy>(
     spec: HoundSpec,
@@ -130,8 +194,7 @@ pub(crate) fn write_file<S: Sample + Copy>(
     if size > out.len() {
         return Err(Fault::NoRoom);
     }
-    let header = header_of(spec_ex, (size - 8) as u32, data_length);
-    out[..data_start].copy_from_slice(header.as_slice());
+    put_header(spec_ex, (size - 8) as u32, data_length, out);
     write_data_at(out, data_start, samples, bits, width, data_length);
     Ok(size)
 }

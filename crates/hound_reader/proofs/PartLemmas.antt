@@ -160,24 +160,24 @@ passed file tag size after found next c len w is tag_four four says other limit 
       | inl less ↦ inr (
         omega (arith, less, long),
         refused_at file rest found c Ended w
-        (ap (chunk_fault c found) is ∙ cut_off c found tag size after len tag_four four says other limit sound less),
+            (ap (chunk_fault c found) is ∙ cut_off c found tag size after len tag_four four says other limit sound less),
       )
       | inr whole ↦ inl (
-        let content = take (padded len) after in
-        let p : Chunk = record { tag = tag; size = size; content = content } in
-        let n : length content ≡ padded len = length-take-le (padded len) after whole in
-        let left = drop (padded len) after in
-        let same : drop (12 + to) file ≡ left = passed_rest file tag size after c len is tag_four four in
-        subst (λ l. Walked file l next to) (sym same)
-        (walked_more file rest left c to found next w (
-          p,
-          record { tag = tag_four; size = four; content = rw says n; other = other; sound = rw says sound },
-          rw says limit,
-          rw says f,
-          omega (arith, n, tag_four, four, length-append tag (size ++ content), length-append size content),
-          is ∙ ap (λ l. tag ++ (size ++ l)) (sym (take-append-drop (padded len) after)) ∙ simp append_assoc,
-        ))
-      )
+          let content = take (padded len) after in
+          let p : Chunk = record { tag = tag; size = size; content = content } in
+          let n : length content ≡ padded len = length-take-le (padded len) after whole in
+          let left = drop (padded len) after in
+          let same : drop (12 + to) file ≡ left = passed_rest file tag size after c len is tag_four four in
+          subst (λ l. Walked file l next to) (sym same)
+          (walked_more file rest left c to found next w (
+            p,
+            record { tag = tag_four; size = four; content = rw says n; other = other; sound = rw says sound },
+            rw says limit,
+            rw says f,
+            omega (arith, n, tag_four, four, length-append tag (size ++ content), length-append size content),
+            is ∙ ap (λ l. tag ++ (size ++ l)) (sym (take-append-drop (padded len) after)) ∙ simp append_assoc,
+          ))
+          )
     ]
 
 -- the content of a header's chunk begins eight bytes on

@@ -84,7 +84,7 @@ pub(crate) fn read_riff_header<R: Input>(reader: &mut R) -> Result<u32, HeadErro
 
 /// What a chunk's header says of its content.
 #[derive(Clone, Copy)]
-pub enum Content {
+pub(crate) enum Content {
     /// The data, of this spec.
     Data(WavSpecEx),
     /// A fmt chunk.

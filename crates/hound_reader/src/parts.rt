@@ -16,11 +16,10 @@ use hound_number::{Input, u32_at};
 use hound_spec::{WAVEFORMATEXTENSIBLE_LENGTH, WavSpecEx};
 use std::io;
 
-/// Bytes that are read from the front; no read of them fails.
+// Bytes that are read from the front; no read of them fails.
 #[derive(Drop)]
-pub struct Window<'a> {
-    /// The bytes that are left.
-    pub rest: &'a [u8],
+struct Window<'a> {
+    rest: &'a [u8],
 }
 
 impl Input for Window<'_> {
@@ -101,7 +100,11 @@ fn skip(found: Option<WavSpecEx>, taken: u32, chunk_len: u32, read: u32) -> Head
     ensures part { IsAfter (padded chunk_len) read result.part }
 {
     let content = chunk_len + chunk_len % 2;
-    let part = if read == content { Part::Header } else { Part::Last };
+    let part = if read == content {
+        Part::Header
+    } else {
+        Part::Last
+    };
     HeadWalk {
         found,
         taken: taken + 8 + content,
@@ -110,11 +113,7 @@ fn skip(found: Option<WavSpecEx>, taken: u32, chunk_len: u32, read: u32) -> Head
 }
 
 #[inline(always)]
-fn take_header(
-    found: Option<WavSpecEx>,
-    taken: u32,
-    bytes: &[u8],
-) -> Result<Step, Cause>
+fn take_header(found: Option<WavSpecEx>, taken: u32, bytes: &[u8]) -> Result<Step, Cause>
     requires sound { IsSoundOption found }
     ensures leads { (file : List ℕ) → Walked file (drop (12 + taken) file) found taken
         → (bytes.now ≡ take 8 (drop (12 + taken) file)) → LeadsTo file result }
@@ -145,11 +144,7 @@ fn take_header(
 }
 
 #[inline(always)]
-fn take_fmt(
-    taken: u32,
-    chunk_len: u32,
-    bytes: &[u8],
-) -> Result<Step, Cause>
+fn take_fmt(taken: u32, chunk_len: u32, bytes: &[u8]) -> Result<Step, Cause>
     ensures leads { (file : List ℕ) → (found : Option WavSpecEx) → IsAtPart file (kinds.Fmt chunk_len) found taken
         → (bytes.now ≡ take (fmt_len chunk_len) (drop (20 + taken) file)) → LeadsTo file result }
     ensures ahead { IfOk result (IsAhead (20 + taken + fmt_len chunk_len)) }

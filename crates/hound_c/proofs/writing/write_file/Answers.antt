@@ -1,9 +1,8 @@
-use Rattle.std.proofs.lemmas.Grind.{common_steps}
 use Rattle.std.proofs.lemmas.Result.{err_from_is_err_and}
 use Rattle.std.proofs.Common.{◌≡◌, ◌+◌, ◌-◌, ◌*◌, ◌%◌, ◌≤◌, ◌++◌, Ok, length, take, drop, refl, sym, ◌∙◌, ap, subst, arith, rules, inr, length-append, length-drop}
-use Rattle.std.proofs.lemmas.List.{length-take-le, take_at}
+use Rattle.std.proofs.lemmas.List.{take_at}
 use Rattle.std.proofs.lemmas.Slice.{drop-append-drop}
-use Rattle.hound_c.proofs.Puts.{drop_put, take_put}
+use Rattle.hound_c.proofs.Puts.{drop_put, put, take_put}
 use Rattle.std.specs.List.{concat}
 use Rattle.hound_spec.specs.{canonical, data_start, greatest_u32, header, padding, riff_size}
 use Rattle.hound_spec.proofs.HeaderLemmas.{data_start_least, length-header, length-padding}
@@ -27,9 +26,6 @@ returns-in_err-check_samples-clause-writes g c =
           _ fault c.in_err-check_samples.ensures (λ wide. wide) inr),
     )
 
-pub copy_from_slice-requires : goal.copy_from_slice-requires
-copy_from_slice-requires g c = grind (arith, common_steps, length-header, length-take-le)
-
 pub returns-clause-writes : goal.returns-clause-writes
 returns-clause-writes g c =
     let s = c.spec_of-spec_ex.result in
@@ -42,11 +38,11 @@ returns-clause-writes g c =
     let end = c.in_ok-data_length.size in
     let (list, list_is) = passed (containers_in g.S.Sample.container s values) (search rules) in
     let j = joined container w (λ _ b e. (g.met.S.Sample.in_width _ _ _ b e).0) values list list_is in
-    let head = c.copy_from_slice.new.self in
-    let head_is : head ≡ header s (end - 8) len =
-    c.copy_from_slice.ensures.after ∙ c.as_slice.ensures ∙ c.header_of-header.ensures in
-    let head_long : length head ≡ start = ap length head_is ∙ length-header s (end - 8) len
+    let head = header s (end - 8) len in
+    let head_long : length head ≡ start = length-header s (end - 8) len
     ∙ sym c.data_start_of-data_start.ensures in
+    let begun : c.put_header.new.out ≡ head ++ drop start old =
+    c.put_header.ensures ∙ ap (λ m. head ++ drop m old) (sym c.data_start_of-data_start.ensures) in
     let k = w * length values + len % 2 in
     let body = joined_containers container values ++ padding len in
     let size : length body ≡ k =
@@ -59,9 +55,9 @@ returns-clause-writes g c =
     let riff : end - 8 ≡ riff_size (data_start s) (length (concat list)) =
     omega (arith, long, c.in_ok-data_length.ensures.end, c.in_ok-data_length.ensures.data, c.data_start_of-data_start.ensures, data_start_least s) in
     let file_is : take end c.write_data_at.new.out ≡ canonical s list =
-    ap (take end) c.write_data_at.ensures
+    ap (take end) c.write_data_at.ensures ∙ ap (λ out. take end (put start k out body)) begun
     ∙ take_put start k (head ++ drop start old) body size within end end_is
-    ∙ ap (λ l. l ++ body) (take_at head (drop start old) start head_long ∙ head_is)
+    ∙ ap (λ l. l ++ body) (take_at head (drop start old) start head_long)
     ∙ (λ i. header s (riff i) (long i) ++ (j.bytes i ++ padding (long i))) in
     subst (λ t. Writes c.args.format g.S.Sample.container t values old c.write_data_at.new.out (Ok end))
     c.spec_of-spec_ex.ensures (
@@ -70,7 +66,7 @@ returns-clause-writes g c =
       list,
       list_is,
       file_is,
-      ap (drop end) c.write_data_at.ensures
+      ap (drop end) c.write_data_at.ensures ∙ ap (λ out. drop end (put start k out body)) begun
           ∙ drop_put start k (head ++ drop start old) body size within end (omega (arith, end_is))
           ∙ drop-append-drop start old head end (omega (arith, end_is)) head_long,
       omega (arith, c.in_ok-data_length.ensures.end, c.data_start_of-data_start.ensures),

@@ -44,7 +44,7 @@ returns-in-Fmt-clause-leads c = λ file w is.
       size_long h (omega arith),
       sym c.u32_at-chunk_len.ensures,
       subst (λ t. drop (12 + c.args.taken) file ≡ t ++ (slice_range h 4 8 ++ drop (20 + c.args.taken) file))
-      (same_tag (take 4 h) fmt_tag did.says.1) (header_parts file h c.args.taken is (omega arith)),
+          (same_tag (take 4 h) fmt_tag did.says.1) (header_parts file h c.args.taken is (omega arith)),
     )
 
 pub returns-in-Other-clause-leads : goal.returns-in-Other-clause-leads

@@ -1,0 +1,63 @@
+/* Writes the samples of a WAV file to standard output without a header: integers of up to 16 bits as
+   int16_t, wider ones as int32_t, floats as float. The file comes from standard input, which may be a
+   pipe: nothing is read twice, and no more than a block is in memory.
+     cc -Ibindings/c bindings/c/cat.c bindings/lib/x86_64-linux/libhound_c.a -o cat && ./cat < in.wav > out.raw */
+#include "hound.h"
+#include <stdio.h>
+
+enum { BLOCK = 4096 };
+static uint64_t taken; /* how many bytes of the input were read */
+
+/* Reads so many bytes; fewer only at the end, or where reading fails. */
+static size_t take(uint8_t *out, size_t count) {
+    size_t got = fread(out, 1, count, stdin);
+    taken += got;
+    return got;
+}
+
+static size_t least(uint64_t a, size_t b) { return a < b ? (size_t)a : b; }
+
+/* Reads all that is before the data, and no byte more. */
+static int32_t find_data(hound_info_t *info) {
+    static uint8_t skipped[BLOCK];
+    hound_walk walk = HOUND_WALK_BEGIN;
+    int32_t code;
+    do {
+        uint8_t bytes[HOUND_WALK_BYTES];
+        while (taken < walk.place && take(skipped, least(walk.place - taken, sizeof skipped)) > 0) continue;
+        size_t got = taken < walk.place ? 0 : take(bytes, walk.length);
+        code = hound_walk_next(&walk, bytes, got, info);
+    } while (code == 1);
+    return code;
+}
+
+/* Decodes the containers of a block, and returns how many bytes `out` has of them. */
+static int64_t decode(const hound_spec *spec, const uint8_t *bytes, size_t length, int32_t *out) {
+    if (spec->sample_format == HOUND_FLOAT) return 4 * hound_decode_f32(spec, bytes, length, (float *)(void *)out, BLOCK);
+    if (spec->bits_per_sample <= 16) return 2 * hound_decode_i16(spec, bytes, length, (int16_t *)(void *)out, BLOCK);
+    return 4 * hound_decode_i32(spec, bytes, length, out, BLOCK);
+}
+
+static int fail(const char *why) {
+    fprintf(stderr, "cat: %s\n", why);
+    return 1;
+}
+
+int main(void) {
+    static uint8_t bytes[4 * BLOCK];
+    static int32_t out[BLOCK];
+    hound_info_t info;
+    int32_t code = find_data(&info);
+    if (ferror(stdin)) return fail("reading failed");
+    if (code < 0) return fail(hound_error_text(code));
+    uint64_t left = (uint64_t)info.samples * info.spec.bytes_per_sample;
+    while (left > 0) {
+        size_t wanted = least(left, (size_t)info.spec.bytes_per_sample * BLOCK), got = take(bytes, wanted);
+        int64_t length = decode(&info.spec, bytes, got, out);
+        if (length < 0) return fail("these samples are not read");
+        if (fwrite(out, 1, (size_t)length, stdout) != (size_t)length) return fail("writing failed");
+        if (got < wanted) return fflush(stdout), fail(ferror(stdin) ? "reading failed" : hound_error_text(HOUND_TRUNCATED));
+        left -= got;
+    }
+    return fflush(stdout) ? fail("writing failed") : 0;
+}
