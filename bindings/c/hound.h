@@ -115,6 +115,25 @@ typedef struct {
 /* Finds what is before the data. Returns 0 or an error, and looks at no byte of the data. */
 int32_t hound_info(const uint8_t *file, size_t length, hound_info_t *info) HOUND_NONNULL;
 
+/* A walk to the data of a file that isn't in memory, or comes from a pipe. It asks for one part after
+   the other, and for nothing of a chunk that it skips but the last byte. It begins as
+   HOUND_WALK_BEGIN; `place` and `length` are for you, and the rest is for the next call. */
+typedef struct {
+    uint64_t place;  /* where in the file the bytes begin that are asked for */
+    hound_spec spec;
+    uint32_t length; /* how many they are: at most HOUND_WALK_BYTES */
+    uint32_t taken, part, fmt_length;
+} hound_walk;
+
+enum { HOUND_WALK_BYTES = 40 };
+#define HOUND_WALK_BEGIN {0, {0, 0, 0, 0, 0}, 12, 0, 0, 0}
+
+/* Takes the bytes that the walk asks for, fewer only where the file ends; bytes past `walk->length` are
+   ignored. Returns 1 if the walk asks for other bytes, which come after these; 0 if the data begin after
+   these, and then info is as hound_info has it; or the error that hound_info returns. So no byte of the
+   data is asked for, and none twice. */
+int32_t hound_walk_next(hound_walk *walk, const uint8_t *bytes, size_t length, hound_info_t *info) HOUND_NONNULL;
+
 /* Reads samples from number `first` on, counted from 0, and returns how many: as many as fit, as the
    header counts and as the bytes hold. So 0 means the end, or that count is 0. HOUND_TRUNCATED means
    that the header counts sample `first` and the bytes don't hold it. The rest of `out` stays.
@@ -125,6 +144,15 @@ int64_t hound_read_f32(const uint8_t *file, size_t length, uint64_t first, float
 
 /* Returns how many bytes the file of so many samples has. */
 int64_t hound_size(const hound_spec *spec, uint64_t samples) HOUND_NONNULL;
+
+/* Writes the header of the file of so many samples to the front of `out`, and returns its length, which
+   is 44 or 68. */
+int64_t hound_header(const hound_spec *spec, uint64_t samples, uint8_t *out, size_t capacity) HOUND_NONNULL;
+
+/* Writes the two sizes of the file of so many samples whose data begin at `data_start`: the RIFF size,
+   which is at byte 4 of a file, and the data length, which is in the four bytes before the data. Each
+   has four bytes. Returns how many bytes that file has, with the pad byte after odd data. */
+int64_t hound_sizes(const hound_spec *spec, uint64_t data_start, uint64_t samples, uint8_t *out, size_t capacity) HOUND_NONNULL;
 
 /* Writes the whole file of these samples to the front of `out`, and returns its length. The rest of
    `out` stays. Each value must fit in the bits of the spec. A file of 0 samples is one to append to. */
@@ -149,9 +177,11 @@ int64_t hound_repair(uint8_t *file, size_t capacity, size_t used, hound_repair_t
    are for streams, and for a file whose header is too long to be walked over for each block.
    Decoding returns how many samples, as many as fit and as the bytes hold; encoding returns how many
    bytes. The rate and the channels of the spec have no effect. */
+int64_t hound_decode_i8(const hound_spec *spec, const uint8_t *bytes, size_t length, int8_t *out, size_t count) HOUND_NONNULL;
 int64_t hound_decode_i16(const hound_spec *spec, const uint8_t *bytes, size_t length, int16_t *out, size_t count) HOUND_NONNULL;
 int64_t hound_decode_i32(const hound_spec *spec, const uint8_t *bytes, size_t length, int32_t *out, size_t count) HOUND_NONNULL;
 int64_t hound_decode_f32(const hound_spec *spec, const uint8_t *bytes, size_t length, float *out, size_t count) HOUND_NONNULL;
+int64_t hound_encode_i8(const hound_spec *spec, const int8_t *samples, size_t count, uint8_t *out, size_t capacity) HOUND_NONNULL;
 int64_t hound_encode_i16(const hound_spec *spec, const int16_t *samples, size_t count, uint8_t *out, size_t capacity) HOUND_NONNULL;
 int64_t hound_encode_i32(const hound_spec *spec, const int32_t *samples, size_t count, uint8_t *out, size_t capacity) HOUND_NONNULL;
 int64_t hound_encode_f32(const hound_spec *spec, const float *samples, size_t count, uint8_t *out, size_t capacity) HOUND_NONNULL;
@@ -202,6 +232,9 @@ HOUND_ASSERT(sizeof(hound_spec) == 12 && offsetof(hound_spec, channels) == 4
              && offsetof(hound_spec, bytes_per_sample) == 8 && offsetof(hound_spec, sample_format) == 10);
 HOUND_ASSERT(sizeof(hound_info_t) == 24 && offsetof(hound_info_t, samples) == 12
              && offsetof(hound_info_t, data_start) == 16);
+HOUND_ASSERT(sizeof(hound_walk) == 40 && offsetof(hound_walk, spec) == 8 && offsetof(hound_walk, length) == 20
+             && offsetof(hound_walk, taken) == 24 && offsetof(hound_walk, part) == 28
+             && offsetof(hound_walk, fmt_length) == 32);
 HOUND_ASSERT(sizeof(hound_repair_t) == 24 && offsetof(hound_repair_t, frames) == 12
              && offsetof(hound_repair_t, left_over) == 16 && offsetof(hound_repair_t, state) == 20);
 #endif

@@ -5,6 +5,7 @@
 #include <stdlib.h>
 #include <string.h>
 #include <sys/mman.h>
+#include "walked.h"
 
 static void must(int holds, const char *what) {
     if (!holds) {
@@ -142,12 +143,23 @@ static void files_of_each_kind(void) {
             int64_t used = written(*type, &spec, n, file, sizeof file);
             whole(file, used, start, n * width, "a written file");
             must(all_are(file, used, sizeof file, 9) && hound_size(&spec, n) == used, "the rest after a written file");
+            uint8_t header[69], sizes[9];
+            memset(header, 9, sizeof header);
+            memset(sizes, 9, sizeof sizes);
+            must(hound_header(&spec, n, header, start - 1) == HOUND_NO_ROOM && hound_sizes(&spec, start, n, sizes, 7) == HOUND_NO_ROOM, "no room for a header");
+            must(all_are(header, 0, sizeof header, 9) && all_are(sizes, 0, sizeof sizes, 9), "no room changes nothing");
+            must(hound_header(&spec, n, header, sizeof header) == (int64_t)start && !memcmp(header, file, start), "a header");
+            must(hound_sizes(&spec, start, n, sizes, sizeof sizes) == used && le32(sizes) == le32(file + 4) && le32(sizes + 4) == n * width, "two sizes");
+            must(all_are(header, (int64_t)start, sizeof header, 9) && sizes[8] == 9, "the rest after a header and sizes");
             put32(file + 4, 0);
             used = appended(*type, file, sizeof file, (size_t)used, n, more);
             whole(file, used, start, (n + more) * width, "a file that was appended to");
             must(all_are(file, used, sizeof file, 9), "the rest after a file that was appended to");
             hound_info_t info;
             must(hound_info(file, (size_t)used, &info) == 0 && !memcmp(&info.spec, &spec, sizeof spec), "the spec of a file");
+            hound_info_t parted;
+            must(walked(file, (size_t)used, &parted) == 0 && !memcmp(&parted.spec, &spec, sizeof spec), "the spec, by parts");
+            must(parted.samples == n + more && parted.data_start == start, "the samples, by parts");
             must(info.samples == n + more && info.data_start == start, "the samples of a file");
             for (int cut = 0; cut < 2; cut++) {
                 hound_repair_t found;
@@ -200,6 +212,81 @@ static void errors_of_files(void) {
         must(appended(*type, file, sizeof file, used, 0, 3) == HOUND_UNFINISHED_FRAME, "a frame and a half more");
         must(!memcmp(file, before, sizeof file), "torn frames change no file");
     }
+}
+
+/* A file with a chunk of three bytes and their pad byte before its fmt chunk, and the parts that a walk asks for: the
+   front, a header, the pad byte and the next header, the fields of the fmt chunk, the header of the data. */
+static const uint8_t listed[58] = {
+    'R', 'I', 'F', 'F', 50, 0, 0, 0, 'W', 'A', 'V', 'E', 'L', 'I', 'S', 'T', 3, 0, 0, 0, 'a', 'b', 'c', 0,
+    'f', 'm', 't', ' ', 16, 0, 0, 0, 1, 0, 1, 0, 0x44, 0xac, 0, 0, 0x88, 0x58, 1, 0, 2, 0, 16, 0, 'd', 'a', 't', 'a', 2, 0, 0, 0, 7, 0};
+static const struct { uint64_t place; uint32_t length; } parts[] = {{0, 12}, {12, 8}, {23, 9}, {32, 16}, {48, 8}};
+enum { PARTS = sizeof parts / sizeof *parts };
+
+static void walks(void) {
+    for (int more = 0; more < 2; more++) { /* with bytes past the part, too */
+        hound_walk walk = HOUND_WALK_BEGIN;
+        hound_info_t info;
+        memset(&info, 7, sizeof info);
+        for (int i = 0; i < PARTS; i++) {
+            must(walk.place == parts[i].place && walk.length == parts[i].length, "the part that is asked for");
+            size_t count = more ? sizeof listed - (size_t)walk.place : walk.length;
+            uint8_t *part = copy(listed + walk.place, count);
+            must(hound_walk_next(&walk, part, count, &info) == (i < PARTS - 1), "a step");
+            free(part);
+        }
+        must(info.data_start == 56 && info.samples == 1 && info.spec.sample_rate == 44100, "what a walk finds");
+        must(info.spec.channels == 1 && info.spec.bits_per_sample == 16 && info.spec.bytes_per_sample == 2 && info.spec.sample_format == HOUND_INT, "the spec of a walk");
+    }
+    for (size_t length = 0; length < 56; length++) {
+        hound_info_t info;
+        memset(&info, 7, sizeof info);
+        must(walked(listed, length, &info) == HOUND_ENDED && info.samples == 0x07070707, "a walk that ends early");
+    }
+    uint8_t other[58];
+    hound_info_t info;
+    memcpy(other, listed, sizeof other);
+    other[24] = 'F';
+    must(walked(other, sizeof other, &info) == HOUND_NO_FMT_CHUNK, "a walk without a fmt chunk");
+    memcpy(other, listed, sizeof other);
+    other[52] = 1;
+    must(walked(other, sizeof other, &info) == HOUND_DATA_LENGTH, "a walk to half a sample");
+    memcpy(other, listed, sizeof other);
+    put32(other + 16, 0xfffffff8);
+    must(walked(other, sizeof other, &info) == HOUND_NO_DATA_CHUNK, "a chunk that ends past 32 bits");
+    put32(other + 16, 0xfffffff7);
+    must(walked(other, sizeof other, &info) == HOUND_NO_DATA_CHUNK, "a chunk whose pad byte ends past 32 bits");
+    put32(other + 16, 0xfffffff6);
+    must(walked(other, sizeof other, &info) == HOUND_ENDED, "a chunk that is longer than the file");
+}
+
+static void eight_bits(void) {
+    hound_spec spec = {8000, 1, 8, 0, HOUND_INT}, wide = {8000, 1, 16, 0, HOUND_INT}, real = {8000, 1, 32, 0, HOUND_FLOAT};
+    const int8_t samples[4] = {-128, -1, 0, 127};
+    const uint8_t bytes[4] = {0, 127, 128, 255}, wider[8] = {0x80, 0xff, 0xff, 0xff, 0, 0, 127, 0};
+    uint8_t out[9];
+    int8_t back[5] = {9, 9, 9, 9, 9};
+    memset(out, 9, sizeof out);
+    must(hound_encode_i8(&spec, samples, 4, out, 9) == 4 && !memcmp(out, bytes, 4) && out[4] == 9, "8 bits from -128 on are bytes from 0 on");
+    must(hound_encode_i8(&wide, samples, 4, out, 8) == 8 && !memcmp(out, wider, 8) && out[8] == 9, "8 bits as 16");
+    must(hound_encode_i8(&wide, samples, 4, out, 7) == HOUND_NO_ROOM && hound_encode_i8(&real, samples, 1, out, 9) == HOUND_OTHER_FORMAT, "8 bits that don't fit");
+    must(hound_decode_i8(&spec, bytes, 4, back, 5) == 4 && !memcmp(back, samples, 4) && back[4] == 9, "8 bits, decoded");
+    must(hound_decode_i8(&wide, wider, 8, back, 5) == HOUND_TOO_WIDE && hound_decode_i8(&real, wider, 8, back, 5) == HOUND_OTHER_FORMAT && back[0] == -128, "what 8 bits don't hold");
+}
+
+/* What has no header, and no sizes. */
+static void sizes_of_none(void) {
+    hound_spec spec = {44100, 2, 16, 0, HOUND_INT};
+    uint8_t out[44];
+    memset(out, 9, sizeof out);
+    must(hound_header(&spec, 3, out, 44) == HOUND_UNFINISHED_FRAME && hound_sizes(&spec, 44, 3, out, 44) == HOUND_UNFINISHED_FRAME, "half a frame");
+    must(hound_header(&spec, 2147483630, out, 44) == HOUND_TOO_LONG && hound_sizes(&spec, 44, 2147483630, out, 44) == HOUND_TOO_LONG, "past 32 bits");
+    must(hound_sizes(&spec, 4294967304, 0, out, 44) == HOUND_TOO_LONG && hound_sizes(&spec, UINT64_MAX, 0, out, 44) == HOUND_TOO_LONG, "data past 4 GiB");
+    must(hound_sizes(&spec, 19, 0, out, 44) == HOUND_NOT_WRITABLE, "no file has its data there");
+    spec.channels = 0;
+    must(hound_header(&spec, 0, out, 44) == HOUND_NOT_WRITABLE && hound_sizes(&spec, 44, 0, out, 44) == HOUND_NOT_WRITABLE, "no channel");
+    must(all_are(out, 0, sizeof out, 9), "an error writes nothing");
+    spec.channels = 2;
+    must(hound_sizes(&spec, 4294967303, 0, out, 44) == 4294967303 && le32(out) == 4294967295 && le32(out + 4) == 0, "the last place of data");
 }
 
 static void floats(void) {
@@ -277,6 +364,9 @@ int main(void) {
     writes();
     files_of_each_kind();
     errors_of_files();
+    walks();
+    eight_bits();
+    sizes_of_none();
     floats();
     repairs();
     sizes_of_32_bits();

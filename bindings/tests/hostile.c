@@ -5,6 +5,7 @@
 #include <stdlib.h>
 #include <string.h>
 #include <sys/mman.h>
+#include "walked.h"
 
 static uint32_t state = 1;
 static uint32_t some(uint32_t below) {
@@ -43,6 +44,14 @@ int main(int argc, char **argv) {
         hound_info_t info;
         int32_t code = hound_info(file, length, &info);
         must(code <= 0 && code >= HOUND_FRAME_LENGTH, "a code");
+        hound_info_t parted;
+        must(walked(file, length, &parted) == code, "the same by parts");
+        must(code < 0 || (!memcmp(&parted.spec, &info.spec, sizeof info.spec) && parted.samples == info.samples
+                          && parted.data_start == info.data_start), "the same head by parts");
+        hound_walk any;
+        for (size_t j = 0; j < sizeof any; j++) ((uint8_t *)&any)[j] = (uint8_t)some(some(2) ? 256 : 4);
+        int32_t next = hound_walk_next(&any, file, length, &parted);
+        must(next <= 1 && next >= HOUND_FRAME_LENGTH && (next != 1 || any.length <= HOUND_WALK_BYTES), "a step of any walk");
         size_t room = some(40);
         int16_t *shorts = (int16_t *)(void *)(out_end - 2 * room);
         int32_t *ints = (int32_t *)(void *)(out_end - 4 * room);

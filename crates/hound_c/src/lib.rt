@@ -33,7 +33,7 @@ use hound_sample::FloatBits;
 use hound_spec::SampleFormat;
 use reading::{decode_block, read_block};
 use repairing::repair_file;
-use spec::spec_for_c;
+use spec::info_for_c;
 pub use spec::{HoundInfo, HoundRepair, HoundSpec, HoundWalk};
 use walking::{part_of, walk_for_c, walk_of};
 use writing::{encode_block, file_size, write_file, write_header, write_sizes};
@@ -48,11 +48,7 @@ pub extern "C" fn hound_info(file: &[u8], info: &mut HoundInfo) -> i32
 {
     match find_samples(file) {
         Ok((head, samples)) => {
-            *info = HoundInfo {
-                spec: spec_for_c(head.spec_ex),
-                samples,
-                data_start: head.data_start,
-            };
+            *info = info_for_c(head, samples);
             0
         }
         Err(fault) => code_of_fault(fault),
@@ -78,11 +74,7 @@ pub extern "C" fn hound_walk_next(walk: &mut HoundWalk, bytes: &[u8], info: &mut
         }
         Ok(Step::Data(head)) => match count_samples(head) {
             Ok(samples) => {
-                *info = HoundInfo {
-                    spec: spec_for_c(head.spec_ex),
-                    samples,
-                    data_start: head.data_start,
-                };
+                *info = info_for_c(head, samples);
                 0
             }
             Err(cause) => code_of_fault(Fault::Head(cause)),

@@ -2,6 +2,7 @@
 ghost use Rattle.std.specs.Prelude.{◌≡◌, ◌<◌};
 ghost use Rattle.hound_c.specs.Writing.{IsExplicit, spec_of};
 
+use hound_reader::FileHead;
 use hound_spec::{SampleFormat, WavSpec, WavSpecEx};
 
 /// A spec.
@@ -87,5 +88,20 @@ pub(crate) fn spec_for_c(spec_ex: WavSpecEx) -> HoundSpec
             SampleFormat::Int => 0,
             SampleFormat::Float => 1,
         },
+    }
+}
+
+/// What is before the data, for C.
+pub(crate) fn info_for_c(head: FileHead, samples: u32) -> HoundInfo
+    requires { 0 < head.spec_ex.bytes_per_sample }
+    ensures spec { spec_of result.spec ≡ head.spec_ex }
+    ensures explicit { IsExplicit result.spec }
+    ensures samples { result.samples ≡ samples }
+    ensures start { result.data_start ≡ head.data_start }
+{
+    HoundInfo {
+        spec: spec_for_c(head.spec_ex),
+        samples,
+        data_start: head.data_start,
     }
 }
