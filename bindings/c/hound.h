@@ -51,10 +51,11 @@ enum {
     HOUND_UNSUPPORTED = -2,      /* the format tag or subformat is neither PCM nor IEEE float */
     HOUND_OTHER_FORMAT = -3,     /* the samples are floats and the type is an integer, or vice versa */
     HOUND_TOO_WIDE = -4,         /* the samples are wider than the type, or a value than its bits */
-    HOUND_NOT_WRITABLE = -5,     /* no call reads, writes, repairs, encodes or decodes samples with these
-                                    bits and bytes; hound_write_.. and hound_size also return it where
-                                    the channels or the rate are 0, or where the bytes of a frame don't
-                                    fit in 16 bits or those of a second in 32 */
+    HOUND_NOT_WRITABLE = -5,     /* no call reads, writes, repairs, encodes, decodes or scales samples with
+                                    these bits and bytes; hound_write_.., hound_size and hound_header also
+                                    return it where the channels or the rate are 0, or where the bytes of a
+                                    frame don't fit in 16 bits or those of a second in 32; hound_sizes
+                                    where the channels are 0 or the data begin before byte 20 */
     HOUND_TRUNCATED = -6,        /* the header counts a sample that isn't among the bytes of the file */
     HOUND_TOO_LONG = -7,         /* the sizes of the file would not fit in 32 bits */
     HOUND_UNFINISHED_FRAME = -8, /* the samples are no whole frames */
@@ -173,6 +174,10 @@ int64_t hound_append_f32(uint8_t *file, size_t capacity, size_t used, const floa
    was missing. Where chunks follow the data, or both sizes are right, nothing is written. */
 int64_t hound_repair(uint8_t *file, size_t capacity, size_t used, hound_repair_t *found) HOUND_NONNULL;
 
+/* Looks at a file as hound_repair does, and changes nothing of it. Returns 0, and reports in `found`
+   what hound_repair would, or the error that hound_repair returns, where that isn't HOUND_NO_ROOM. */
+int32_t hound_find_damage(const uint8_t *file, size_t length, hound_repair_t *found) HOUND_NONNULL;
+
 /* Samples without a file around them: containers one after the other, as in the data of a file. They
    are for streams, and for a file whose header is too long to be walked over for each block.
    Decoding returns how many samples, as many as fit and as the bytes hold; encoding returns how many
@@ -185,6 +190,16 @@ int64_t hound_encode_i8(const hound_spec *spec, const int8_t *samples, size_t co
 int64_t hound_encode_i16(const hound_spec *spec, const int16_t *samples, size_t count, uint8_t *out, size_t capacity) HOUND_NONNULL;
 int64_t hound_encode_i32(const hound_spec *spec, const int32_t *samples, size_t count, uint8_t *out, size_t capacity) HOUND_NONNULL;
 int64_t hound_encode_f32(const hound_spec *spec, const float *samples, size_t count, uint8_t *out, size_t capacity) HOUND_NONNULL;
+
+/* Integers of so many bits, from 1 to 32, as floats whose full scale is 1: each is divided by
+   2^(bits - 1). Returns how many. So any file of integers is read as floats, after hound_decode_i32 or
+   hound_read_i32; integers of up to 24 bits come back by hound_from_f32 as they were. */
+int64_t hound_to_f32(const int32_t *samples, size_t count, uint16_t bits, float *out, size_t capacity) HOUND_NONNULL;
+
+/* Floats whose full scale is 1 as integers of so many bits: each is multiplied by 2^(bits - 1) and rounded
+   to the nearest integer, of two the even one. What the bits don't hold is clipped, and `clipped` counts
+   that; a NaN is 0. Returns how many samples there are in all. */
+int64_t hound_from_f32(const float *samples, size_t count, uint16_t bits, int32_t *out, size_t capacity, uint64_t *clipped) HOUND_NONNULL;
 
 /* A sentence for an error, without its full stop. */
 static inline const char *hound_error_text(int64_t code) {

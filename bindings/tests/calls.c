@@ -273,6 +273,35 @@ static void eight_bits(void) {
     must(hound_decode_i8(&wide, wider, 8, back, 5) == HOUND_TOO_WIDE && hound_decode_i8(&real, wider, 8, back, 5) == HOUND_OTHER_FORMAT && back[0] == -128, "what 8 bits don't hold");
 }
 
+/* Scales of 16 bits, 8 and 32: halves go to the even integer, and what is past full scale is clipped and counted. */
+static void scales(void) {
+    const int32_t values[5] = {16384, -32768, 32767, 0, 1};
+    const float floats[5] = {0.5f, -1, 32767 / 32768.0f, 0, 1 / 32768.0f};
+    float out[6] = {9, 9, 9, 9, 9, 9};
+    must(hound_to_f32(values, 5, 16, out, 6) == 5 && !memcmp(out, floats, sizeof floats) && out[5] == 9, "16 bits as floats");
+    must(hound_to_f32(values + 4, 1, 8, out, 6) == 1 && out[0] == 1 / 128.0f, "8 bits as floats");
+    const int32_t lowest = INT32_MIN;
+    must(hound_to_f32(&lowest, 1, 32, out, 6) == 1 && out[0] == -1, "32 bits as floats");
+    const float some[9] = {1, -1, 0.5f, 2.5f / 32768, 3.5f / 32768, -1.0001f, 4, -2.5f / 32768, 0};
+    const int32_t integers[9] = {32767, -32768, 16384, 2, 4, -32768, 32767, -2, 0};
+    int32_t back[10];
+    uint64_t clipped = 77;
+    memset(back, 9, sizeof back);
+    must(hound_from_f32(some, 9, 16, back, 10, &clipped) == 9 && !memcmp(back, integers, sizeof integers), "floats as 16 bits");
+    must(clipped == 3 && back[9] == 0x09090909, "what is clipped, and the rest");
+    const uint32_t nan = 0x7fc00001;
+    float number;
+    memcpy(&number, &nan, sizeof number);
+    must(hound_from_f32(&number, 1, 24, back, 10, &clipped) == 1 && back[0] == 0 && clipped == 0, "no number");
+    must(hound_from_f32(floats, 5, 16, back, 10, &clipped) == 5 && !memcmp(back, values, sizeof values) && clipped == 0, "what comes back");
+    clipped = 77;
+    must(hound_to_f32(values, 5, 16, out, 4) == HOUND_NO_ROOM && hound_from_f32(some, 9, 16, back, 8, &clipped) == HOUND_NO_ROOM, "no room for scaled samples");
+    for (int bits = 0; bits <= 33; bits += 33)
+        must(hound_to_f32(values, 5, (uint16_t)bits, out, 6) == HOUND_NOT_WRITABLE
+             && hound_from_f32(some, 9, (uint16_t)bits, back, 10, &clipped) == HOUND_NOT_WRITABLE, "no such bits");
+    must(out[0] == -1 && back[0] == 16384 && clipped == 77, "an error scales nothing");
+}
+
 /* What has no header, and no sizes. */
 static void sizes_of_none(void) {
     hound_spec spec = {44100, 2, 16, 0, HOUND_INT};
@@ -306,6 +335,8 @@ static void floats(void) {
 static void repairs(void) {
     uint8_t *file = copy(four, 51);
     hound_repair_t found;
+    must(hound_find_damage(file, 51, &found) == 0 && !memcmp(file, four, 51), "looking for damage changes nothing");
+    must(found.state == HOUND_CUT_OFF && found.frames == 3 && found.left_over == 1, "the damage");
     must(hound_repair(file, 51, 51, &found) == 51, "repair");
     must(found.state == HOUND_CUT_OFF && found.frames == 3 && found.left_over == 1, "what was found");
     must(file[4] == 42 && file[40] == 6 && !memcmp(file + 44, four + 44, 7), "the sizes, and nothing else");
@@ -316,6 +347,10 @@ static void repairs(void) {
     must(hound_write_i16(&spec, shorts, 1, odd, 46) == 46, "a byte and its pad byte");
     odd[4] = 0;
     odd[45] = 7;
+    must(hound_find_damage(odd, 45, &found) == 0 && found.state == HOUND_CUT_OFF && found.frames == 1, "a pad byte is missing");
+    memset(&found, 7, sizeof found);
+    must(hound_find_damage(odd, 43, &found) == HOUND_ENDED && hound_find_damage(four + 1, 51, &found) == HOUND_NO_RIFF_TAG, "no file");
+    must(found.frames == 0x07070707 && found.state == 0x07070707, "what an error reports");
     must(hound_repair(odd, 45, 45, &found) == HOUND_NO_ROOM && odd[4] == 0, "no room for a pad byte");
     must(hound_repair(odd, 46, 45, &found) == 46 && odd[45] == 0 && odd[4] == 38, "a pad byte");
 }
@@ -366,6 +401,7 @@ int main(void) {
     errors_of_files();
     walks();
     eight_bits();
+    scales();
     sizes_of_none();
     floats();
     repairs();

@@ -3,3 +3,4 @@ pub mod Reading
 pub mod Writing
 pub mod Repairing
 pub mod Walks
+pub mod Scaling

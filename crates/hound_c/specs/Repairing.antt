@@ -1,8 +1,8 @@
 -- What repairing does.
-use Rattle.std.specs.Prelude.{◌≡◌, ◌⊎◌, ℕ, ◌<◌, ◌≤◌, List, length, take, Result, Ok, Err}
+use Rattle.std.specs.Prelude.{◌≡◌, ◌⊎◌, ℕ, ◌<◌, ◌≤◌, List, length, take, true, Result, Ok, Err}
 use Rattle.hound_reader.specs.declared.cause.Cause.TheVariants.{Unsupported}
 use Rattle.hound_writer.specs.{by_bytes, too_long}
-use Rattle.hound_repair.specs.{LacksRoom, RepairsBytes, IsRepairFault}
+use Rattle.hound_repair.specs.{IsFoundAt, IsRepairFault, LacksRoom, RepairsBytes}
 use Rattle.hound_repair.specs.declared.sizes.Repair.{Repair}
 use Rattle.hound_repair.specs.declared.sizes.RepairState.{RepairState}
 use Rattle.hound_repair.specs.declared.sizes.RepairState.TheVariants.{Whole, CutOff, HasChunksAfterData}
@@ -25,13 +25,22 @@ pub record IsReported (found : Repair) (c : HoundRepair) : Type 0 where
   pub left_over : c.left_over ≡ found.left_over
   pub state : c.state ≡ state_code found.was
 
+-- what was found in a file, looked at as a whole, as C has it
+abbrev pub FindsInFile : List ℕ → HoundRepair → Type 0
+FindsInFile bytes c = (found : Repair) × IsReported found c
+    × ((len : ℕ) × (start : ℕ) × IsFoundAt true bytes found len start)
+
+-- why a file isn't looked at
+abbrev pub IsDamageFault : List ℕ → Fault → Type 0
+IsDamageFault bytes (Head cause) = IsRepairFault bytes (by_bytes cause)
+IsDamageFault bytes OtherPair = IsRepairFault bytes (by_bytes Unsupported)
+IsDamageFault bytes TooLong = IsRepairFault bytes too_long
+IsDamageFault bytes _ = ⊥
+
 -- why a file isn't repaired
 abbrev pub IsFileFault : ℕ → List ℕ → Fault → Type 0
-IsFileFault used old (Head cause) = IsRepairFault (take used old) (by_bytes cause)
-IsFileFault used old OtherPair = IsRepairFault (take used old) (by_bytes Unsupported)
-IsFileFault used old TooLong = IsRepairFault (take used old) too_long
 IsFileFault used old NoRoom = (length old < used) ⊎ LacksRoom used old
-IsFileFault used old _ = ⊥
+IsFileFault used old fault = IsDamageFault (take used old) fault
 
 -- what repairing does, by its outcome: the first n bytes are what `repair` leaves of the file, all
 -- of them in the caller's memory, and what it found is reported; or all stays

@@ -9,6 +9,7 @@ mod fault;
 mod head;
 mod reading;
 mod repairing;
+mod scaling;
 mod spec;
 mod walking;
 mod writing;
@@ -20,9 +21,11 @@ ghost use Rattle.hound_spec.specs.declared.spec.SampleFormat.TheVariants.{Float,
 ghost use Rattle.hound_reader.specs.declared.cause.Cause.{Cause};
 ghost use Rattle.hound_c.specs.Codes.{Returns, fault_code};
 ghost use Rattle.hound_c.specs.Reading.{Decodes, Reads};
-ghost use Rattle.hound_c.specs.Repairing.{RepairsFile};
+ghost use Rattle.hound_c.specs.Repairing.{FindsInFile, IsDamageFault, RepairsFile};
+ghost use Rattle.hound_c.specs.Scaling.{ScalesToFloats, ScalesToIntegers};
 ghost use Rattle.hound_c.specs.Walks.{AreAsked, AsksOn, FindsHead, Steps, walk_of};
 ghost use Rattle.hound_c.specs.Writing.{Appends, Encodes, GivesHeader, GivesSizes, IsExplicit, Sizes, Writes, spec_of};
+ghost use Rattle.hound_c.specs.declared.fault.Fault.{Fault as AnyFault};
 ghost use Rattle.hound_c.specs.declared.fault.Fault.TheVariants.{Head};
 
 use appending::append_block;
@@ -32,7 +35,8 @@ use hound_reader::{Step, count_samples, take_part};
 use hound_sample::FloatBits;
 use hound_spec::SampleFormat;
 use reading::{decode_block, read_block};
-use repairing::repair_file;
+use repairing::{find_file_damage, repair_file, repair_for_c};
+use scaling::{scale_to_floats, scale_to_integers};
 use spec::info_for_c;
 pub use spec::{HoundInfo, HoundRepair, HoundSpec, HoundWalk};
 use walking::{part_of, walk_for_c, walk_of};
@@ -185,6 +189,22 @@ pub extern "C" fn hound_append_f32(file: &mut [u8], used: usize, samples: &[Floa
     code_of(append_block::<FloatBits>(file, used, SampleFormat::Float, samples))
 }
 
+/// Looks at a file as a repair does, and changes nothing of it: 0, or why it can't be repaired.
+#[unsafe(no_mangle)]
+pub extern "C" fn hound_find_damage(file: &[u8], found: &mut HoundRepair) -> i32
+    ensures found { result ≡ pos 0 → FindsInFile file.now found.new }
+    ensures refused { (result ≡ pos 0 → ⊥) → (found.new ≡ found.old)
+        × ((fault : AnyFault) × (result ≡ fault_code fault) × IsDamageFault file.now fault) }
+{
+    match find_file_damage(file) {
+        Ok(repair) => {
+            *found = repair_for_c(repair);
+            0
+        }
+        Err(fault) => code_of_fault(fault),
+    }
+}
+
 /// Repairs the file in the first `used` bytes.
 #[unsafe(no_mangle)]
 pub extern "C" fn hound_repair(file: &mut [u8], used: usize, found: &mut HoundRepair) -> i64
@@ -255,4 +275,25 @@ pub extern "C" fn hound_encode_f32(spec: &HoundSpec, samples: &[FloatBits], out:
     ensures { Returns result (Encodes Float (λ v. pattern_container v.0) (spec_of spec.now) samples.now out.old out.new) }
 {
     code_of(encode_block::<FloatBits>(*spec, SampleFormat::Float, samples, out))
+}
+
+/// Scales integers of so many bits to floats whose full scale is 1.
+#[unsafe(no_mangle)]
+pub extern "C" fn hound_to_f32(samples: &[i32], bits: u16, out: &mut [f32]) -> i64
+    ensures { Returns result (ScalesToFloats bits samples.now out.old out.new) }
+{
+    code_of(scale_to_floats(samples, bits, out))
+}
+
+/// Scales floats whose full scale is 1 to integers of so many bits, and counts those that were clipped.
+#[unsafe(no_mangle)]
+pub extern "C" fn hound_from_f32(
+    samples: &[f32],
+    bits: u16,
+    out: &mut [i32],
+    clipped: &mut u64,
+) -> i64
+    ensures { Returns result (ScalesToIntegers bits samples.now out.old out.new clipped.old clipped.new) }
+{
+    code_of(scale_to_integers(samples, bits, out, clipped))
 }

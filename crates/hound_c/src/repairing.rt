@@ -1,11 +1,12 @@
 // Files that are repaired.
-ghost use Rattle.std.specs.Prelude.{◌≡◌, ◌≤◌, IfOk, length};
-ghost use Rattle.hound_c.specs.Repairing.{RepairsFile, state_code};
+ghost use Rattle.std.specs.Prelude.{◌≡◌, ◌<◌, ◌≤◌, IfErr, IfOk, length, true, ℕ};
+ghost use Rattle.hound_c.specs.Repairing.{IsDamageFault, IsReported, RepairsFile, state_code};
+ghost use Rattle.hound_repair.specs.{IsFoundAt};
 
 use crate::fault::Fault;
 use crate::head::find_head;
 use crate::spec::{HoundRepair, spec_for_c};
-use hound_repair::{RepairState, Unrepaired, repair_bytes};
+use hound_repair::{Repair, RepairState, Unrepaired, find_damage_in_bytes, repair_bytes};
 
 // The number of how a file was found.
 fn state_code(state: RepairState) -> u32
@@ -15,6 +16,34 @@ fn state_code(state: RepairState) -> u32
         RepairState::Whole => 0,
         RepairState::CutOff => 1,
         RepairState::HasChunksAfterData => 2,
+    }
+}
+
+/// What was found, for C.
+pub(crate) fn repair_for_c(repair: Repair) -> HoundRepair
+    requires { 0 < repair.spec_ex.bytes_per_sample }
+    ensures { IsReported repair result }
+{
+    HoundRepair {
+        spec: spec_for_c(repair.spec_ex),
+        frames: repair.frames,
+        left_over: repair.left_over,
+        state: state_code(repair.was),
+    }
+}
+
+/// Looks at a file, and returns what a repair would report.
+pub(crate) fn find_file_damage(file: &[u8]) -> Result<Repair, Fault>
+    ensures found { IfOk result (λ found. (len : ℕ) × (start : ℕ) × IsFoundAt true file.now found len start) }
+    ensures width { IfOk result (λ found. 0 < found.spec_ex.bytes_per_sample) }
+    ensures fault { IfErr result (IsDamageFault file.now) }
+{
+    let head = find_head(file)?;
+    match find_damage_in_bytes(file, head) {
+        Ok(repair) => Ok(repair),
+        Err(Unrepaired::Unsupported) => Err(Fault::OtherPair),
+        Err(Unrepaired::TooLong) => Err(Fault::TooLong),
+        Err(Unrepaired::NoRoom) => unreachable!(),
     }
 }
 
@@ -33,12 +62,7 @@ pub(crate) fn repair_file(
     let head = find_head(&file[..used])?;
     match repair_bytes(file, used, head) {
         Ok((repair, length)) => {
-            *found = HoundRepair {
-                spec: spec_for_c(repair.spec_ex),
-                frames: repair.frames,
-                left_over: repair.left_over,
-                state: state_code(repair.was),
-            };
+            *found = repair_for_c(repair);
             Ok(length)
         }
         Err(Unrepaired::Unsupported) => Err(Fault::OtherPair),

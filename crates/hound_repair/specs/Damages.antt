@@ -105,6 +105,11 @@ bytes_fault UnsupportedSamples = Some (by_bytes Unsupported)
 bytes_fault TooLong = Some too_long
 bytes_fault NoRoom = None
 
+-- why a file of these bytes with this head isn't looked at
+abbrev pub IsUnmeasured : FileHead → List ℕ → Unrepaired → Type 0
+IsUnmeasured head bytes why = (fault : AppendFault) × (bytes_fault why ≡ Some fault)
+    × (repair_fault head.spec_ex head.data_length head.data_start (held head.data_start bytes) ≡ Some fault)
+
 -- a pad byte is missing from a file that was cut off and takes all of the memory
 pub record LacksRoom (used : ℕ) (bytes : List ℕ) : Type 0 where
   pub found : Repair

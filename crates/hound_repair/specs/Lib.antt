@@ -3,7 +3,7 @@ pub use Rattle.hound_repair.specs.Held.{are_right, begins_chunk, broadcast_tags,
 unfoldable pub use Rattle.hound_repair.specs.Held.{are_at_most, are_chunks, chunk_content, data_held, ends_with_id3, ends_with_pad, has_known_tag, is_followed}
 pub use Rattle.hound_repair.specs.Repairing.{Finds, FlushesBeforePad, HalfMended, HalfMendedAtEach, HasRightSizes, IsFoundAt, IsNoPad, IsNotFound, IsNotRepaired, IsRepairFault, LeavesFor, LeavesHalf, Looks, MendsAtEach, MendsMedium, ReadsFrames, Repairs, RepairsMedium, UnlessFollowed, found_length, frames_found, state_of, torn_found, whole_frames}
 unfoldable pub use Rattle.hound_repair.specs.Repairing.{repair_fault, size_fault}
-pub use Rattle.hound_repair.specs.Damages.{AreRightSizes, FindsDamage, IsNotMeasured, IsSame, IsSoundDamage, IsUnrepaired, LacksRoom, PutsPad, PutsSizes, RepairsBytes, as_medium, bytes_fault, may_be_chunks, repair_of}
+pub use Rattle.hound_repair.specs.Damages.{AreRightSizes, FindsDamage, IsNotMeasured, IsSame, IsSoundDamage, IsUnmeasured, IsUnrepaired, LacksRoom, PutsPad, PutsSizes, RepairsBytes, as_medium, bytes_fault, may_be_chunks, repair_of}
 pub mod Held
 pub mod Repairing
 pub mod Damages

@@ -1,10 +1,11 @@
 // Files in memory, repaired where they are.
-ghost use Rattle.std.specs.Prelude.{◌≡◌, ◌+◌, ◌≤◌, IfOk, IfErr, length, take};
+ghost use Rattle.std.specs.Prelude.{◌≡◌, ℕ, ◌+◌, ◌≤◌, IfOk, IfErr, length, take, true};
 ghost use Rattle.hound_reader.specs.{Head, IsDataPlace, IsSoundSpec};
 ghost use Rattle.hound_writer.specs.{with_sizes};
-ghost use Rattle.hound_repair.specs.Damages.{IsUnrepaired, RepairsBytes};
+ghost use Rattle.hound_repair.specs.Damages.{FindsDamage, IsSoundDamage, IsUnmeasured, IsUnrepaired, RepairsBytes, as_medium};
+ghost use Rattle.hound_repair.specs.Repairing.{IsFoundAt};
 
-use crate::look::{Rest, measure};
+use crate::look::{Damage, Rest, measure};
 use crate::read_at::Window;
 use crate::sizes::{Repair, RepairState};
 use hound_number::le_u32;
@@ -35,6 +36,42 @@ pub fn set_sizes(bytes: &mut [u8], place: usize, riff_size: u32, data_length: u3
     bytes[place..place + 4].copy_from_slice(&le_u32(data_length));
 }
 
+// Looks at the file with this head that takes all of these bytes.
+fn measure_bytes(bytes: &[u8], head: FileHead) -> result::Result<Damage, Unrepaired>
+    requires sound { IsSoundSpec head.spec_ex }
+    requires start { IsDataPlace head.data_start }
+    requires head { Head bytes.now head.spec_ex head.data_length head.data_start }
+    ensures sound { IfOk result IsSoundDamage }
+    ensures finds { IfOk result (λ damage.
+        FindsDamage true (as_medium bytes.now) damage (as_medium bytes.now)) }
+    ensures fault { IfErr result (IsUnmeasured head bytes.now) }
+{
+    let mut window = Window { bytes };
+    match measure(&mut window, head, Rest::MayBeChunks) {
+        Ok(damage) => Ok(damage),
+        Err(Error::Unsupported) => Err(Unrepaired::Unsupported),
+        Err(Error::TooLong) => Err(Unrepaired::TooLong),
+        Err(_) => unreachable!(),
+    }
+}
+
+/// Looks at the file with this head that takes all of these bytes, as
+/// [`find_damage`](crate::find_damage) does at one in a source.
+pub fn find_damage_in_bytes(bytes: &[u8], head: FileHead) -> result::Result<Repair, Unrepaired>
+    requires sound { IsSoundSpec head.spec_ex }
+    requires start { IsDataPlace head.data_start }
+    requires head { Head bytes.now head.spec_ex head.data_length head.data_start }
+    ensures sound { IfOk result (λ found. IsSoundSpec found.spec_ex) }
+    ensures found { IfOk result (λ found. (len : ℕ) × (start : ℕ)
+        × IsFoundAt true bytes.now found len start) }
+    ensures fault { IfErr result (IsUnmeasured head bytes.now) }
+{
+    match measure_bytes(bytes, head) {
+        Ok(damage) => Ok(damage.repair()),
+        Err(why) => Err(why),
+    }
+}
+
 /// Repairs the file with this head that is in the first `used` bytes as [`repair`](crate::repair)
 /// does one in a medium, and returns what was found and the new length of the file: one more where
 /// a pad byte was missing. At an error nothing is written.
@@ -53,14 +90,9 @@ pub fn repair_bytes(
     ensures kept { IfErr result (λ why. (bytes.new ≡ bytes.old)
         × IsUnrepaired head used bytes.old why) }
 {
-    let mut window = Window {
-        bytes: &bytes[..used],
-    };
-    let damage = match measure(&mut window, head, Rest::MayBeChunks) {
+    let damage = match measure_bytes(&bytes[..used], head) {
         Ok(damage) => damage,
-        Err(Error::Unsupported) => return Err(Unrepaired::Unsupported),
-        Err(Error::TooLong) => return Err(Unrepaired::TooLong),
-        Err(_) => unreachable!(),
+        Err(why) => return Err(why),
     };
     if damage.was != RepairState::CutOff {
         return Ok((damage.repair(), used));

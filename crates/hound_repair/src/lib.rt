@@ -13,7 +13,7 @@ mod mend;
 mod read_at;
 mod sizes;
 
-pub use bytes::{Unrepaired, repair_bytes, set_sizes};
+pub use bytes::{Unrepaired, find_damage_in_bytes, repair_bytes, set_sizes};
 pub use file::{find_damage_in_file, repair_file, repair_file_to_end};
 pub use laws::{
     a_half_mended_file_is_repaired, a_repair_keeps_stored_samples, a_second_repair_writes_nothing,
