@@ -165,7 +165,7 @@ class Task(NamedTuple):
 
 def task(work, case, first, count):
     done, total = file_of(case, first + count), (first + count) * case.frame
-    if work == "overwrite":
+    if "overwrite" in work:
         return Task(work, case, first, count, file_of(case, first, LIST), done, LIST)
     if work != "repair":
         return Task(work, case, first, count, file_of(case, first), done)
@@ -187,7 +187,7 @@ def program(control, work, path, number, first, count, times):
             elif work == "write":
                 hound.write(path, samples_of(case, 0, end), 44100, case.channels)
             else:
-                hound.append(path, samples_of(case, first, end - first), work == "overwrite", work == "durable")
+                hound.append(path, samples_of(case, first, end - first), "overwrite" in work, "durable" in work)
             print(end, flush=True)
     except OSError:
         sys.exit(3)
@@ -271,16 +271,20 @@ def each_call(folder, task, faults, names=None, control="right"):
 
 def order(folder):
     """The calls of an append to odd data that makes them odd again: the samples, the sizes, the pad byte; one that
-    is durable syncs after each."""
-    end, sync = len(head(CASES[1], 0)) + 101, ("fsync", None)
-    writes = [("pwrite64", end), ("pwrite64", 4), ("pwrite64", end + 4998)]
-    for work, wanted in ("append", writes), ("durable", [call for write in writes for call in (write, sync)]):
-        _, _, calls = traced(folder, task(work, CASES[1], 101, 4998), "right")
-        calls = [call for call in calls if call[0] in CHANGES]
-        if calls != wanted:
-            raise Wrong(f"the calls of {work} are {calls}, and not {wanted}")
+    is durable syncs after each, and after it has cut chunks off."""
+    sync, works = ("fsync", None), ("append", "durable", "durable overwrite")
+    for case, sizes in (CASES[1], [4]), (CASES[5], [4, len(head(CASES[5], 0)) - 4]):
+        end = len(head(case, 0)) + 101
+        for work in works:
+            steps = [[("ftruncate", None)]] * ("overwrite" in work)
+            steps += [[("pwrite64", place) for place in places] for places in ([end], sizes, [end + 4998])]
+            wanted = [call for step in steps for call in step + [sync] * ("durable" in work)]
+            _, _, calls = traced(folder, task(work, case, 101, 4998), "right")
+            calls = [call for call in calls if call[0] in CHANGES]
+            if calls != wanted:
+                raise Wrong(f"the calls of {work} are {calls}, and not {wanted}")
     print("an append: samples, sizes, pad byte; with a sync after each where it is durable", flush=True)
-    return 2
+    return 2 * len(works)
 
 
 def kill(folder, count):
@@ -315,14 +319,15 @@ def limit(folder, cases):
     for case in cases:
         for work in "append", "overwrite", "durable":
             long = task(work, case, 999, 7001)
-            for length in [10, len(long.before) - 9, len(long.before), len(long.before) + 1, len(long.before) + 4096, len(long.done) - 1]:
+            used = len(long.before)
+            for length in [10, len(file_of(case, 999)) + 2, used, used + 1, used + 4096, len(long.done) - 1]:
                 leave(path, long.before)
                 limited = lambda: resource.setrlimit(resource.RLIMIT_FSIZE, (length, length))
                 status = subprocess.run(words(path, long), stdout=subprocess.DEVNULL, preexec_fn=limited).returncode
                 if status != 3:
                     raise Wrong(f"{long}: no error with a limit of {length}")
                 # Where the file that was there is too long already, what was cut off of it can't come back.
-                is_exact = work != "overwrite" or length >= len(long.before)
+                is_exact = work != "overwrite" or length >= used
                 is_as_promised(path, long, status, f"{long}, a limit of {length}", is_exact)
                 runs += 1
     print(f"files longer than they may be: {runs} runs, none wrong", flush=True)

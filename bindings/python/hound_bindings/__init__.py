@@ -289,16 +289,9 @@ def info(file: File) -> Info:
     """What the header of a file says. The data needn't all be there."""
     with _file(file) as (start, length):
         found = _info_of(start, length)
-    spec = found.spec
-    return Info(
-        spec.sample_rate,
-        spec.channels,
-        spec.bits_per_sample,
-        spec.sample_format != 0,
-        found.samples // spec.channels,
-        found.data_start,
-        spec.bytes_per_sample,
-    )
+    spec, frames = found.spec, found.samples // found.spec.channels
+    said = (spec.sample_rate, spec.channels, spec.bits_per_sample, spec.sample_format != 0)
+    return Info(*said, frames, found.data_start, spec.bytes_per_sample)
 
 
 def _read_frames(pair: Tuple[Any, int], spec: _Spec, start: int, dtype: str, out: Any, count: int) -> int:
@@ -408,12 +401,7 @@ def _put(descriptor: int, content: bytes, place: int) -> None:
 
 
 def write(
-    path: Path,
-    samples: Any,
-    rate: int,
-    channels: Optional[int] = None,
-    bits: Optional[int] = None,
-    bytes_per_sample: int = 0,
+    path: Path, samples: Any, rate: int, channels: Optional[int] = None, bits: Optional[int] = None, bytes_per_sample: int = 0
 ) -> int:
     """Writes a file of these samples, and returns its length.
 
@@ -471,6 +459,7 @@ def _change(file: Any, heads: Tuple[bytes, bytes], end: int, data: bytes, pad: b
     try:
         if keep < end + len(tail):
             os.ftruncate(descriptor, keep)
+            sync()
         _put(descriptor, data, end)
         sync()
         is_counted = True

@@ -152,6 +152,15 @@ class Files(unittest.TestCase):
             self.assertEqual(hound.append(self.path, array.array("h", [7])), 44 + 2 * frames + 2)
             self.assert_file(by_hand(held[: 2 * frames] + b"\7\0"))
         self.assertIn("repair", str(HoundError(Cause.CUT_OFF)))
+        self.leave(by_hand(b"\x81\x82\x83", 0, width=1))  # A repair adds a pad byte.
+        self.fails(Cause.CUT_OFF, lambda: hound.append(self.path, array.array("b", [4])))
+
+    def test_an_append_to_what_is_no_file_of_frames(self):
+        for contents, cause in ((b"RIFX" + bytes(60), Cause.NO_RIFF_TAG), (by_hand(b"\1\2\3", after=b"\0" + CHUNK), Cause.DATA_LENGTH)):
+            for overwrite in False, True:
+                self.leave(contents)
+                self.fails(cause, lambda: hound.append(self.path, array.array("h"), overwrite))
+                self.assert_file(contents)
 
     def test_what_an_append_makes_right(self):
         for before in (
@@ -240,6 +249,7 @@ class Files(unittest.TestCase):
     def test_arguments_out_of_range(self):
         one, four = array.array("h", [1]), hound.to_bytes(array.array("h", range(8)), 8000, 4)
         self.assertEqual(list(hound.read(four, start=1 << 62)), [])  # No number wraps.
+        self.assertEqual(hound.read_into(four, array.array("h", bytes(16)), 1 << 62), 0)
         for name, values, call in (
             ("rate", (-1, 0, 1 << 32, (1 << 32) + 8000), lambda value: hound.to_bytes(one, value)),
             ("channels", (-1, 0, 65536, 65537), lambda value: hound.to_bytes(one, 8000, value)),
@@ -312,6 +322,8 @@ class Files(unittest.TestCase):
         self.assertEqual(hound.to_bytes(column, 8000), by_hand(struct.pack("<3h", 1, 4, 7)))
         odd = memoryview(bytearray(b"\0\1\0\2\0"))[1:].cast("h")
         self.assertEqual(hound.to_bytes(odd, 8000), by_hand(b"\1\0\2\0"))
+        with hound._address(odd, 2) as (start, _):
+            self.assertEqual(start % 2, 0)
         file = hound.to_bytes(array.array("h", range(4)), 8000)
         for other, words in ((column, "contiguous"), (memoryview(bytes(4)).cast("h"), "writable"), (odd, "aligned")):
             with self.assertRaisesRegex(TypeError, f"^buffer isn't .*{words}"):
