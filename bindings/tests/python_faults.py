@@ -192,7 +192,7 @@ def program(control, work, path, number, first, count, times):
     except OSError:
         sys.exit(3)
     if int(times) > 1:
-        signal.pause()
+        time.sleep(10)  # It is killed here at the latest.
 
 
 def words(path, task, times=1, control="right"):

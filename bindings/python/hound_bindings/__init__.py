@@ -279,6 +279,14 @@ def _image(start: Any, count: int, size: int) -> Iterator[Any]:
         yield memory
 
 
+def _copy(start: Any, count: int) -> bytearray:
+    """The bytes at an address."""
+    content = bytearray(count)
+    with _address(content) as (place, _):
+        ctypes.memmove(place, start, count)
+    return content
+
+
 def _info_of(start: Any, length: int) -> _Info:
     found = _Info()
     _checked(_info(start, length, ctypes.byref(found)))
@@ -515,13 +523,13 @@ def append(path: Path, samples: Any, overwrite: bool = False, durable: bool = Fa
         with _mapped(file.fileno()) as (start, used):
             found, end, keep = _end_of_data(start, used, overwrite)
             _check_columns("samples", given.columns, found.spec.channels)
-            old, length = ctypes.string_at(start, found.data_start), found.spec.bytes_per_sample * given.count
+            old, length = _copy(start, found.data_start), found.spec.bytes_per_sample * given.count
             # Longer files are an error before the room counts.
             room = min(end + length + 1, (1 << 32) + 8)
             with _image(start, found.data_start, room) as memory:
                 size = _checked(_append[given.form.kind](memory, room, end, given.start, given.count))
-                new, data = ctypes.string_at(memory, found.data_start), ctypes.string_at(memory + end, length)
-                pad = ctypes.string_at(memory + end + length, size - end - length)
+                new, data = _copy(memory, found.data_start), _copy(memory + end, length)
+                pad = _copy(memory + end + length, size - end - length)
         _change(file, (old, new), end, data, pad, keep, durable)
         return max(size, keep)
 
@@ -533,7 +541,7 @@ def _repaired(start: Any, used: int, room: int) -> Tuple[Repair, int, bytes]:
     size = _checked(_repair(start, room, used, ctypes.byref(found)))
     report = Repair(State(found.state), found.frames, found.left_over)
     changed = report.state == State.CUT_OFF
-    return report, size, ctypes.string_at(start, _info_of(start, size).data_start) if changed else b""
+    return report, size, _copy(start, _info_of(start, size).data_start) if changed else b""
 
 
 def repair(path: Path, durable: bool = False) -> Repair:
