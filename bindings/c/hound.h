@@ -1,20 +1,26 @@
 /* WAV files in the caller's memory: read, written, appended to and repaired by proved code
    (crates/hound_c of the repository).
 
-   A file is an array of bytes: mapped, read by fread, or still to be written. No call keeps a state,
-   allocates, blocks, aborts or calls back. So each of them may be made from an audio callback, from
-   any number of threads at once, and over shared memory, and nothing has to be freed.
+   A file is an array of bytes: read by fread, mapped, or still to be written. No call keeps a state,
+   allocates, calls the system, aborts or calls back. So each of them may be made from an audio
+   callback, from any number of threads at once, and over shared memory, and nothing has to be freed.
+   Over a mapped file the memory itself may block, until its pages are read from the disk, and a write
+   to it ends the program by SIGBUS where the disk is full.
 
    Samples are counted over all channels and are interleaved; a frame has one sample of each channel.
    Integers are signed at every width, also at 8 bits.
 
-   A caller must keep these conditions, which nothing checks:
+   A caller must keep these conditions, which no call checks:
    - A pointer and the length after it are an array of that many elements, at most PTRDIFF_MAX bytes,
-     aligned for its type, and the pointer isn't NULL, also where the length is 0.
+     aligned for its type.
+   - No pointer is NULL, also where the length is 0: then the address of any object will do. gcc and
+     clang warn of a NULL that they see in a call (-Wnonnull), and a program that is compiled with
+     -fsanitize=undefined reports each that is passed.
    - Memory that is passed without const overlaps no other argument, and nobody else uses it during
      the call. Memory that is passed with const isn't written during the call, so a mapped file must
      not change or get shorter.
-   - All memory is initialized, also where it is only written to.
+   - What is read is initialized: specs, samples, and a file up to its `length` or its `used` bytes.
+     What is only written needn't be: `out`, `info`, `found`, and a file from `used` on.
 
    After an error the caller's memory is as it was before the call. */
 #ifndef HOUND_H
@@ -25,17 +31,34 @@
 extern "C" {
 #endif
 
+/* The version of this interface, and of the library and the packages with it. It isn't that of the
+   Rust crate hound, which the library is a port of: 3.5.1. */
+#define HOUND_VERSION_MAJOR 0
+#define HOUND_VERSION_MINOR 1
+#define HOUND_VERSION_PATCH 0
+#define HOUND_VERSION "0.1.0"
+
+/* No pointer that is passed is NULL. */
+#ifdef __GNUC__
+#define HOUND_NONNULL __attribute__((nonnull))
+#else
+#define HOUND_NONNULL
+#endif
+
 /* The errors: what is returned below 0. */
 enum {
     HOUND_ENDED = -1,            /* the bytes end before the data begin */
     HOUND_UNSUPPORTED = -2,      /* the format tag or subformat is neither PCM nor IEEE float */
     HOUND_OTHER_FORMAT = -3,     /* the samples are floats and the type is an integer, or vice versa */
     HOUND_TOO_WIDE = -4,         /* the samples are wider than the type, or a value than its bits */
-    HOUND_NOT_WRITABLE = -5,     /* samples with these bits and bytes aren't read or written */
-    HOUND_TRUNCATED = -6,        /* the header counts a sample that isn't among the bytes */
+    HOUND_NOT_WRITABLE = -5,     /* no call reads, writes, repairs, encodes or decodes samples with these
+                                    bits and bytes; hound_write_.. and hound_size also return it where
+                                    the channels or the rate are 0, or where the bytes of a frame don't
+                                    fit in 16 bits or those of a second in 32 */
+    HOUND_TRUNCATED = -6,        /* the header counts a sample that isn't among the bytes of the file */
     HOUND_TOO_LONG = -7,         /* the sizes of the file would not fit in 32 bits */
     HOUND_UNFINISHED_FRAME = -8, /* the samples are no whole frames */
-    HOUND_NO_ROOM = -9,          /* the file needs more bytes than the capacity */
+    HOUND_NO_ROOM = -9,          /* more bytes are needed than the capacity, or already `used` */
     /* What is wrong with the bytes of a file. */
     HOUND_NO_RIFF_TAG = -10,
     HOUND_NO_WAVE_TAG = -11,
@@ -48,7 +71,8 @@ enum {
     HOUND_INCONSISTENT = -18,
     HOUND_BITS_NOT_WHOLE_BYTES = -19,
     HOUND_ZERO_BITS = -20,
-    HOUND_BITS_NOT_8_OR_16 = -21,
+    HOUND_BITS_NOT_8_OR_16 = -21, /* nor 24, in a PCM fmt chunk of 18 or 40 bytes; one of 16 bytes takes
+                                     every multiple of 8 */
     HOUND_EX_SIZE = -22,
     HOUND_BITS_NOT_32 = -23,
     HOUND_EXTENSIBLE_SIZE = -24,
@@ -89,46 +113,48 @@ typedef struct {
 } hound_repair_t;
 
 /* Finds what is before the data. Returns 0 or an error, and looks at no byte of the data. */
-int32_t hound_info(const uint8_t *file, size_t length, hound_info_t *info);
+int32_t hound_info(const uint8_t *file, size_t length, hound_info_t *info) HOUND_NONNULL;
 
 /* Reads samples from number `first` on, counted from 0, and returns how many: as many as fit, as the
    header counts and as the bytes hold. So 0 means the end, or that count is 0. HOUND_TRUNCATED means
    that the header counts sample `first` and the bytes don't hold it. The rest of `out` stays.
    _i16 reads 8 and 16 bits, _i32 reads all integers, _f32 reads floats and keeps every NaN. */
-int64_t hound_read_i16(const uint8_t *file, size_t length, uint64_t first, int16_t *out, size_t count);
-int64_t hound_read_i32(const uint8_t *file, size_t length, uint64_t first, int32_t *out, size_t count);
-int64_t hound_read_f32(const uint8_t *file, size_t length, uint64_t first, float *out, size_t count);
+int64_t hound_read_i16(const uint8_t *file, size_t length, uint64_t first, int16_t *out, size_t count) HOUND_NONNULL;
+int64_t hound_read_i32(const uint8_t *file, size_t length, uint64_t first, int32_t *out, size_t count) HOUND_NONNULL;
+int64_t hound_read_f32(const uint8_t *file, size_t length, uint64_t first, float *out, size_t count) HOUND_NONNULL;
 
 /* Returns how many bytes the file of so many samples has. */
-int64_t hound_size(const hound_spec *spec, uint64_t samples);
+int64_t hound_size(const hound_spec *spec, uint64_t samples) HOUND_NONNULL;
 
 /* Writes the whole file of these samples to the front of `out`, and returns its length. The rest of
    `out` stays. Each value must fit in the bits of the spec. A file of 0 samples is one to append to. */
-int64_t hound_write_i16(const hound_spec *spec, const int16_t *samples, size_t count, uint8_t *out, size_t capacity);
-int64_t hound_write_i32(const hound_spec *spec, const int32_t *samples, size_t count, uint8_t *out, size_t capacity);
-int64_t hound_write_f32(const hound_spec *spec, const float *samples, size_t count, uint8_t *out, size_t capacity);
+int64_t hound_write_i16(const hound_spec *spec, const int16_t *samples, size_t count, uint8_t *out, size_t capacity) HOUND_NONNULL;
+int64_t hound_write_i32(const hound_spec *spec, const int32_t *samples, size_t count, uint8_t *out, size_t capacity) HOUND_NONNULL;
+int64_t hound_write_f32(const hound_spec *spec, const float *samples, size_t count, uint8_t *out, size_t capacity) HOUND_NONNULL;
 
 /* Appends whole frames to the file in the first `used` bytes, and returns its new length: it is a
-   whole file after each call. Chunks after the data are overwritten. */
-int64_t hound_append_i16(uint8_t *file, size_t capacity, size_t used, const int16_t *samples, size_t count);
-int64_t hound_append_i32(uint8_t *file, size_t capacity, size_t used, const int32_t *samples, size_t count);
-int64_t hound_append_f32(uint8_t *file, size_t capacity, size_t used, const float *samples, size_t count);
+   whole file after each call. What follows the samples that the header counts is overwritten: chunks,
+   and also the samples of a recording that was cut off before its header counted them. Where a file
+   may have been cut off, call hound_repair before. */
+int64_t hound_append_i16(uint8_t *file, size_t capacity, size_t used, const int16_t *samples, size_t count) HOUND_NONNULL;
+int64_t hound_append_i32(uint8_t *file, size_t capacity, size_t used, const int32_t *samples, size_t count) HOUND_NONNULL;
+int64_t hound_append_f32(uint8_t *file, size_t capacity, size_t used, const float *samples, size_t count) HOUND_NONNULL;
 
 /* Repairs the file in the first `used` bytes, and returns its length: where its recording was cut off,
    both sizes become those of the whole frames that it holds. The length is one more where a pad byte
    was missing. Where chunks follow the data, or both sizes are right, nothing is written. */
-int64_t hound_repair(uint8_t *file, size_t capacity, size_t used, hound_repair_t *found);
+int64_t hound_repair(uint8_t *file, size_t capacity, size_t used, hound_repair_t *found) HOUND_NONNULL;
 
 /* Samples without a file around them: containers one after the other, as in the data of a file. They
    are for streams, and for a file whose header is too long to be walked over for each block.
    Decoding returns how many samples, as many as fit and as the bytes hold; encoding returns how many
    bytes. The rate and the channels of the spec have no effect. */
-int64_t hound_decode_i16(const hound_spec *spec, const uint8_t *bytes, size_t length, int16_t *out, size_t count);
-int64_t hound_decode_i32(const hound_spec *spec, const uint8_t *bytes, size_t length, int32_t *out, size_t count);
-int64_t hound_decode_f32(const hound_spec *spec, const uint8_t *bytes, size_t length, float *out, size_t count);
-int64_t hound_encode_i16(const hound_spec *spec, const int16_t *samples, size_t count, uint8_t *out, size_t capacity);
-int64_t hound_encode_i32(const hound_spec *spec, const int32_t *samples, size_t count, uint8_t *out, size_t capacity);
-int64_t hound_encode_f32(const hound_spec *spec, const float *samples, size_t count, uint8_t *out, size_t capacity);
+int64_t hound_decode_i16(const hound_spec *spec, const uint8_t *bytes, size_t length, int16_t *out, size_t count) HOUND_NONNULL;
+int64_t hound_decode_i32(const hound_spec *spec, const uint8_t *bytes, size_t length, int32_t *out, size_t count) HOUND_NONNULL;
+int64_t hound_decode_f32(const hound_spec *spec, const uint8_t *bytes, size_t length, float *out, size_t count) HOUND_NONNULL;
+int64_t hound_encode_i16(const hound_spec *spec, const int16_t *samples, size_t count, uint8_t *out, size_t capacity) HOUND_NONNULL;
+int64_t hound_encode_i32(const hound_spec *spec, const int32_t *samples, size_t count, uint8_t *out, size_t capacity) HOUND_NONNULL;
+int64_t hound_encode_f32(const hound_spec *spec, const float *samples, size_t count, uint8_t *out, size_t capacity) HOUND_NONNULL;
 
 /* A sentence for an error, without its full stop. */
 static inline const char *hound_error_text(int64_t code) {
@@ -137,11 +163,11 @@ static inline const char *hound_error_text(int64_t code) {
     case HOUND_UNSUPPORTED: return "the format is neither PCM nor IEEE float";
     case HOUND_OTHER_FORMAT: return "the samples are floats and the type is an integer, or vice versa";
     case HOUND_TOO_WIDE: return "the samples are wider than the type, or a value than its bits";
-    case HOUND_NOT_WRITABLE: return "samples with these bits and bytes are not read or written";
+    case HOUND_NOT_WRITABLE: return "samples of this spec are not read or written";
     case HOUND_TRUNCATED: return "the header counts a sample that the file does not hold";
     case HOUND_TOO_LONG: return "the sizes of the file would not fit in 32 bits";
     case HOUND_UNFINISHED_FRAME: return "the samples are no whole frames";
-    case HOUND_NO_ROOM: return "the file needs more bytes than the capacity";
+    case HOUND_NO_ROOM: return "more bytes are needed than the capacity";
     case HOUND_NO_RIFF_TAG: return "no RIFF tag found";
     case HOUND_NO_WAVE_TAG: return "no WAVE tag found";
     case HOUND_NO_DATA_CHUNK: return "missing data chunk";
@@ -153,7 +179,7 @@ static inline const char *hound_error_text(int64_t code) {
     case HOUND_INCONSISTENT: return "inconsistent fmt chunk";
     case HOUND_BITS_NOT_WHOLE_BYTES: return "bits per sample is not a multiple of 8";
     case HOUND_ZERO_BITS: return "bits per sample is 0";
-    case HOUND_BITS_NOT_8_OR_16: return "bits per sample is not 8 or 16";
+    case HOUND_BITS_NOT_8_OR_16: return "bits per sample is not 8, 16 or 24 in a PCM fmt chunk of 18 or 40 bytes";
     case HOUND_EX_SIZE: return "unexpected WAVEFORMATEX size";
     case HOUND_BITS_NOT_32: return "bits per sample is not 32";
     case HOUND_EXTENSIBLE_SIZE: return "unexpected WAVEFORMATEXTENSIBLE size";

@@ -1,9 +1,10 @@
 /* Each call of the header over small files, with what it must return by the format, and what each
-   error leaves: nothing changed. The bytes behind each file can't be touched by AddressSanitizer's rules. */
+   error leaves: nothing changed. What follows each file can't be touched by AddressSanitizer's rules. */
 #include "hound.h"
 #include <stdio.h>
 #include <stdlib.h>
 #include <string.h>
+#include <sys/mman.h>
 
 static void must(int holds, const char *what) {
     if (!holds) {
@@ -20,11 +21,62 @@ static uint8_t *copy(const uint8_t *bytes, size_t length) {
     return found;
 }
 
+/* Whether all bytes from a place up to an end have a value. */
+static int all_are(const uint8_t *bytes, int64_t from, size_t end, int value) {
+    for (size_t i = (size_t)from; i < end; i++)
+        if (bytes[i] != value) return 0;
+    return 1;
+}
+
+static uint32_t le32(const uint8_t *p) { return p[0] | (uint32_t)p[1] << 8 | (uint32_t)p[2] << 16 | (uint32_t)p[3] << 24; }
+
+static void put32(uint8_t *p, uint32_t value) {
+    for (int i = 0; i < 4; i++) p[i] = (uint8_t)(value >> 8 * i);
+}
+
+/* A returned length is that of the file with so many bytes of data, whose sizes and pad byte are right. */
+static void whole(const uint8_t *file, int64_t length, size_t start, uint64_t data, const char *what) {
+    uint64_t end = start + data + data % 2;
+    must(length == (int64_t)end && le32(file + 4) == end - 8 && le32(file + start - 4) == data, what);
+    must(data % 2 == 0 || file[end - 1] == 0, what);
+}
+
 static const uint8_t four[52] = {
     'R', 'I', 'F', 'F', 44, 0, 0, 0, 'W', 'A', 'V', 'E', 'f', 'm', 't', ' ', 16, 0, 0, 0, 1, 0, 1, 0, 0x44, 0xac, 0, 0,
     0x88, 0x58, 1, 0, 2, 0, 16, 0, 'd', 'a', 't', 'a', 8, 0, 0, 0, 2, 0, 253, 255, 5, 0, 249, 255};
 static const int16_t shorts[4] = {2, -3, 5, -7};
 static const int32_t ints[4] = {2, -3, 5, -7};
+static const float reals[4] = {2, -3, 5, -7};
+/* One sample of 24 bits: the extensible header, three bytes, and a pad byte. */
+static const uint8_t one[72] = {
+    'R', 'I', 'F', 'F', 64, 0, 0, 0, 'W', 'A', 'V', 'E', 'f', 'm', 't', ' ', 40, 0, 0, 0, 0xfe, 0xff, 1, 0, 0x44, 0xac, 0, 0,
+    0xcc, 4, 2, 0, 3, 0, 24, 0, 22, 0, 24, 0, 1, 0, 0, 0, 1, 0, 0, 0, 0, 0, 0x10, 0, 0x80, 0, 0, 0xaa, 0, 0x38, 0x9b, 0x71,
+    'd', 'a', 't', 'a', 3, 0, 0, 0, 254, 255, 255, 0};
+
+/* The pairs of bits and bytes that are written, and how long their header is. */
+static const struct { uint16_t bits, bytes, format; size_t start; } kinds[] = {
+    {8, 1, HOUND_INT, 44}, {16, 2, HOUND_INT, 44}, {24, 3, HOUND_INT, 68}, {24, 4, HOUND_INT, 68}, {32, 4, HOUND_INT, 68}, {32, 4, HOUND_FLOAT, 68}};
+enum { KINDS = sizeof kinds / sizeof *kinds };
+
+static hound_spec spec_of(int kind, uint16_t channels) {
+    hound_spec spec = {44100, channels, kinds[kind].bits, kinds[kind].bytes, kinds[kind].format};
+    return spec;
+}
+
+/* The calls of each type, 'h' i16, 'i' i32 and 'f' f32, over the four samples from one on. */
+static int takes(char type, int kind) { return (type == 'f') == (kinds[kind].format == HOUND_FLOAT); }
+static int64_t written(char type, const hound_spec *spec, size_t count, uint8_t *out, size_t capacity) {
+    return type == 'h' ? hound_write_i16(spec, shorts, count, out, capacity)
+         : type == 'i' ? hound_write_i32(spec, ints, count, out, capacity) : hound_write_f32(spec, reals, count, out, capacity);
+}
+static int64_t appended(char type, uint8_t *file, size_t capacity, size_t used, size_t from, size_t count) {
+    return type == 'h' ? hound_append_i16(file, capacity, used, shorts + from, count)
+         : type == 'i' ? hound_append_i32(file, capacity, used, ints + from, count) : hound_append_f32(file, capacity, used, reals + from, count);
+}
+static int64_t encoded(char type, const hound_spec *spec, size_t count, uint8_t *out, size_t capacity) {
+    return type == 'h' ? hound_encode_i16(spec, shorts, count, out, capacity)
+         : type == 'i' ? hound_encode_i32(spec, ints, count, out, capacity) : hound_encode_f32(spec, reals, count, out, capacity);
+}
 
 static void reads(void) {
     uint8_t *file = copy(four, sizeof four);
@@ -63,21 +115,91 @@ static void writes(void) {
     must(hound_write_i16(&spec, shorts, 4, out, 52) == 52 && !memcmp(out, four, 52) && out[52] == 9, "writing");
     memset(out, 9, sizeof out);
     must(hound_write_i32(&spec, ints, 4, out, 80) == 52 && !memcmp(out, four, 52) && out[52] == 9, "writing 32 bits");
-    int64_t used = hound_write_i16(&spec, shorts, 0, out, 80);
-    must(used == 44, "a file without samples");
-    must(hound_append_i16(out, 80, 44, shorts, 1) == 46, "appending");
-    must(hound_append_i32(out, 52, 46, ints + 1, 3) == 52 && !memcmp(out, four, 52), "appending 32 bits");
     must(hound_append_i16(out, 53, 52, shorts, 1) == HOUND_NO_ROOM && !memcmp(out, four, 52), "no room");
-    must(hound_append_i16(out, 51, 52, shorts, 0) == HOUND_NO_ROOM, "more used than there is");
-    must(hound_encode_i16(&spec, shorts, 4, out, 8) == 8 && !memcmp(out, four + 44, 8), "encoding");
-    must(hound_encode_i32(&spec, ints, 4, out, 7) == HOUND_NO_ROOM, "no room for encoding");
     int32_t many[2] = {1, 32768};
-    must(hound_write_i32(&spec, many, 2, out, 80) == HOUND_TOO_WIDE && !memcmp(out, four + 44, 8), "a value of 17 bits");
-    spec.channels = 3;
-    must(hound_write_i16(&spec, shorts, 4, out, 80) == HOUND_UNFINISHED_FRAME, "four of six samples");
-    must(hound_size(&spec, UINT64_MAX) == HOUND_TOO_LONG, "too many samples");
+    must(hound_write_i32(&spec, many, 2, out, 80) == HOUND_TOO_WIDE && !memcmp(out, four, 52), "a value of 17 bits");
     spec.bits_per_sample = 12;
     must(hound_write_i16(&spec, shorts, 3, out, 80) == HOUND_NOT_WRITABLE, "12 bits");
+    spec.bits_per_sample = 16;
+    spec.channels = 0;
+    must(hound_write_i16(&spec, shorts, 0, out, 80) == HOUND_NOT_WRITABLE && hound_size(&spec, 0) == HOUND_NOT_WRITABLE, "no channel");
+    hound_spec three = {44100, 1, 24, 0, HOUND_INT};
+    int32_t small = -2;
+    memset(out, 9, sizeof out);
+    must(hound_write_i32(&three, &small, 1, out, 80) == 72 && !memcmp(out, one, 72) && out[72] == 9, "an extensible header");
+}
+
+/* Files of each kind, written and appended to in memory of other bytes that is longer than they are: their own
+   sizes, their pad byte, and the rest as it was; and what is found in them. */
+static void files_of_each_kind(void) {
+    for (int kind = 0; kind < KINDS; kind++) for (const char *type = "hif"; *type; type++) for (size_t n = 0; n < 4; n++) {
+        if (!takes(*type, kind)) continue;
+        hound_spec spec = spec_of(kind, 1);
+        size_t start = kinds[kind].start, width = kinds[kind].bytes;
+        for (size_t more = 0; n + more <= 4; more++) {
+            uint8_t file[100];
+            memset(file, 9, sizeof file);
+            int64_t used = written(*type, &spec, n, file, sizeof file);
+            whole(file, used, start, n * width, "a written file");
+            must(all_are(file, used, sizeof file, 9) && hound_size(&spec, n) == used, "the rest after a written file");
+            put32(file + 4, 0);
+            used = appended(*type, file, sizeof file, (size_t)used, n, more);
+            whole(file, used, start, (n + more) * width, "a file that was appended to");
+            must(all_are(file, used, sizeof file, 9), "the rest after a file that was appended to");
+            hound_info_t info;
+            must(hound_info(file, (size_t)used, &info) == 0 && !memcmp(&info.spec, &spec, sizeof spec), "the spec of a file");
+            must(info.samples == n + more && info.data_start == start, "the samples of a file");
+            for (int cut = 0; cut < 2; cut++) {
+                hound_repair_t found;
+                if (cut) put32(file + 4, 0);
+                must(hound_repair(file, (size_t)used, (size_t)used, &found) == used, "the length of a repaired file");
+                must(!memcmp(&found.spec, &spec, sizeof spec) && found.frames == n + more, "what a repair finds");
+                must(found.left_over == 0 && found.state == (cut ? HOUND_CUT_OFF : HOUND_WHOLE), "how a repair finds a file");
+                whole(file, used, start, (n + more) * width, "a repaired file");
+            }
+        }
+        /* Containers that fill their memory, and one byte less. */
+        uint8_t bytes[16], file[100];
+        memset(bytes, 9, sizeof bytes);
+        must(n == 0 || (encoded(*type, &spec, n, bytes, n * width - 1) == HOUND_NO_ROOM && all_are(bytes, 0, sizeof bytes, 9)), "no room for containers");
+        must(encoded(*type, &spec, n, bytes, n * width) == (int64_t)(n * width), "containers that fill their memory");
+        must(written(*type, &spec, n, file, sizeof file) > 0 && !memcmp(bytes, file + start, n * width), "the containers of a file");
+        must(all_are(bytes, (int64_t)(n * width), sizeof bytes, 9), "the rest after containers");
+    }
+}
+
+/* What an append and a repair must not do: take bytes after `used` for samples, use more than the capacity, leave a
+   torn frame. Nothing changes then. */
+static void errors_of_files(void) {
+    for (int kind = 0; kind < KINDS; kind++) for (const char *type = "hif"; *type; type++) {
+        if (!takes(*type, kind)) continue;
+        hound_spec spec = spec_of(kind, 1);
+        size_t start = kinds[kind].start, width = kinds[kind].bytes;
+        uint8_t file[100], before[100];
+        memset(file, 0x55, sizeof file);
+        size_t used = (size_t)written(*type, &spec, 4, file, sizeof file);
+        memset(file + start + 2 * width, 0x55, 2 * width);
+        memcpy(before, file, sizeof file);
+        for (size_t held = start + 2 * width; held < start + 4 * width; held++)
+            must(appended(*type, file, sizeof file, held, 0, 1) == HOUND_TRUNCATED, "bytes after those that are used");
+        hound_repair_t found;
+        memset(&found, 7, sizeof found);
+        for (size_t more = 1; more <= 3; more++) {
+            must(appended(*type, file, used, used + more, 0, 0) == HOUND_NO_ROOM, "an append where more is used than there is");
+            must(appended(*type, file, used, used + more, 0, 1) == HOUND_NO_ROOM, "an append where more is used than there is");
+            must(hound_repair(file, used, used + more, &found) == HOUND_NO_ROOM, "a repair where more is used than there is");
+        }
+        must(found.spec.sample_rate == 0x07070707 && found.state == 0x07070707, "what a failed repair reports");
+        must(!memcmp(file, before, sizeof file), "an error changes no file");
+        spec.channels = 2;
+        must(hound_size(&spec, 3) == HOUND_UNFINISHED_FRAME, "the size of a torn frame");
+        must(written(*type, &spec, 3, file, sizeof file) == HOUND_UNFINISHED_FRAME && !memcmp(file, before, sizeof file), "a torn frame");
+        used = (size_t)written(*type, &spec, 2, file, sizeof file);
+        memcpy(before, file, sizeof file);
+        must(appended(*type, file, sizeof file, used, 0, 1) == HOUND_UNFINISHED_FRAME, "half a frame more");
+        must(appended(*type, file, sizeof file, used, 0, 3) == HOUND_UNFINISHED_FRAME, "a frame and a half more");
+        must(!memcmp(file, before, sizeof file), "torn frames change no file");
+    }
 }
 
 static void floats(void) {
@@ -111,14 +233,54 @@ static void repairs(void) {
     must(hound_repair(odd, 46, 45, &found) == 46 && odd[45] == 0 && odd[4] == 38, "a pad byte");
 }
 
+/* The RIFF size of samples of one byte and of two: 36 and their bytes, padded, of which 32 bits count 4294967295. */
+static void sizes_of_32_bits(void) {
+    hound_spec spec = {44100, 1, 16, 0, HOUND_INT}, bytes = {44100, 1, 8, 0, HOUND_INT};
+    const uint64_t most = 2147483629, length = 4294967302;
+    must(hound_size(&spec, most) == (int64_t)length && hound_size(&spec, most + 1) == HOUND_TOO_LONG, "the longest file of 16 bits");
+    must(hound_size(&bytes, 2 * most) == (int64_t)length && hound_size(&bytes, 2 * most + 1) == HOUND_TOO_LONG, "the longest file of 8 bits");
+    must(hound_size(&spec, (uint64_t)1 << 32) == HOUND_TOO_LONG && hound_size(&spec, UINT64_MAX) == HOUND_TOO_LONG, "more samples than 32 bits count");
+    size_t room = length + 64;
+    uint8_t *file = mmap(NULL, room, PROT_READ | PROT_WRITE, MAP_PRIVATE | MAP_ANONYMOUS | MAP_NORESERVE, -1, 0);
+    int16_t *silence = mmap(NULL, room, PROT_READ, MAP_PRIVATE | MAP_ANONYMOUS | MAP_NORESERVE, -1, 0);
+    if (file == MAP_FAILED || (void *)silence == MAP_FAILED) {
+        puts("calls: passed over, since twice 4 GiB can't be mapped here: files of that length");
+        return;
+    }
+    must(hound_write_i16(&spec, silence, most + 1, file, room) == HOUND_TOO_LONG && file[0] == 0, "writing more than 32 bits count");
+    must(hound_write_i16(&spec, shorts, 0, file, room) == 44, "a file to append to");
+    put32(file + 40, 2 * (uint32_t)most - 2);
+    must(hound_append_i16(file, room, length - 2, shorts, 2) == HOUND_TOO_LONG, "two samples where one has room");
+    must(le32(file + 4) == 36 && all_are(file, (int64_t)length - 2, room, 0), "sizes past 32 bits change nothing");
+    whole(file, hound_append_i16(file, room, length - 2, shorts + 1, 1), 44, 2 * most, "the last sample of the longest file");
+    must(hound_append_i16(file, room, length, shorts, 1) == HOUND_TOO_LONG, "a sample after the longest file");
+    int16_t back[2] = {0, 9};
+    must(hound_read_i16(file, length, most - 1, back, 2) == 1 && back[0] == -3 && back[1] == 9, "the last sample, read");
+    munmap(file, room);
+    munmap(silence, room);
+}
+
+static void texts(void) {
+    char version[40];
+    sprintf(version, "%d.%d.%d", HOUND_VERSION_MAJOR, HOUND_VERSION_MINOR, HOUND_VERSION_PATCH);
+    must(!strcmp(version, HOUND_VERSION), "the version");
+    for (int code = 0; code >= HOUND_FRAME_LENGTH; code--) {
+        must(strcmp(hound_error_text(code), "unknown error") != 0, "a text for each error");
+        for (int other = 0; other > code; other--)
+            must(strcmp(hound_error_text(code), hound_error_text(other)) != 0, "a text of its own for each error");
+    }
+    must(!strcmp(hound_error_text(HOUND_FRAME_LENGTH - 1), "unknown error"), "no further error");
+}
+
 int main(void) {
     reads();
     writes();
+    files_of_each_kind();
+    errors_of_files();
     floats();
     repairs();
-    for (int code = 0; code >= HOUND_FRAME_LENGTH; code--)
-        must(strcmp(hound_error_text(code), "unknown error") != 0, "a text for each error");
-    must(!strcmp(hound_error_text(HOUND_FRAME_LENGTH - 1), "unknown error"), "no further error");
+    sizes_of_32_bits();
+    texts();
     puts("calls: each call returned what it must");
     return 0;
 }

@@ -6,106 +6,55 @@
 
 use std::{error, fmt};
 
-/// Why a call failed.
-#[derive(Clone, Copy, Debug, PartialEq, Eq, Hash)]
-#[repr(i64)]
-pub enum Error {
-    /// The bytes end before the data begin.
-    Ended = -1,
-    /// The format is neither PCM nor IEEE float.
-    Unsupported = -2,
-    /// The samples are floats and the type is an integer, or vice versa.
-    OtherFormat = -3,
-    /// The samples are wider than the type, or a value than its bits.
-    TooWide = -4,
-    /// Samples with these bits and bytes aren't read or written.
-    NotWritable = -5,
-    /// The header counts a sample that the bytes don't hold.
-    Truncated = -6,
-    /// The sizes of the file would not fit in 32 bits.
-    TooLong = -7,
-    /// The samples are no whole frames.
-    UnfinishedFrame = -8,
-    /// The file needs more bytes than the slice has.
-    NoRoom = -9,
-    /// The RIFF tag is missing.
-    NoRiffTag = -10,
-    /// The WAVE tag is missing.
-    NoWaveTag = -11,
-    /// There is no data chunk.
-    NoDataChunk = -12,
-    /// There is no fmt chunk before the data.
-    NoFmtChunk = -13,
-    /// The fmt chunk is too short.
-    FmtSize = -14,
-    /// The fmt chunk has a length that its tag doesn't have.
-    UnexpectedFmtSize = -15,
-    /// The file has no channels.
-    ZeroChannels = -16,
-    /// A sample has more bits than its bytes hold.
-    BitsExceedWidth = -17,
-    /// The fields of the fmt chunk contradict each other.
-    Inconsistent = -18,
-    /// The bits of a sample are no whole bytes.
-    BitsNotWholeBytes = -19,
-    /// A sample has no bits.
-    ZeroBits = -20,
-    /// A PCM sample without the extensible format has other than 8 or 16 bits.
-    BitsNot8Or16 = -21,
-    /// The extension of the fmt chunk has a wrong length.
-    ExSize = -22,
-    /// A float sample has other than 32 bits.
-    BitsNot32 = -23,
-    /// The extensible format has a wrong length.
-    ExtensibleSize = -24,
-    /// The data are no whole samples.
-    DataLength = -25,
-    /// The data are no whole frames.
-    FrameLength = -26,
-}
-
-/// All errors, by their code without its sign, from 1 on.
-pub const ERRORS: [Error; 26] = [
-    Error::Ended,
-    Error::Unsupported,
-    Error::OtherFormat,
-    Error::TooWide,
-    Error::NotWritable,
-    Error::Truncated,
-    Error::TooLong,
-    Error::UnfinishedFrame,
-    Error::NoRoom,
-    Error::NoRiffTag,
-    Error::NoWaveTag,
-    Error::NoDataChunk,
-    Error::NoFmtChunk,
-    Error::FmtSize,
-    Error::UnexpectedFmtSize,
-    Error::ZeroChannels,
-    Error::BitsExceedWidth,
-    Error::Inconsistent,
-    Error::BitsNotWholeBytes,
-    Error::ZeroBits,
-    Error::BitsNot8Or16,
-    Error::ExSize,
-    Error::BitsNot32,
-    Error::ExtensibleSize,
-    Error::DataLength,
-    Error::FrameLength,
-];
-
-impl fmt::Display for Error {
-    fn fmt(&self, f: &mut fmt::Formatter<'_>) -> fmt::Result {
-        let mut first = true;
-        for letter in format!("{self:?}").chars() {
-            if letter.is_uppercase() && !first {
-                f.write_str(" ")?;
-            }
-            first = false;
-            write!(f, "{}", letter.to_lowercase())?;
+// Each error, its code, and the sentence of hound.h for it, which scripts/check_errors compares.
+macro_rules! errors {
+    ($($name:ident = $code:literal, $sentence:literal;)*) => {
+        /// Why a call failed.
+        #[derive(Clone, Copy, Debug, PartialEq, Eq, Hash)]
+        #[repr(i64)]
+        pub enum Error {
+            $(#[doc = $sentence] $name = $code,)*
         }
-        Ok(())
-    }
+
+        /// All errors, by their code without its sign, from 1 on.
+        pub const ERRORS: [Error; [$(Error::$name),*].len()] = [$(Error::$name),*];
+
+        impl fmt::Display for Error {
+            fn fmt(&self, f: &mut fmt::Formatter<'_>) -> fmt::Result {
+                f.write_str(match self {
+                    $(Error::$name => $sentence,)*
+                })
+            }
+        }
+    };
+}
+errors! {
+    Ended = -1, "the bytes end before the data begin";
+    Unsupported = -2, "the format is neither PCM nor IEEE float";
+    OtherFormat = -3, "the samples are floats and the type is an integer, or vice versa";
+    TooWide = -4, "the samples are wider than the type, or a value than its bits";
+    NotWritable = -5, "samples of this spec are not read or written";
+    Truncated = -6, "the header counts a sample that the file does not hold";
+    TooLong = -7, "the sizes of the file would not fit in 32 bits";
+    UnfinishedFrame = -8, "the samples are no whole frames";
+    NoRoom = -9, "more bytes are needed than the capacity";
+    NoRiffTag = -10, "no RIFF tag found";
+    NoWaveTag = -11, "no WAVE tag found";
+    NoDataChunk = -12, "missing data chunk";
+    NoFmtChunk = -13, "missing fmt chunk";
+    FmtSize = -14, "invalid fmt chunk size";
+    UnexpectedFmtSize = -15, "unexpected fmt chunk size";
+    ZeroChannels = -16, "file contains zero channels";
+    BitsExceedWidth = -17, "sample bits exceeds size of sample";
+    Inconsistent = -18, "inconsistent fmt chunk";
+    BitsNotWholeBytes = -19, "bits per sample is not a multiple of 8";
+    ZeroBits = -20, "bits per sample is 0";
+    BitsNot8Or16 = -21, "bits per sample is not 8, 16 or 24 in a PCM fmt chunk of 18 or 40 bytes";
+    ExSize = -22, "unexpected WAVEFORMATEX size";
+    BitsNot32 = -23, "bits per sample is not 32";
+    ExtensibleSize = -24, "unexpected WAVEFORMATEXTENSIBLE size";
+    DataLength = -25, "data chunk length is not a multiple of sample size";
+    FrameLength = -26, "invalid data chunk length";
 }
 
 impl error::Error for Error {}

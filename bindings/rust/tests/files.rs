@@ -69,7 +69,8 @@ fn an_error_leaves_all_as_it_was() {
     assert_eq!(write_to(&SPEC, &[1i32, 40000], &mut out), Err(Error::TooWide));
     assert_eq!(out, [7; 48]);
     assert_eq!(info(b"RIFX"), Err(Error::NoRiffTag));
-    assert_eq!(Error::NoRiffTag.to_string(), "no riff tag");
+    assert_eq!(Error::NoRiffTag.to_string(), "no RIFF tag found");
+    assert_eq!(Error::BitsNot8Or16.to_string(), "bits per sample is not 8, 16 or 24 in a PCM fmt chunk of 18 or 40 bytes");
     for (i, error) in ERRORS.iter().enumerate() {
         assert_eq!(*error as i64, -1 - i as i64);
     }

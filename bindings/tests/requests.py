@@ -1,0 +1,93 @@
+#!/usr/bin/env python3
+"""Writes requests for answer.c and answer.js: each call over the files of hound_rows, over files that are cut at each
+byte, and over random ones. The answers of each processor have to be the same; those of this one are compared with the
+model by rows.py.
+
+usage: requests.py > REQUESTS"""
+import os
+import random
+import struct
+import sys
+
+TOP = os.path.dirname(os.path.dirname(os.path.dirname(os.path.abspath(__file__))))
+sys.path.insert(0, os.path.join(TOP, "crates", "hound_rows"))
+import expected as model  # noqa: E402
+
+# Where things are in memory: a spec, what is found, samples, what is decoded or written, and the file with room after it.
+SPEC, FOUND, SAMPLES, OUT, FILE = 0, 16, 64, 192, 832
+COUNT, ROOM, MORE = 32, FILE - OUT, 160
+# Bits and bytes that are written, and some that aren't.
+PAIRS = [(8, 0, 0), (16, 0, 0), (24, 3, 0), (24, 4, 0), (32, 0, 0), (32, 0, 1), (12, 0, 0), (16, 4, 0), (64, 0, 1)]
+
+
+def of_rows():
+    """The files of the rows that are read."""
+    with open(os.path.join(TOP, "crates", "hound_rows", "stdin")) as rows:
+        for line in rows:
+            words = line.rstrip("\n").split(" ")
+            if words[0] == "let":
+                model.answer(line.rstrip("\n"))
+            elif words[0] in ("read", "riff") and len(words) > 1:
+                yield bytes(model.bytes_of(words[1]))
+
+
+def wav(bits, width, is_float, channels, data):
+    """A file with a fmt chunk of 16 bytes."""
+    fmt = struct.pack("<HHIIHH", 3 if is_float else 1, channels, 44100, 44100 * channels * width, channels * width, bits)
+    body = b"WAVEfmt \x10\0\0\0" + fmt + b"data" + struct.pack("<I", len(data)) + data + b"\0" * (len(data) % 2)
+    return b"RIFF" + struct.pack("<I", len(body)) + body
+
+
+def files(some):
+    """All files, each once."""
+    found = {file: None for file in of_rows() if len(file) < 4096}
+    for bits, width, is_float in ((8, 1, 0), (16, 2, 0), (24, 3, 0), (24, 4, 0), (32, 4, 0), (32, 4, 1)):
+        for channels in (1, 2):
+            file = wav(bits, width, is_float, channels, some.randbytes(5 * channels * width))
+            found.update({file[:length]: None for length in range(len(file) + 1)})
+    good = [file for file in found if len(file) > 44]
+    for _ in range(1500):
+        file = bytearray(some.choice(good))
+        for _ in range(some.randrange(1, 5)):
+            file[some.randrange(min(len(file), 72))] = some.choice((0, 1, 2, 255, some.randrange(256)))
+        found[bytes(file[: some.choice((len(file), some.randrange(len(file))))])] = None
+    return found
+
+
+def requests(file, some):
+    """The calls over a file, with samples that mostly fit in the bits of a spec."""
+    bits, width, is_float = some.choice(PAIRS)
+    channels = some.randrange(1, 4)
+    spec = struct.pack("<IHHHH", some.choice((0, 8000, 44100, 2**32 - 1)) if some.random() < 0.2 else 44100, channels, bits, width, is_float)
+    kept = max(0, min(32, bits if some.random() < 0.8 else 32) - 1)
+    size, used, few = len(file) + FILE + MORE, len(file), some.randrange(COUNT // channels) * channels + (some.random() < 0.1)
+    for suffix, code, most in (("i16", "h", 15), ("i32", "i", 31), ("f32", "I", 32)):
+        low = 0 if suffix == "f32" else -(2 ** min(kept, most))
+        high = 2**32 if suffix == "f32" else 2 ** min(kept, most)
+        samples = struct.pack(f"<{COUNT}{code}", *(some.randrange(low, high) for _ in range(COUNT)))
+        memory = spec.ljust(SAMPLES, b"\x5a") + samples
+        yield f"memory {size} {(memory.ljust(FILE, bytes([0x5A])) + file).hex()}"
+        if suffix == "i16":
+            yield f"info @{FILE} {used} @{FOUND}"
+            yield f"size @{SPEC} {some.choice((few, used, 2**31, 2**64 - 1))}"
+            for room in (used, used + 1, used - (used > 0)):
+                yield f"repair @{FILE} {room} {used} @{FOUND}"
+        for first, count in ((0, ROOM // 4), (some.randrange(9), some.randrange(9)), (2**33, 4)):
+            yield f"read_{suffix} @{FILE} {used} {first} @{OUT} {count}"
+        yield f"decode_{suffix} @{SPEC} @{FILE} {used} @{OUT} {ROOM // 4}"
+        for capacity in (ROOM, some.randrange(ROOM)):
+            yield f"write_{suffix} @{SPEC} @{SAMPLES} {few} @{OUT} {capacity}"
+            yield f"encode_{suffix} @{SPEC} @{SAMPLES} {few} @{OUT} {capacity}"
+        for capacity in (used + MORE, used + some.randrange(MORE)):
+            yield f"append_{suffix} @{FILE} {capacity} {used} @{SAMPLES} {few}"
+
+
+def main():
+    some = random.Random(7)
+    for file in files(some):
+        for line in requests(file, some):
+            print(line)
+
+
+if __name__ == "__main__":
+    main()
