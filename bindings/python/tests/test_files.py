@@ -231,6 +231,21 @@ class Files(unittest.TestCase):
         self.assertEqual(stat.S_IMODE(os.stat(self.path).st_mode), 0o640)
         self.assertEqual(sorted(os.listdir(self.folder.name)), ["a.wav", "link.wav"])
 
+    def test_a_file_that_may_only_be_read(self):
+        older, user = by_hand(b"\1\2"), os.geteuid()
+        self.leave(older)
+        os.chmod(self.path, 0o444)
+        os.chmod(self.folder.name, 0o777)
+        if user == 0:
+            os.seteuid(65534)
+        try:
+            self.assertEqual(hound.repair(self.path), (State.WHOLE, 1, 0))
+            for call in (lambda: hound.write(self.path, array.array("h", [3]), 8000), lambda: hound.append(self.path, array.array("h", [3]))):
+                self.assertRaises(PermissionError, call)
+        finally:
+            os.seteuid(user)
+        self.assert_file(older)
+
     def test_a_pipe_is_written_to(self):
         os.mkfifo(self.path)
         found = []
