@@ -107,6 +107,22 @@ static void reads(void) {
     }
 }
 
+/* Which bits a PCM fmt chunk of each length takes, in whole bytes. */
+static void fmt_chunks(void) {
+    for (uint8_t length = 16; length <= 40; length++) for (uint8_t bits = 8; bits <= 64; bits += 8) {
+        uint8_t file[20 + 40 + 8] = {'R', 'I', 'F', 'F', 0, 0, 0, 0, 'W', 'A', 'V', 'E', 'f', 'm', 't', ' ', length, 0, 0, 0, 1, 0, 1, 0, 100, 0, 0, 0};
+        put32(file + 28, 100u * bits / 8);
+        file[32] = bits / 8;
+        file[34] = bits;
+        memcpy(file + 20 + length, "data", 4);
+        hound_info_t info;
+        int32_t code = hound_info(file, 28u + length, &info);
+        if (length == 16) must(code == 0 && info.spec.bits_per_sample == bits, "a fmt chunk of 16 bytes");
+        else if (length != 18 && length != 40) must(code == HOUND_UNEXPECTED_FMT_SIZE, "a fmt chunk of another length");
+        else must(code == (bits <= 24 ? 0 : HOUND_BITS_NOT_8_OR_16), "a fmt chunk of 18 or 40 bytes");
+    }
+}
+
 static void writes(void) {
     hound_spec spec = {44100, 1, 16, 0, HOUND_INT};
     uint8_t out[80];
@@ -120,9 +136,11 @@ static void writes(void) {
     must(hound_write_i32(&spec, many, 2, out, 80) == HOUND_TOO_WIDE && !memcmp(out, four, 52), "a value of 17 bits");
     spec.bits_per_sample = 12;
     must(hound_write_i16(&spec, shorts, 3, out, 80) == HOUND_NOT_WRITABLE, "12 bits");
-    spec.bits_per_sample = 16;
-    spec.channels = 0;
-    must(hound_write_i16(&spec, shorts, 0, out, 80) == HOUND_NOT_WRITABLE && hound_size(&spec, 0) == HOUND_NOT_WRITABLE, "no channel");
+    /* No channel, no rate, a frame of 131070 bytes, and 2^32 bytes a second. */
+    static const hound_spec none[] = {{44100, 0, 16, 0, HOUND_INT}, {0, 1, 16, 0, HOUND_INT}, {1, 65535, 16, 0, HOUND_INT}, {2147483648u, 1, 16, 0, HOUND_INT}};
+    for (int i = 0; i < 4; i++)
+        must(hound_write_i16(&none[i], shorts, 0, out, 80) == HOUND_NOT_WRITABLE && hound_size(&none[i], 0) == HOUND_NOT_WRITABLE, "a spec that isn't written");
+    must(!memcmp(out, four, 52), "nothing is written for such a spec");
     hound_spec three = {44100, 1, 24, 0, HOUND_INT};
     int32_t small = -2;
     memset(out, 9, sizeof out);
@@ -274,6 +292,7 @@ static void texts(void) {
 
 int main(void) {
     reads();
+    fmt_chunks();
     writes();
     files_of_each_kind();
     errors_of_files();
