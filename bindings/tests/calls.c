@@ -251,29 +251,42 @@ static void repairs(void) {
     must(hound_repair(odd, 46, 45, &found) == 46 && odd[45] == 0 && odd[4] == 38, "a pad byte");
 }
 
-/* The RIFF size of samples of one byte and of two: 36 and their bytes, padded, of which 32 bits count 4294967295. */
-static void sizes_of_32_bits(void) {
-    hound_spec spec = {44100, 1, 16, 0, HOUND_INT}, bytes = {44100, 1, 8, 0, HOUND_INT};
-    const uint64_t most = 2147483629, length = 4294967302;
-    must(hound_size(&spec, most) == (int64_t)length && hound_size(&spec, most + 1) == HOUND_TOO_LONG, "the longest file of 16 bits");
-    must(hound_size(&bytes, 2 * most) == (int64_t)length && hound_size(&bytes, 2 * most + 1) == HOUND_TOO_LONG, "the longest file of 8 bits");
+/* The RIFF size counts all bytes but the first 8, in 32 bits: files of the most samples, of one more, and of two more
+   than there are. */
+static void sizes_of_32_bits(char type, int kind, uint8_t *file, const void *silence, size_t room) {
+    hound_spec spec = spec_of(kind, 1);
+    size_t start = kinds[kind].start, width = kinds[kind].bytes;
+    uint64_t most = (UINT32_MAX + (uint64_t)8 - start) / width, length = start + most * width;
+    must(hound_size(&spec, most) == (int64_t)length && hound_size(&spec, most + 1) == HOUND_TOO_LONG, "the longest file");
     must(hound_size(&spec, (uint64_t)1 << 32) == HOUND_TOO_LONG && hound_size(&spec, UINT64_MAX) == HOUND_TOO_LONG, "more samples than 32 bits count");
-    size_t room = length + 64;
+    int64_t code = type == 'h' ? hound_write_i16(&spec, silence, most + 1, file, room)
+                 : type == 'i' ? hound_write_i32(&spec, silence, most + 1, file, room) : hound_write_f32(&spec, silence, most + 1, file, room);
+    must(code == HOUND_TOO_LONG && file[0] == 0, "writing more than 32 bits count");
+    must(written(type, &spec, 0, file, room) == (int64_t)start, "a file to append to");
+    put32(file + start - 4, (uint32_t)((most - 1) * width));
+    must(appended(type, file, room, length - width, 0, 2) == HOUND_TOO_LONG, "two samples where one has room");
+    must(le32(file + 4) == start - 8 && all_are(file, (int64_t)(length - width), room, 0), "sizes past 32 bits change nothing");
+    whole(file, appended(type, file, room, length - width, 1, 1), start, most * width, "the last sample of the longest file");
+    must(appended(type, file, room, length, 0, 1) == HOUND_TOO_LONG, "a sample after the longest file");
+    int32_t back[2] = {0, 9};
+    if (type != 'f') must(hound_read_i32(file, length, most - 1, back, 2) == 1 && back[0] == -3 && back[1] == 9, "the last sample, read");
+    memset(file, 0, start);
+    memset(file + length - width, 0, width);
+}
+
+static void long_files(void) {
+    hound_spec bytes = spec_of(0, 1); /* of one byte, and a pad byte after an odd number of them */
+    must(hound_size(&bytes, 4294967258) == 4294967302 && hound_size(&bytes, 4294967259) == HOUND_TOO_LONG, "the longest file of 8 bits");
+    size_t room = ((size_t)1 << 32) + 4096;
     uint8_t *file = mmap(NULL, room, PROT_READ | PROT_WRITE, MAP_PRIVATE | MAP_ANONYMOUS | MAP_NORESERVE, -1, 0);
-    int16_t *silence = mmap(NULL, room, PROT_READ, MAP_PRIVATE | MAP_ANONYMOUS | MAP_NORESERVE, -1, 0);
-    if (file == MAP_FAILED || (void *)silence == MAP_FAILED) {
+    void *silence = mmap(NULL, room, PROT_READ, MAP_PRIVATE | MAP_ANONYMOUS | MAP_NORESERVE, -1, 0);
+    if (file == MAP_FAILED || silence == MAP_FAILED) {
         puts("calls: passed over, since twice 4 GiB can't be mapped here: files of that length");
         return;
     }
-    must(hound_write_i16(&spec, silence, most + 1, file, room) == HOUND_TOO_LONG && file[0] == 0, "writing more than 32 bits count");
-    must(hound_write_i16(&spec, shorts, 0, file, room) == 44, "a file to append to");
-    put32(file + 40, 2 * (uint32_t)most - 2);
-    must(hound_append_i16(file, room, length - 2, shorts, 2) == HOUND_TOO_LONG, "two samples where one has room");
-    must(le32(file + 4) == 36 && all_are(file, (int64_t)length - 2, room, 0), "sizes past 32 bits change nothing");
-    whole(file, hound_append_i16(file, room, length - 2, shorts + 1, 1), 44, 2 * most, "the last sample of the longest file");
-    must(hound_append_i16(file, room, length, shorts, 1) == HOUND_TOO_LONG, "a sample after the longest file");
-    int16_t back[2] = {0, 9};
-    must(hound_read_i16(file, length, most - 1, back, 2) == 1 && back[0] == -3 && back[1] == 9, "the last sample, read");
+    sizes_of_32_bits('h', 1, file, silence, room);
+    sizes_of_32_bits('i', 4, file, silence, room);
+    sizes_of_32_bits('f', 5, file, silence, room);
     munmap(file, room);
     munmap(silence, room);
 }
@@ -298,7 +311,7 @@ int main(void) {
     errors_of_files();
     floats();
     repairs();
-    sizes_of_32_bits();
+    long_files();
     texts();
     puts("calls: each call returned what it must");
     return 0;
