@@ -1,8 +1,8 @@
 #!/usr/bin/env python3
 """Kills programs that append to, repair and write files by the Python package, and lets their calls of the
 system fail. After each the file is read by hand, repaired, and read again: it counts only samples that it
-holds, those from before and each that was reported are there, and none was invented. Where a call failed, the
-file is the one from before, byte for byte. Wrong versions of `append` have to be found.
+holds, those from before and each that was reported are there, and none was invented. Where one call failed,
+the file is the one from before, byte for byte. Wrong versions of `append` have to be found.
 
 usage: python_faults.py [KILLS [short]]    (200 kills where no number is given; short: fewer of the other runs)
 
@@ -236,6 +236,8 @@ def is_as_promised(path, task, status, what, is_exact):
         raise Wrong(f"{what}: the file isn't the one from before")
     if task.work == "write" and contents not in (task.before, task.done):
         raise Wrong(f"{what}: the file is neither the old nor the new one")
+    if is_exact and status in (0, 3) and os.path.exists(os.path.join(os.path.dirname(path), ".hound-part")):
+        raise Wrong(f"{what}: a part of a file is left")
     if task.work != "write":
         look(path, task.case, task.first, task.first + task.count, what, task.after)
 

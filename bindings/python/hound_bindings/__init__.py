@@ -423,7 +423,7 @@ def write(
         if not os.path.isfile(path):
             with open(path, "wb") as device:
                 return device.write(content)
-        open(path, "r+b").close()  # An OSError where it may not be written.
+        os.close(os.open(path, os.O_WRONLY))  # An OSError where it may not be written.
     part = os.path.join(os.path.dirname(name), f".hound-{secrets.token_hex(8)}")
     try:
         with open(part, "xb", buffering=0) as file:
