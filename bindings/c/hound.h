@@ -13,9 +13,9 @@
    A caller must keep these conditions, which no call checks:
    - A pointer and the length after it are an array of that many elements, at most PTRDIFF_MAX bytes,
      aligned for its type.
-   - No pointer is NULL, also where the length is 0: then the address of any object will do. gcc and
-     clang warn of a NULL that they see in a call (-Wnonnull), and a program that is compiled with
-     -fsanitize=undefined reports each that is passed.
+   - No pointer is NULL, also where the length is 0: then the address of any object of the type will
+     do. gcc and clang warn of a NULL that they see in a call (-Wnonnull), and a program that is
+     compiled with -fsanitize=undefined reports each that is passed.
    - Memory that is passed without const overlaps no other argument, and nobody else uses it during
      the call. Memory that is passed with const isn't written during the call, so a mapped file must
      not change or get shorter.
@@ -51,11 +51,12 @@ enum {
     HOUND_UNSUPPORTED = -2,      /* the format tag or subformat is neither PCM nor IEEE float */
     HOUND_OTHER_FORMAT = -3,     /* the samples are floats and the type is an integer, or vice versa */
     HOUND_TOO_WIDE = -4,         /* the samples are wider than the type, or a value than its bits */
-    HOUND_NOT_WRITABLE = -5,     /* no call reads, writes, repairs, encodes, decodes or scales samples with
-                                    these bits and bytes; hound_write_.., hound_size and hound_header also
-                                    return it where the channels or the rate are 0, or where the bytes of a
-                                    frame don't fit in 16 bits or those of a second in 32; hound_sizes
-                                    where the channels are 0 or the data begin before byte 20 */
+    HOUND_NOT_WRITABLE = -5,     /* no call reads, writes, appends, repairs, encodes, decodes or scales
+                                    samples with these bits and bytes; hound_write_.., hound_size and
+                                    hound_header also return it where the channels or the rate are 0, or
+                                    where the bytes of a frame don't fit in 16 bits or those of a second in
+                                    32, and hound_sizes where the channels are 0 or the data begin before
+                                    byte 20 */
     HOUND_TRUNCATED = -6,        /* the header counts a sample that isn't among the bytes of the file */
     HOUND_TOO_LONG = -7,         /* the sizes of the file would not fit in 32 bits */
     HOUND_UNFINISHED_FRAME = -8, /* the samples are no whole frames */

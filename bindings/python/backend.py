@@ -1,22 +1,24 @@
 """Builds the wheel of this folder with Python and a C compiler alone, so that `pip install` needs no
-network: the archive that ../build makes becomes the shared library of the package."""
+network: the static library that ../lib has for this processor, or that the folder HOUND_C_LIB has,
+becomes the shared library of the package."""
 import base64
 import hashlib
 import os
+import platform
 import subprocess
 import sysconfig
 import zipfile
 
 HERE = os.path.dirname(os.path.abspath(__file__))
 NAME, VERSION = "hound_bindings", "0.1.0"
-ARCHIVE = os.environ.get("HOUND_C_LIB") or os.path.join(HERE, "..", "..", "crates", "hound_c", "out")
+CARRIED = os.path.join(HERE, "..", "lib", f"{platform.machine()}-{platform.system()}".lower())
 
 
 def shared_library(folder):
     """Makes the shared library in a folder, and returns its path."""
-    archive = os.path.join(ARCHIVE, "libhound_c.a")
+    archive = os.path.join(os.environ.get("HOUND_C_LIB") or CARRIED, "libhound_c.a")
     if not os.path.exists(archive):
-        raise SystemExit(f"{archive} isn't there: run bindings/build first")
+        raise SystemExit(f"{archive} isn't there: bindings/lib has the library for Linux on x86_64 and aarch64")
     library = os.path.join(folder, "libhound_c.so")
     parts = ["-shared", "-Wl,--whole-archive", archive, "-Wl,--no-whole-archive", "-o", library]
     subprocess.run([os.environ.get("CC", "cc"), *parts], check=True)

@@ -1,13 +1,17 @@
 use std::path::PathBuf;
-use std::{env, fs};
+use std::{env, fs, process};
 
 fn main() {
-    let here = PathBuf::from(env::var("CARGO_MANIFEST_DIR").unwrap());
-    let folder = env::var_os("HOUND_C_LIB")
-        .map_or_else(|| here.join("../../crates/hound_c/out"), PathBuf::from);
-    let archive = folder.join("libhound_c.a");
+    let variable = |name| env::var(name).unwrap();
+    let carried = PathBuf::from(variable("CARGO_MANIFEST_DIR")).join(format!(
+        "../lib/{}-{}",
+        variable("CARGO_CFG_TARGET_ARCH"),
+        variable("CARGO_CFG_TARGET_OS")
+    ));
+    let archive = env::var_os("HOUND_C_LIB").filter(|folder| !folder.is_empty()).map_or(carried, PathBuf::from).join("libhound_c.a");
     let Ok(archive) = fs::canonicalize(&archive) else {
-        panic!("{} isn't there: run bindings/build first", archive.display());
+        eprintln!("{} isn't there: bindings/lib has the library for Linux on x86_64 and aarch64", archive.display());
+        process::exit(1);
     };
     println!("cargo:rerun-if-env-changed=HOUND_C_LIB");
     println!("cargo:rerun-if-changed={}", archive.display());

@@ -10,6 +10,8 @@ enum { ROOM = 1 << 16, LINE = 3 * ROOM };
 static uint8_t before[ROOM];
 static uint64_t memory[ROOM / 8]; /* aligned for each type */
 
+static int digit(char c) { return c <= '9' ? c - '0' : c - 'a' + 10; }
+
 static int64_t call(const char *name, const uint64_t *a) {
 #define AT(type, i) ((type *)(uintptr_t)a[i])
     if (!strcmp(name, "info")) return hound_info(AT(uint8_t, 0), a[1], AT(hound_info_t, 2));
@@ -37,11 +39,7 @@ int main(void) {
             size = strtoull(strtok(NULL, " \n"), NULL, 10);
             memset(before, 0x5a, size);
             const char *hex = strtok(NULL, " \n");
-            for (size_t i = 0; hex[2 * i]; i++) {
-                unsigned byte;
-                sscanf(hex + 2 * i, "%2x", &byte);
-                before[i] = (uint8_t)byte;
-            }
+            for (size_t i = 0; hex[2 * i]; i++) before[i] = (uint8_t)(digit(hex[2 * i]) << 4 | digit(hex[2 * i + 1]));
             continue;
         }
         uint64_t arguments[5] = {0};

@@ -108,6 +108,22 @@ static void reads(void) {
     }
 }
 
+/* Which bits a PCM fmt chunk of each length takes, in whole bytes. */
+static void fmt_chunks(void) {
+    for (uint8_t length = 16; length <= 40; length++) for (uint8_t bits = 8; bits <= 64; bits += 8) {
+        uint8_t file[20 + 40 + 8] = {'R', 'I', 'F', 'F', 0, 0, 0, 0, 'W', 'A', 'V', 'E', 'f', 'm', 't', ' ', length, 0, 0, 0, 1, 0, 1, 0, 100, 0, 0, 0};
+        put32(file + 28, 100u * bits / 8);
+        file[32] = bits / 8;
+        file[34] = bits;
+        memcpy(file + 20 + length, "data", 4);
+        hound_info_t info;
+        int32_t code = hound_info(file, 28u + length, &info);
+        if (length == 16) must(code == 0 && info.spec.bits_per_sample == bits, "a fmt chunk of 16 bytes");
+        else if (length != 18 && length != 40) must(code == HOUND_UNEXPECTED_FMT_SIZE, "a fmt chunk of another length");
+        else must(code == (bits <= 24 ? 0 : HOUND_BITS_NOT_8_OR_16), "a fmt chunk of 18 or 40 bytes");
+    }
+}
+
 static void writes(void) {
     hound_spec spec = {44100, 1, 16, 0, HOUND_INT};
     uint8_t out[80];
@@ -121,9 +137,11 @@ static void writes(void) {
     must(hound_write_i32(&spec, many, 2, out, 80) == HOUND_TOO_WIDE && !memcmp(out, four, 52), "a value of 17 bits");
     spec.bits_per_sample = 12;
     must(hound_write_i16(&spec, shorts, 3, out, 80) == HOUND_NOT_WRITABLE, "12 bits");
-    spec.bits_per_sample = 16;
-    spec.channels = 0;
-    must(hound_write_i16(&spec, shorts, 0, out, 80) == HOUND_NOT_WRITABLE && hound_size(&spec, 0) == HOUND_NOT_WRITABLE, "no channel");
+    /* No channel, no rate, a frame of 131070 bytes, and 2^32 bytes a second. */
+    static const hound_spec none[] = {{44100, 0, 16, 0, HOUND_INT}, {0, 1, 16, 0, HOUND_INT}, {1, 65535, 16, 0, HOUND_INT}, {2147483648u, 1, 16, 0, HOUND_INT}};
+    for (int i = 0; i < 4; i++)
+        must(hound_write_i16(&none[i], shorts, 0, out, 80) == HOUND_NOT_WRITABLE && hound_size(&none[i], 0) == HOUND_NOT_WRITABLE, "a spec that isn't written");
+    must(!memcmp(out, four, 52), "nothing is written for such a spec");
     hound_spec three = {44100, 1, 24, 0, HOUND_INT};
     int32_t small = -2;
     memset(out, 9, sizeof out);
@@ -355,29 +373,42 @@ static void repairs(void) {
     must(hound_repair(odd, 46, 45, &found) == 46 && odd[45] == 0 && odd[4] == 38, "a pad byte");
 }
 
-/* The RIFF size of samples of one byte and of two: 36 and their bytes, padded, of which 32 bits count 4294967295. */
-static void sizes_of_32_bits(void) {
-    hound_spec spec = {44100, 1, 16, 0, HOUND_INT}, bytes = {44100, 1, 8, 0, HOUND_INT};
-    const uint64_t most = 2147483629, length = 4294967302;
-    must(hound_size(&spec, most) == (int64_t)length && hound_size(&spec, most + 1) == HOUND_TOO_LONG, "the longest file of 16 bits");
-    must(hound_size(&bytes, 2 * most) == (int64_t)length && hound_size(&bytes, 2 * most + 1) == HOUND_TOO_LONG, "the longest file of 8 bits");
+/* The RIFF size counts all bytes but the first 8, in 32 bits: files of the most samples, of one more, and of two more
+   than there are. */
+static void sizes_of_32_bits(char type, int kind, uint8_t *file, const void *silence, size_t room) {
+    hound_spec spec = spec_of(kind, 1);
+    size_t start = kinds[kind].start, width = kinds[kind].bytes;
+    uint64_t most = (UINT32_MAX + (uint64_t)8 - start) / width, length = start + most * width;
+    must(hound_size(&spec, most) == (int64_t)length && hound_size(&spec, most + 1) == HOUND_TOO_LONG, "the longest file");
     must(hound_size(&spec, (uint64_t)1 << 32) == HOUND_TOO_LONG && hound_size(&spec, UINT64_MAX) == HOUND_TOO_LONG, "more samples than 32 bits count");
-    size_t room = length + 64;
+    int64_t code = type == 'h' ? hound_write_i16(&spec, silence, most + 1, file, room)
+                 : type == 'i' ? hound_write_i32(&spec, silence, most + 1, file, room) : hound_write_f32(&spec, silence, most + 1, file, room);
+    must(code == HOUND_TOO_LONG && file[0] == 0, "writing more than 32 bits count");
+    must(written(type, &spec, 0, file, room) == (int64_t)start, "a file to append to");
+    put32(file + start - 4, (uint32_t)((most - 1) * width));
+    must(appended(type, file, room, length - width, 0, 2) == HOUND_TOO_LONG, "two samples where one has room");
+    must(le32(file + 4) == start - 8 && all_are(file, (int64_t)(length - width), room, 0), "sizes past 32 bits change nothing");
+    whole(file, appended(type, file, room, length - width, 1, 1), start, most * width, "the last sample of the longest file");
+    must(appended(type, file, room, length, 0, 1) == HOUND_TOO_LONG, "a sample after the longest file");
+    int32_t back[2] = {0, 9};
+    if (type != 'f') must(hound_read_i32(file, length, most - 1, back, 2) == 1 && back[0] == -3 && back[1] == 9, "the last sample, read");
+    memset(file, 0, start);
+    memset(file + length - width, 0, width);
+}
+
+static void long_files(void) {
+    hound_spec bytes = spec_of(0, 1); /* of one byte, and a pad byte after an odd number of them */
+    must(hound_size(&bytes, 4294967258) == 4294967302 && hound_size(&bytes, 4294967259) == HOUND_TOO_LONG, "the longest file of 8 bits");
+    size_t room = ((size_t)1 << 32) + 4096;
     uint8_t *file = mmap(NULL, room, PROT_READ | PROT_WRITE, MAP_PRIVATE | MAP_ANONYMOUS | MAP_NORESERVE, -1, 0);
-    int16_t *silence = mmap(NULL, room, PROT_READ, MAP_PRIVATE | MAP_ANONYMOUS | MAP_NORESERVE, -1, 0);
-    if (file == MAP_FAILED || (void *)silence == MAP_FAILED) {
+    void *silence = mmap(NULL, room, PROT_READ, MAP_PRIVATE | MAP_ANONYMOUS | MAP_NORESERVE, -1, 0);
+    if (file == MAP_FAILED || silence == MAP_FAILED) {
         puts("calls: passed over, since twice 4 GiB can't be mapped here: files of that length");
         return;
     }
-    must(hound_write_i16(&spec, silence, most + 1, file, room) == HOUND_TOO_LONG && file[0] == 0, "writing more than 32 bits count");
-    must(hound_write_i16(&spec, shorts, 0, file, room) == 44, "a file to append to");
-    put32(file + 40, 2 * (uint32_t)most - 2);
-    must(hound_append_i16(file, room, length - 2, shorts, 2) == HOUND_TOO_LONG, "two samples where one has room");
-    must(le32(file + 4) == 36 && all_are(file, (int64_t)length - 2, room, 0), "sizes past 32 bits change nothing");
-    whole(file, hound_append_i16(file, room, length - 2, shorts + 1, 1), 44, 2 * most, "the last sample of the longest file");
-    must(hound_append_i16(file, room, length, shorts, 1) == HOUND_TOO_LONG, "a sample after the longest file");
-    int16_t back[2] = {0, 9};
-    must(hound_read_i16(file, length, most - 1, back, 2) == 1 && back[0] == -3 && back[1] == 9, "the last sample, read");
+    sizes_of_32_bits('h', 1, file, silence, room);
+    sizes_of_32_bits('i', 4, file, silence, room);
+    sizes_of_32_bits('f', 5, file, silence, room);
     munmap(file, room);
     munmap(silence, room);
 }
@@ -396,6 +427,7 @@ static void texts(void) {
 
 int main(void) {
     reads();
+    fmt_chunks();
     writes();
     files_of_each_kind();
     errors_of_files();
@@ -405,7 +437,7 @@ int main(void) {
     sizes_of_none();
     floats();
     repairs();
-    sizes_of_32_bits();
+    long_files();
     texts();
     puts("calls: each call returned what it must");
     return 0;

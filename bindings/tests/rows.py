@@ -39,6 +39,7 @@ REASONS = {
 WORDS = {f"FormatError({text})": cause for text, cause in REASONS.items()}
 HEAD = {**WORDS, model.ENDED: Cause.ENDED, "Unsupported": Cause.UNSUPPORTED}
 ITEM = {"InvalidSampleFormat": Cause.OTHER_FORMAT, "TooWide": Cause.TOO_WIDE, "Unsupported": Cause.NOT_WRITABLE, model.ENDED: Cause.TRUNCATED}
+CODES = [cause for cause in Cause if cause < Cause.CUT_OFF]  # Those of hound.h.
 met = set()
 
 
@@ -172,10 +173,10 @@ def main():
         count += 1
     repairs = check_repairs()
     other_codes()
-    missing = [cause.name for cause in Cause if cause not in met]
+    missing = [cause.name for cause in CODES if cause not in met]
     if missing:
         sys.exit(f"rows: these codes weren't met: {' '.join(missing)}")
-    print(f"rows: {count} files read and {repairs} repaired as the model says, and each of {len(Cause)} codes met")
+    print(f"rows: {count} files read and {repairs} repaired as the model says, and each of {len(CODES)} codes met")
 
 
 if __name__ == "__main__":

@@ -1,51 +1,66 @@
 """WAV files, read, written, appended to and repaired by proved code.
 
-A file is a path or its bytes. Samples are interleaved: `array.array`s, or anything with a buffer of
-16-bit or 32-bit integers or 32-bit floats, such as a numpy array; its second dimension, if it has
-one, is the channels. No other process may change a file during a call.
+A file is a path or its bytes. Samples are interleaved: `array.array`s, or anything with a buffer, such
+as a numpy array; two dimensions are frames by channels. No other process may change a file during a
+call.
 """
 import array
 import contextlib
 import ctypes
 import enum
 import mmap
+import operator
 import os
-from typing import Any, Iterator, NamedTuple, Optional, Tuple, Union
+import secrets
+import shutil
+import sys
+from typing import Any, Iterator, List, NamedTuple, Optional, Tuple, Union
 
 __all__ = ["Cause", "HoundError", "Info", "Repair", "State", "append", "info", "read", "read_into", "repair", "to_bytes", "write"]
 
-File = Union[str, "os.PathLike[str]", bytes, bytearray, memoryview, mmap.mmap]
+Path = Union[str, "os.PathLike[str]"]
+File = Union[Path, bytes, bytearray, memoryview, mmap.mmap]
 
 
 class Cause(enum.IntEnum):
-    """Why a call failed: the codes of hound.h without their sign."""
+    """Why a call failed, with its sentence: the codes of hound.h without their sign, and from 101 on
+    those of this package."""
 
-    ENDED = 1
-    UNSUPPORTED = 2
-    OTHER_FORMAT = 3
-    TOO_WIDE = 4
-    NOT_WRITABLE = 5
-    TRUNCATED = 6
-    TOO_LONG = 7
-    UNFINISHED_FRAME = 8
-    NO_ROOM = 9
-    NO_RIFF_TAG = 10
-    NO_WAVE_TAG = 11
-    NO_DATA_CHUNK = 12
-    NO_FMT_CHUNK = 13
-    FMT_SIZE = 14
-    UNEXPECTED_FMT_SIZE = 15
-    ZERO_CHANNELS = 16
-    BITS_EXCEED_WIDTH = 17
-    INCONSISTENT = 18
-    BITS_NOT_WHOLE_BYTES = 19
-    ZERO_BITS = 20
-    BITS_NOT_8_OR_16 = 21
-    EX_SIZE = 22
-    BITS_NOT_32 = 23
-    EXTENSIBLE_SIZE = 24
-    DATA_LENGTH = 25
-    FRAME_LENGTH = 26
+    sentence: str
+
+    def __new__(cls, code: int, sentence: str) -> "Cause":
+        cause = int.__new__(cls, code)
+        cause._value_, cause.sentence = code, sentence
+        return cause
+
+    ENDED = 1, "the bytes end before the data begin"
+    UNSUPPORTED = 2, "the format is neither PCM nor IEEE float"
+    OTHER_FORMAT = 3, "the samples are floats and the type is an integer, or vice versa"
+    TOO_WIDE = 4, "the samples are wider than the type, or a value than its bits"
+    NOT_WRITABLE = 5, "samples of this spec are not read or written"
+    TRUNCATED = 6, "the header counts a sample that the file does not hold"
+    TOO_LONG = 7, "the sizes of the file would not fit in 32 bits"
+    UNFINISHED_FRAME = 8, "the samples are no whole frames"
+    NO_ROOM = 9, "more bytes are needed than the capacity"
+    NO_RIFF_TAG = 10, "no RIFF tag found"
+    NO_WAVE_TAG = 11, "no WAVE tag found"
+    NO_DATA_CHUNK = 12, "missing data chunk"
+    NO_FMT_CHUNK = 13, "missing fmt chunk"
+    FMT_SIZE = 14, "invalid fmt chunk size"
+    UNEXPECTED_FMT_SIZE = 15, "unexpected fmt chunk size"
+    ZERO_CHANNELS = 16, "file contains zero channels"
+    BITS_EXCEED_WIDTH = 17, "sample bits exceeds size of sample"
+    INCONSISTENT = 18, "inconsistent fmt chunk"
+    BITS_NOT_WHOLE_BYTES = 19, "bits per sample is not a multiple of 8"
+    ZERO_BITS = 20, "bits per sample is 0"
+    BITS_NOT_8_OR_16 = 21, "bits per sample is not 8, 16 or 24 in a PCM fmt chunk of 18 or 40 bytes"
+    EX_SIZE = 22, "unexpected WAVEFORMATEX size"
+    BITS_NOT_32 = 23, "bits per sample is not 32"
+    EXTENSIBLE_SIZE = 24, "unexpected WAVEFORMATEXTENSIBLE size"
+    DATA_LENGTH = 25, "data chunk length is not a multiple of sample size"
+    FRAME_LENGTH = 26, "invalid data chunk length"
+    CUT_OFF = 101, "the recording was cut off: call repair before append"
+    CHUNKS_AFTER_DATA = 102, "chunks or a tag follow the data, and append overwrites them only with overwrite=True"
 
 
 class State(enum.IntEnum):
@@ -60,8 +75,11 @@ class HoundError(ValueError):
     """A call failed, for this cause."""
 
     def __init__(self, cause: Cause) -> None:
-        super().__init__(cause.name.lower().replace("_", " "))
+        super().__init__(cause)
         self.cause = cause
+
+    def __str__(self) -> str:
+        return self.cause.sentence
 
 
 class Info(NamedTuple):
@@ -104,8 +122,6 @@ class _Repair(ctypes.Structure):
 
 _LIBRARY = ctypes.CDLL(os.environ.get("HOUND_C_LIBRARY") or os.path.join(os.path.dirname(__file__), "libhound_c.so"))
 _POINTER, _SIZE, _U64, _I64 = ctypes.c_void_p, ctypes.c_size_t, ctypes.c_uint64, ctypes.c_int64
-_TYPES = {"h": "i16", "i": "i32", "l": "i32", "f": "f32"}
-_DTYPES = {"int16": "h", "int32": "i", "float32": "f"}
 _SPARE = ctypes.create_string_buffer(16)
 
 
@@ -129,53 +145,146 @@ def _checked(code: int) -> int:
     return code
 
 
+def _integer(name: str, value: Any, low: int, high: int) -> int:
+    """An argument that is an integer in a range."""
+    try:
+        number = operator.index(value)
+    except TypeError:
+        raise TypeError(f"{name} is {value!r}, and not an integer") from None
+    if not low <= number <= high:
+        raise ValueError(f"{name} is {number}, and not from {low} to {high}")
+    return number
+
+
+class _Type(NamedTuple):
+    """A type of samples: the code of its arrays, the calls that read and write it, and its bits."""
+
+    code: str
+    kind: str
+    bits: int
+
+
+_TYPES = {
+    "int8": _Type("b", "i16", 8),
+    "int16": _Type("h", "i16", 16),
+    "int32": _Type("i", "i32", 32),
+    "float32": _Type("f", "f32", 32),
+    "float64": _Type("d", "f32", 64),
+}
+_CODES = {"i16": "h", "i32": "i", "f32": "f"}
+_FORMATS = {("b", 1): "int8", ("h", 2): "int16", ("i", 4): "int32", ("l", 4): "int32", ("f", 4): "float32", ("d", 8): "float64"}
+_READ = "int8, int16, int32, float32 and float64 are read"
+_WRITTEN = "int8, int16, int32 and float32 are written"
+# For each byte the second one of the same value in 16 bits.
+_SIGNS = bytes(255 if byte > 127 else 0 for byte in range(256))
+
+
+def _widened(content: bytes) -> bytearray:
+    """The int16 samples of these int8 samples."""
+    wide = bytearray(2 * len(content))
+    wide[::2], wide[1::2] = content, content.translate(_SIGNS)
+    return wide
+
+
+def _converted(samples: "array.array[Any]", dtype: str) -> "array.array[Any]":
+    """Samples that were read, in the type that is none of the library's. No value changes."""
+    if dtype == "int8":
+        return array.array("b", samples.tobytes()[::2])
+    return array.array("d", samples) if dtype == "float64" else samples
+
+
 @contextlib.contextmanager
-def _address(buffer: Any) -> Iterator[Tuple[Any, int]]:
-    """The address and the number of bytes of a buffer, which lives at least as long."""
+def _address(buffer: Any, align: int = 1) -> Iterator[Tuple[Any, int]]:
+    """The address and the number of bytes of a buffer, or of a copy where the buffer is read-only, not
+    contiguous or not aligned. They live as long as the context."""
     with memoryview(buffer) as view:
-        if not view.c_contiguous:
-            raise TypeError("the buffer isn't contiguous")
         if view.nbytes == 0:
             yield ctypes.addressof(_SPARE), 0
-        elif view.readonly:
-            same = buffer if isinstance(buffer, bytes) else bytes(view)
-            yield ctypes.cast(ctypes.c_char_p(same), _POINTER).value, len(same)
-        else:
-            start = ctypes.c_char.from_buffer(view.cast("B"))
+            return
+        if view.c_contiguous and not view.readonly:
+            start = ctypes.c_char.from_buffer(view)
             try:
-                yield ctypes.addressof(start), view.nbytes
+                if ctypes.addressof(start) % align == 0:
+                    yield ctypes.addressof(start), view.nbytes
+                    return
             finally:
                 del start
+        same = buffer if isinstance(buffer, bytes) else view.tobytes()
+        yield ctypes.cast(ctypes.c_char_p(same), _POINTER).value, len(same)
+
+
+def _form(view: memoryview, name: str, taken: str) -> Tuple[str, Optional[int]]:
+    """The type of samples, and how many columns they have if they have two dimensions."""
+    dtype = _FORMATS.get((view.format.lstrip("@=<"), view.itemsize))
+    if dtype is None:
+        raise TypeError(f"{name} has the format '{view.format}': {taken}, in this machine's byte order")
+    if view.ndim not in (1, 2):
+        raise ValueError(f"{name} has {view.ndim} dimensions, and not one or two")
+    return dtype, view.shape[1] if view.ndim == 2 else None
+
+
+def _check_columns(name: str, columns: Optional[int], channels: int) -> None:
+    if columns not in (None, channels):
+        raise ValueError(f"{name} has {columns} columns, and there are {channels} channels")
+
+
+class _Samples(NamedTuple):
+    """Samples that a caller gives."""
+
+    form: _Type
+    start: Any
+    count: int
+    columns: Optional[int]
 
 
 @contextlib.contextmanager
-def _samples(buffer: Any) -> Iterator[Tuple[str, Any, int, int]]:
-    """The type, the address, the number and the channels of samples."""
+def _samples(buffer: Any) -> Iterator[_Samples]:
+    """Samples to be written, as the library takes them."""
     with memoryview(buffer) as view:
-        kind = _TYPES.get(view.format.lstrip("@=<"))
-        if kind is None or view.itemsize != (2 if kind == "i16" else 4):
-            raise TypeError(f"samples are 16-bit or 32-bit integers or 32-bit floats, and not '{view.format}'")
-        channels = view.shape[1] if view.ndim == 2 else 1
-        with _address(buffer) as (start, length):
-            if start % view.itemsize:
-                raise TypeError("the samples aren't aligned")
-            yield kind, start, length // view.itemsize, channels
+        dtype, columns = _form(view, "samples", _WRITTEN)
+        if dtype == "float64":
+            raise TypeError(f"samples has float64, which would be rounded: {_WRITTEN}, so convert it to float32")
+        count = view.nbytes // view.itemsize
+        with _address(_widened(view.tobytes()) if dtype == "int8" else view, view.itemsize) as (start, _):
+            yield _Samples(_TYPES[dtype], start, count, columns)
+
+
+@contextlib.contextmanager
+def _mapped(descriptor: int) -> Iterator[Tuple[Any, int]]:
+    """The address and the length of a file that is mapped; the file doesn't change with the memory."""
+    if os.fstat(descriptor).st_size == 0:
+        yield ctypes.addressof(_SPARE), 0
+        return
+    with mmap.mmap(descriptor, 0, access=mmap.ACCESS_COPY) as mapped, _address(mapped) as pair:
+        yield pair
 
 
 @contextlib.contextmanager
 def _file(file: File) -> Iterator[Tuple[Any, int]]:
     """The address and the length of a file's bytes; a path is mapped."""
-    if not isinstance(file, (str, os.PathLike)):
+    if isinstance(file, (str, os.PathLike)):
+        with open(file, "rb") as opened, _mapped(opened.fileno()) as pair:
+            yield pair
+    else:
         with _address(file) as pair:
             yield pair
-        return
-    with open(file, "rb") as opened:
-        if os.fstat(opened.fileno()).st_size == 0:
-            yield ctypes.addressof(_SPARE), 0
-            return
-        with mmap.mmap(opened.fileno(), 0, access=mmap.ACCESS_COPY) as mapped:
-            with _address(mapped) as pair:
-                yield pair
+
+
+@contextlib.contextmanager
+def _image(start: Any, count: int, size: int) -> Iterator[Any]:
+    """The address of so much memory that begins with these bytes; its other pages cost nothing until
+    they are written."""
+    with mmap.mmap(-1, size, flags=mmap.MAP_PRIVATE | mmap.MAP_ANONYMOUS) as image, _address(image) as (memory, _):
+        ctypes.memmove(memory, start, count)
+        yield memory
+
+
+def _copy(start: Any, count: int) -> bytearray:
+    """The bytes at an address."""
+    content = bytearray(count)
+    with _address(content) as (place, _):
+        ctypes.memmove(place, start, count)
+    return content
 
 
 def _info_of(start: Any, length: int) -> _Info:
@@ -188,114 +297,271 @@ def info(file: File) -> Info:
     """What the header of a file says. The data needn't all be there."""
     with _file(file) as (start, length):
         found = _info_of(start, length)
-    spec = found.spec
-    return Info(
-        spec.sample_rate,
-        spec.channels,
-        spec.bits_per_sample,
-        spec.sample_format != 0,
-        found.samples // spec.channels,
-        found.data_start,
-        spec.bytes_per_sample,
-    )
+    spec, frames = found.spec, found.samples // found.spec.channels
+    said = (spec.sample_rate, spec.channels, spec.bits_per_sample, spec.sample_format != 0)
+    return Info(*said, frames, found.data_start, spec.bytes_per_sample)
+
+
+def _read_frames(pair: Tuple[Any, int], spec: _Spec, start: int, dtype: str, out: Any, count: int) -> int:
+    """Reads the samples of frames, and returns how many whole frames there were."""
+    form = _TYPES[dtype]
+    # A file has fewer frames than this.
+    first = min(start, 1 << 32) * spec.channels
+    count = _checked(_read[form.kind](*pair, first, out, count))
+    if form.bits < min(spec.bits_per_sample, 16):
+        raise HoundError(Cause.TOO_WIDE)
+    if 0 < count < spec.channels:
+        raise HoundError(Cause.TRUNCATED)
+    return count // spec.channels
 
 
 def read_into(file: File, buffer: Any, start: int = 0) -> int:
     """Reads frames from number `start` on into a buffer, and returns how many there were.
 
-    The buffer is filled as far as the file has frames. Its type is that of the samples.
+    The buffer is filled as far as it has room for whole frames and the file holds them. Its type is
+    that of the samples; it is writable and contiguous.
     """
-    with _file(file) as (address, length), _samples(buffer) as (kind, out, count, _):
-        channels = _info_of(address, length).spec.channels
-        count -= count % channels
-        return _checked(_read[kind](address, length, start * channels, out, count)) // channels
+    start = _integer("start", start, 0, sys.maxsize)
+    with memoryview(buffer) as view, _file(file) as pair:
+        dtype, columns = _form(view, "buffer", _READ)
+        if view.readonly or not view.c_contiguous:
+            raise TypeError("buffer isn't writable and contiguous")
+        spec = _info_of(*pair).spec
+        _check_columns("buffer", columns, spec.channels)
+        with _address(view) as (out, size):
+            if out % view.itemsize:
+                raise TypeError("buffer isn't aligned")
+            count = size // view.itemsize // spec.channels
+            if _TYPES[dtype].code in _CODES.values():
+                return _read_frames(pair, spec, start, dtype, out, count * spec.channels)
+            block = read(file, start, count, dtype)
+            ctypes.memmove(out, block.buffer_info()[0], len(block) * view.itemsize)
+            return len(block) // spec.channels
 
 
-def read(file: File, start: int = 0, frames: int = -1, dtype: Optional[str] = None) -> "array.array[Any]":
-    """Reads frames from number `start` on, at most so many, and returns their samples.
+def read(file: File, start: int = 0, frames: int = -1, dtype: Optional[str] = None, always_2d: bool = False) -> Any:
+    """Reads frames from number `start` on, at most so many (all for -1), and returns their samples.
 
-    `dtype` is "int16", "int32" or "float32"; without it, it is the narrowest that reads the file.
+    They are an `array.array` of interleaved samples; with `always_2d` a memoryview of frames by
+    channels, which `numpy.asarray` takes. `dtype` is "int8", "int16", "int32", "float32" or "float64";
+    without it, it is the narrowest from 16 bits on that reads the file. Of a file that holds fewer
+    frames than its header counts these are read, and a read that starts after them is an error.
     """
-    with _file(file) as (address, length):
-        found = _info_of(address, length)
+    start = _integer("start", start, 0, sys.maxsize)
+    frames = _integer("frames", frames, -1, sys.maxsize)
+    if dtype is not None and (not isinstance(dtype, str) or dtype not in _TYPES):
+        raise TypeError(f"dtype is {dtype!r}: {_READ}")
+    with _file(file) as pair:
+        found = _info_of(*pair)
         spec = found.spec
         if dtype is None:
             dtype = "float32" if spec.sample_format else ("int16" if spec.bits_per_sample <= 16 else "int32")
-        code = _DTYPES[dtype]
-        first = start * spec.channels
-        count = max(found.samples - first, 0)
+        code = _CODES[_TYPES[dtype].kind]
+        count = max(found.samples - start * spec.channels, 0)
         # The bytes may hold fewer than the header counts.
-        count = min(count, max(length - found.data_start, 0) // spec.bytes_per_sample + spec.channels)
+        count = min(count, max(pair[1] - found.data_start, 0) // spec.bytes_per_sample + spec.channels)
         if frames >= 0:
             count = min(count, frames * spec.channels)
         samples = array.array(code, bytes(count * array.array(code).itemsize))
-        with _samples(samples) as (kind, out, _, _):
-            n = _checked(_read[kind](address, length, first, out, count))
-    del samples[n:]
-    return samples
+        with _address(samples) as (out, _):
+            frames = _read_frames(pair, spec, start, dtype, out, count)
+    del samples[frames * spec.channels :]
+    samples = _converted(samples, dtype)
+    if not always_2d:
+        return samples
+    # A view has no shape with 0 frames: one more is cut off again.
+    samples.frombytes(bytes(spec.channels * samples.itemsize))
+    return memoryview(samples).cast("B").cast(samples.typecode, [frames + 1, spec.channels])[:frames]
 
 
-def _spec_for(kind: str, rate: int, channels: int, bits: Optional[int], bytes_per_sample: int) -> _Spec:
-    width = bits or {"i16": 16, "i32": 32, "f32": 32}[kind]
-    return _Spec(rate, channels, width, bytes_per_sample, kind == "f32")
+def _spec_for(samples: _Samples, rate: int, channels: Optional[int], bits: Optional[int], width: int) -> _Spec:
+    if channels is None:
+        channels = 1 if samples.columns is None else samples.columns
+    channels = _integer("channels", channels, 1, 0xFFFF)
+    _check_columns("samples", samples.columns, channels)
+    return _Spec(
+        _integer("rate", rate, 1, 0xFFFFFFFF),
+        channels,
+        samples.form.bits if bits is None else _integer("bits", bits, 1, 0xFFFF),
+        _integer("bytes_per_sample", width, 0, 0xFFFF),
+        samples.form.kind == "f32",
+    )
 
 
 def to_bytes(
     samples: Any, rate: int, channels: Optional[int] = None, bits: Optional[int] = None, bytes_per_sample: int = 0
 ) -> bytearray:
     """Makes the bytes of a file. `bits` is the width of the samples unless it is given."""
-    with _samples(samples) as (kind, start, count, columns):
-        spec = _spec_for(kind, rate, channels or columns, bits, bytes_per_sample)
-        file = bytearray(_checked(_size(ctypes.byref(spec), count)))
+    with _samples(samples) as given:
+        spec = _spec_for(given, rate, channels, bits, bytes_per_sample)
+        file = bytearray(_checked(_size(ctypes.byref(spec), given.count)))
         with _address(file) as (out, capacity):
-            _checked(_write[kind](ctypes.byref(spec), start, count, out, capacity))
+            _checked(_write[given.form.kind](ctypes.byref(spec), given.start, given.count, out, capacity))
     return file
 
 
+def _put(descriptor: int, content: bytes, place: int) -> None:
+    """Writes all of this at a place of a file."""
+    with memoryview(content) as left:
+        done = 0
+        while done < len(left):
+            done += os.pwrite(descriptor, left[done:], place + done)
+
+
 def write(
-    path: "Union[str, os.PathLike[str]]",
-    samples: Any,
-    rate: int,
-    channels: Optional[int] = None,
-    bits: Optional[int] = None,
-    bytes_per_sample: int = 0,
+    path: Path, samples: Any, rate: int, channels: Optional[int] = None, bits: Optional[int] = None, bytes_per_sample: int = 0
 ) -> int:
-    """Writes a file of these samples, and returns its length. At an error no file is written."""
+    """Writes a file of these samples, and returns its length.
+
+    It is written under another name in the same folder, and renamed when it is whole: until then, at
+    an error too, a file that was there stays as it was, and the new file gets its mode. Nothing is
+    synced.
+    """
     content = to_bytes(samples, rate, channels, bits, bytes_per_sample)
-    with open(path, "wb") as file:
-        return file.write(content)
+    name = os.path.realpath(os.fsdecode(path))
+    if os.path.exists(path):
+        if not os.path.isfile(path):
+            with open(path, "wb") as device:
+                return device.write(content)
+        os.close(os.open(path, os.O_WRONLY))  # An OSError where it may not be written.
+    part = os.path.join(os.path.dirname(name), f".hound-{secrets.token_hex(8)}")
+    try:
+        with open(part, "xb", buffering=0) as file:
+            _put(file.fileno(), content, 0)
+        if os.path.exists(name):
+            shutil.copymode(name, part)
+        os.replace(part, name)
+    except BaseException:
+        with contextlib.suppress(OSError):
+            os.unlink(part)
+        raise
+    return len(content)
 
 
-@contextlib.contextmanager
-def _grown(path: "Union[str, os.PathLike[str]]", room: int) -> Iterator[Tuple[Any, int, int, "list[int]"]]:
-    """A file that is mapped with room for more bytes; afterwards it has the length in the list."""
-    with open(path, "r+b") as file:
-        used = os.fstat(file.fileno()).st_size
-        length = [used]
-        try:
-            if used + room == 0:
-                yield ctypes.addressof(_SPARE), 0, 0, length
-                return
-            file.truncate(used + room)
-            with mmap.mmap(file.fileno(), used + room) as mapped:
-                with _address(mapped) as (start, capacity):
-                    yield start, capacity, used, length
-                mapped.flush()
-        finally:
-            file.truncate(length[0])
+def _sizes(head: bytes) -> List[Tuple[bytes, int]]:
+    """What is written for the sizes of a head: at once where it is so short that no kill cuts the
+    write, and else the RIFF size before the data length."""
+    return [(head[4:], 4)] if len(head) <= 4096 else [(head[4:8], 4), (head[-4:], len(head) - 4)]
 
 
-def append(path: "Union[str, os.PathLike[str]]", samples: Any) -> int:
-    """Appends whole frames to a file, and returns its length. At an error the file is as before."""
-    with _samples(samples) as (kind, start, count, _):
-        with _grown(path, 4 * count + 1) as (file, capacity, used, length):
-            length[0] = _checked(_append[kind](file, capacity, used, start, count))
-        return length[0]
+def _change(file: Any, heads: Tuple[bytes, bytes], end: int, data: bytes, pad: bytes, keep: int, durable: bool) -> None:
+    """Writes data from `end` on, then the sizes of the second head, and then the pad byte: so the header
+    counts only what is there, and no pad byte is there that a repair would take for a sample.
+
+    Of a file that is longer than `keep` the rest is cut off first. At an error all is made as it was,
+    step by step, as far as the system lets it.
+    """
+    descriptor, is_counted = file.fileno(), False
+    file.seek(end)
+    tail = file.readall()
+
+    def sync() -> None:
+        if durable:
+            os.fsync(descriptor)
+
+    def put_sizes(head: bytes) -> None:
+        for content, place in _sizes(head):
+            _put(descriptor, content, place)
+        sync()
+
+    try:
+        if keep < end + len(tail):
+            os.ftruncate(descriptor, keep)
+            sync()
+        _put(descriptor, data, end)
+        sync()
+        is_counted = True
+        put_sizes(heads[1])
+        if pad:
+            _put(descriptor, pad, end + len(data))
+            sync()
+    except BaseException:
+        with contextlib.suppress(OSError):
+            if is_counted:
+                os.ftruncate(descriptor, max(keep, end + len(data)))  # No pad byte stays with the old sizes.
+                put_sizes(heads[0])
+            os.ftruncate(descriptor, keep)
+            try:
+                _put(descriptor, tail, end)
+            except OSError:
+                os.ftruncate(descriptor, keep)
+        raise
 
 
-def repair(path: "Union[str, os.PathLike[str]]") -> Repair:
-    """Repairs a file whose recording was cut off, and says how it was found."""
+def _end_of_data(start: Any, used: int, overwrite: bool) -> Tuple[_Info, int, int]:
+    """What the header says of a file that can be appended to, where its data end, and how many of its
+    bytes stay: chunks after the data don't."""
+    found, repair = _Info(), _Repair()
+    code = _info(start, used, ctypes.byref(found))
+    length = found.samples * found.spec.bytes_per_sample
+    end = found.data_start + length
+    if code == 0 and end <= used <= end + length % 2:
+        return found, end, used
+    # The file is mapped so that this changes nothing of it.
+    repaired = _repair(start, used, used, ctypes.byref(repair))
+    if repaired == -Cause.NO_ROOM or repaired >= 0 and repair.state == State.CUT_OFF:
+        raise HoundError(Cause.CUT_OFF)
+    _checked(code)
+    _checked(repaired)
+    has_chunks = repair.state == State.HAS_CHUNKS_AFTER_DATA
+    if has_chunks and not overwrite:
+        raise HoundError(Cause.CHUNKS_AFTER_DATA)
+    return found, end, end if has_chunks else used
+
+
+def append(path: Path, samples: Any, overwrite: bool = False, durable: bool = False) -> int:
+    """Appends whole frames to a file, and returns its length.
+
+    The samples are written first, then the sizes: whenever the program is killed, the header counts
+    only what is there, and `repair` finds the samples that were written. At an error the file is as it
+    was, as far as the system lets it. With `durable` the samples are synced, and then the sizes: the
+    samples survive a loss of power once this has returned; without, when the system has written them.
+    A recording that was cut off is an error, and so are chunks or a tag after the data, unless they
+    may be overwritten.
+    """
+    with _samples(samples) as given, open(path, "r+b", buffering=0) as file:
+        with _mapped(file.fileno()) as (start, used):
+            found, end, keep = _end_of_data(start, used, overwrite)
+            _check_columns("samples", given.columns, found.spec.channels)
+            old, length = _copy(start, found.data_start), found.spec.bytes_per_sample * given.count
+            # Longer files are an error before the room counts.
+            room = min(end + length + 1, (1 << 32) + 8)
+            with _image(start, found.data_start, room) as memory:
+                size = _checked(_append[given.form.kind](memory, room, end, given.start, given.count))
+                new, data = _copy(memory, found.data_start), _copy(memory + end, length)
+                pad = _copy(memory + end + length, size - end - length)
+        _change(file, (old, new), end, data, pad, keep, durable)
+        return max(size, keep)
+
+
+def _repaired(start: Any, used: int, room: int) -> Tuple[Repair, int, bytes]:
+    """Repairs a file in memory, and returns what was found, the length, and the bytes before the data
+    if they changed."""
     found = _Repair()
-    with _grown(path, 1) as (file, capacity, used, length):
-        length[0] = _checked(_repair(file, capacity, used, ctypes.byref(found)))
-    return Repair(State(found.state), found.frames, found.left_over)
+    size = _checked(_repair(start, room, used, ctypes.byref(found)))
+    report = Repair(State(found.state), found.frames, found.left_over)
+    changed = report.state == State.CUT_OFF
+    return report, size, _copy(start, _info_of(start, size).data_start) if changed else b""
+
+
+def repair(path: Path, durable: bool = False) -> Repair:
+    """Repairs a file whose recording was cut off, and says how it was found.
+
+    It writes the two sizes, and then a missing pad byte; with `durable` it syncs before and after the
+    sizes. A file that is whole, or that chunks follow, is only read. At an error the file is as it was,
+    as far as the system lets it.
+    """
+    with open(path, "rb") as file, _mapped(file.fileno()) as (start, used):
+        try:
+            report, size, new = _repaired(start, used, used)
+        except HoundError as error:
+            if error.cause != Cause.NO_ROOM:
+                raise
+            # A pad byte is missing, for which the mapping has no room.
+            with _image(start, used, used + 1) as memory:
+                report, size, new = _repaired(memory, used, used + 1)
+        old = file.read(len(new))
+    if new:
+        with open(path, "r+b", buffering=0) as file:
+            _change(file, (old, new), used, b"", bytes(size - used), used, durable)
+    return report

@@ -1,12 +1,33 @@
-"""Files written, read, appended to and repaired, beside the module `wave` of Python."""
+"""Files written, read, appended to and repaired, beside the module `wave` of Python and files made by hand."""
 import array
+import ctypes
 import os
+import pickle
+import stat
+import struct
 import tempfile
+import threading
 import unittest
 import wave
+from unittest import mock
 
 import hound_bindings as hound
 from hound_bindings import Cause, HoundError, State
+
+CHUNK = b"LIST" + struct.pack("<I", 4) + b"INFO"
+
+
+def by_hand(data, counted=None, after=b"", riff=None, channels=1, width=2):
+    """The bytes of a file with these data, whose header may count others."""
+    counted = len(data) if counted is None else counted
+    fmt = struct.pack("<IHHIIHH", 16, 1, channels, 8000, 8000 * channels * width, channels * width, 8 * width)
+    rest = b"WAVEfmt " + fmt + b"data" + struct.pack("<I", counted) + data + after
+    return b"RIFF" + struct.pack("<I", len(rest) if riff is None else riff) + rest
+
+
+def two_d(samples, columns):
+    """A view of samples that is frames by channels."""
+    return memoryview(samples).cast("B").cast(samples.typecode, [len(samples) // columns, columns])
 
 
 class Files(unittest.TestCase):
@@ -17,10 +38,18 @@ class Files(unittest.TestCase):
     def tearDown(self):
         self.folder.cleanup()
 
-    def refused(self, cause, call):
+    def fails(self, cause, call):
         with self.assertRaises(HoundError) as caught:
             call()
         self.assertEqual(caught.exception.cause, cause)
+
+    def leave(self, contents):
+        with open(self.path, "wb") as file:
+            file.write(contents)
+
+    def assert_file(self, contents):
+        with open(self.path, "rb") as file:
+            self.assertEqual(file.read(), contents)
 
     def test_wave_reads_what_is_written(self):
         samples = array.array("h", [2, -3, 5, -7, 32767, -32768])
@@ -63,8 +92,8 @@ class Files(unittest.TestCase):
         for i in range(50):
             self.assertEqual(hound.append(self.path, array.array("h", [i, -i] * 20)), 44 + 80 * (i + 1))
         self.assertEqual(list(hound.read(self.path)), [x for i in range(50) for x in [i, -i] * 20])
-        self.refused(Cause.UNFINISHED_FRAME, lambda: hound.append(self.path, array.array("h", [1])))
-        self.refused(Cause.OTHER_FORMAT, lambda: hound.append(self.path, array.array("f", [1])))
+        self.fails(Cause.UNFINISHED_FRAME, lambda: hound.append(self.path, array.array("h", [1])))
+        self.fails(Cause.OTHER_FORMAT, lambda: hound.append(self.path, array.array("f", [1])))
         self.assertEqual(os.path.getsize(self.path), 44 + 80 * 50)
 
     def test_a_pad_byte_is_written(self):
@@ -78,21 +107,249 @@ class Files(unittest.TestCase):
         file = hound.to_bytes(array.array("h", range(100)), 44100, channels=2)
         with open(self.path, "wb") as disk:
             disk.write(file[:101])
-        self.refused(Cause.TRUNCATED, lambda: hound.read_into(self.path, array.array("h", [0, 0]), 40))
+        self.fails(Cause.TRUNCATED, lambda: hound.read_into(self.path, array.array("h", [0, 0]), 40))
         self.assertEqual(hound.repair(self.path), (State.CUT_OFF, 14, 1))
         self.assertEqual(list(hound.read(self.path)), list(range(28)))
         self.assertEqual(hound.repair(self.path)[:2], (State.WHOLE, 14))
 
     def test_errors_have_their_cause(self):
-        self.refused(Cause.ENDED, lambda: hound.info(b""))
-        self.refused(Cause.NO_RIFF_TAG, lambda: hound.info(b"RIFX" + bytes(60)))
-        self.refused(Cause.TOO_WIDE, lambda: hound.to_bytes(array.array("i", [128]), 8000, bits=8))
-        self.refused(Cause.NOT_WRITABLE, lambda: hound.to_bytes(array.array("h", [1]), 8000, bits=12))
-        self.assertEqual(str(HoundError(Cause.NO_RIFF_TAG)), "no riff tag")
-        with self.assertRaises(TypeError):
-            hound.to_bytes(array.array("d", [1]), 8000)
+        self.fails(Cause.ENDED, lambda: hound.info(b""))
+        self.fails(Cause.NO_RIFF_TAG, lambda: hound.info(b"RIFX" + bytes(60)))
+        self.fails(Cause.TOO_WIDE, lambda: hound.to_bytes(array.array("i", [128]), 8000, bits=8))
+        self.fails(Cause.NOT_WRITABLE, lambda: hound.to_bytes(array.array("h", [1]), 8000, bits=12))
+        error = pickle.loads(pickle.dumps(HoundError(Cause.NO_RIFF_TAG)))
+        self.assertEqual((error.cause, str(error)), (Cause.NO_RIFF_TAG, "no RIFF tag found"))
         with self.assertRaises(FileNotFoundError):
             hound.info(os.path.join(self.folder.name, "none.wav"))
+
+    def test_what_an_append_would_overwrite(self):
+        one, followed = array.array("h", [7]), by_hand(b"\1\2\3\4", after=CHUNK)
+        for samples in one, array.array("h"):
+            self.leave(followed)
+            self.fails(Cause.CHUNKS_AFTER_DATA, lambda: hound.append(self.path, samples))
+            self.assert_file(followed)
+        self.assertEqual(hound.append(self.path, one, overwrite=True), 50)
+        self.assert_file(by_hand(b"\1\2\3\4\7\0"))
+        with self.assertRaisesRegex(HoundError, "overwrite=True"):
+            self.leave(by_hand(b"\1\2", after=b"TAG" + bytes(125)))
+            hound.append(self.path, one)
+
+    def test_an_append_to_what_was_cut_off(self):
+        held = array.array("h", range(-24000, 24000)).tobytes()
+        for cut_off, frames in (
+            (by_hand(held, 0, riff=36), 48000),  # as a recorder leaves it that was killed
+            (by_hand(held, 4), 48000),
+            (by_hand(held)[:-2], 47999),
+            (by_hand(held, 0xFFFFFFFE), 48000),
+            (by_hand(held, 95999), 48000),  # no whole frames
+        ):
+            for samples in array.array("h", [7]), array.array("h"):
+                for overwrite in False, True:
+                    self.leave(cut_off)
+                    self.fails(Cause.CUT_OFF, lambda: hound.append(self.path, samples, overwrite))
+                    self.assert_file(cut_off)
+            self.assertEqual(hound.repair(self.path)[:2], (State.CUT_OFF, frames))
+            self.assertEqual(hound.append(self.path, array.array("h", [7])), 44 + 2 * frames + 2)
+            self.assert_file(by_hand(held[: 2 * frames] + b"\7\0"))
+        self.assertIn("repair", str(HoundError(Cause.CUT_OFF)))
+        self.leave(by_hand(b"\x81\x82\x83", 0, width=1))  # A repair adds a pad byte.
+        self.fails(Cause.CUT_OFF, lambda: hound.append(self.path, array.array("b", [4])))
+
+    def test_an_append_to_what_is_no_file_of_frames(self):
+        for contents, cause in ((b"RIFX" + bytes(60), Cause.NO_RIFF_TAG), (by_hand(b"\1\2\3", after=b"\0" + CHUNK), Cause.DATA_LENGTH)):
+            for overwrite in False, True:
+                self.leave(contents)
+                self.fails(cause, lambda: hound.append(self.path, array.array("h"), overwrite))
+                self.assert_file(contents)
+
+    def test_what_an_append_makes_right(self):
+        for before in (
+            by_hand(b"\x81\x82\x83", width=1),  # the pad byte is missing, and the RIFF size may count it or not
+            by_hand(b"\x81\x82\x83", width=1, riff=40),
+            by_hand(b"\x81\x82\x83", width=1, after=b"\0", riff=36),
+        ):
+            self.leave(before)
+            self.assertEqual(hound.append(self.path, array.array("b", [4, 5])), 50)
+            self.assert_file(by_hand(b"\x81\x82\x83\x84\x85", width=1, after=b"\0"))
+        self.leave(by_hand(b"\1\0\2\0\3", 4, riff=40))  # a torn frame, which a repair leaves
+        self.assertEqual(hound.repair(self.path), (State.WHOLE, 2, 1))
+        hound.append(self.path, array.array("h", [9]))
+        self.assert_file(by_hand(b"\1\0\2\0\x09\0"))
+
+    def test_a_repair_writes_only_what_is_wrong(self):
+        for contents, state in (
+            (by_hand(b"\1\2"), State.WHOLE),
+            (by_hand(b"\1\2", after=CHUNK), State.HAS_CHUNKS_AFTER_DATA),
+        ):
+            self.leave(contents)
+            os.utime(self.path, (1, 1))
+            with mock.patch("os.pwrite", side_effect=AssertionError):
+                self.assertEqual(hound.repair(self.path), (state, 1, 0))
+            self.assertEqual(os.stat(self.path).st_mtime, 1)
+        self.leave(by_hand(b"\x81\x82\x83", 0, width=1))
+        self.assertEqual(hound.repair(self.path, durable=True), (State.CUT_OFF, 3, 0))
+        self.assert_file(by_hand(b"\x81\x82\x83", width=1, after=b"\0"))
+
+    def test_short_writes_continue(self):
+        pwrite = os.pwrite
+        with mock.patch("os.pwrite", lambda file, content, place: pwrite(file, content[:3], place)):
+            hound.write(self.path, array.array("h", range(100)), 8000)
+            hound.append(self.path, array.array("h", range(100, 200)), durable=True)
+        self.assert_file(by_hand(array.array("h", range(200)).tobytes()))
+
+    def test_an_interrupted_append_leaves_the_file(self):
+        before, pwrite = by_hand(b"\x81\x82", width=1), os.pwrite
+        for last in 1, 2, 3:
+            self.leave(before)
+            places = []
+
+            def interrupted(file, content, place):
+                places.append(place)
+                count = pwrite(file, content, place)
+                if len(places) == last:
+                    raise KeyboardInterrupt
+                return count
+
+            with mock.patch("os.pwrite", interrupted), self.assertRaises(KeyboardInterrupt):
+                hound.append(self.path, array.array("b", [3]))
+            self.assertEqual(places[:3], [46, 4, 47][:last] + places[last:3])
+            self.assert_file(before)
+
+    def test_a_failed_write_leaves_the_older_file(self):
+        self.leave(b"older")
+        os.chmod(self.path, 0o640)
+        for name in "os.pwrite", "os.replace", "os.chmod":
+            with mock.patch(name, side_effect=OSError), self.assertRaises(OSError):
+                hound.write(self.path, array.array("h", [1]), 8000)
+            self.assert_file(b"older")
+        self.fails(Cause.TOO_WIDE, lambda: hound.write(self.path, array.array("h", [128]), 8000, bits=8))
+        link = os.path.join(self.folder.name, "link.wav")
+        os.symlink("a.wav", link)
+        hound.write(link, array.array("h", [1]), 8000)
+        self.assert_file(by_hand(b"\1\0"))
+        self.assertTrue(os.path.islink(link))
+        self.assertEqual(stat.S_IMODE(os.stat(self.path).st_mode), 0o640)
+        self.assertEqual(sorted(os.listdir(self.folder.name)), ["a.wav", "link.wav"])
+
+    def test_a_file_that_may_only_be_read(self):
+        older, user = by_hand(b"\1\2"), os.geteuid()
+        self.leave(older)
+        os.chmod(self.path, 0o444)
+        os.chmod(self.folder.name, 0o777)
+        if user == 0:
+            os.seteuid(65534)
+        try:
+            self.assertEqual(hound.repair(self.path), (State.WHOLE, 1, 0))
+            for call in (lambda: hound.write(self.path, array.array("h", [3]), 8000), lambda: hound.append(self.path, array.array("h", [3]))):
+                self.assertRaises(PermissionError, call)
+        finally:
+            os.seteuid(user)
+        self.assert_file(older)
+
+    def test_a_pipe_is_written_to(self):
+        os.mkfifo(self.path)
+        found = []
+
+
+        def read():
+            with open(self.path, "rb") as pipe:
+                found.append(pipe.read())
+
+        reader = threading.Thread(target=read)
+        reader.start()
+        hound.write(self.path, array.array("h", [1]), 8000)
+        reader.join()
+        self.assertEqual(found, [by_hand(b"\1\0")])
+
+    def test_arguments_out_of_range(self):
+        one, four = array.array("h", [1]), hound.to_bytes(array.array("h", range(8)), 8000, 4)
+        self.assertEqual(list(hound.read(four, start=1 << 62)), [])  # No number wraps.
+        self.assertEqual(hound.read_into(four, array.array("h", bytes(16)), 1 << 62), 0)
+        for name, values, call in (
+            ("rate", (-1, 0, 1 << 32, (1 << 32) + 8000), lambda value: hound.to_bytes(one, value)),
+            ("channels", (-1, 0, 65536, 65537), lambda value: hound.to_bytes(one, 8000, value)),
+            ("bits", (-8, 0, 65536 + 16), lambda value: hound.write(self.path, one, 8000, bits=value)),
+            ("bytes_per_sample", (-1, 65538), lambda value: hound.to_bytes(one, 8000, bytes_per_sample=value)),
+            ("start", (-1, 1 << 63), lambda value: hound.read(four, value)),
+            ("start", (-1, 1 << 63), lambda value: hound.read_into(four, one, value)),
+            ("frames", (-2, 1 << 63), lambda value: hound.read(four, 0, value)),
+        ):
+            for value in values:
+                with self.assertRaisesRegex(ValueError, f"^{name} is {value}, "):
+                    call(value)
+            for value in 1.0, "1", one:
+                with self.assertRaisesRegex(TypeError, f"^{name} is .* integer"):
+                    call(value)
+        self.assertFalse(os.path.exists(self.path))
+
+    def test_types_of_samples(self):
+        eight = hound.to_bytes(array.array("b", [-128, -1, 127]), 8000)
+        self.assertEqual(eight, by_hand(b"\0\x7f\xff", width=1, after=b"\0"))
+        self.assertEqual(hound.read(eight, dtype="int8"), array.array("b", [-128, -1, 127]))
+        self.assertEqual(hound.read(eight), array.array("h", [-128, -1, 127]))
+        block = array.array("b", [9] * 3)
+        self.assertEqual((hound.read_into(eight, block, 1), list(block)), (2, [-1, 127, 9]))
+        sixteen = hound.to_bytes(array.array("b", [-128, 5]), 8000, bits=16)
+        self.assertEqual(list(hound.read(sixteen)), [-128, 5])
+        self.fails(Cause.TOO_WIDE, lambda: hound.read(sixteen, dtype="int8"))
+        self.fails(Cause.TOO_WIDE, lambda: hound.read_into(sixteen, block))
+        floats = hound.to_bytes(array.array("f", [0.1, -2.5]), 8000)
+        self.assertEqual(hound.read(floats, dtype="float64"), array.array("d", struct.unpack("<2f", floats[-8:])))
+        wide = array.array("d", [9, 9])
+        self.assertEqual((hound.read_into(floats, wide, 1), list(wide)), (1, [-2.5, 9]))
+        self.fails(Cause.OTHER_FORMAT, lambda: hound.read(sixteen, dtype="float64"))
+        self.assertEqual(hound.to_bytes((ctypes.c_int16 * 2)(-128, 5), 8000), sixteen)
+        big = (ctypes.c_int16.__ctype_be__ * 2)()
+        for other in array.array("B", [1]), array.array("H", [1]), array.array("q", [1]), big, b"12":
+            for call in (lambda: hound.to_bytes(other, 8000), lambda: hound.append(self.path, other), lambda: hound.read_into(eight, other)):
+                with self.assertRaisesRegex(TypeError, "int8, int16, int32(, float32)? and float"):
+                    call()
+        with self.assertRaisesRegex(TypeError, "float64.* int8, int16, int32 and float32 .* float32"):
+            hound.to_bytes(wide, 8000)
+        for name in "uint8", "h", 16, int:
+            with self.assertRaisesRegex(TypeError, "dtype is .* int8, int16, int32, float32 and float64 are read"):
+                hound.read(eight, dtype=name)
+
+    def test_two_dimensions_are_frames_by_channels(self):
+        samples = array.array("h", range(6))
+        frames = two_d(samples, 2)
+        hound.write(self.path, frames, 8000)
+        self.assert_file(by_hand(samples.tobytes(), channels=2))
+        hound.append(self.path, frames)
+        back = hound.read(self.path, always_2d=True)
+        self.assertEqual((back.shape, back.format), ((6, 2), "h"))
+        self.assertEqual(back.tolist(), [[0, 1], [2, 3], [4, 5]] * 2)
+        self.assertEqual(hound.read(self.path, 6, always_2d=True).shape, (0, 2))
+        self.assertEqual(hound.read(hound.to_bytes(array.array("b", [1]), 8000), dtype="int8", always_2d=True).tolist(), [[1]])
+        self.assertEqual(hound.read_into(self.path, two_d(array.array("h", bytes(8)), 2)), 2)
+        three = memoryview(bytearray(12)).cast("h", [1, 3, 2])
+        for other, words in ((two_d(samples, 3), "3 columns"), (two_d(samples, 1), "1 columns"), (three, "3 dimensions")):
+            for name, call in (
+                ("samples", lambda: hound.to_bytes(other, 8000, channels=2)),
+                ("samples", lambda: hound.append(self.path, other)),
+                ("buffer", lambda: hound.read_into(self.path, other)),
+            ):
+                with self.assertRaisesRegex(ValueError, f"^{name} has {words}"):
+                    call()
+
+    def test_memory_of_any_form(self):
+        column = memoryview(array.array("h", range(10)))[1::3]
+        self.assertEqual(hound.to_bytes(column, 8000), by_hand(struct.pack("<3h", 1, 4, 7)))
+        odd = memoryview(bytearray(b"\0\1\0\2\0"))[1:].cast("h")
+        self.assertEqual(hound.to_bytes(odd, 8000), by_hand(b"\1\0\2\0"))
+        with hound._address(odd, 2) as (start, _):
+            self.assertEqual(start % 2, 0)
+        file = hound.to_bytes(array.array("h", range(4)), 8000)
+        for other, words in ((column, "contiguous"), (memoryview(bytes(4)).cast("h"), "writable"), (odd, "aligned")):
+            with self.assertRaisesRegex(TypeError, f"^buffer isn't .*{words}"):
+                hound.read_into(file, other)
+
+    def test_half_a_frame_is_no_end(self):
+        cut_off = by_hand(bytes(range(6)), 12, channels=2)
+        self.assertEqual(list(hound.read(cut_off)), [0x100, 0x302])
+        for start in 1, 2:
+            self.fails(Cause.TRUNCATED, lambda: hound.read(cut_off, start))
+            self.fails(Cause.TRUNCATED, lambda: hound.read_into(cut_off, array.array("h", [0] * 4), start))
 
     def test_numpy(self):
         try:
@@ -105,6 +362,13 @@ class Files(unittest.TestCase):
         back = numpy.empty((6, 2), "int32")
         self.assertEqual(hound.read_into(self.path, back), 6)
         self.assertTrue((back == frames).all())
+        self.assertTrue((numpy.asarray(hound.read(self.path, always_2d=True)) == frames).all())
+        self.assertEqual(numpy.asarray(hound.read(self.path, 6, always_2d=True)).shape, (0, 2))
+        self.assertEqual(list(hound.read(hound.to_bytes(frames[:, 1], 8000))), list(range(1, 12, 2)))
+        hound.append(self.path, frames[::2])
+        self.assertEqual(hound.info(self.path).frames, 9)
+        with self.assertRaises(TypeError):
+            hound.to_bytes(frames.astype(">i2"), 8000)
 
 
 if __name__ == "__main__":

@@ -1,0 +1,423 @@
+#!/usr/bin/env python3
+"""Kills programs that append to, repair and write files by the Python package, and lets their calls of the
+system fail. After each the file is read by hand, repaired, and read again: it counts only samples that it
+holds, those from before and each that was reported are there, and none was invented. Where one call failed,
+the file is the one from before, byte for byte. Wrong versions of `append` have to be found.
+
+usage: python_faults.py [KILLS [short]]    (200 kills where no number is given; short: fewer of the other runs)
+
+It needs strace and the package hound_bindings, and for a disk that fills up the right to mount a tmpfs."""
+import array
+import collections
+import contextlib
+import os
+import random
+import re
+import resource
+import signal
+import struct
+import subprocess
+import sys
+import tempfile
+import time
+from typing import NamedTuple
+
+import hound_bindings as hound
+
+# What every file holds, from its first sample on: bytes from 129 on, so that no zero, pad byte or tag is
+# among them, and each sample is negative (but those of 8 bits, which are positive).
+STREAM = random.Random(1).getrandbits(8 << 21).to_bytes(1 << 21, "little").translate(bytes(129 + byte % 127 for byte in range(256)))
+LIST = b"LIST" + struct.pack("<I", 26) + b"INFOISFT" + struct.pack("<I", 14) + b"Lavf59.27.100\0"
+
+
+class Wrong(Exception):
+    """A file, or a report, isn't as it has to be."""
+
+
+class Case(NamedTuple):
+    """A kind of files: the width of a sample in bytes, and the chunks before the data."""
+
+    name: str
+    channels: int
+    width: int
+    chunks: bytes = b""
+
+    @property
+    def frame(self):
+        return self.channels * self.width
+
+
+CASES = [
+    Case("16 bits, mono", 1, 2),
+    Case("8 bits, mono", 1, 1),
+    Case("24 bits, mono", 1, 3),
+    Case("16 bits, stereo", 2, 2),
+    Case("16 bits, mono, a chunk before the data", 1, 2, LIST),
+    Case("8 bits, mono, a head of 6 pages", 1, 1, b"JUNK" + struct.pack("<I", 20001) + bytes(20002)),
+]
+
+
+def head(case, length, after=b""):
+    """The bytes before data of this length, after which there is a pad byte or none, and other bytes."""
+    rate = 44100
+    fmt = struct.pack("<IHHIIHH", 16, 1, case.channels, rate, rate * case.frame, case.frame, 8 * case.width)
+    parts = b"WAVEfmt " + fmt + case.chunks + b"data" + struct.pack("<I", length)
+    return b"RIFF" + struct.pack("<I", len(parts) + length + length % 2 + len(after)) + parts
+
+
+def file_of(case, frames, after=b""):
+    length = frames * case.frame
+    return head(case, length, after) + STREAM[:length] + bytes(length % 2) + after
+
+
+def samples_of(case, first, count):
+    """The samples of so many frames."""
+    content = STREAM[first * case.frame : (first + count) * case.frame]
+    if case.width == 1:
+        return array.array("b", bytes(byte - 128 for byte in content))
+    if case.width == 2:
+        return array.array("h", content)
+    wide = bytearray(b"\xff" * (len(content) // 3 * 4))
+    for place in range(3):
+        wide[place::4] = content[place::3]
+    return array.array("i", bytes(wide))
+
+
+def look(path, case, least, most, what, after=b""):
+    """Reads a file, which has at least and at most so many frames, and again when it is repaired."""
+    for state in "left", "repaired":
+        with open(path, "rb") as file:
+            contents = file.read()
+        start = len(head(case, 0))
+        if contents[:4] != b"RIFF" or contents[8 : start - 4] != head(case, 0)[8:-4]:
+            raise Wrong(f"{what}, {state}: another head")
+        (length,) = struct.unpack("<I", contents[start - 4 : start])
+        held = len(contents) - start
+        if length > held or length % case.frame:
+            raise Wrong(f"{what}, {state}: {length} bytes are counted, and {held} are there")
+        if contents[start : start + length] != STREAM[:length]:
+            raise Wrong(f"{what}, {state}: another sample is among {length // case.frame} frames")
+        if not least <= length // case.frame <= most:
+            raise Wrong(f"{what}, {state}: {length // case.frame} frames, and not from {least} to {most}")
+        if state == "left":
+            hound.repair(path)
+    rest = contents[start + length :]
+    if len(rest) - length % 2 >= case.frame and not after.startswith(rest[length % 2 :]):
+        raise Wrong(f"{what}: {len(rest)} bytes aren't counted after a repair")
+    return length // case.frame
+
+
+# Versions of `append` that are wrong.
+
+
+def in_order(*order):
+    """One that makes its writes in another order, and undoes none."""
+
+    def change(file, heads, end, data, pad, keep, durable):
+        writes = {"data": [(data, end)], "sizes": hound._sizes(heads[1]), "pad": [(pad, end + len(data))]}
+        for name in order:
+            for content, place in writes[name]:
+                hound._put(file.fileno(), content, place)
+
+    hound._change = change
+
+
+def mapped():
+    """One that makes the file longer, maps it, and cuts it to its length."""
+
+    def append(path, samples, overwrite=False, durable=False):
+        with hound._samples(samples) as given, open(path, "r+b") as file:
+            used = os.fstat(file.fileno()).st_size
+            file.truncate(used + 4 * given.count + 1)
+            with hound.mmap.mmap(file.fileno(), 0) as image:
+                with hound._address(image) as (start, room):
+                    used = hound._checked(hound._append[given.form.kind](start, room, used, given.start, given.count))
+                image.flush()
+            file.truncate(used)
+
+    hound.append = append
+
+
+CONTROLS = {
+    "right": lambda: None,
+    "sizes first": lambda: in_order("sizes", "data", "pad"),
+    "pad byte before the sizes": lambda: in_order("data", "pad", "sizes"),
+    "nothing undone": lambda: in_order("data", "sizes", "pad"),
+    "in a mapped file": mapped,
+}
+
+
+class Task(NamedTuple):
+    """What a program does once to a file with some frames: which of them are counted, which aren't or come
+    newly, and what the file is before and after it."""
+
+    work: str
+    case: Case
+    first: int
+    count: int
+    before: bytes
+    done: bytes
+    after: bytes = b""
+
+    def __str__(self):
+        return f"{self.work}, {self.case.name}"
+
+
+def task(work, case, first, count):
+    done, total = file_of(case, first + count), (first + count) * case.frame
+    if "overwrite" in work:
+        return Task(work, case, first, count, file_of(case, first, LIST), done, LIST)
+    if work != "repair":
+        return Task(work, case, first, count, file_of(case, first), done)
+    torn = bytes(case.frame - 1)
+    cut_off = head(case, first * case.frame) + STREAM[:total] + torn
+    return Task(work, case, first, count, cut_off, head(case, total) + STREAM[:total] + (torn or bytes(total % 2)))
+
+
+def program(control, work, path, number, first, count, times):
+    """The program that is killed, or whose calls fail: it prints how many frames it has reported."""
+    CONTROLS[control]()
+    case, end = CASES[int(number)], int(first)
+    hound.secrets.token_hex = lambda count: "part"
+    try:
+        for turn in range(int(times)):
+            first, end = end, end + int(count)
+            if work == "repair":
+                hound.repair(path, durable=True)
+            elif work == "write":
+                hound.write(path, samples_of(case, 0, end), 44100, case.channels)
+            else:
+                hound.append(path, samples_of(case, first, end - first), "overwrite" in work, "durable" in work)
+            print(end, flush=True)
+    except OSError:
+        sys.exit(3)
+    if int(times) > 1:
+        time.sleep(10)  # It is killed here at the latest.
+
+
+def words(path, task, times=1, control="right"):
+    place = CASES.index(task.case)
+    return [sys.executable, "-S", __file__, "program", control, task.work, path, str(place), str(task.first), str(task.count), str(times)]
+
+
+def leave(path, contents):
+    with open(path, "wb") as file:
+        file.write(contents)
+
+
+def traced(folder, task, control, *options):
+    """Does a task under strace: the path, its status, and its calls on its files: their names, and the place
+    that each writes at."""
+    path, part = os.path.join(folder, "a.wav"), os.path.join(folder, ".hound-part")
+    leave(path, task.before)
+    with contextlib.suppress(FileNotFoundError):
+        os.unlink(part)
+    log = os.path.join(folder, "log")
+    tracing = ["strace", "-qq", "-o", log, "-P", path, "-P", part, *options]
+    ran = subprocess.run(tracing + words(path, task, control=control), stdout=subprocess.PIPE, stderr=subprocess.PIPE)
+    if ran.returncode not in (0, 3, -signal.SIGKILL):
+        raise Wrong(f"{task}: {ran.stderr.decode()}")
+    with open(log) as file:
+        lines = file.readlines()
+    if options and ran.returncode != -signal.SIGKILL and "INJECTED" not in "".join(lines):
+        raise Wrong(f"{task}: this fault isn't met: {options[-1]}")
+    calls = re.findall(r"^(\w+)\((?:.* (\d+)\) += \d)?", "".join(lines), flags=re.M)
+    return path, ran.returncode, [(name, int(place) if name == "pwrite64" and place else None) for name, place in calls]
+
+
+def is_as_promised(path, task, status, what, is_exact):
+    """Whether the file is as it has to be: the one from after a success, from before an error, or some other
+    that holds what it counts."""
+    with open(path, "rb") as file:
+        contents = file.read()
+    if status == 0 and contents != task.done:
+        raise Wrong(f"{what}: a success leaves another file")
+    if status == 3 and is_exact and contents != task.before:
+        raise Wrong(f"{what}: the file isn't the one from before")
+    if task.work == "write" and contents not in (task.before, task.done):
+        raise Wrong(f"{what}: the file is neither the old nor the new one")
+    if is_exact and status in (0, 3) and os.path.exists(os.path.join(os.path.dirname(path), ".hound-part")):
+        raise Wrong(f"{what}: a part of a file is left")
+    if task.work != "write":
+        look(path, task.case, task.first, task.first + task.count, what, task.after)
+
+
+# The calls that change a file.
+CHANGES = ("pwrite64", "ftruncate", "fsync", "rename")
+
+
+def each_call(folder, task, faults, names=None, control="right"):
+    """Does a task with each of its calls, or of those with these names, killed or failing in turn: how many
+    runs, and what was wrong."""
+    path, status, calls = traced(folder, task, control)
+    wrong, runs = [], 0
+    if status:
+        raise Wrong(f"{task} fails by itself")
+    for name, count in collections.Counter(name for name, _ in calls).items():
+        if names and name not in names:
+            continue
+        for number in range(1, count + 1):
+            for fault in faults:
+                what = f"{task}: {name} {number} {fault}"
+                kind, _, on = fault.partition(" ")
+                when = f"signal=KILL:when={number}" if kind == "KILL" else f"error={kind}:when={number}{on}"
+                runs += 1
+                try:
+                    path, status, _ = traced(folder, task, control, "-e", f"trace={name}", "-e", f"inject={name}:{when}")
+                    # A file that can't be closed may have all.
+                    is_as_promised(path, task, status, what, not on and name != "close")
+                except Wrong as error:
+                    wrong.append(str(error))
+    return runs, wrong
+
+
+def order(folder):
+    """The calls of an append to odd data that makes them odd again: the samples, the sizes, the pad byte; one that
+    is durable syncs after each, and after it has cut chunks off."""
+    sync, works = ("fsync", None), ("append", "durable", "durable overwrite")
+    for case, sizes in (CASES[1], [4]), (CASES[5], [4, len(head(CASES[5], 0)) - 4]):
+        end = len(head(case, 0)) + 101
+        for work in works:
+            steps = [[("ftruncate", None)]] * ("overwrite" in work)
+            steps += [[("pwrite64", place) for place in places] for places in ([end], sizes, [end + 4998])]
+            wanted = [call for step in steps for call in step + [sync] * ("durable" in work)]
+            _, _, calls = traced(folder, task(work, case, 101, 4998), "right")
+            calls = [call for call in calls if call[0] in CHANGES]
+            if calls != wanted:
+                raise Wrong(f"the calls of {work} are {calls}, and not {wanted}")
+    print("an append: samples, sizes, pad byte; with a sync after each where it is durable", flush=True)
+    return 2 * len(works)
+
+
+def kill(folder, count):
+    """Kills so many programs that append block after block, each at a random time, and appends to what they
+    leave once it is repaired."""
+    inside, path = 0, os.path.join(folder, "killed.wav")
+    for turn in range(count):
+        case = CASES[turn % len(CASES)]
+        appended = task(("append", "append", "durable")[turn % 3], case, 100, (4096, 333, 200000)[turn // 2 % 3] // case.frame | 1)
+        leave(path, appended.before)
+        times = (len(STREAM) // case.frame - 100) // appended.count
+        running = subprocess.Popen(words(path, appended, times), stdout=subprocess.PIPE)
+        first = running.stdout.readline()
+        time.sleep(random.random() * (0.004 if appended.work == "append" else 0.02))
+        running.send_signal(signal.SIGKILL)
+        rest, _ = running.communicate()
+        reported = int((first + rest).rsplit(b"\n", 2)[-2])
+        inside += os.path.getsize(path) > len(file_of(case, reported))
+        what = f"kill {turn}: {appended} in blocks of {appended.count}"
+        found = look(path, case, reported, reported + appended.count, what)
+        hound.append(path, samples_of(case, found, 50))
+        with open(path, "rb") as file:
+            if file.read() != file_of(case, found + 50):
+                raise Wrong(f"{what}: what continues it leaves another file")
+    print(f"killed {count} programs that append: {inside} files with more than was reported, none wrong", flush=True)
+    return count
+
+
+def limit(folder, cases):
+    """Appends where a file may not become so long."""
+    runs, path = 0, os.path.join(folder, "long.wav")
+    for case in cases:
+        for work in "append", "overwrite", "durable":
+            long = task(work, case, 999, 7001)
+            used = len(long.before)
+            for length in [10, len(file_of(case, 999)) + 2, used, used + 1, used + 4096, len(long.done) - 1]:
+                leave(path, long.before)
+                limited = lambda: resource.setrlimit(resource.RLIMIT_FSIZE, (length, length))
+                status = subprocess.run(words(path, long), stdout=subprocess.DEVNULL, preexec_fn=limited).returncode
+                if status != 3:
+                    raise Wrong(f"{long}: no error with a limit of {length}")
+                # Where the file that was there is too long already, what was cut off of it can't come back.
+                is_exact = work != "overwrite" or length >= used
+                is_as_promised(path, long, status, f"{long}, a limit of {length}", is_exact)
+                runs += 1
+    print(f"files longer than they may be: {runs} runs, none wrong", flush=True)
+    return runs
+
+
+def fill(folder, cases):
+    """Appends to files and writes them anew on a disk that is full."""
+    disk, runs = os.path.join(folder, "disk"), 0
+    os.mkdir(disk)
+    if subprocess.run(["mount", "-t", "tmpfs", "-o", "size=64k", "none", disk], stderr=subprocess.DEVNULL).returncode:
+        print("a disk that fills up: not run, since no tmpfs can be mounted here", flush=True)
+        return runs
+    try:
+        path = os.path.join(disk, "full.wav")
+        for case in cases:
+            for work in "append", "durable", "overwrite", "write":
+                for first in 12000 // case.frame, 12001 // case.frame:
+                    full = task(work, case, first, 30000 // case.frame)
+                    if work == "write" and case.chunks:
+                        continue
+                    leave(path, full.before)
+                    with open(os.path.join(disk, "filler"), "wb", buffering=0) as file, contextlib.suppress(OSError):
+                        while True:
+                            file.write(bytes(4096))
+                    ran = subprocess.run(words(path, full), stdout=subprocess.DEVNULL)
+                    if ran.returncode != 3:
+                        raise Wrong(f"{full}: the disk isn't full")
+                    is_as_promised(path, full, 3, f"{full}, on a full disk", True)
+                    if sorted(os.listdir(disk)) != ["filler", "full.wav"]:
+                        raise Wrong(f"{full}: another file is left on the full disk")
+                    os.unlink(os.path.join(disk, "filler"))
+                    runs += 1
+    finally:
+        subprocess.run(["umount", disk])
+    print(f"a disk that fills up: {runs} runs, none wrong", flush=True)
+    return runs
+
+
+def tasks(is_short):
+    """The tasks whose calls are killed or fail."""
+    works = [(work, case) for case in CASES for work in ("append", "durable", "overwrite", "repair")]
+    works += [("write", CASES[0]), ("write", CASES[1])]
+    if is_short:
+        works = [("durable", CASES[1]), ("overwrite", CASES[0]), ("repair", CASES[1]), ("write", CASES[0])]
+    for work, case in works:
+        yield task(work, case, 100, 4999)
+        if case.frame % 2 and not is_short:
+            yield task(work, case, 101, 4999)
+
+
+def find_controls(folder):
+    """Each wrong version has to be found, by a kill at one of its calls or by one that fails."""
+    for control, case, fault in [
+        ("sizes first", CASES[0], "KILL"),
+        ("pad byte before the sizes", CASES[1], "KILL"),
+        ("in a mapped file", CASES[0], "KILL"),
+        ("nothing undone", CASES[0], "ENOSPC"),
+    ]:
+        runs, wrong = each_call(folder, task("append", case, 100, 4999), [fault], (*CHANGES, "mmap"), control)
+        print(f"control, {control}: {len(wrong)} of {runs} runs wrong", flush=True)
+        if not wrong:
+            raise Wrong(f"the wrong version '{control}' isn't found")
+
+
+def main():
+    if sys.argv[1:2] == ["program"]:
+        return program(*sys.argv[2:])
+    count, is_short = int((sys.argv + [200])[1]), sys.argv[2:] == ["short"]
+    # The programs find the package where it was found here.
+    os.environ["PYTHONPATH"] = os.path.dirname(os.path.dirname(hound.__file__))
+    with tempfile.TemporaryDirectory() as folder:
+        folder = os.path.realpath(folder)
+        find_controls(folder)
+        runs = order(folder) + kill(folder, count)
+        for one in tasks(is_short):
+            done, wrong = each_call(folder, one, ["KILL", "ENOSPC", "EIO +"], CHANGES if is_short else None)
+            if wrong:
+                raise Wrong("\n".join(wrong))
+            print(f"each call killed or failing: {one}: {done} runs, none wrong", flush=True)
+            runs += done
+        cases = CASES[:2] if is_short else CASES
+        runs += limit(folder, cases) + fill(folder, cases)
+    print(f"python_faults: {runs} runs, no sample lost and none invented")
+
+
+if __name__ == "__main__":
+    try:
+        main()
+    except Wrong as error:
+        sys.exit(f"python_faults: {error}")
