@@ -8,15 +8,16 @@ import array
 import contextlib
 import ctypes
 import enum
+import io
 import mmap
 import operator
 import os
 import secrets
 import shutil
 import sys
-from typing import Any, Iterator, List, NamedTuple, Optional, Tuple, Union
+from typing import Any, BinaryIO, Iterator, List, NamedTuple, Optional, Tuple, Union
 
-__all__ = ["Cause", "HoundError", "Info", "Repair", "State", "append", "info", "read", "read_into", "repair", "to_bytes", "write"]
+__all__ = ["Cause", "HoundError", "Info", "Reader", "Repair", "State", "append", "info", "open", "read", "read_into", "repair", "to_bytes", "write"]
 
 Path = Union[str, "os.PathLike[str]"]
 File = Union[Path, bytes, bytearray, memoryview, mmap.mmap]
@@ -263,7 +264,7 @@ def _mapped(descriptor: int) -> Iterator[Tuple[Any, int]]:
 def _file(file: File) -> Iterator[Tuple[Any, int]]:
     """The address and the length of a file's bytes; a path is mapped."""
     if isinstance(file, (str, os.PathLike)):
-        with open(file, "rb") as opened, _mapped(opened.fileno()) as pair:
+        with io.open(file, "rb") as opened, _mapped(opened.fileno()) as pair:
             yield pair
     else:
         with _address(file) as pair:
@@ -293,13 +294,16 @@ def _info_of(start: Any, length: int) -> _Info:
     return found
 
 
-def info(file: File) -> Info:
-    """What the header of a file says. The data needn't all be there."""
-    with _file(file) as (start, length):
-        found = _info_of(start, length)
+def _info_from(found: _Info) -> Info:
     spec, frames = found.spec, found.samples // found.spec.channels
     said = (spec.sample_rate, spec.channels, spec.bits_per_sample, spec.sample_format != 0)
     return Info(*said, frames, found.data_start, spec.bytes_per_sample)
+
+
+def info(file: File) -> Info:
+    """What the header of a file says. The data needn't all be there."""
+    with _file(file) as (start, length):
+        return _info_from(_info_of(start, length))
 
 
 def _read_frames(pair: Tuple[Any, int], spec: _Spec, start: int, dtype: str, out: Any, count: int) -> int:
@@ -339,6 +343,25 @@ def read_into(file: File, buffer: Any, start: int = 0) -> int:
             return len(block) // spec.channels
 
 
+def _type_of(dtype: Optional[str], spec: _Spec) -> str:
+    """The name of a type that is requested, or of the narrowest from 16 bits on that reads a file."""
+    if dtype is None:
+        return "float32" if spec.sample_format else ("int16" if spec.bits_per_sample <= 16 else "int32")
+    if not isinstance(dtype, str) or dtype not in _TYPES:
+        raise TypeError(f"dtype is {dtype!r}: {_READ}")
+    return dtype
+
+
+def _shaped(samples: "array.array[Any]", channels: int, always_2d: bool) -> Any:
+    """Samples as they are, or as frames by channels."""
+    if not always_2d:
+        return samples
+    frames = len(samples) // channels
+    # A view has no shape with 0 frames: one more is cut off again.
+    samples.frombytes(bytes(channels * samples.itemsize))
+    return memoryview(samples).cast("B").cast(samples.typecode, [frames + 1, channels])[:frames]
+
+
 def read(file: File, start: int = 0, frames: int = -1, dtype: Optional[str] = None, always_2d: bool = False) -> Any:
     """Reads frames from number `start` on, at most so many (all for -1), and returns their samples.
 
@@ -349,13 +372,10 @@ def read(file: File, start: int = 0, frames: int = -1, dtype: Optional[str] = No
     """
     start = _integer("start", start, 0, sys.maxsize)
     frames = _integer("frames", frames, -1, sys.maxsize)
-    if dtype is not None and (not isinstance(dtype, str) or dtype not in _TYPES):
-        raise TypeError(f"dtype is {dtype!r}: {_READ}")
     with _file(file) as pair:
         found = _info_of(*pair)
         spec = found.spec
-        if dtype is None:
-            dtype = "float32" if spec.sample_format else ("int16" if spec.bits_per_sample <= 16 else "int32")
+        dtype = _type_of(dtype, spec)
         code = _CODES[_TYPES[dtype].kind]
         count = max(found.samples - start * spec.channels, 0)
         # The bytes may hold fewer than the header counts.
@@ -366,12 +386,7 @@ def read(file: File, start: int = 0, frames: int = -1, dtype: Optional[str] = No
         with _address(samples) as (out, _):
             frames = _read_frames(pair, spec, start, dtype, out, count)
     del samples[frames * spec.channels :]
-    samples = _converted(samples, dtype)
-    if not always_2d:
-        return samples
-    # A view has no shape with 0 frames: one more is cut off again.
-    samples.frombytes(bytes(spec.channels * samples.itemsize))
-    return memoryview(samples).cast("B").cast(samples.typecode, [frames + 1, spec.channels])[:frames]
+    return _shaped(_converted(samples, dtype), spec.channels, always_2d)
 
 
 def _spec_for(samples: _Samples, rate: int, channels: Optional[int], bits: Optional[int], width: int) -> _Spec:
@@ -421,12 +436,12 @@ def write(
     name = os.path.realpath(os.fsdecode(path))
     if os.path.exists(path):
         if not os.path.isfile(path):
-            with open(path, "wb") as device:
+            with io.open(path, "wb") as device:
                 return device.write(content)
         os.close(os.open(path, os.O_WRONLY))  # An OSError where it may not be written.
     part = os.path.join(os.path.dirname(name), f".hound-{secrets.token_hex(8)}")
     try:
-        with open(part, "xb", buffering=0) as file:
+        with io.open(part, "xb", buffering=0) as file:
             _put(file.fileno(), content, 0)
         if os.path.exists(name):
             shutil.copymode(name, part)
@@ -519,7 +534,7 @@ def append(path: Path, samples: Any, overwrite: bool = False, durable: bool = Fa
     A recording that was cut off is an error, and so are chunks or a tag after the data, unless they
     may be overwritten.
     """
-    with _samples(samples) as given, open(path, "r+b", buffering=0) as file:
+    with _samples(samples) as given, io.open(path, "r+b", buffering=0) as file:
         with _mapped(file.fileno()) as (start, used):
             found, end, keep = _end_of_data(start, used, overwrite)
             _check_columns("samples", given.columns, found.spec.channels)
@@ -551,7 +566,7 @@ def repair(path: Path, durable: bool = False) -> Repair:
     sizes. A file that is whole, or that chunks follow, is only read. At an error the file is as it was,
     as far as the system lets it.
     """
-    with open(path, "rb") as file, _mapped(file.fileno()) as (start, used):
+    with io.open(path, "rb") as file, _mapped(file.fileno()) as (start, used):
         try:
             report, size, new = _repaired(start, used, used)
         except HoundError as error:
@@ -562,6 +577,14 @@ def repair(path: Path, durable: bool = False) -> Repair:
                 report, size, new = _repaired(memory, used, used + 1)
         old = file.read(len(new))
     if new:
-        with open(path, "r+b", buffering=0) as file:
+        with io.open(path, "r+b", buffering=0) as file:
             _change(file, (old, new), used, b"", bytes(size - used), used, durable)
     return report
+
+
+from .streams import Reader  # noqa: E402
+
+
+def open(file: "Union[Path, BinaryIO]") -> Reader:  # noqa: A001
+    """Opens a file that is read block by block: at a path, or what reads bytes, as a pipe does."""
+    return Reader(file)

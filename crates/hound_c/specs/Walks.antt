@@ -36,7 +36,7 @@ walk_of c = record { found = found_of c.spec; taken = c.taken; part = part_of c.
 abbrev pub part_end : HeadWalk → ℕ
 part_end walk = part_start walk.part walk.taken + part_length walk.part
 
--- C is asked for the part of its walk
+-- the place and the length that C gets are those of the part that its walk needs
 abbrev pub Asks : HoundWalk → Type 0
 Asks c = (c.place ≡ part_start (walk_of c).part c.taken) × (c.length ≡ part_length (walk_of c).part)
 

@@ -220,7 +220,7 @@ refused_header file h found c len cause w is l room k bad =
     (header_fault c found rest h room is l
     ∙ ap (λ n. content_fault c found (take 4 h) n (drop 8 rest)) (sym k) ∙ bad (drop 8 rest))
 
--- the part after a content is asked for where it is found
+-- the part after a content is requested at its place
 pub reaches : (file : List ℕ) (next : HeadWalk) (content read : ℕ) (found : Option WavSpecEx) (to : ℕ)
     → Reaches file found to → IsAfter content read next.part → next.found ≡ found
     → next.taken ≡ to → (read ≡ content → to + 12 ≤ length file) → IsAt file next

@@ -61,7 +61,7 @@ LeadsTo file (Ok (Next next)) = IsAt file next
 LeadsTo file (Ok (Data head)) = Head file head.spec_ex head.data_length head.data_start
 LeadsTo file (Err cause) = Refused file cause
 
--- No byte is asked for twice, and none of the data, which begin where the last part ends.
+-- No byte is requested twice, and none of the data, which begin where the last part ends.
 abbrev pub IsAhead : ℕ → Step → Type 0
 IsAhead end (Next next) = end ≤ part_start next.part next.taken
 IsAhead end (Data head) = head.data_start ≡ end
