@@ -3,10 +3,12 @@
 spec, each sample as 32 bits or the cause, also where a file is cut at each byte; and what a repair finds and
 leaves. Each code is met.
 
-usage: rows.py     (with the package hound_bindings on the path)"""
+usage: rows.py [CAT]     (with the package hound_bindings on the path; CAT is bindings/c/cat.c, compiled: then
+these files are piped through it, too)"""
 import array
 import ctypes
 import os
+import subprocess
 import sys
 
 TOP = os.path.dirname(os.path.dirname(os.path.dirname(os.path.abspath(__file__))))
@@ -98,6 +100,25 @@ def files():
             yield data[:length]
 
 
+def catted_by_model(data):
+    """The status and the output of cat.c."""
+    out = b""
+    try:
+        reader = model.Reader(model.Fed(data))
+        kind = "f" if reader.spec.is_float else "i16" if reader.spec.bits <= 16 else "i32"
+        while (value := reader.next(kind)) is not None:
+            out += value.to_bytes(2 if kind == "i16" else 4, "little", signed=kind != "f")
+    except model.Refused:
+        return 1, out
+    return 0, out
+
+
+def check_cat(program, data):
+    run = subprocess.run([program], input=data, stdout=subprocess.PIPE, stderr=subprocess.PIPE)
+    if (run.returncode, run.stdout) != catted_by_model(data) or (run.returncode == 1) != (run.stderr != b""):
+        sys.exit(f"rows: {program} makes something else of {data[:80].hex()} .. ({len(data)} bytes): {run}"[:600])
+
+
 STATES = ["whole", "cut_off", "followed"]
 
 
@@ -170,6 +191,8 @@ def main():
         wanted, got = modelled(data), found(data)
         if got != wanted:
             sys.exit(f"rows: of {data[:80].hex()} .. ({len(data)} bytes) there is {str(got)[:300]} and not {str(wanted)[:300]}")
+        if len(sys.argv) > 1:
+            check_cat(sys.argv[1], data)
         count += 1
     repairs = check_repairs()
     other_codes()

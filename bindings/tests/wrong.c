@@ -30,6 +30,48 @@ REAL(int64_t, repair, (uint8_t *file, size_t capacity, size_t used, hound_repair
     return n == (int64_t)capacity && has("repair that fills") ? INT64_MAX : n;
 }
 
+REAL(int32_t, find_damage, (const uint8_t *file, size_t length, hound_repair_t *found)) {
+    int32_t code = __real_hound_find_damage(file, length, found);
+    if (code == 0) report(&found->spec);
+    if (code == 0 && has("looking finds no torn bytes")) found->left_over = 0;
+    if (code < 0 && has("looking reports at an error")) found->state = HOUND_WHOLE;
+    return code;
+}
+
+REAL(int32_t, walk_next, (hound_walk *walk, const uint8_t *bytes, size_t length, hound_info_t *info)) {
+    int32_t code = __real_hound_walk_next(walk, bytes, length, info);
+    if (code == 1 && has("walk asks for a byte more")) walk->length++;
+    if (code == 1 && has("walk skips a byte more")) walk->place++;
+    if (code == 0) report(&info->spec);
+    if (code == 0 && has("walk counts a sample more")) info->samples++;
+    if (code < 0 && has("walk writes at an error")) info->samples = 0;
+    return code;
+}
+
+REAL(int64_t, header, (const hound_spec *spec, uint64_t samples, uint8_t *out, size_t capacity)) {
+    int64_t n = __real_hound_header(spec, samples, out, capacity);
+    if (n > 0 && has("header without a RIFF size")) memset(out + 4, 0, 4);
+    return n == HOUND_UNFINISHED_FRAME && has("header of torn frames") ? __real_hound_header(spec, samples - 1, out, capacity) : n;
+}
+
+REAL(int64_t, sizes, (const hound_spec *spec, uint64_t data_start, uint64_t samples, uint8_t *out, size_t capacity)) {
+    int64_t n = __real_hound_sizes(spec, data_start, samples, out, capacity);
+    uint8_t first[4];
+    if (n > 0 && has("sizes in the other order")) memcpy(first, out, 4), memcpy(out, out + 4, 4), memcpy(out + 4, first, 4);
+    return n > 0 && n % 2 == 0 && has("sizes without a pad byte") ? n - 1 : n;
+}
+
+REAL(int64_t, to_f32, (const int32_t *samples, size_t count, uint16_t bits, float *out, size_t capacity)) {
+    return __real_hound_to_f32(samples, count, has("floats of 16 bits alone") && bits <= 32 ? 16 : bits, out, capacity);
+}
+
+REAL(int64_t, from_f32, (const float *samples, size_t count, uint16_t bits, int32_t *out, size_t capacity, uint64_t *clipped)) {
+    int64_t n = __real_hound_from_f32(samples, count, bits, out, capacity, clipped);
+    if (n >= 0 && has("no clipped sample")) *clipped = 0;
+    for (int64_t i = 0; i < n; i++) if (has("halves upwards") && samples[i] == 2.5f / 32768) out[i] = 3;
+    return n;
+}
+
 REAL(int64_t, size, (const hound_spec *spec, uint64_t samples)) {
     int64_t n = __real_hound_size(spec, samples);
     if (n == HOUND_UNFINISHED_FRAME && has("size of torn frames")) return __real_hound_size(spec, samples - 1);
