@@ -13,7 +13,7 @@ use Rattle.hound_medium.specs.{moment, overlay, MediumState, WhereKeeps, WhereTe
 use Rattle.hound_medium.proofs.Spans.{moment_last}
 use Rattle.hound_durable.specs.{Ascends}
 use Rattle.hound_reader.specs.{Head, IsSoundSpec}
-use Rattle.hound_writer.specs.{Begun, Call, Does, Known, Lead, Left, Opens, appended, found_in, new_file, publish, start_of, with_memory, Counts, ChangesSizesOnly, field, WriterState, HasHeader, IsBegun, IsCounted, IsSound, IsWhole, accepted_bytes, accepted_samples, data_length}
+use Rattle.hound_writer.specs.{Begun, Call, Does, Known, Lead, Left, Opens, appended, found_in, handed_in, new_file, publish, start_of, with_memory, Counts, ChangesSizesOnly, field, WriterState, HasHeader, IsBegun, IsCounted, IsSound, IsWhole, accepted_bytes, accepted_samples, data_length}
 use Rattle.hound_writer.proofs.Containers.{none_whole, zero_div}
 use Rattle.hound_writer.proofs.Fresh.{none_accepted}
 use Rattle.hound_writer.proofs.Publishing.{reads_all}
@@ -25,24 +25,24 @@ use Rattle.hound.proofs.Later.{no_fault_parts, same_moment}
 use Rattle.hound_writer.proofs.Answers.{all_marked, where_marked}
 use Rattle.hound.proofs.Losing.{moments_grow}
 use Rattle.hound.proofs.PowerLoss.{after_losses, wide_containers}
-use Rattle.hound.proofs.Lengths.{never_less, published}
+use Rattle.hound.proofs.Lengths.{front_in_writes, mixed, never_less, old_or_new, published}
 
 -- its accepted samples, joined, have the length that it counts
 pub sized : {M : Type 0} (state : M → MediumState) (w : WriterState M) → IsSound w → w.waiting ≡ []
     → IsWhole state w → length (concat (accepted_samples state w)) ≡ data_length w
 sized state w sound none whole = grind (arith, common_steps, concat-samples, length-take-le, length-drop, length_out)
 
-if_begun_then : {P Q : Type 0} (s : WavSpecEx) (file : Begun) (contents : List ℕ)
-    → IfBegun s file contents P → (P → Q) → IfBegun s file contents Q
-if_begun_then s new_file contents here on = on here
-if_begun_then s (appended start found) contents here on = λ at header. on (here at header)
+if_begun_then : {P Q : Type 0} (s : WavSpecEx) (file : Begun) → IfBegun s file P → (P → Q)
+    → IfBegun s file Q
+if_begun_then s (new_file old) here on = on here
+if_begun_then s (appended old start found) here on = λ at header. on (here at header)
 
 -- What the first writer of a file has, as its constructor returned it.
 pub record First {W : Type 0} (tells : Bool) (state : W → MediumState) (s : WavSpecEx)
     (file : Begun) (first : WriterState W) : Type 0 where
   pub sound : IsSound first
   pub none_waits : first.waiting ≡ []
-  pub sound_spec : file ≡ new_file → IsSoundSpec s
+  pub sound_spec : IsSoundSpec s
   pub spec : first.spec_ex ≡ s
   pub start : first.data_start ≡ start_of s file
   pub whole : IsTrue tells → IsWhole state first
@@ -50,18 +50,21 @@ pub record First {W : Type 0} (tells : Bool) (state : W → MediumState) (s : Wa
   pub counts : IsTrue tells → IsCounted state first
   pub head : IsTrue tells
       → (len : ℕ) × Head (state first.medium).contents first.spec_ex len first.data_start
-  pub begun : IsTrue tells → IfBegun s file (state first.medium).contents (IsBegun state first)
+  pub begun : IsTrue tells → IfBegun s file (IsBegun state first)
+  pub faults : IsTrue tells → (state first.medium).faults ≡ (handed_in file).faults
+  pub reach : IsTrue tells → length (state first.medium).contents
+      ≤ max (length (handed_in file).contents) first.data_start
 
 module _ {W : Type 0} (tells keeps : Bool) (state : W → MediumState) where
   pub first_of : (s : WavSpecEx) (file : Begun) (first : WriterState W)
       → Opens tells keeps state s file first → First tells state s file first
-  first_of s new_file first (old, begins) =
+  first_of s (new_file old) first begins =
       let b = begins.begun in
       let none = none_accepted state first b.sound b.none_waits b.none_out in
       record {
         sound = b.sound;
         none_waits = b.none_waits;
-        sound_spec = λ is. (
+        sound_spec = (
           omega (arith, b.sound.channels, ap (λ (x : WavSpecEx). x.spec.channels) b.spec),
           omega (arith, b.sound.width, ap (λ (x : WavSpecEx). x.bytes_per_sample) b.spec),
           b.writable.align,
@@ -88,13 +91,15 @@ module _ {W : Type 0} (tells keeps : Bool) (state : W → MediumState) where
             c).readable in
             (read.len, read.head);
         begun = λ told. ((begins.file told).header, b.start ∙ ap data_start (sym b.spec));
+        faults = λ told. (begins.file told).faults;
+        reach = λ told. (begins.file told).reach;
       }
-  first_of s (appended start found) first opens =
+  first_of s (appended old start found) first opens =
       let a = opens.appends in
       record {
         sound = a.sound;
         none_waits = a.none_waits;
-        sound_spec = λ is. cc;
+        sound_spec = subst IsSoundSpec opens.spec_is a.sound_spec;
         spec = opens.spec_is;
         start = opens.start_is;
         whole = opens.whole;
@@ -106,9 +111,12 @@ module _ {W : Type 0} (tells keeps : Bool) (state : W → MediumState) where
               (sym f.puts.stays.contents) f.head,
         );
         begun = λ told at header. (
-          subst (λ x. HasHeader x (state first.medium).contents) (sym opens.spec_is) header,
+          subst (λ (x : WavSpecEx × List ℕ). HasHeader x.0 x.1)
+              (λ i. (sym opens.spec_is i, sym (a.file told).puts.stays.contents i)) header,
           opens.start_is ∙ at ∙ ap data_start (sym opens.spec_is),
         );
+        faults = λ told. (a.file told).faults;
+        reach = λ told. omega (arith, ap length (a.file told).puts.stays.contents);
       }
 
   -- what calls leave that were made from a first writer on
@@ -161,11 +169,11 @@ module _ {W : Type 0} (tells keeps : Bool) (state : W → MediumState) where
     -- and if no call of the medium failed, an end leaves exactly that
     exact_at_end : IsBegun state first → NoFault (state first.medium) (state last.medium)
         → (before : List Call) (end : Call) → calls ≡ before ++ (end ∷ []) → end.asked ≡ publish
-        → let file = canonical first.spec_ex
+        → let list = canonical first.spec_ex
         (accepted_samples state first ++ accepted_by_all before) in
-        StartsWith (state last.medium).contents file
+        StartsWith (state last.medium).contents list
         × (length (state last.medium).contents
-        ≤ max (length (state first.medium).contents) (length file))
+        ≤ max (length (handed_in file).contents) (length list))
     exact_at_end begun none before end same asked =
         let m = made tells keeps state told calls before [] end first last same lead in
         let w = m.earlier in
@@ -182,6 +190,7 @@ module _ {W : Type 0} (tells keeps : Bool) (state : W → MediumState) where
           omega (
             arith,
             l.reach none,
+            is_first.reach told,
             l.data_start,
             begun.1,
             ap data_length m.rest.1,
@@ -260,11 +269,22 @@ module _ {W : Type 0} (tells keeps : Bool) (state : W → MediumState) where
           record {
             counted = counts;
             head = head_at_each;
+            front = λ k m from along to.
+                let a = (fronts k from (omega (arith, along, to))).0 in
+                let b = (fronts m (omega (arith, from, along)) to).0 in
+                record { front = b.front ∙ sym a.front; middle = b.middle ∙ sym a.middle };
+            front_in_writes = front_in_writes tells keeps state told kept replays calls first last
+                lead behind whole size;
+            mixed = mixed tells keeps state told kept replays calls first last lead behind whole
+                size;
+            old_or_new = old_or_new tells keeps state told kept replays calls first last lead behind
+                whole size;
             published = published tells keeps state told kept replays calls first last lead behind
                 whole size;
             never_less = never;
             flushed = flushes;
             stored = stands;
+            now = moment_last end (replays last.medium);
             in_order = order;
             after_loss = losses.0;
             kept_after_loss = losses.1;
@@ -276,7 +296,7 @@ module _ {W : Type 0} (tells keeps : Bool) (state : W → MediumState) where
         → P s (start_of s file) (found_in file)
     of_file P here = grind (arith, common_steps)
 
-    pub holds_at_end : HoldsAtEnd s file calls (state first.medium) (state last.medium)
+    pub holds_at_end : HoldsAtEnd s file calls (state last.medium)
     holds_at_end =
         let m = state last.medium in record {
           sound = is_first.sound_spec;
@@ -284,13 +304,16 @@ module _ {W : Type 0} (tells keeps : Bool) (state : W → MediumState) where
               (found ++ accepted_by_all calls)) all_wide;
           counts = of_file (λ s start found. Counts s start (found ++ accepted_by_all calls)
               m.contents) counts_at_end;
-          exact = if_begun_then s file _ (is_first.begun told) (λ begun none before end same asked.
+          exact = if_begun_then s file (is_first.begun told) (λ begun (none, small) before end same
+              asked.
+              let faults = is_first.faults told in
               of_file (λ s start found.
               let list = canonical s (found ++ accepted_by_all before) in
               StartsWith m.contents list
-              × (length m.contents ≤ max (length (state first.medium).contents) (length list)))
-              (exact_at_end begun none before end same asked));
-          canonical = if_begun_then s file _ (is_first.begun told) (λ begun.
+              × (length m.contents ≤ max (length (handed_in file).contents) (length list)))
+              (exact_at_end begun (none ∙ sym faults, omega (arith, faults, small)) before end same
+              asked));
+          canonical = if_begun_then s file (is_first.begun told) (λ begun.
               of_file (λ s start found. CanonicalAtEnd s start found calls m)
               (canonical_at_end begun));
         }
@@ -309,7 +332,7 @@ module _ {W : Type 0} (tells keeps : Bool) (state : W → MediumState) where
       let r = left.recorded in
       record {
         left = left;
-        at_end = subst (λ m. HoldsAtEnd s file r.calls (state r.first.medium) (state m))
+        at_end = subst (λ m. HoldsAtEnd s file r.calls (state m))
             (sym left.is) (holds_at_end s file r.calls r.first left.last (first_of s file r.first r.opens) r.lead told);
       }
 
@@ -324,13 +347,30 @@ module _ {W : Type 0} (tells keeps : Bool) (state : W → MediumState) where
       let first = first_of s file r.first r.opens in
       record {
         left = left;
-        promised = subst (λ m. Keeps s file r.calls (state r.first.medium) (state m)) (sym left.is)
+        promised = subst (λ m. Keeps s file r.calls (state m)) (sym left.is)
             (record {
               at_end = holds_at_end s file r.calls r.first left.last first r.lead told;
               promises = keeps_promises s file r.calls r.first left.last first r.lead told kept
                   (λ m. replays m told kept);
             });
       }
+
+  -- an append leaves what is before its data
+  pub front_left : IsTrue tells → (s : WavSpecEx) (old : MediumState) (start : ℕ)
+      (found : List (List ℕ)) (known : List Known) (medium : W)
+      → Left tells keeps state s (appended old start found) known medium
+      → ChangesSizesOnly start old.contents (state medium).contents
+  unfolding Left
+  front_left told s old start found known medium left =
+      let r = left.recorded in
+      let a = r.opens.appends in
+      subst (λ (x : ℕ × (List ℕ × List ℕ)). ChangesSizesOnly x.0 x.1.0 x.1.1)
+      (λ i. (
+        r.opens.start_is i,
+        ((a.file told).puts.stays.contents i, ap (λ m. (state m).contents) (sym left.is) i),
+      ))
+      ((went tells keeps state told r.calls r.first left.last r.lead).front
+      (omega (arith, a.sound.after_head)))
 
 -- an end accepts nothing
 pub all_accepted : (before : List Call) (end : Call) → end.asked ≡ publish

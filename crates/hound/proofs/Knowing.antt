@@ -1,10 +1,13 @@
 -- What is known of calls, and the calls.
 use Rattle.std.proofs.lemmas.Grind.{common_steps}
-use Rattle.std.proofs.Common.{◌≡◌, Bool, List, [], ◌∷◌, ◌++◌, map, refl, ap, arith}
-use Rattle.std.specs.List.{flat_map}
-use Rattle.hound_writer.specs.{AreKnown, Asked, Call, IsKnown, Known, made, marked, asked_by_all}
+use Rattle.std.proofs.Common.{◌≡◌, ℕ, Bool, true, false, List, [], ◌∷◌, ◌++◌, map, Result, Ok, Err, OnOk, is_ok, refl, ap, arith}
+use Rattle.std.proofs.lemmas.Bool.{false≢true}
+use Rattle.hound_spec.specs.declared.error.Error.{Error}
+use Rattle.hound_spec.specs.declared.error.Error.TheVariants.{IoError}
+use Rattle.hound_sample.specs.{Refusal, too_wide, unsupported}
+use Rattle.hound_writer.specs.{AcceptAnswer, AreKnown, Asked, Call, FitAnswer, IsKnown, Known, OnRefused, WriterState, made, mark_of, marked, asked_by_all, publish}
 use Rattle.hound_spec.specs.declared.spec.WavSpecEx.{WavSpecEx}
-use Rattle.hound.specs.Headline.{accepted_by_all, accepted_of}
+use Rattle.hound.specs.Headline.{HasPublished, accepted_as_seen, accepted_by_all, accepted_of, seen}
 use Rattle.hound.specs.Run.{asked_by}
 use Rattle.hound.specs.declared.session.Step.{Step}
 
@@ -28,13 +31,43 @@ pub last_known : (before : List Known) (one : Known) (calls : List Call)
 last_known before one calls are = grind (arith, common_steps, among)
 
 -- what calls accepted whose marks are known
-pub accepted : (seen : List (Asked × Bool)) (calls : List Call)
-    → AreKnown (map (λ (one : Asked × Bool). marked one.0 one.1) seen) calls
-    → accepted_by_all calls ≡ flat_map (λ (one : Asked × Bool). accepted_of one.0 one.1) seen
+pub accepted : (list : List (Asked × Bool)) (calls : List Call) → AreKnown (seen list) calls
+    → accepted_by_all calls ≡ accepted_as_seen list
 accepted [] [] are = refl
-accepted (one ∷ seen) (call ∷ calls) are =
-    λ i. accepted_of (are.0.0 i) (are.0.1 i) ++ accepted seen calls are.1 i
+accepted (one ∷ list) (call ∷ calls) are =
+    λ i. accepted_of (are.0.0 i) (are.0.1 i) ++ accepted list calls are.1 i
 accepted _ _ are = absurd are
+
+-- a flush that was seen to publish, after calls whose marks were seen
+pub published : (before : List (Asked × Bool)) (after : List Known) (calls : List Call)
+    → AreKnown (seen before ++ (marked publish true ∷ after)) calls
+    → (first last : List Call) × (flush : Call) × (calls ≡ first ++ (flush ∷ last))
+    × HasPublished flush × (accepted_by_all first ≡ accepted_as_seen before)
+published before after calls are =
+    let (first, last, flush, parts, before_are, is, after_are) =
+    among (seen before) after (marked publish true) calls are in
+    (first, last, flush, parts, is, accepted before first before_are)
+
+-- the mark of a call for samples is its being Ok
+pub mark_is_ok : {W : Type 0} (asked : Result (List (List ℕ)) Refusal) (w : WriterState W)
+    (answer : Result (Unit {0}) Error) → AcceptAnswer asked w answer → mark_of answer ≡ is_ok answer
+mark_is_ok asked w (Ok x) is = refl
+mark_is_ok (Err too_wide) w (Err e) is = ap mark_of is
+mark_is_ok (Err unsupported) w (Err e) is = ap mark_of is
+mark_is_ok (Ok list) w (Err e) is = by _ is
+  where
+    by : (b : Bool) → FitAnswer {T = Unit {0}} b (Err e) → mark_of {T = Unit {0}} (Err e) ≡ false
+    by false same = ap mark_of same
+    by true none = io e none
+      where
+        io : (e : Error) → OnRefused {T = Unit {0}} (Err e) ⊥ → mark_of {T = Unit {0}} (Err e) ≡ false
+        io (IoError fault) none = refl
+        io _ none = absurd none
+
+-- what holds at an Ok holds where the result is known to be one
+pub at_ok : {T E P : Type 0} (r : Result T E) → is_ok r ≡ true → OnOk r P → P
+at_ok (Ok x) is here = here
+at_ok (Err e) is here = absurd (false≢true is)
 
 -- calls that steps asked
 pub known_steps : (s : WavSpecEx) (steps : List Step) (calls : List Call)

@@ -1,20 +1,22 @@
--- The data length in each state of a list of calls: what a flush has published is counted until the
--- next one, and never undercut.
+-- The bytes before the data in each state of a list of calls: they stay while samples are written, and
+-- in a patch the data length is mixed; what a flush has published is counted until the next one, and
+-- never undercut.
 use Rattle.std.proofs.lemmas.Grind.{common_steps}
-use Rattle.std.proofs.Common.{◌≡◌, ℕ, ◌+◌, ◌-◌, ◌<◌, ◌≤◌, min, Bool, ◌⊎◌, List, [], ◌∷◌, ◌++◌, length, Result, IsTrue, refl, sym, ◌∙◌, ap, subst, arith, inl, inr}
+use Rattle.std.proofs.Common.{◌≡◌, ℕ, ◌+◌, ◌-◌, ◌<◌, ◌≤◌, min, Bool, ◌⊎◌, List, [], ◌∷◌, ◌++◌, length, take, Result, IsTrue, refl, sym, ◌∙◌, ap, subst, arith, inl, inr}
 use Rattle.std.proofs.lemmas.Bool.{cases_lt}
 use Rattle.std.specs.List.{concat, AllByRecursion}
-use Rattle.hound_number.specs.{number}
+use Rattle.hound_number.specs.{mix, number}
 use Rattle.hound_spec.specs.declared.error.Error.{Error}
 use Rattle.hound_medium.specs.{moment, overlay, MediumState}
 use Rattle.hound_medium.proofs.Overlays.{front_part}
 use Rattle.hound_medium.proofs.Spans.{moment_last}
 use Rattle.hound_durable.specs.{place_of}
-use Rattle.hound_writer.specs.{Asked, Call, Does, Lead, publish, write, with_memory, IsOldOrNew, IsOutside, field, WriterState, IsWhole, accepted_samples, data_length}
-use Rattle.hound.specs.Headline.{HasPublished, IsUncut, NeverLess, PublishedByFlushes, accepted_by_all, begins_at}
+use Rattle.hound_writer.specs.{mark_of, Asked, Call, Does, Lead, publish, write, with_memory, IsOldOrNew, IsOutside, field, WriterState, IsWhole, accepted_samples, data_length}
+use Rattle.hound.specs.Headline.{FrontInWrites, HasPublished, IsUncut, MixedInPatches, NeverLess, OldOrNewInPatches, PublishedByFlushes, accepted_by_all, accepted_of, begins_at}
 use Rattle.hound_writer.proofs.Answers.{where_marked}
-use Rattle.hound.proofs.Calling.{begin, call_went, later, lead_parts, length-concat-append, made, went}
-use Rattle.hound.proofs.Later.{Later, longer, same_moment}
+use Rattle.hound_writer.proofs.Sizes.{take_front}
+use Rattle.hound.proofs.Calling.{Went, begin, call_went, later, lead_parts, length-concat-append, made, went}
+use Rattle.hound.proofs.Later.{Later, later_then, longer, same_moment}
 
 -- a state in which no write of the field is cut is so in one of the calls
 outside_within : (p hi : ℕ) (a b end : MediumState) (k : ℕ) → Later b end → hi ≡ length b.past
@@ -129,6 +131,134 @@ module _ {W : Type 0} (tells keeps : Bool) (state : W → MediumState) (told : I
   abbrev at : ℕ
   at = old.data_start - 4
 
+  abbrev end : MediumState
+  end = state new.medium
+
+  -- one of these calls, in the states of the last medium
+  record CallOf (before after : List Call) (call : Call) : Type 0 where
+    memory : List ℕ
+    mid : WriterState W
+    next : WriterState W
+    does : Does tells keeps state call.asked call.answer (with_memory mid memory) next
+    rest : Lead tells keeps state after next new
+    start : mid.data_start ≡ old.data_start
+    whole : IsWhole state mid
+    goes_on : Went tells keeps state told (accepted_of call.asked (mark_of call.answer)) mid next
+    all : data_length mid ≡ length (concat (accepted_samples state old ++ accepted_by_all before))
+    began : call.began ≡ length (state mid.medium).past
+    ended : begins_at after end.past ≡ length (state next.medium).past
+    later : Later (state next.medium) end
+    still : (k : ℕ) → k ≤ begins_at after end.past
+        → moment (state next.medium).start (state next.medium).past k ≡ moment end.start end.past k
+    first : moment end.start end.past call.began ≡ (state mid.medium).contents
+
+  call_of : (before after : List Call) (call : Call) → calls ≡ before ++ (call ∷ after)
+      → CallOf before after call
+  call_of before after call same =
+      let m = made tells keeps state told calls before after call old new same lead in
+      let w = m.earlier in
+      let whole = w.whole all_there in
+      let here = m.here.later kept whole in
+      let then = later tells keeps state told kept after m.next new m.rest (m.here.whole whole) in
+      let ended = begin tells keeps state told after m.next new m.rest in
+      record {
+        memory = m.memory;
+        mid = m.mid;
+        next = m.next;
+        does = m.does;
+        rest = m.rest;
+        start = w.data_start;
+        whole = whole;
+        goes_on = m.here;
+        all = omega (
+          arith,
+          w.size,
+          size,
+          length-concat-append (accepted_samples state old) (accepted_by_all before),
+        );
+        began = m.began;
+        ended = ended;
+        later = then;
+        still = λ k within. same_moment (state m.next.medium) end k then (omega (arith, within, ended));
+        first = ap (moment end.start end.past) m.began
+            ∙ sym (same_moment (state m.mid.medium) end (length (state m.mid.medium).past)
+            (later_then (state m.mid.medium) (state m.next.medium) end here then) (omega arith))
+            ∙ moment_last (state m.mid.medium) (replays m.mid.medium);
+      }
+
+  -- a call that writes leaves what is before the data
+  front_of : (asked : Asked) (answer : Result (Unit {0}) Error) (memory : List ℕ)
+      (a b : WriterState W) → Does tells keeps state asked answer (with_memory a memory) b
+      → (asked ≡ publish → ⊥) → IsWhole state a
+      → (k : ℕ) → length (state a.medium).past ≤ k → k ≤ length (state b.medium).past
+      → take a.data_start (moment (state b.medium).start (state b.medium).past k)
+      ≡ take a.data_start (state a.medium).contents
+  front_of (write list) answer memory a b does writes whole k from to =
+      take_front a.data_start (a.data_start + a.out) (state a.medium).contents
+      (moment (state b.medium).start (state b.medium).past k) (omega arith)
+      (((does.moments told kept).front whole).each k from to)
+  front_of publish answer memory a b does writes whole k from to = absurd (writes refl)
+
+  pub front_in_writes : FrontInWrites old.spec_ex old.data_start (accepted_samples state old) calls
+      end
+  front_in_writes before after call k same writes from to =
+      let c = call_of before after call same in
+      subst (λ (x : ℕ × (List ℕ × List ℕ)). take x.0 x.1.0 ≡ take x.0 x.1.1)
+      (λ i. (c.start i, (c.still k to i, sym c.first i)))
+      (front_of call.asked call.answer c.memory c.mid c.next c.does writes c.whole k
+      (omega (arith, from, c.began)) (omega (arith, to, c.ended)))
+
+  pub mixed : MixedInPatches old.spec_ex old.data_start (accepted_samples state old) calls end
+  mixed before after patch same asked =
+      let c = call_of before after patch same in
+      let does = subst (λ a. Does tells keeps state a patch.answer (with_memory c.mid c.memory)
+      c.next) asked c.does in
+      let p = does.moments told kept in (
+        λ k. min 4 (k - p.split),
+        omega (arith, c.began, p.puts.later),
+        λ k m le. (omega (arith, le), omega arith),
+        λ has_all. omega (arith, c.ended, where_marked patch.answer has_all.1 p.whole),
+        λ k from to.
+            let since : length (state c.mid.medium).past ≤ k = omega (arith, from, c.began) in
+            let until : k ≤ length (state c.next.medium).past = omega (arith, to, c.ended) in
+            let few : k - p.split ≡ min 4 (k - p.split) = omega (arith, until, p.puts.within) in (
+              subst (λ (x : (ℕ × ℕ) × (ℕ × (List ℕ × List ℕ))).
+                  field (x.0.0 - 4) x.1.1.0 ≡ mix x.0.1 (field (x.0.0 - 4) x.1.1.1) x.1.0)
+                  (λ i. ((c.start i, few i), (c.all i, (c.still k to i, sym c.first i))))
+                  (p.half.each k since until).length_is,
+              λ some.
+                  let split : p.split < k = omega (arith, some) in
+                  let last : p.split < length (state c.next.medium).past =
+                  omega (arith, split, until) in
+                  omega (
+                    arith,
+                    p.there c.whole p.split k p.puts.later last
+                        (omega (arith, p.puts.first last, c.start, behind)) (omega (arith, split))
+                        until,
+                    ap length (c.still k to),
+                    c.start,
+                    c.all,
+                  ),
+            ),
+      )
+
+  pub old_or_new : OldOrNewInPatches old.spec_ex old.data_start (accepted_samples state old) calls
+      end
+  old_or_new before after patch k same asked from to uncut =
+      let c = call_of before after patch same in
+      let does = subst (λ a. Does tells keeps state a patch.answer (with_memory c.mid c.memory)
+      c.next) asked c.does in
+      subst (λ (x : (ℕ × ℕ) × (List ℕ × List ℕ)). (field x.0.0 x.1.0 ≡ field x.0.0 x.1.1)
+      ⊎ (field x.0.0 x.1.0 ≡ x.0.1))
+      (λ i. ((c.start i - 4, c.all i), (c.still k to i, sym c.first i)))
+      ((does.moments told kept).old_or_new k (omega (arith, from, c.began))
+      (omega (arith, to, c.ended))
+      (outside_within (c.mid.data_start - 4) (begins_at after end.past) (state c.mid.medium)
+      (state c.next.medium) end k c.later c.ended
+      (λ i since less before is.
+      uncut [] after patch i refl (omega (arith, since, c.began)) less before
+      (is ∙ ap (λ n. n - 4) c.start))))
+
   -- the writer after a flush of these calls that published all
   record Flushed (before after : List Call) : Type 0 where
     next : WriterState W
@@ -141,25 +271,18 @@ module _ {W : Type 0} (tells keeps : Bool) (state : W → MediumState) (told : I
   flushed : (before after : List Call) (flush : Call) → calls ≡ before ++ (flush ∷ after)
       → HasPublished flush → Flushed before after
   flushed before after flush same (asked, marked) =
-      let m = made tells keeps state told calls before after flush old new same lead in
-      let w = m.earlier in
-      let does = subst (λ a. Does tells keeps state a flush.answer (with_memory m.mid m.memory)
-      m.next) asked m.does in
+      let c = call_of before after flush same in
+      let does = subst (λ a. Does tells keeps state a flush.answer (with_memory c.mid c.memory)
+      c.next) asked c.does in
       record {
-        next = m.next;
-        rest = m.rest;
-        start = m.here.data_start ∙ w.data_start;
-        whole = m.here.whole (w.whole all_there);
-        says = ap (λ n. field (n - 4) (state m.next.medium).contents) (sym w.data_start)
+        next = c.next;
+        rest = c.rest;
+        start = c.goes_on.data_start ∙ c.start;
+        whole = c.goes_on.whole c.whole;
+        says = ap (λ n. field (n - 4) (state c.next.medium).contents) (sym c.start)
             ∙ where_marked flush.answer marked (does.publishes told).length_says
             ∙ sym does.samples.data_length;
-        all = omega (
-          arith,
-          does.samples.data_length,
-          w.size,
-          size,
-          length-concat-append (accepted_samples state old) (accepted_by_all before),
-        );
+        all = omega (arith, does.samples.data_length, c.all);
       }
 
   pub published : PublishedByFlushes old.spec_ex old.data_start (accepted_samples state old) calls

@@ -1,6 +1,6 @@
 -- What a loss of power leaves, from what holds in each state that it may mix.
 use Rattle.std.proofs.lemmas.Grind.{common_steps}
-use Rattle.std.proofs.Common.{◌≡◌, ℕ, zero, suc, ◌+◌, ◌-◌, ◌/◌, ◌<◌, ◌≤◌, inl, inr, List, [], ◌∷◌, ◌++◌, length, get_or, take, drop, refl, sym, ◌∙◌, ap, subst, arith, length-drop, length-take, take-append-drop}
+use Rattle.std.proofs.Common.{◌≡◌, ℕ, zero, suc, ◌+◌, ◌-◌, ◌/◌, ◌<◌, ◌≤◌, ◌⊎◌, inl, inr, List, [], ◌∷◌, ◌++◌, length, get_or, take, drop, refl, sym, ◌∙◌, ap, subst, arith, length-drop, length-take, take-append-drop}
 use Rattle.std.proofs.lemmas.Bool.{cases_lt}
 use Rattle.std.proofs.lemmas.List.{length-take-le, take-take, get_or-take, get_or-drop, ext_get_or}
 use Rattle.std.proofs.lemmas.Slice.{between_is}
@@ -73,6 +73,90 @@ moments_grow start past i k le =
       ap length (overlay-append start first (drop i (take k past))),
     )
 
+module _ (start : List ℕ) (past : List (ℕ × ℕ)) where
+  -- a state, and the byte that is written next
+  next : (m : ℕ) → m < length past
+      → (b : ℕ) × (moment start past (suc m) ≡ put_at (place_of past m) b (moment start past m))
+  next m less =
+      let e : m + 1 ≡ suc m = omega arith in
+      let x : ℕ × ℕ = get_or past m (0, 0) in
+      (x.1, ap (moment start past) (sym e) ∙ overlay_more start past m (0, 0) less)
+
+  -- one that is written to the data leaves the field before them
+  field_next : (h m : ℕ) → 20 ≤ h → m < length past → h ≤ place_of past m
+      → h ≤ length (moment start past m)
+      → field (h - 4) (moment start past (suc m)) ≡ field (h - 4) (moment start past m)
+  field_next h m behind less high long =
+      let one = next m less in
+      let at = moment start past in
+      ap number (front_part h (h - 4) 4 (at (suc m)) (at m) (omega (arith, behind))
+      (ap (take h) one.1 ∙ take_overlay_before (one.0 ∷ []) h (place_of past m) (at m) high long))
+
+  -- If the data length has this value in each state or more than that is held, and the bytes went to
+  -- ascending places, that holds also of the data length of one state and of what another holds.
+  module _ (h n f k : ℕ) (behind : 20 ≤ h) (within : k ≤ length past) (ascends : Ascends past f k)
+      (long : (j : ℕ) → f ≤ j → j ≤ k → h ≤ length (moment start past j))
+      (either : (j : ℕ) → f ≤ j → j ≤ k → (field (h - 4) (moment start past j) ≡ n)
+      ⊎ (h + n < length (moment start past j))) where
+    abbrev holds : ℕ → ℕ → Type 0
+    holds j m = (field (h - 4) (moment start past j) ≡ n) ⊎ (h + n < length (moment start past m))
+
+    sooner : (d j m : ℕ) → f ≤ m → m + d ≡ j → j ≤ k → holds j m
+        × (((t : ℕ) → m ≤ t → t < j → h ≤ place_of past t)
+        → field (h - 4) (moment start past m) ≡ field (h - 4) (moment start past j))
+    sooner zero j m from is to =
+        let e : j ≡ m = omega (arith, is) in (
+          subst (holds j) e (either j (omega (arith, from, e)) to),
+          λ _. ap (λ m. field (h - 4) (moment start past m)) (sym e),
+        )
+    sooner (suc d) j m from is to =
+        let rest = sooner d j (suc m) (omega (arith, from)) (omega (arith, is)) to in
+        let p = place_of past m in
+        let less : m < length past = omega (arith, is, to, within) in
+        let there = long m from (omega (arith, is, to)) in
+        let one = next m less in
+        elim (cases_lt p h) [
+          | inl low ↦ (
+            elim rest.0 [
+              | inl says ↦ inl says
+              | inr longer ↦
+                  inr (omega (
+                    arith,
+                    longer,
+                    low,
+                    there,
+                    ap length one.1,
+                    length-put_at p one.0 (moment start past m),
+                  ))
+            ],
+            λ high. absurd (omega (arith, low, high m (omega arith) (omega (arith, is)))),
+          )
+          | inr high ↦
+              let same = sym (field_next h m behind less high there)
+              ∙ rest.1 (λ t le before. omega (
+                arith,
+                high,
+                ascends m t from (omega (arith, le))
+                    (omega (arith, before, to)),
+              )) in (
+                elim (either m from (omega (arith, is, to))) [
+                  | inl says ↦ inl (sym same ∙ says)
+                  | inr longer ↦ inr longer
+                ],
+                λ _. same,
+              )
+        ]
+
+    pub either_survives : (j m : ℕ) → f ≤ j → j ≤ k → f ≤ m → m ≤ k → holds j m
+    either_survives j m from to since until = elim (cases_lt m j) [
+      | inl before ↦ (sooner (j - m) j m since (omega (arith, before)) to).0
+      | inr after ↦
+          elim (either j from to) [
+            | inl says ↦ inl says
+            | inr longer ↦ inr (omega (arith, longer, moments_grow start past j m after))
+          ]
+    ]
+
 -- A file whose data begin at h, whose past has bytes at ascending places from f to k: in each of
 -- these states what the data length covers of these bytes is stored, and stays so.
 module _ (h : ℕ) (bytes base start : List ℕ) (past : List (ℕ × ℕ)) (cover : ℕ → ℕ) (f k : ℕ)
@@ -89,14 +173,6 @@ module _ (h : ℕ) (bytes base start : List ℕ) (past : List (ℕ × ℕ)) (cov
   abbrev says : ℕ → ℕ
   says j = field (h - 4) (at j)
 
-  -- a state, and the byte that is written next
-  next : (m : ℕ) → m < k
-      → (b : ℕ) × (at (suc m) ≡ put_at (place_of past m) b (at m))
-  next m less =
-      let e : m + 1 ≡ suc m = omega arith in
-      let x : ℕ × ℕ = get_or past m (0, 0) in
-      (x.1, ap at (sym e) ∙ overlay_more start past m (0, 0) (omega (arith, less, within)))
-
   -- what a later state's data length covers was stored in each earlier one
   earlier : (n j m : ℕ) → f ≤ m → m + n ≡ j → j ≤ k
       → (take (cover (says j)) (drop h (at m)) ≡ take (cover (says j)) bytes)
@@ -109,7 +185,8 @@ module _ (h : ℕ) (bytes base start : List ℕ) (past : List (ℕ × ℕ)) (cov
   earlier (suc n) j m from is to =
       let rest = earlier n j (suc m) (omega (arith, from)) (omega (arith, is)) to in
       let p = place_of past m in
-      let one = next m (omega (arith, is, to)) in
+      let less : m < length past = omega (arith, is, to, within) in
+      let one = next start past m less in
       elim (cases_lt p h) [
         | inl low ↦
             let same : drop h (at (suc m)) ≡ drop h (at m) =
@@ -122,13 +199,9 @@ module _ (h : ℕ) (bytes base start : List ℕ) (past : List (ℕ × ℕ)) (cov
         | inr high ↦
             let all : (t : ℕ) → suc m ≤ t → t < j → h ≤ place_of past t =
             λ t le less. omega (arith, high, ascends m t from (omega (arith, le)) (omega (arith, less, to))) in
-            let front : take h (at (suc m)) ≡ take h (at m) =
-            ap (take h) one.1
-            ∙ take_overlay_before (one.0 ∷ []) h p (at m) high
-            (long m from (omega (arith, is, to))) in
-            let here : says (suc m) ≡ says m =
-            ap number (front_part h (h - 4) 4 (at (suc m)) (at m) (omega (arith, behind)) front) in
-            let same : says m ≡ says j = sym here ∙ rest.1 all in (
+            let same : says m ≡ says j =
+            sym (field_next start past h m behind less high (long m from (omega (arith, is, to))))
+            ∙ rest.1 all in (
               subst (λ v. take (cover v) (drop h (at m)) ≡ take (cover v) bytes) same
                   (kept m m from (omega arith) (omega (arith, is, to))),
               λ _. same,

@@ -5,12 +5,11 @@ use Rattle.std.specs.Io.{StartsWith}
 use Rattle.hound_spec.specs.declared.error.Error.{Error}
 use Rattle.hound_spec.specs.declared.spec.WavSpecEx.{WavSpecEx}
 use Rattle.hound_spec.specs.{header, data_start, canonical}
-use Rattle.hound_spec.proofs.HeaderLemmas.{data_start_least, length-canonical, length-header}
+use Rattle.hound_spec.proofs.HeaderLemmas.{data_start_least, length-header}
 use Rattle.hound_medium.specs.{MediumState, WhereKeeps, placed, overlay}
 use Rattle.hound_medium.proofs.Overlays.{length-placed}
 use Rattle.hound_writer.specs.{mark_of, Call, Lead, Left, Opens, Recorded, asked_by_all, made, new_file, publish, Finishes, WriterState, IsWhole}
 use Rattle.hound_writer.proofs.Accepting.{length_overlay_max}
-use Rattle.hound_writer.proofs.Fresh.{only_header}
 use Rattle.hound_writer.proofs.Recording.{ended, lead_more, leaves, left_by}
 use Rattle.hound.specs.declared.session.Step.{Step}
 use Rattle.hound.specs.declared.session.Begin.{Begin}
@@ -82,10 +81,10 @@ module _ {M : Type 0} (tells keeps : Bool) (state : M → MediumState) where
   run_behind Append old w begins = omega (arith, begins.sound.after_head)
 
   run_opens : (begin : Begin) (old : M) (w : WriterState M) → BeginsAs tells keeps state begin old w
-      → IsWhole state w → Opens tells keeps state (begun_spec begin w) (file_of state begin w) w
-  run_opens (New s) old w begins whole = (state old, begins)
+      → IsWhole state w
+      → Opens tells keeps state (begun_spec begin w) (file_of state begin old w) w
+  run_opens (New s) old w begins whole = begins
   run_opens Append old w begins whole = record {
-    old = state old;
     appends = begins;
     spec_is = refl;
     start_is = refl;
@@ -120,7 +119,7 @@ module _ {M : Type 0} (tells keeps : Bool) (state : M → MediumState) where
       let w = ended tells keeps state last medium in
       let leads = all_lead calls first last finished medium lead ends in
       let s = begun_spec begin first in
-      let file = file_of state begin first in
+      let file = file_of state begin old first in
       record {
         first = first;
         last = last;
@@ -151,14 +150,11 @@ module _ {M : Type 0} {tells keeps : Bool} {state : M → MediumState} {s : WavS
   steps_accepted =
       calls_accept s steps r.calls r.asked ∙ ap (accepted_by_steps s steps) (sym r.marked)
 
-  pub new_exact : IsTrue tells → (state old).contents ≡ [] → (state old).place ≡ 0
-      → NoFault (state old) (state medium)
+  pub new_exact : IsTrue tells → (state old).contents ≡ [] → NoFault (state old) (state medium)
       → (state medium).contents ≡ canonical s (accepted_by_steps s steps marks)
-  new_exact told empty start (same, small) =
-      let file = r.begins.file told in
-      let exact =
-      (r.holds told file.whole).exact (same ∙ sym file.faults, omega (arith, file.faults, small))
-      r.calls (end_call state r.last r.finished) refl refl in
+  new_exact told empty none =
+      let exact = (r.holds told (r.begins.file told).whole).exact none r.calls
+      (end_call state r.last r.finished) refl refl in
       let c = canonical s (accepted_by_steps s steps marks) in
       let starts : take (length c) (state medium).contents ≡ c =
       subst (λ l. StartsWith (state medium).contents (canonical s l)) steps_accepted exact.0 in
@@ -167,8 +163,7 @@ module _ {M : Type 0} {tells keeps : Bool} {state : M → MediumState} {s : WavS
         arith,
         exact.1,
         ap (λ l. length (canonical s l)) steps_accepted,
-        only_header tells keeps state told s (state old) r.first r.begins empty start,
-        length-canonical s (accepted_by_steps s steps marks),
+        ap length empty,
       ))) ∙ starts
 
   pub new_canonical : IsTrue tells → end ≡ Finalize
@@ -187,16 +182,16 @@ module _ {M : Type 0} {tells keeps : Bool} {state : M → MediumState} {s : WavS
       go (Err e) is = tt
 
   -- it leaves what its calls leave
-  pub run_left : Left tells keeps state s new_file
+  pub run_left : Left tells keeps state s (new_file (state old))
       (map (λ step. made (asked_by s step)) steps ++ made publish ∷ []) medium
   unfolding Recorded
   run_left =
-      left_by tells keeps state (made publish) r.finished s new_file
+      left_by tells keeps state (made publish) r.finished s (new_file (state old))
       (map (λ step. made (asked_by s step)) steps) r.last medium (refl, tt) r.ends
       (record {
         first = r.first;
         calls = r.calls;
-        opens = (state old, r.begins);
+        opens = r.begins;
         lead = r.lead;
         are_known = known_steps s steps r.calls r.asked;
       })

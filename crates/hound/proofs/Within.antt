@@ -77,6 +77,26 @@ left_within {M} {g} replays told kept s file known one d publishes left =
     let (before, end, parts, is) = last_known known one r.calls r.are_known in
     record {
       left = k.left;
+      promised = k.promised;
+      left_after = λ before after flush at has_all sector contents some one lost.
+          let same = same_past d told kept in
+          inr (inr (
+            (within d).flushed,
+            length (shown d).past,
+            sector,
+            omega (
+              arith,
+              k.promised.promises.flushed before after flush at has_all,
+              flushed_later d told kept,
+            ),
+            flushed_within d told kept,
+            omega arith,
+            ascends d told kept,
+            some,
+            one,
+            subst (λ l. SurvivesLoss sector (within d).start l (within d).flushed (length l) contents)
+                (sym same) lost,
+          ));
       survives = subst (λ l. SurvivesAtEnd s (start_of s file) (found_in file) l (within d))
           (sym parts)
           (survives_within d told kept (within d) refl s (start_of s file) (found_in file) before end

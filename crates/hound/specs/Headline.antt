@@ -1,14 +1,15 @@
 -- What a list of calls of a writer promises, whatever failed: counted in each state, published at a
 -- flush, canonical at the end.
-use Rattle.std.specs.Prelude.{◌≡◌, ℕ, ◌+◌, ◌-◌, ◌/◌, ◌<◌, ◌≤◌, ◌⊎◌, max, Bool, true, List, [], ◌∷◌, ◌++◌, length}
+use Rattle.std.specs.Prelude.{◌≡◌, ℕ, ◌+◌, ◌-◌, ◌/◌, ◌<◌, ◌≤◌, ◌⊎◌, max, Bool, true, List, [], ◌∷◌, ◌++◌, length, map, take}
 use Rattle.std.specs.List.{concat, flat_map, AllByRecursion}
 use Rattle.std.specs.Io.{StartsWith}
 use Rattle.hound_spec.specs.declared.spec.WavSpecEx.{WavSpecEx}
 use Rattle.hound_spec.specs.{canonical, data_start}
+use Rattle.hound_number.specs.{mix}
 use Rattle.hound_medium.specs.{moment, MediumState}
 use Rattle.hound_durable.specs.{Ascends, SurvivesLoss, place_of}
 use Rattle.hound_reader.specs.{Head, IsSoundSpec}
-use Rattle.hound_writer.specs.{if_marked, mark_of, IsStored, Asked, Begun, Call, Known, LeftBy, appended, found_in, new_file, publish, write, start_of, Counts, field, HasHeader}
+use Rattle.hound_writer.specs.{if_marked, mark_of, IsStored, Asked, Begun, Call, Known, LeftBy, appended, found_in, handed_in, marked, new_file, publish, write, start_of, ChangesSizesOnly, Counts, field, HasHeader}
 
 -- what a call accepted, by what it asked and its mark
 abbrev pub accepted_of : Asked → Bool → List (List ℕ)
@@ -18,6 +19,14 @@ accepted_of publish mark = []
 -- what calls accepted, in their order
 abbrev pub accepted_by_all : List Call → List (List ℕ)
 accepted_by_all calls = flat_map (λ call. accepted_of call.asked (mark_of call.answer)) calls
+
+-- what is known of calls whose marks were seen
+abbrev pub seen : List (Asked × Bool) → List Known
+seen calls = map (λ (one : Asked × Bool). marked one.0 one.1) calls
+
+-- what calls with these marks accepted, in their order
+abbrev pub accepted_as_seen : List (Asked × Bool) → List (List ℕ)
+accepted_as_seen calls = flat_map (λ (one : Asked × Bool). accepted_of one.0 one.1) calls
 
 -- where the first of these calls began; without one, the end of this past
 abbrev pub begins_at : List Call → List (ℕ × ℕ) → ℕ
@@ -61,6 +70,43 @@ module _ (s : WavSpecEx) (start : ℕ) (found : List (List ℕ)) (calls : List C
   HeadAtEach = (k : ℕ) → begins_at calls medium.past ≤ k → k ≤ length medium.past →
       Head (contents_at k) s (field (start - 4) (contents_at k)) start
 
+  -- Before the data only the eight bytes of the two sizes change: in each state all others are as in
+  -- each earlier one.
+  abbrev pub FrontAtEach : Type 0
+  FrontAtEach = (k m : ℕ) → begins_at calls medium.past ≤ k → k ≤ m → m ≤ length medium.past →
+      ChangesSizesOnly start (contents_at k) (contents_at m)
+
+  -- And these change only in a patch: while a call writes samples, all bytes before the data stay.
+  abbrev pub FrontInWrites : Type 0
+  FrontInWrites = (before after : List Call) (call : Call) (k : ℕ) →
+      calls ≡ before ++ (call ∷ after) → (call.asked ≡ publish → ⊥) → call.began ≤ k →
+      k ≤ begins_at after medium.past →
+      take start (contents_at k) ≡ take start (contents_at call.began)
+
+  -- In a patch the length field takes on the bytes of the new length one by one, the low one first:
+  -- in each state it has so many bytes of the length of all accepted samples, and the others from the
+  -- old one. Their number never falls, from 0 to 4, and it is 4 at the return of an Ok or an
+  -- `UnfinishedSample`. Before the first of them is written, all accepted bytes are there.
+  abbrev pub MixedInPatches : Type 0
+  MixedInPatches = (before after : List Call) (patch : Call) →
+      calls ≡ before ++ (patch ∷ after) → patch.asked ≡ publish →
+      let new = length (concat (accepted before)) in
+      (count : ℕ → ℕ) × (count patch.began ≡ 0)
+      × ((k m : ℕ) → k ≤ m → (count k ≤ count m) × (count m ≤ 4))
+      × (HasPublished patch → count (begins_at after medium.past) ≡ 4)
+      × ((k : ℕ) → patch.began ≤ k → k ≤ begins_at after medium.past →
+      (field (start - 4) (contents_at k)
+      ≡ mix (count k) (field (start - 4) (contents_at patch.began)) new)
+      × (1 ≤ count k → start + new ≤ length (contents_at k)))
+
+  -- So it is the old length or the new one, in each state of a patch in which no write of it is cut.
+  abbrev pub OldOrNewInPatches : Type 0
+  OldOrNewInPatches = (before after : List Call) (patch : Call) (k : ℕ) →
+      calls ≡ before ++ (patch ∷ after) → patch.asked ≡ publish → patch.began ≤ k →
+      k ≤ begins_at after medium.past → IsUncut (start - 4) (patch ∷ after) medium.past k →
+      (field (start - 4) (contents_at k) ≡ field (start - 4) (contents_at patch.began))
+      ⊎ (field (start - 4) (contents_at k) ≡ length (concat (accepted before)))
+
   -- An Ok `flush` counts them all: from its return, over further calls that write samples only, to
   -- where the next one begins, the length field is that of all samples accepted before it.
   abbrev pub PublishedByFlushes : Type 0
@@ -90,6 +136,10 @@ module _ (s : WavSpecEx) (start : ℕ) (found : List (List ℕ)) (calls : List C
       a + len ≤ length (concat (accepted before)) →
       IsStored start (concat (accepted before)) a len (contents_at k) →
       IsStored start (concat (accepted before)) a len (contents_at m)
+
+  -- The last state is the medium as it is now.
+  abbrev pub LastIsNow : Type 0
+  LastIsNow = contents_at (length medium.past) ≡ medium.contents
 
   -- Each call began after those before it, within the past.
   abbrev pub BeginInOrder : Type 0
@@ -155,47 +205,51 @@ pub record Promises (s : WavSpecEx) (start : ℕ) (found : List (List ℕ)) (cal
     (medium : MediumState) : Type 0 where
   pub counted : CountedAtEach s start found calls medium
   pub head : HeadAtEach s start found calls medium
+  pub front : FrontAtEach s start found calls medium
+  pub front_in_writes : FrontInWrites s start found calls medium
+  pub mixed : MixedInPatches s start found calls medium
+  pub old_or_new : OldOrNewInPatches s start found calls medium
   pub published : PublishedByFlushes s start found calls medium
   pub never_less : NeverLess s start found calls medium
   pub flushed : FlushedByFlushes s start found calls medium
   pub stored : StoredAtEach s start found calls medium
+  pub now : LastIsNow s start found calls medium
   pub in_order : BeginInOrder s start found calls medium
   pub after_loss : CountedAfterLoss s start found calls medium
   pub kept_after_loss : KeptAfterLoss s start found calls medium
 
--- P for a file that was begun with the header of its spec, by the writer that had these contents
--- first or by one before it
-abbrev pub IfBegun : WavSpecEx → Begun → List ℕ → Type 0 → Type 0
-IfBegun s new_file contents P = P
-IfBegun s (appended start found) contents P = start ≡ data_start s → HasHeader s contents → P
+-- P for a file that was begun with the header of its spec, by this writer or by one before it
+abbrev pub IfBegun : WavSpecEx → Begun → Type 0 → Type 0
+IfBegun s (new_file old) P = P
+IfBegun s (appended old start found) P = start ≡ data_start s → HasHeader s old.contents → P
 
 -- no call of the medium failed between these; past the largest count of faults one more isn't
 -- visible
 abbrev pub NoFault : MediumState → MediumState → Type 0
 NoFault old new = (new.faults ≡ old.faults) × (old.faults < 18446744073709551615)
 
--- What calls leave in a medium whose bytes are known, from what their first writer had: it counts
--- what they accepted, each sample as wide as its spec says; and a file that was begun with the header
--- of its spec is the canonical one at an end that published, and of no more bytes than that or than
--- there were if no call of the medium failed.
+-- What calls leave in a medium whose bytes are known: it counts what they accepted, each sample as
+-- wide as its spec says; and a file that was begun with the header of its spec is the canonical one at
+-- an end that published, and of no more bytes than that or than there were in the medium that was
+-- handed in if no call failed since.
 pub record HoldsAtEnd (s : WavSpecEx) (file : Begun) (calls : List Call)
-    (begun medium : MediumState) : Type 0 where
-  pub sound : file ≡ new_file → IsSoundSpec s
+    (medium : MediumState) : Type 0 where
+  pub sound : IsSoundSpec s
   pub wide : AllByRecursion (λ c. length c ≡ s.bytes_per_sample)
       (found_in file ++ accepted_by_all calls)
   pub counts : Counts s (start_of s file) (found_in file ++ accepted_by_all calls) medium.contents
-  pub exact : IfBegun s file begun.contents (NoFault begun medium →
+  pub exact : IfBegun s file (NoFault (handed_in file) medium →
       (before : List Call) (end : Call) → calls ≡ before ++ (end ∷ []) → end.asked ≡ publish →
       let list = canonical s (found_in file ++ accepted_by_all before) in
       StartsWith medium.contents list
-      × (length medium.contents ≤ max (length begun.contents) (length list)))
-  pub canonical : IfBegun s file begun.contents
+      × (length medium.contents ≤ max (length (handed_in file).contents) (length list)))
+  pub canonical : IfBegun s file
       (CanonicalAtEnd s (start_of s file) (found_in file) calls medium)
 
 -- What calls promise of a medium that records every byte written, once they have led to it.
-pub record Keeps (s : WavSpecEx) (file : Begun) (calls : List Call) (begun medium : MediumState) :
+pub record Keeps (s : WavSpecEx) (file : Begun) (calls : List Call) (medium : MediumState) :
     Type 0 where
-  pub at_end : HoldsAtEnd s file calls begun medium
+  pub at_end : HoldsAtEnd s file calls medium
   pub promises : Promises s (start_of s file) (found_in file) calls medium
 
 -- What a writer has left in a medium whose bytes are known: calls of which these are known, each by
@@ -203,14 +257,13 @@ pub record Keeps (s : WavSpecEx) (file : Begun) (calls : List Call) (begun mediu
 pub record Holds {W : Type 0} (tells keeps : Bool) (state : W → MediumState) (s : WavSpecEx)
     (file : Begun) (known : List Known) (medium : W) : Type 0 where
   pub left : LeftBy tells keeps state s file known medium
-  pub at_end : HoldsAtEnd s file left.recorded.calls (state left.recorded.first.medium)
-      (state medium)
+  pub at_end : HoldsAtEnd s file left.recorded.calls (state medium)
 
 -- The same over a medium that records every byte written: and all that these calls promise.
 pub record Kept {W : Type 0} (tells keeps : Bool) (state : W → MediumState) (s : WavSpecEx)
     (file : Begun) (known : List Known) (medium : W) : Type 0 where
   pub left : LeftBy tells keeps state s file known medium
-  pub promised : Keeps s file left.recorded.calls (state left.recorded.first.medium) (state medium)
+  pub promised : Keeps s file left.recorded.calls (state medium)
 
 -- What a loss of power at the end leaves of a medium that wrote bytes at ascending places only since
 -- it was flushed, the header before that, as the medium within a `Durable` does: it counts, and has
@@ -225,20 +278,29 @@ pub record SurvivesAtEnd (s : WavSpecEx) (start : ℕ) (found : List (List ℕ))
       Counts s start (found ++ accepted_by_all calls) contents
       × LosesNothing s start found calls medium contents
 
--- What a writer over a `Durable` has left: calls of which these are known, each by its contract, led
--- to this durable medium; and what a loss of power leaves of the medium within it.
-pub record KeptWithin {W : Type 0} (tells keeps : Bool) (state : W → MediumState) (s : WavSpecEx)
-    (file : Begun) (known : List Known) (durable : W) (medium : MediumState) : Type 0 where
-  pub left : LeftBy tells keeps state s file known durable
-  pub survives : SurvivesAtEnd s (start_of s file) (found_in file) left.recorded.calls medium
-
--- What is left at some point after so many bytes were written: the contents of a state, or what a
--- loss of power leaves of a medium that has written bytes at ascending places only since it was
--- flushed, if the length field lies within one sector.
+-- What is left at some point after so many bytes were written: the contents as they are now or in an
+-- earlier state, or what a loss of power leaves of a medium that has written bytes at ascending places
+-- only since it was flushed, if the length field lies within one sector.
 abbrev pub IsLeftAfter : ℕ → ℕ → MediumState → List ℕ → Type 0
 IsLeftAfter start from medium contents =
-    ((k : ℕ) × (from ≤ k) × (k ≤ length medium.past)
+    (contents ≡ medium.contents)
+    ⊎ ((k : ℕ) × (from ≤ k) × (k ≤ length medium.past)
     × (contents ≡ moment medium.start medium.past k))
     ⊎ ((f : ℕ) × (k : ℕ) × (sector : ℕ) × (from ≤ f) × (f ≤ k) × (k ≤ length medium.past)
     × Ascends medium.past f k × (1 ≤ sector) × ((start - 4) / sector ≡ (start - 1) / sector)
     × SurvivesLoss sector medium.start medium.past f k contents)
+
+-- What a writer over a `Durable` has left: calls of which these are known, each by its contract, led
+-- to this durable medium; all that these calls promise of it; and what a loss of power leaves of the
+-- medium within it, which is left after each flush that published.
+pub record KeptWithin {W : Type 0} (tells keeps : Bool) (state : W → MediumState) (s : WavSpecEx)
+    (file : Begun) (known : List Known) (durable : W) (medium : MediumState) : Type 0 where
+  pub left : LeftBy tells keeps state s file known durable
+  pub promised : Keeps s file left.recorded.calls (state durable)
+  pub survives : SurvivesAtEnd s (start_of s file) (found_in file) left.recorded.calls medium
+  pub left_after : (before after : List Call) (flush : Call) →
+      left.recorded.calls ≡ before ++ (flush ∷ after) → HasPublished flush →
+      (sector : ℕ) (contents : List ℕ) → 1 ≤ sector →
+      (start_of s file - 4) / sector ≡ (start_of s file - 1) / sector →
+      SurvivesLoss sector medium.start medium.past medium.flushed (length medium.past) contents →
+      IsLeftAfter (start_of s file) (begins_at after (state durable).past) (state durable) contents

@@ -87,9 +87,10 @@ abbrev pub begun_spec : {M : Type 0} → Begin → WriterState M → WavSpecEx
 begun_spec (New spec_ex) first = spec_ex
 begun_spec Append first = first.spec_ex
 
-abbrev pub file_of : {M : Type 0} → (M → MediumState) → Begin → WriterState M → Begun
-file_of state (New spec_ex) first = new_file
-file_of state Append first = appended first.data_start (accepted_samples state first)
+abbrev pub file_of : {M : Type 0} → (M → MediumState) → Begin → M → WriterState M → Begun
+file_of state (New spec_ex) old first = new_file (state old)
+file_of state Append old first =
+    appended (state old) first.data_start (accepted_samples state first)
 
 -- the call of an end
 abbrev pub end_call : {M : Type 0} → (M → MediumState) → WriterState M →
@@ -116,10 +117,10 @@ pub record Ran {M : Type 0} (tells keeps : Bool) (state : M → MediumState) (be
   pub front : WhereTells tells (ChangesSizesOnly first.data_start (state first.medium).contents
       (state medium).contents)
   pub holds : WhereTells tells (IsWhole state first →
-      HoldsAtEnd (begun_spec begin first) (file_of state begin first)
-      (calls ++ (end_call state last finished ∷ [])) (state first.medium) (state medium))
+      HoldsAtEnd (begun_spec begin first) (file_of state begin old first)
+      (calls ++ (end_call state last finished ∷ [])) (state medium))
   pub promises : WhereKeeps tells keeps (IsWhole state first →
-      let s = begun_spec begin first in let file = file_of state begin first in
+      let s = begun_spec begin first in let file = file_of state begin old first in
       Promises s (start_of s file) (found_in file)
       (calls ++ (end_call state last finished ∷ [])) (state medium))
 

@@ -1,21 +1,20 @@
 // What holds for every run.
-ghost use Rattle.std.specs.Prelude.{◌≡◌, ◌<◌, ◌≤◌, ◌-◌, ◌/◌, ℕ, Bool, IsTrue, List, [], ◌∷◌, ◌++◌, Ok, Result, length, map};
-ghost use Rattle.std.specs.List.{flat_map};
+ghost use Rattle.std.specs.Prelude.{◌≡◌, ◌<◌, ◌≤◌, ◌-◌, ◌/◌, ℕ, Bool, true, IsTrue, List, [], ◌∷◌, ◌++◌, Ok, Result, is_ok, length, map};
+ghost use Rattle.std.specs.List.{AllByRecursion, concat};
 ghost use Rattle.hound_spec.specs.declared.error.Error.{Error};
 ghost use Rattle.hound_spec.specs.declared.spec.WavSpecEx.{WavSpecEx};
 ghost use Rattle.hound_spec.specs.{canonical};
 ghost use Rattle.hound_medium.specs.{MediumState, WhereKeeps, WhereTells};
 ghost use Rattle.hound_durable.specs.{within};
-ghost use Rattle.hound_sample.specs.{containers, int_container};
-ghost use Rattle.hound_reader.specs.{IsSoundSpec};
-ghost use Rattle.hound_writer.specs.{mark_of, Accepts, AcceptsEach, short_bytes, AreKnown, Asked, Begun, Call, IsKnown, Known, Lead, Left, asked_by_all, found_in, made, marked, new_file, publish, start_of, IsSameFile, Finishes, WriterState, IsWhole, accepted_samples, data_length, field};
-ghost use Rattle.hound_repair.specs.{held, IsNoPad, ReadsFrames, Repairs};
+ghost use Rattle.hound_sample.specs.{Refusal, containers, int_container};
+ghost use Rattle.hound_writer.specs.{mark_of, AcceptAnswer, Accepts, ChangesSizesOnly, appended, AcceptsEach, short_bytes, AreKnown, Asked, Begun, Call, IsKnown, Known, Lead, Left, asked_by_all, found_in, made, marked, new_file, publish, start_of, IsSameFile, Finishes, WriterState, IsWhole, Recorded, accepted_samples, data_length, field};
+ghost use Rattle.hound_repair.specs.{ReadsFrames, Repairs};
 ghost use Rattle.hound_repair.specs.declared.sizes.Repair.{Repair};
 ghost use Rattle.hound_repair.specs.declared.sizes.RepairState.TheVariants.{HasChunksAfterData};
 ghost use Rattle.hound.specs.declared.session.Begin.TheVariants.{New};
 ghost use Rattle.hound.specs.declared.session.Begin.{Begin};
 ghost use Rattle.hound.specs.declared.session.End.{End};
-ghost use Rattle.hound.specs.Headline.{HasPublished, Holds, IsLeftAfter, Keeps, Kept, KeptWithin, accepted_by_all, accepted_of, begins_at};
+ghost use Rattle.hound.specs.Headline.{HasPublished, Holds, IsLeftAfter, Keeps, Kept, KeptWithin, accepted_as_seen, accepted_by_all, begins_at, seen};
 ghost use Rattle.hound.specs.Run.{BeginsAs, EndsAs, Ran, asked_by, containers_of};
 ghost use Rattle.hound.specs.Sessions.{RunsOn, all_steps};
 
@@ -58,7 +57,7 @@ pub fn a_run_leaves_its_calls<M: Medium>(steps: &[Step])
     ensures { (spec_ex : WavSpecEx) (marks : List Bool) (end : End) (old medium : M)
         (answer : Result Unit Error)
         → Ran M.tells M.keeps M.state (New spec_ex) steps.now marks end old answer medium →
-        Left M.tells M.keeps M.state spec_ex new_file (map (λ step. made (asked_by spec_ex step)) steps.now ++ made publish ∷ []) medium }
+        Left M.tells M.keeps M.state spec_ex (new_file (M.state old)) (map (λ step. made (asked_by spec_ex step)) steps.now ++ made publish ∷ []) medium }
 {}
 
 /// Sessions that were all Ok leave the file of one session of all their steps.
@@ -75,23 +74,20 @@ pub fn sessions_leave_one_file<'a, M: Medium>(spec_ex: WavSpecEx, sessions: &'a 
 /// A repair loses no sample that a flush has published, whatever became of the recorder after it.
 ///
 /// It holds of what any calls of a writer have left in a medium that records every byte written:
-/// from the return of a flush that published on, in each intermediate state, and in what a loss of
-/// power leaves of a medium that wrote bytes at ascending places only since it was flushed, as a
-/// `Durable` does. Frames of the samples accepted before that flush are read first once the contents
-/// are repaired, unless chunks follow the data, or, with frames of one byte and a data length that
-/// is one less than what is held, the last one is taken for a pad byte.
+/// from the return of a flush that published on, now, in each intermediate state, and in what a loss
+/// of power leaves of a medium that wrote bytes at ascending places only since it was flushed, as a
+/// `Durable` does. Once the contents are repaired the file can be read, and frames of the samples
+/// accepted before that flush are read first, unless chunks follow the data.
 pub fn a_repair_loses_no_published_sample()
-    ensures { (s : WavSpecEx) (file : Begun) (calls : List Call) (begun left : MediumState)
-        (kept : Keeps s file calls begun left) (before after : List Call) (flush : Call) (looks : Bool)
-        (cut mended : MediumState) (found : Repair) → IsSoundSpec s
+    ensures { (s : WavSpecEx) (file : Begun) (calls : List Call) (left : MediumState)
+        (kept : Keeps s file calls left) (before after : List Call) (flush : Call) (looks : Bool)
+        (cut mended : MediumState) (found : Repair)
         → calls ≡ before ++ (flush ∷ after) → HasPublished flush
         → IsLeftAfter (start_of s file) (begins_at after left.past) left cut.contents
         → Repairs looks cut found mended
         → (IsTrue looks → found.was ≡ HasChunksAfterData → ⊥) →
-        let published = found_in file ++ accepted_by_all before in
-        IsNoPad s (field (start_of s file - 4) cut.contents) (held (start_of s file) cut.contents)
-        published →
-        (found.spec_ex ≡ s) × ReadsFrames found (start_of s file) published mended.contents }
+        (found.spec_ex ≡ s)
+        × ReadsFrames found (start_of s file) (found_in file ++ accepted_by_all before) mended.contents }
 {}
 
 /// What a writer leaves at its end counts what its calls accepted, and over a medium that records
@@ -106,17 +102,49 @@ pub fn what_is_kept<M: Medium>()
         → Kept M.tells M.keeps M.state s file known medium) }
 {}
 
-/// What a caller knows of calls holds of them, one by one (`among`): so a `flush` that was seen to
-/// publish is one of those that [`what_is_kept`] speaks of. Calls whose marks are all known accepted
-/// what these say (`accepted`).
+/// What a caller knows of calls holds of them, one by one (`among`). Calls whose marks are all known
+/// accepted what these say (`accepted`). So a `flush` that was seen to publish, after calls whose marks
+/// are known, is one of those that [`what_is_kept`] speaks of, and published what these say
+/// (`published`).
 pub fn what_is_known()
     ensures among { (before after : List Known) (one : Known) (calls : List Call)
         → AreKnown (before ++ (one ∷ after)) calls → (first last : List Call) × (call : Call)
         × (calls ≡ first ++ (call ∷ last)) × AreKnown before first × IsKnown one call
         × AreKnown after last }
-    ensures accepted { (seen : List (Asked × Bool)) (calls : List Call)
-        → AreKnown (map (λ (one : Asked × Bool). marked one.0 one.1) seen) calls →
-        accepted_by_all calls ≡ flat_map (λ (one : Asked × Bool). accepted_of one.0 one.1) seen }
+    ensures accepted { (list : List (Asked × Bool)) (calls : List Call) → AreKnown (seen list) calls →
+        accepted_by_all calls ≡ accepted_as_seen list }
+    ensures published { (before : List (Asked × Bool)) (after : List Known) (calls : List Call)
+        → AreKnown (seen before ++ (marked publish true ∷ after)) calls →
+        (first last : List Call) × (flush : Call) × (calls ≡ first ++ (flush ∷ last))
+        × HasPublished flush × (accepted_by_all first ≡ accepted_as_seen before) }
+{}
+
+/// What an Ok flush has published stays counted until the next one begins, also over a medium that
+/// keeps no past: while only samples were written since, the length field is that of all samples
+/// accepted before it.
+pub fn a_flush_lasts<M: Medium>()
+    ensures { WhereTells M.tells ((s : WavSpecEx) (file : Begun) (before later : List Known)
+        (w : WriterState M)
+        → Recorded M.tells M.keeps M.state s file (before ++ (marked publish true ∷ later)) w
+        → AllByRecursion (λ (one : Known). one.asked ≡ publish → ⊥) later →
+        (calls : List Call) × AreKnown before calls
+        × (field (start_of s file - 4) (M.state w.medium).contents
+        ≡ length (concat (found_in file ++ accepted_by_all calls)))) }
+{}
+
+/// The mark of a call for samples is its being Ok: by its answer it is never `UnfinishedSample`, whose
+/// mark at a `flush` is that of an Ok.
+pub fn a_write_is_marked_by_its_ok<M: Medium>()
+    ensures { (asked : Result (List (List ℕ)) Refusal) (w : WriterState M) (answer : Result Unit Error)
+        → AcceptAnswer asked w answer → mark_of answer ≡ is_ok answer }
+{}
+
+/// An append and its end leave each byte before the data except the two sizes, whatever failed.
+pub fn an_append_keeps_the_front<M: Medium>()
+    ensures { WhereTells M.tells ((s : WavSpecEx) (old : MediumState) (start : ℕ)
+        (found : List (List ℕ)) (known : List Known) (medium : M)
+        → Left M.tells M.keeps M.state s (appended old start found) known medium
+        → ChangesSizesOnly start old.contents (M.state medium).contents) }
 {}
 
 /// What a loss of power leaves of the medium within a `Durable` over which a writer was ended: it

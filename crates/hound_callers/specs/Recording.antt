@@ -1,8 +1,9 @@
 -- What a recorder asks of its writer, and what it sees; the checkpoints of a session.
-use Rattle.std.specs.Prelude.{◌≡◌, ◌⊎◌, ℕ, suc, ◌%◌, ◌==◌, Bool, true, false, List, [], ◌∷◌, ◌++◌, map, Result, Ok, IsOk, ◌+◌, ◌<◌, ◌≤◌, length, slice_index_or, Option, None, Some}
+use Rattle.std.specs.Prelude.{◌≡◌, ◌⊎◌, ℕ, ℤ, suc, ◌*◌, ◌%◌, ◌==◌, Bool, true, false, List, [], ◌∷◌, ◌++◌, Result, Ok, Err, IsOk, ◌+◌, ◌<◌, ◌≤◌, length, slice_index_or, Option, None, Some}
 use Rattle.std.specs.Borrow.{Bor}
 use Rattle.std.specs.List.{All, flat_map}
-use Rattle.hound.specs.{Asked, IsWhole, Known, MediumState, ReadsAs, Refusal, WavSpecEx, WriterState, accepted_samples, containers_in, if_marked, made, marked, publish, write}
+use Rattle.hound.specs.{Accepts, Asked, Checkpoints, Error, HasRoom, IsWhole, Known, MediumState, ReadsAs, Refusal, WavSpecEx, WriterState, IsIoError, IsNotRepaired, Stays, accepted_samples, containers_in, if_marked, int_container, made, mark_of, marked, one, one_more, publish, short_bytes, whole_containers, write}
+use Rattle.hound.specs.declared.Error.TheVariants.{OutOfMemory, TooLong}
 use Rattle.hound.specs.declared.session.Step.{Step}
 use Rattle.hound.specs.declared.session.Step.TheVariants.{Flush}
 
@@ -33,10 +34,6 @@ abbrev pub published_calls : {V : Type 0} → (V → Result (List (List ℕ)) Re
     List (Asked × Bool)
 published_calls containers blocks =
     flat_map (λ block. (write (containers block), true) ∷ (publish, true) ∷ []) blocks
-
--- what is known of calls whose marks were seen
-abbrev pub seen : List (Asked × Bool) → List Known
-seen calls = map (λ (one : Asked × Bool). marked one.0 one.1) calls
 
 -- The calls of a block at which a recorder stops: a write that accepted nothing, or a write that
 -- accepted the block and a flush.
@@ -73,6 +70,41 @@ abbrev pub IsLast : List Step → List Bool → ℕ → Option ℕ → Type 0
 IsLast steps marks n None = HasNone steps marks 0 n
 IsLast steps marks n (Some i) =
     (i < n) × IsCheckpoint steps marks i × HasNone steps marks (i + 1) n
+
+-- A call for samples failed, and nothing followed; or it accepted them, and then a flush has this
+-- result.
+abbrev pub WritesAndFlushes : {M : Type 0} → Bool → Bool → (M → MediumState) →
+    Result (List (List ℕ)) Refusal → Result (Unit {0}) Error → WriterState M → WriterState M → Type 0
+WritesAndFlushes {M} tells keeps state asked answer old new =
+    ((e : Error) × (answer ≡ Err e) × Accepts tells keeps state asked (Err e) old new)
+    ⊎ ((mid : WriterState M) × Accepts tells keeps state asked (Ok tt) old mid
+    × Checkpoints tells keeps state answer mid new)
+
+-- why a batch of so many samples isn't made: it has no room in the file, or needs more memory than
+-- the writer has
+abbrev pub IsNoBatch : {M : Type 0} → WriterState M → ℕ → Error → Type 0
+IsNoBatch w count e = ((e ≡ TooLong) × (HasRoom w (2 * count) → ⊥))
+    ⊎ ((e ≡ OutOfMemory) × (length w.buffer < 2 * count))
+
+-- what is known of the calls that write one integer, of which one returned this error: the write, whose
+-- medium was left by a drop, or the end
+abbrev pub one_asked : WavSpecEx → ℤ → Bool → Error → List Known
+one_asked s value false e =
+    marked (write (one (int_container value s.spec.bits_per_sample s.bytes_per_sample))) false
+    ∷ made publish ∷ []
+one_asked s value true e =
+    marked (write (one (int_container value s.spec.bits_per_sample s.bytes_per_sample))) true
+    ∷ marked publish (mark_of {T = Unit {0}} (Err e)) ∷ []
+
+-- why a file that was left isn't mended: the medium doesn't go to its beginning, or isn't repaired
+abbrev pub IsNotMended : MediumState → MediumState → MediumState → Error → Type 0
+IsNotMended left cut back e =
+    (IsIoError e × Stays left back × (back.faults ≡ one_more left.faults))
+    ⊎ (Stays left cut × IsNotRepaired false cut back e)
+
+-- a call with the containers of a batch, by the spec of the file
+abbrev pub batch_asked : WavSpecEx → List ℤ → Asked
+batch_asked s values = write (whole_containers s (short_bytes values))
 
 -- the samples of a call follow those that were accepted before, and the file is read as all of these
 abbrev pub IsPublished : {M : Type 0} → (M → MediumState) → Result (List (List ℕ)) Refusal →

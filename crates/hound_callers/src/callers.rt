@@ -1,13 +1,13 @@
 // Functions of a user of the library, whose contracts follow from its public ones.
-ghost use Rattle.std.specs.Prelude.{◌≡◌, ℕ, suc, ◌+◌, ◌-◌, ◌/◌, ◌<◌, ◌≤◌, ◌++◌, ◌⊎◌, Bool, false, true, List, length, map, drop, [], ◌∷◌, slice_index_or, None, Some, Ok, Result, IfOk, IfSome, MatchResult, OnOk};
+ghost use Rattle.std.specs.Prelude.{◌≡◌, ℕ, suc, ◌+◌, ◌-◌, ◌/◌, ◌<◌, ◌≤◌, ◌++◌, ◌⊎◌, Bool, false, true, List, length, map, drop, [], ◌∷◌, slice_index_or, None, Some, Ok, Err, Result, IfErr, IfOk, IfSome, MatchResult, OnOk};
 ghost use Rattle.std.specs.List.{concat};
-ghost use Rattle.hound.specs.{Asked, Begun, Call, found_in, start_of, IsSoundSpec, IsSameFile, containers, AreContainers, Counts, canonical, data_start, Around, HasPublished, IsLeftAfter, Keeps, LosesNothing, accepted_by_all, begins_at, held, SurvivesLoss, one, samples_left, OpensAs, IsNoPad, ReadsFrames, IsIoError, IsSixteen, IsSession, Ran, all_calls, accepted_by_steps, field, MediumState, WhereKeeps, WhereTells, Error, IsWritable, IsWhole, accepted_samples, sample_count, WavSpecEx, container_at, meaning_at, refusal_at, samples_before, unread};
+ghost use Rattle.hound.specs.{Accepts, AcceptsEach, Asked, Begun, Call, Checkpoints, found_in, start_of, GivesItems, IsNext, IsSameFile, ReaderState, RepairsMedium, Seeks, WriterState, containers, AreContainers, Counts, canonical, data_start, Around, HasPublished, IsLeftAfter, Keeps, LosesNothing, accepted_by_all, begins_at, SurvivesLoss, one, one_more, samples_left, OpensAs, ReadsFrames, IsIoError, IsSixteen, IsSession, Ran, all_calls, accepted_by_steps, MediumState, WhereKeeps, WhereTells, Error, IsWritable, IsWhole, accepted_samples, sample_count, WavSpecEx, container_at, meaning_at, refusal_at, samples_before, unread};
 ghost use Rattle.hound.specs.declared.Error.TheVariants.{OutOfMemory};
 ghost use Rattle.hound.specs.declared.session.Begin.TheVariants.{New};
 ghost use Rattle.hound.specs.declared.session.End.{End};
 ghost use Rattle.hound.specs.declared.session.End.TheVariants.{Drop};
 ghost use Rattle.hound.specs.declared.session.Step.TheVariants.{Flush};
-ghost use Rattle.hound_callers.specs.Recording.{IsLast, IsPublished};
+ghost use Rattle.hound_callers.specs.Recording.{IsLast, IsPublished, WritesAndFlushes};
 
 use hound::{
     Begin, Durable, End, Error, Medium, Placed, Repair, Sample, Source, Step, WavReader, WavSpecEx,
@@ -18,22 +18,29 @@ use hound::{
 use std::alloc::Global;
 use std::{io, result};
 
-/// Publishes what was accepted so far, and says how many samples these are.
+/// Publishes what was accepted so far, and says how many samples these are. An error is that of the
+/// flush.
 pub fn publish<M: Medium>(writer: &mut WavWriter<M>) -> hound::Result<u32>
-    ensures { (count : ℕ) → result ≡ Ok count → count ≡ sample_count writer.old }
+    ensures { MatchResult result (λ count. (count ≡ sample_count writer.old)
+        × Checkpoints M.tells M.keeps M.state (Ok tt) writer.old writer.new)
+        (λ e. Checkpoints M.tells M.keeps M.state (Err e) writer.old writer.new) }
 {
     writer.flush()?;
     Ok(writer.len())
 }
 
-/// Writes a sample and publishes it: the file is then read as the samples before and this one.
+/// Writes a sample and publishes it: the file is then read as the samples before and this one
+/// (`published`). An error is that of one of these calls, and there is no other (`calls`).
 pub fn record_checkpoint<S: Sample, M: Medium>(
     writer: &mut WavWriter<M>,
     sample: S,
 ) -> hound::Result<()>
-    ensures { WhereTells M.tells (IsWhole M.state writer.old → OnOk result (IsPublished M.state
+    ensures published { WhereTells M.tells (IsWhole M.state writer.old → OnOk result (IsPublished M.state
         (one (S.container sample writer.old.spec_ex.spec.bits_per_sample writer.old.spec_ex.bytes_per_sample))
         writer.old writer.new)) }
+    ensures calls { WritesAndFlushes M.tells M.keeps M.state
+        (one (S.container sample writer.old.spec_ex.spec.bits_per_sample writer.old.spec_ex.bytes_per_sample))
+        result writer.old writer.new }
 {
     writer.write_sample(sample)?;
     writer.flush()
@@ -96,52 +103,69 @@ pub fn record_through_a_loss<M: Source + Medium>(
     (medium, last_checkpoint(steps, marks))
 }
 
-/// Repairs what a recorder has left, whoever made its calls, over whichever medium: no sample is
-/// missing that one of its flushes has published, whether calls failed or the power went. With
-/// frames of one byte, what is left must not hold exactly one byte more than its data length counts.
+/// Repairs what a recorder has left, whoever made its calls, over whichever medium: it does what
+/// `repair_to_end` does (`repaired`), and no sample is missing that one of the recorder's flushes has
+/// published, whether calls failed or the power went (`none_lost`).
 pub fn repair_recording<N: Source + Medium>(left: N) -> result::Result<(N, Repair), (N, Error)>
     requires place { WhereTells N.tells ((N.state left).place ≡ 0) }
-    ensures { WhereTells N.tells ((s : WavSpecEx) (file : Begun) (calls : List Call)
-        (begun recorded : MediumState) (kept : Keeps s file calls begun recorded) (before after : List Call)
-        (flush : Call) → IsSoundSpec s → calls ≡ before ++ (flush ∷ after) → HasPublished flush
+    ensures repaired { WhereTells N.tells (RepairsMedium false N.state left result) }
+    ensures none_lost { WhereTells N.tells ((s : WavSpecEx) (file : Begun) (calls : List Call)
+        (recorded : MediumState) (kept : Keeps s file calls recorded) (before after : List Call)
+        (flush : Call) → calls ≡ before ++ (flush ∷ after) → HasPublished flush
         → IsLeftAfter (start_of s file) (begins_at after recorded.past) recorded
         (N.state left).contents →
-        let published = found_in file ++ accepted_by_all before in
-        IsNoPad s (field (start_of s file - 4) (N.state left).contents)
-        (held (start_of s file) (N.state left).contents) published →
         IfOk result (λ done. (done.1.spec_ex ≡ s) × ReadsFrames done.1 (start_of s file)
-        published (N.state done.0).contents)) }
+        (found_in file ++ accepted_by_all before) (N.state done.0).contents)) }
 {
     a_repair_loses_no_published_sample();
     repair_to_end(left)
 }
 
-/// Writes all samples that a reader has left, whatever the widths of the two are.
-pub fn convert<R: io::Read + Drop, M: Medium>(
+/// Writes all samples that a reader has left, whatever the widths of the two are: at an Ok all these
+/// values were written, one by one. At an error those before it were; it is that of the next item, or
+/// of the call that wrote it.
+pub fn convert<S: Sample, R: io::Read + Drop, M: Medium>(
     reader: &mut WavReader<R>,
     writer: &mut WavWriter<M>,
 ) -> hound::Result<()>
-    ensures { OnOk result (sample_count writer.new ≡ sample_count writer.old + samples_left reader.old) }
+    ensures { MatchResult result
+        (λ _. (values : List S) × (end : ReaderState R) × (length values ≡ samples_left reader.old)
+        × GivesItems R.remaining S.refusal S.meaning (map Ok values) reader.old end
+        × AcceptsEach M.tells M.keeps M.state S.container values writer.old writer.new)
+        (λ e. (values : List S) × (next : Result S Error) × (end : ReaderState R) × (last : WriterState M)
+        × GivesItems R.remaining S.refusal S.meaning (map Ok values ++ next ∷ []) reader.old end
+        × AcceptsEach M.tells M.keeps M.state S.container values writer.old last
+        × MatchResult next (λ value. Accepts M.tells M.keeps M.state
+        (one (S.container value last.spec_ex.spec.bits_per_sample last.spec_ex.bytes_per_sample)) (Err e) last writer.new)
+        (λ why. (why ≡ e) × (writer.new ≡ last))) }
 {
-    for sample in reader.samples::<i32>() {
+    an_iterator_gives_what_it_hints::<R, S>();
+    for sample in reader.samples::<S>() {
         writer.write_sample(sample?)?;
     }
     Ok(())
 }
 
-/// The first sample of a frame: that of its container, or an `IoError`, for a reader that has read
-/// nothing yet and a type that reads the file.
-pub fn sample_at<S: Sample, R: Source>(reader: WavReader<R>, time: u32) -> hound::Result<Option<S>>
-    requires { reader.bytes_read ≡ 0 }
-    ensures { WhereTells R.tells (time < reader.num_samples / reader.spec_ex.spec.channels
-        → refusal_at S.refusal reader.spec_ex ≡ None → MatchResult result (λ sample. sample
-        ≡ Some (meaning_at S.meaning reader.spec_ex (container_at reader.spec_ex.bytes_per_sample
-        (samples_before time reader.spec_ex) (unread (R.state reader.reader))))) IsIoError) }
+/// The first sample of a frame, by a reader that has read nothing yet: that of its container, or an
+/// `IoError`, for a type that reads the file (`sample`). An error is a fault of the seek, or the item
+/// after it (`err`).
+pub fn sample_at<S: Sample, R: Source>(
+    reader: &mut WavReader<R>,
+    time: u32,
+) -> hound::Result<Option<S>>
+    requires { reader.old.bytes_read ≡ 0 }
+    ensures sample { WhereTells R.tells (time < reader.old.num_samples / reader.old.spec_ex.spec.channels
+        → refusal_at S.refusal reader.old.spec_ex ≡ None → MatchResult result (λ sample. sample
+        ≡ Some (meaning_at S.meaning reader.old.spec_ex (container_at reader.old.spec_ex.bytes_per_sample
+        (samples_before time reader.old.spec_ex) (unread (R.state reader.old.reader))))) IsIoError) }
+    ensures err { WhereTells R.tells (IfErr result (λ e.
+        (IsIoError e × ((R.state reader.new.reader).faults ≡ one_more (R.state reader.old.reader).faults))
+        ⊎ ((mid end : ReaderState R) × Seeks R.state time reader.old mid
+        × IsNext R.remaining S.refusal S.meaning (Some (Err e)) mid end))) }
 {
     a_seek_leads_to_its_frame::<R, S>();
-    let mut reader = reader;
     reader.seek(time)?;
-    reader.into_samples().next().transpose()
+    reader.samples().next().transpose()
 }
 
 /// All samples that a reader has left, for a type that reads the file: the meanings of its

@@ -3,6 +3,7 @@
 #![tactic(auto)]
 
 mod callers;
+mod editing;
 mod either;
 mod example;
 mod reading;
@@ -13,12 +14,13 @@ pub use callers::{
     convert, give_up_batch, open_written, publish, record_checkpoint, record_through_a_loss,
     repair_recording, sample_at, samples_of,
 };
+pub use editing::append_blocks;
 pub use either::EitherSample;
 pub use example::record_and_read;
 pub use reading::{read_block, read_from, reopen};
 pub use recording::{
     finish_durable, pack_one, record, record_at_once, record_batch, record_checkpoints,
-    record_mixed, record_steps, record_twelve, record_twelve_and_repair,
+    record_mixed, record_safely, record_steps, record_twelve, record_twelve_and_repair,
     record_twelve_through_a_loss, write_if_short,
 };
 pub use twelve::Twelve;

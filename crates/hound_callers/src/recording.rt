@@ -1,19 +1,19 @@
 // Recorders that make their calls themselves.
-ghost use Rattle.std.specs.Prelude.{◌≡◌, ◌⊎◌, ◌-◌, ◌/◌, ◌<◌, ◌≤◌, ℕ, true, List, ◌∷◌, ◌++◌, [], ⊤, Ok, MatchResult, IsFalse, IsOk, IfErr, IsTrue, OnErr, OnOk, drop, length, map, take};
-ghost use Rattle.std.specs.List.{All, flat_map};
-ghost use Rattle.hound.specs.{AcceptAnswer, IsPublishing, one, Begun, Call, Known, Left, Recorded, made, new_file, publish, write, containers, int_container, Around, within, HasPublished, Kept, KeptWithin, accepted_by_all, canonical, data_start, held, AcceptsEach, Ascends, WritesToBatch, containers_in, fits, remaining, signed_bytes_of, IsNoPad, ReadsFrames, IsSixteen, Ran, asked_by, containers_of, field, MediumState, WhereKeeps, WhereTells, WriterState, IsWhole, accepted_samples, data_length, WavSpecEx};
+ghost use Rattle.std.specs.Prelude.{◌≡◌, ◌⊎◌, ◌-◌, ◌/◌, ◌<◌, ◌≤◌, ℕ, Bool, false, true, List, ◌∷◌, ◌++◌, [], Ok, MatchResult, IsFalse, IsOk, IfOk, IfErr, IsErrAnd, IsTrue, OnErr, OnOk, drop, length, map, replicate, take};
+ghost use Rattle.std.specs.List.{All};
+ghost use Rattle.hound.specs.{Finishes, IsNotBegun, MediumState, Repair, Repairs, SurvivesLoss, one, Begun, Call, Known, Left, Recorded, made, mark_of, marked, new_file, publish, seen, write, int_container, Around, within, HasPublished, Kept, KeptWithin, accepted_by_all, canonical, data_start, AcceptsEach, Ascends, WritesToBatch, containers_in, fits, remaining, signed_bytes_of, ReadsFrames, IsSixteen, Ran, asked_by, containers_of, WhereKeeps, WhereTells, WriterState, IsWhole, accepted_samples, data_length, WavSpecEx};
 ghost use Rattle.hound.specs.declared.session.Begin.TheVariants.{New};
-ghost use Rattle.hound.specs.declared.session.End.TheVariants.{Finalize};
+ghost use Rattle.hound.specs.declared.session.End.TheVariants.{Drop, Finalize};
 ghost use Rattle.hound.specs.declared.session.Step.TheVariants.{Whole};
-ghost use Rattle.hound_callers.specs.Recording.{HaveContainers, IsPublished, IsStopped, StopsAt, all_asked, block_asks, containers_by, published_calls, recorder_asks, seen};
+ghost use Rattle.hound_callers.specs.Recording.{HaveContainers, IsNoBatch, IsNotMended, IsPublished, IsStopped, StopsAt, WritesAndFlushes, all_asked, batch_asked, block_asks, containers_by, one_asked, published_calls, recorder_asks};
 
 use crate::twelve::Twelve;
 use hound::{
     Begin, Durable, End, Error, Medium, Placed, Repair, Sample, SampleWriter16, Source, Step,
     WavSpecEx, WavWriter, a_batch_is_its_values, a_block_is_its_samples, a_durable_medium_ascends,
-    a_repair_loses_no_published_sample, a_run_leaves_its_calls, calls_are_a_run, repair_to_end,
-    run_session, sessions_leave_one_file, short_integers_are_kept, what_a_loss_leaves,
-    what_is_kept, what_is_known,
+    a_repair_loses_no_published_sample, a_run_leaves_its_calls, a_write_is_marked_by_its_ok,
+    calls_are_a_run, repair_to_end, run_session, sessions_leave_one_file, short_integers_are_kept,
+    what_a_loss_leaves, what_is_kept, what_is_known,
 };
 use std::alloc::Global;
 use std::result;
@@ -35,8 +35,20 @@ fn record_block<S: Sample + Copy, M: Medium>(
     }
 }
 
-/// Records blocks of samples into a new file, with a flush after every fourth, whatever the results
-/// of these calls are.
+// Writes blocks, with a flush after every fourth, whatever the results are.
+pub(crate) fn record_blocks<S: Sample + Copy, M: Medium>(writer: &mut WavWriter<M>, blocks: &[&[S]])
+    ensures { (s : WavSpecEx) (file : Begun) (known : List Known)
+        → Recorded M.tells M.keeps M.state s file known writer.old
+        → Recorded M.tells M.keeps M.state s file
+        (known ++ recorder_asks (containers_by S.container s) 0 blocks.now) writer.new }
+{
+    for i in 0..blocks.len() {
+        record_block(writer, blocks[i], i % 4 == 3);
+    }
+}
+
+/// Records blocks of samples into a new file in this very medium, with a flush after every fourth,
+/// whatever the results of these calls are.
 pub fn record<S: Sample + Copy, M: Source + Medium>(
     medium: M,
     spec_ex: WavSpecEx,
@@ -44,14 +56,12 @@ pub fn record<S: Sample + Copy, M: Source + Medium>(
 ) -> result::Result<WavWriter<M>, (M, Error)>
     requires { WhereTells M.tells ((M.state medium).place ≡ 0) }
     ensures { MatchResult result
-        (Recorded M.tells M.keeps M.state spec_ex new_file (recorder_asks (containers_by S.container spec_ex) 0 blocks.now))
-        (λ _. ⊤) }
+        (Recorded M.tells M.keeps M.state spec_ex (new_file (M.state medium)) (recorder_asks (containers_by S.container spec_ex) 0 blocks.now))
+        (λ refused. IsNotBegun M.tells M.keeps M.state spec_ex medium refused.0 refused.1) }
 {
-    let mut writer = WavWriter::try_new(medium, spec_ex)?;
-    for i in 0..blocks.len() {
-        record_block(&mut writer, blocks[i], i % 4 == 3);
-    }
-    Ok(writer)
+    let mut recorder = WavWriter::try_new(medium, spec_ex)?;
+    record_blocks(&mut recorder, blocks);
+    Ok(recorder)
 }
 
 /// Records blocks of twelve-bit samples as [`record`] does, and ends the file: these calls were made,
@@ -63,12 +73,11 @@ pub fn record_twelve<M: Source + Medium>(
     blocks: &[&[Twelve]],
 ) -> result::Result<M, (M, Error)>
     requires { WhereTells M.tells ((M.state medium).place ≡ 0) }
-    ensures left { MatchResult result (λ left. Left M.tells M.keeps M.state spec_ex new_file
+    ensures left { MatchResult result (λ left. Left M.tells M.keeps M.state spec_ex (new_file (M.state medium))
         (all_asked ⟦<Twelve as Sample>⟧.container spec_ex blocks.now) left)
-        (λ _. ⊤) }
-    ensures kept { MatchResult result (λ left. WhereKeeps M.tells M.keeps
-        (Kept M.tells M.keeps M.state spec_ex new_file (all_asked ⟦<Twelve as Sample>⟧.container spec_ex blocks.now) left))
-        (λ _. ⊤) }
+        (λ refused. IsNotBegun M.tells M.keeps M.state spec_ex medium refused.0 refused.1) }
+    ensures kept { IfOk result (λ left. WhereKeeps M.tells M.keeps
+        (Kept M.tells M.keeps M.state spec_ex (new_file (M.state medium)) (all_asked ⟦<Twelve as Sample>⟧.container spec_ex blocks.now) left)) }
 {
     what_is_kept::<M>();
     let (medium, _) = record(medium, spec_ex, blocks)?.finalize_into();
@@ -87,9 +96,11 @@ pub fn record_twelve_through_a_loss<M: Source + Medium>(
     requires place { WhereTells M.tells ((M.state medium).place ≡ 0) }
     requires past { WhereKeeps M.tells M.keeps ((M.state medium).past ≡ []) }
     requires flushed { WhereKeeps M.tells M.keeps ((M.state medium).flushed ≡ 0) }
-    ensures { MatchResult result (λ left. WhereKeeps M.tells M.keeps
-        (Around (M.state medium) (M.state left) (λ _ durable. KeptWithin M.tells M.keeps (⟦<Durable<M> as Placed>⟧.state) spec_ex new_file (all_asked ⟦<Twelve as Sample>⟧.container spec_ex blocks.now) durable (within durable))))
-        (λ _. ⊤) }
+    ensures { let state = ⟦<Durable<M> as Placed>⟧.state in
+        MatchResult result (λ left. WhereKeeps M.tells M.keeps
+        (Around (M.state medium) (M.state left) (λ first last. KeptWithin M.tells M.keeps state spec_ex (new_file (state first)) (all_asked ⟦<Twelve as Sample>⟧.container spec_ex blocks.now) last (within last))))
+        (λ refused. Around (M.state medium) (M.state refused.0) (λ first last.
+        IsNotBegun M.tells M.keeps state spec_ex first last refused.1)) }
 {
     let writer = match record(Durable::new(medium), spec_ex, blocks) {
         Ok(writer) => writer,
@@ -154,15 +165,17 @@ pub fn record_checkpoints<M: Source + Medium>(
     requires place { WhereTells M.tells ((M.state medium).place ≡ 0) }
     requires past { WhereKeeps M.tells M.keeps ((M.state medium).past ≡ []) }
     requires flushed { WhereKeeps M.tells M.keeps ((M.state medium).flushed ≡ 0) }
-    ensures { MatchResult result (λ done. (done.1 ≤ length blocks.now)
+    ensures { let state = ⟦<Durable<M> as Placed>⟧.state in
+        MatchResult result (λ done. (done.1 ≤ length blocks.now)
         × WhereKeeps M.tells M.keeps (
-        Around (M.state medium) (M.state done.0) (λ _ durable. (more : List Known)
+        Around (M.state medium) (M.state done.0) (λ first last. (more : List Known)
         × StopsAt (containers_by ⟦<Twelve as Sample>⟧.container spec_ex) (drop done.1 blocks.now) more
-        × (kept : KeptWithin M.tells M.keeps (⟦<Durable<M> as Placed>⟧.state) spec_ex new_file ((seen (published_calls (containers_by ⟦<Twelve as Sample>⟧.container spec_ex) (take done.1 blocks.now)) ++ more) ++ made publish ∷ []) durable (within durable))
+        × (kept : KeptWithin M.tells M.keeps state spec_ex (new_file (state first)) ((seen (published_calls (containers_by ⟦<Twelve as Sample>⟧.container spec_ex) (take done.1 blocks.now)) ++ more) ++ made publish ∷ []) last (within last))
         × (0 < done.1 → (before after : List Call) × (flush : Call)
         × (kept.left.recorded.calls ≡ before ++ (flush ∷ after)) × HasPublished flush
         × HaveContainers (containers_by ⟦<Twelve as Sample>⟧.container spec_ex) (take done.1 blocks.now) (accepted_by_all before)))))
-        (λ _. ⊤) }
+        (λ refused. Around (M.state medium) (M.state refused.0) (λ first last.
+        IsNotBegun M.tells M.keeps state spec_ex first last refused.1)) }
 {
     what_is_known();
     let mut writer = match WavWriter::try_new(Durable::new(medium), spec_ex) {
@@ -175,24 +188,52 @@ pub fn record_checkpoints<M: Source + Medium>(
     Ok((durable.into_inner(), published))
 }
 
+/// Records as [`record_checkpoints`] does, and returns how many blocks are safe: whatever a loss of
+/// power leaves of them, once that is repaired the samples of these blocks are read first, as many as
+/// whole frames have.
+pub fn record_safely<M: Source + Medium>(
+    medium: M,
+    spec_ex: WavSpecEx,
+    blocks: &[&[Twelve]],
+) -> result::Result<(M, usize), (M, Error)>
+    requires place { WhereTells M.tells ((M.state medium).place ≡ 0) }
+    requires past { WhereKeeps M.tells M.keeps ((M.state medium).past ≡ []) }
+    requires flushed { WhereKeeps M.tells M.keeps ((M.state medium).flushed ≡ 0) }
+    ensures within { IfOk result (λ done. done.1 ≤ length blocks.now) }
+    ensures safe { MatchResult result (λ done. WhereKeeps M.tells M.keeps (0 < done.1 → (list : List (List ℕ))
+        × HaveContainers (containers_by ⟦<Twelve as Sample>⟧.container spec_ex) (take done.1 blocks.now) list
+        × ((sector : ℕ) (cut mended : MediumState) (found : Repair) → 1 ≤ sector
+        → (data_start spec_ex - 4) / sector ≡ (data_start spec_ex - 1) / sector
+        → (let s = M.state done.0 in
+        SurvivesLoss sector s.start s.past s.flushed (length s.past) cut.contents)
+        → Repairs false cut found mended →
+        (found.spec_ex ≡ spec_ex) × ReadsFrames found (data_start spec_ex) list mended.contents)))
+        (λ refused. Around (M.state medium) (M.state refused.0) (λ first last.
+        IsNotBegun M.tells M.keeps (⟦<Durable<M> as Placed>⟧.state) spec_ex first last refused.1)) }
+{
+    a_repair_loses_no_published_sample();
+    record_checkpoints(medium, spec_ex, blocks)
+}
+
 /// Records blocks of twelve-bit samples as [`record`] does, drops the writer, whatever its end did,
-/// and repairs the file: no sample is missing that a flush has published. With frames of one byte,
-/// what is left must not hold exactly one byte more than its data length counts.
+/// and repairs the file: no sample is missing that a flush has published (`none_lost`). An error is
+/// that of the constructor, or of the repair of what was left (`err`).
 pub fn record_twelve_and_repair<M: Source + Medium>(
     medium: M,
     spec_ex: WavSpecEx,
     blocks: &[&[Twelve]],
 ) -> result::Result<(M, Repair), (M, Error)>
     requires { WhereTells M.tells ((M.state medium).place ≡ 0) }
-    ensures { MatchResult result (λ done. WhereKeeps M.tells M.keeps ((left : M)
-        × (kept : Kept M.tells M.keeps M.state spec_ex new_file (all_asked ⟦<Twelve as Sample>⟧.container spec_ex blocks.now) left)
+    ensures none_lost { IfOk result (λ done. WhereKeeps M.tells M.keeps ((left : M)
+        × (kept : Kept M.tells M.keeps M.state spec_ex (new_file (M.state medium)) (all_asked ⟦<Twelve as Sample>⟧.container spec_ex blocks.now) left)
         × ((before after : List Call) (flush : Call) → kept.left.recorded.calls ≡ before ++ (flush ∷ after)
-        → HasPublished flush
-        → IsNoPad spec_ex (field (data_start spec_ex - 4) (M.state left).contents)
-        (held (data_start spec_ex) (M.state left).contents) (accepted_by_all before) →
+        → HasPublished flush →
         (done.1.spec_ex ≡ spec_ex)
-        × ReadsFrames done.1 (data_start spec_ex) (accepted_by_all before) (M.state done.0).contents)))
-        (λ _. ⊤) }
+        × ReadsFrames done.1 (data_start spec_ex) (accepted_by_all before) (M.state done.0).contents))) }
+    ensures err { IfErr result (λ refused.
+        IsNotBegun M.tells M.keeps M.state spec_ex medium refused.0 refused.1
+        ⊎ ((left cut : M) × Left M.tells M.keeps M.state spec_ex (new_file (M.state medium)) (all_asked ⟦<Twelve as Sample>⟧.container spec_ex blocks.now) left
+        × WhereTells M.tells (IsNotMended (M.state left) (M.state cut) (M.state refused.0) refused.1))) }
 {
     what_is_kept::<M>();
     a_repair_loses_no_published_sample();
@@ -204,8 +245,8 @@ pub fn record_twelve_and_repair<M: Source + Medium>(
     repair_to_end(medium)
 }
 
-/// Records steps into a new file, whatever the results are: if it was begun, what is left keeps all
-/// that the calls of these steps promise.
+/// Records steps into a new file, whatever the results are: if it was begun, this was a run with these
+/// marks (`run`), and what is left keeps all that the calls of these steps promise (`kept`).
 pub fn record_steps<M: Source + Medium>(
     alloc: Global,
     medium: M,
@@ -215,9 +256,12 @@ pub fn record_steps<M: Source + Medium>(
 ) -> result::Result<M, (M, Error)>
     requires place { WhereTells M.tells ((M.state medium).place ≡ 0) }
     requires size { length steps.now ≡ length marks.old }
-    ensures { MatchResult result (λ left. WhereKeeps M.tells M.keeps
-        (Kept M.tells M.keeps M.state spec_ex new_file (map (λ step. made (asked_by spec_ex step)) steps.now ++ made publish ∷ []) left))
-        (λ _. ⊤) }
+    ensures run { MatchResult result
+        (Ran M.tells M.keeps M.state (New spec_ex) steps.now marks.new Drop medium (Ok tt))
+        (λ refused. IsNotBegun M.tells M.keeps M.state spec_ex medium refused.0 refused.1
+        × (marks.new ≡ replicate (length steps.now) false)) }
+    ensures kept { IfOk result (λ left. WhereKeeps M.tells M.keeps
+        (Kept M.tells M.keeps M.state spec_ex (new_file (M.state medium)) (map (λ step. made (asked_by spec_ex step)) steps.now ++ made publish ∷ []) left)) }
 {
     what_is_kept::<M>();
     a_run_leaves_its_calls::<M>(steps);
@@ -228,7 +272,8 @@ pub fn record_steps<M: Source + Medium>(
 }
 
 /// Writes a file of one integer into an empty medium by calls of its own: at an Ok it is there, and
-/// nothing else (`exact`), and these calls are a run, with all that a run promises (`run`).
+/// nothing else (`exact`), and these calls are a run, with all that a run promises (`run`). An error
+/// is that of the constructor, of the sample, or of the end (`err`).
 pub fn pack_one<M: Source + Medium>(
     medium: M,
     spec_ex: WavSpecEx,
@@ -236,12 +281,15 @@ pub fn pack_one<M: Source + Medium>(
 ) -> result::Result<M, (M, Error)>
     requires place { WhereTells M.tells ((M.state medium).place ≡ 0) }
     requires empty { (M.state medium).contents ≡ [] }
-    ensures run { MatchResult result (λ left. Ran M.tells M.keeps M.state (New spec_ex) (Whole value ∷ []) (true ∷ []) Finalize medium (Ok tt) left)
-        (λ _. ⊤) }
-    ensures exact { MatchResult result (λ left. WhereTells M.tells ((M.state left).contents ≡ canonical spec_ex (containers_of spec_ex (Whole value ∷ []))))
-        (λ _. ⊤) }
+    ensures run { IfOk result (Ran M.tells M.keeps M.state (New spec_ex) (Whole value ∷ []) (true ∷ []) Finalize medium (Ok tt)) }
+    ensures exact { IfOk result (λ left. WhereTells M.tells ((M.state left).contents ≡ canonical spec_ex (containers_of spec_ex (Whole value ∷ [])))) }
+    ensures err { IfErr result (λ refused.
+        IsNotBegun M.tells M.keeps M.state spec_ex medium refused.0 refused.1
+        ⊎ ((mark : Bool) × Left M.tells M.keeps M.state spec_ex (new_file (M.state medium))
+        (one_asked spec_ex value mark refused.1) refused.0)) }
 {
     let steps = [Step::Whole(value)];
+    a_write_is_marked_by_its_ok::<M>();
     calls_are_a_run::<M>(&steps);
     sessions_leave_one_file::<M>(spec_ex, &[&steps[..]]);
     let mut writer = WavWriter::try_new(medium, spec_ex)?;
@@ -267,8 +315,9 @@ fn record_singles<S: Sample + Copy, M: Medium>(writer: &mut WavWriter<M>, single
     }
 }
 
-/// Writes a batch, which is accepted by one call (`recorded`). At an Ok it accepted what its values
-/// would have been accepted as one by one (`same`).
+/// Writes a batch, which is accepted by one call; where there is no room for it, or no memory, the
+/// writer stays as it was (`recorded`). At an Ok it accepted what its values would have been accepted
+/// as one by one (`same`).
 pub fn record_batch<M: Medium>(
     alloc: Global,
     writer: &mut WavWriter<M>,
@@ -281,10 +330,10 @@ pub fn record_batch<M: Medium>(
         × (data_length writer.new ≡ data_length each))) }
     ensures recorded { (s : WavSpecEx) (file : Begun) (known : List Known)
         → Recorded M.tells M.keeps M.state s file known writer.old
-        → (Recorded M.tells M.keeps M.state s file known writer.new)
-        ⊎ (let bytes = flat_map (signed_bytes_of 2) batch.now in
-        Recorded M.tells M.keeps M.state s file
-        (known ++ made (write (Ok (containers s.bytes_per_sample (length bytes / s.bytes_per_sample) bytes))) ∷ []) writer.new) }
+        → (IsErrAnd result (IsNoBatch writer.old (length batch.now))
+        × Recorded M.tells M.keeps M.state s file known writer.new)
+        ⊎ Recorded M.tells M.keeps M.state s file
+        (known ++ marked (batch_asked s batch.now) (mark_of result) ∷ []) writer.new }
 {
     if batch.len() > u32::MAX as usize {
         return Err(Error::TooLong);
@@ -297,36 +346,40 @@ pub fn record_batch<M: Medium>(
     values.flush()
 }
 
-/// Records single samples of eight bits and then a batch of sixteen into a new file, and ends it:
-/// what is left holds all that these calls promise. A batch that finds no memory or no room isn't
-/// among them.
+/// Records single samples of eight bits and then a batch of sixteen into a new file, and ends it, and
+/// returns what became of the batch: what is left holds all that these calls promise. A batch that
+/// found no room or no memory isn't among them.
 pub fn record_mixed<M: Source + Medium>(
     alloc: Global,
     medium: M,
     spec_ex: WavSpecEx,
     singles: &[i8],
     batch: &[i16],
-) -> result::Result<M, (M, Error)>
+) -> result::Result<(M, hound::Result<()>), (M, Error)>
     requires place { WhereTells M.tells ((M.state medium).place ≡ 0) }
     requires sixteen { IsSixteen spec_ex }
-    ensures { MatchResult result (λ left. WhereKeeps M.tells M.keeps (
+    ensures { MatchResult result (λ done.
         let asked = map (λ v. made (write (one (⟦<i8 as Sample>⟧.container v spec_ex.spec.bits_per_sample spec_ex.bytes_per_sample)))) singles.now in
-        let bytes = flat_map (signed_bytes_of 2) batch.now in
-        (Kept M.tells M.keeps M.state spec_ex new_file (asked ++ made publish ∷ []) left)
-        ⊎ (Kept M.tells M.keeps M.state spec_ex new_file ((asked ++ made (write (Ok (containers spec_ex.bytes_per_sample (length bytes / spec_ex.bytes_per_sample) bytes))) ∷ []) ++ made publish ∷ []) left)))
-        (λ _. ⊤) }
+        let file = new_file (M.state medium) in
+        WhereKeeps M.tells M.keeps (
+        ((w : WriterState M) × IsErrAnd done.1 (IsNoBatch w (length batch.now))
+        × Recorded M.tells M.keeps M.state spec_ex file asked w
+        × Kept M.tells M.keeps M.state spec_ex file (asked ++ made publish ∷ []) done.0)
+        ⊎ Kept M.tells M.keeps M.state spec_ex file
+        ((asked ++ marked (batch_asked spec_ex batch.now) (mark_of done.1) ∷ []) ++ made publish ∷ []) done.0))
+        (λ refused. IsNotBegun M.tells M.keeps M.state spec_ex medium refused.0 refused.1) }
 {
     what_is_kept::<M>();
     let mut writer = WavWriter::try_new(medium, spec_ex)?;
     record_singles(&mut writer, singles);
-    let _ = record_batch(alloc, &mut writer, batch);
+    let answer = record_batch(alloc, &mut writer, batch);
     let (medium, _) = writer.finalize_into();
-    Ok(medium)
+    Ok((medium, answer))
 }
 
 /// Writes samples by one call and publishes them: the file is then read as the samples before and all
 /// of these (`published`), which are those that calls of their own would have written (`same`). An
-/// error is one of `write_samples` or of `flush` (`err`).
+/// error is that of one of these calls, and there is no other (`calls`).
 pub fn record_at_once<S: Sample + Copy, M: Medium>(
     writer: &mut WavWriter<M>,
     samples: &[S],
@@ -336,9 +389,8 @@ pub fn record_at_once<S: Sample + Copy, M: Medium>(
     ensures same { WhereTells M.tells (IsWhole M.state writer.old → OnOk result ((each : WriterState M) →
         AcceptsEach M.tells M.keeps M.state S.container samples.now writer.old each →
         accepted_samples M.state writer.new ≡ accepted_samples M.state each)) }
-    ensures err { IfErr result (λ _. AcceptAnswer
-        (containers_in S.container writer.old.spec_ex samples.now) writer.old result
-        ⊎ IsPublishing result writer.new) }
+    ensures calls { WritesAndFlushes M.tells M.keeps M.state
+        (containers_in S.container writer.old.spec_ex samples.now) result writer.old writer.new }
 {
     a_block_is_its_samples::<S, M>();
     writer.write_samples(samples)?;
@@ -361,9 +413,12 @@ pub fn write_if_short<M: Medium>(batch: &mut SampleWriter16<'_, M>, value: i32) 
     true
 }
 
-/// Ends a recording over a durable medium, and takes the medium out. At an Ok all that was written to
-/// it is flushed, and in any case what was written since its last flush went to ascending places.
+/// Ends a recording over a durable medium, and takes the medium out: the result is that of the end
+/// (`finishes`). At an Ok all that was written to it is flushed, and in any case what was written since
+/// its last flush went to ascending places.
 pub fn finish_durable<M: Medium>(writer: WavWriter<Durable<M>>) -> (M, hound::Result<()>)
+    ensures finishes { Around (within writer.medium) (M.state result.0) (λ _ last.
+        Finishes M.tells M.keeps (⟦<Durable<M> as Placed>⟧.state) writer result.1 last) }
     ensures flushed { WhereKeeps M.tells M.keeps (OnOk result.1 (
         let s = M.state result.0 in s.flushed ≡ length s.past)) }
     ensures ascends { WhereKeeps M.tells M.keeps (

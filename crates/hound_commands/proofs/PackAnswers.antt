@@ -173,7 +173,7 @@ module _ {W : Type 0} {tells keeps : Bool} {state : W → MediumState} (s : WavS
         room = room;
         frames = frames_are s integers ns first b last cs have accepted.adds.spec_ex
             accepted.adds.data_length finished.answers;
-        file_is = fresh_file tells keeps state told s old first begins last end cs empty start
+        file_is = fresh_file tells keeps state told s old first begins last end cs empty
             accepted finished;
       }
 

@@ -11,11 +11,11 @@ use Rattle.hound_reader.proofs.Unique.{heads_agree}
 use Rattle.hound_writer.proofs.Heads.{head_behind, head_field, head_inside}
 use Rattle.hound_writer.specs.{field}
 use Rattle.hound_repair.specs.Held.{is_followed, are_right, data_held, ends_with_pad, frame_length, frames_held, held, mended, missing_pad}
-use Rattle.hound_repair.specs.Repairing.{HasRightSizes, IsFoundAt, LeavesFor, Repairs, UnlessFollowed, found_length, state_of}
+use Rattle.hound_repair.specs.Repairing.{HasRightSizes, IsFoundAt, LeavesFor, Repairs, found_length, state_of}
 use Rattle.hound_repair.specs.declared.sizes.Repair.{Repair}
 use Rattle.hound_repair.specs.declared.sizes.RepairState.{RepairState}
 use Rattle.hound_repair.specs.declared.sizes.RepairState.TheVariants.{Whole, CutOff, HasChunksAfterData}
-use Rattle.hound_repair.proofs.RightSizes.{frames_are, length_of, not_followed, same_sizes}
+use Rattle.hound_repair.proofs.RightSizes.{frames_are, length_of, not_followed, same_sizes, sizes_of}
 
 -- the bytes held are all data, or all but the last, which is the pad byte
 pub held_cases : (f len n : ℕ)
@@ -37,12 +37,6 @@ right_again : (s : WavSpecEx) (start len riff n frames : ℕ)
     → len ≡ frames * frame_length s → riff ≡ riff_size start len → frames_held s len n ≡ frames
     → are_right s start len riff n ≡ true
 right_again s start len riff n frames len_is riff_is held_is = grind (arith, common_steps)
-
--- what the sizes of a file that isn't followed by chunks are
-sizes_of : (was : RepairState) (found : Repair) (start : ℕ) (contents : List ℕ)
-    → (was ≡ HasChunksAfterData → ⊥) → UnlessFollowed was (HasRightSizes found start contents)
-    → HasRightSizes found start contents
-sizes_of was found start contents alone right = grind (arith, common_steps)
 
 -- how many bytes a mended file holds
 held_mended : (start n : ℕ) (c : List ℕ) → 20 ≤ start → start ≤ length c

@@ -21,7 +21,7 @@ use Rattle.hound_repair.specs.declared.sizes.Repair.{Repair}
 use Rattle.hound_repair.specs.declared.sizes.RepairState.{RepairState}
 use Rattle.hound_repair.specs.declared.sizes.RepairState.TheVariants.{HasChunksAfterData}
 use Rattle.hound_repair.proofs.Joining.{AreWide, concat_front, wide_take}
-use Rattle.hound_repair.proofs.RightSizes.{held_frames, not_followed, same_sizes}
+use Rattle.hound_repair.proofs.RightSizes.{held_frames, not_followed, same_sizes, sizes_of}
 
 -- the first of more containers are those of fewer
 pub containers_fewer : (w n m : ℕ) (bytes : List ℕ) → n ≤ m
@@ -109,6 +109,7 @@ module _ (looks : Bool) (old new : MediumState) (found : Repair)
       let within : n ≤ all = mul-le q channels found.frames channels frames (omega arith) in
       let after = drop r.start new.contents in
       record {
+        readable = (sizes_of found.was found r.start new.contents alone r.sizes).readable;
         among = omega (arith, taken, within);
         first =
             ap (λ k. take k (containers w all after)) taken

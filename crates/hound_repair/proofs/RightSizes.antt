@@ -13,7 +13,7 @@ use Rattle.hound_writer.proofs.Heads.{head_behind, head_field, head_inside, head
 use Rattle.hound_writer.proofs.Patching.{data_length_of_sizes, riff_size_of_sizes, sizes_put}
 use Rattle.hound_writer.proofs.Sizes.{same_length, same_riff, same_transitive}
 use Rattle.hound_repair.specs.Held.{frame_length, frames_held, held, mended, missing_pad, right_length}
-use Rattle.hound_repair.specs.Repairing.{HasRightSizes, IsFoundAt, found_length, frames_found, repair_fault, size_fault, state_of}
+use Rattle.hound_repair.specs.Repairing.{HasRightSizes, IsFoundAt, UnlessFollowed, found_length, frames_found, repair_fault, size_fault, state_of}
 use Rattle.hound_repair.specs.declared.sizes.Repair.{Repair}
 use Rattle.hound_repair.specs.declared.sizes.RepairState.{RepairState}
 use Rattle.hound_repair.specs.declared.sizes.RepairState.TheVariants.{HasChunksAfterData}
@@ -91,6 +91,12 @@ pub not_followed : (looks right followed : Bool) (was : RepairState)
     → was ≡ state_of right (looks && followed)
     → (IsTrue looks → was ≡ HasChunksAfterData → ⊥) → was ≡ HasChunksAfterData → ⊥
 not_followed looks right followed was is alone here = grind (arith, common_steps)
+
+-- what the sizes of a file that isn't followed by chunks are
+pub sizes_of : (was : RepairState) (found : Repair) (start : ℕ) (contents : List ℕ)
+    → (was ≡ HasChunksAfterData → ⊥) → UnlessFollowed was (HasRightSizes found start contents)
+    → HasRightSizes found start contents
+sizes_of was found start contents alone right = grind (arith, common_steps)
 
 -- a length that passes the check fits
 pub size_fits : (s : WavSpecEx) (len start n : ℕ) → size_fault s len start n ≡ None

@@ -187,9 +187,11 @@ MendsMedium looks state old result =
 abbrev pub whole_frames : WavSpecEx → List (List ℕ) → List (List ℕ)
 whole_frames s list = take (length list / s.spec.channels * s.spec.channels) list
 
--- these samples, as many as whole frames have, are read first in a file that was repaired
+-- A file that was repaired is read with exactly the frames that were found, and of these samples as
+-- many as whole frames have are read first.
 pub record ReadsFrames (found : Repair) (start : ℕ) (list : List (List ℕ)) (contents : List ℕ) :
     Type 0 where
+  pub readable : Readable contents found.spec_ex (found.frames * found.spec_ex.spec.channels) start
   pub among : length (whole_frames found.spec_ex list) ≤ found.frames * found.spec_ex.spec.channels
   pub first :
       take (length (whole_frames found.spec_ex list))

@@ -36,7 +36,7 @@ fn a_file_is_written_in_another_width(rt: HostRuntime) -> Result<(), Fail> {
     let mut reader = WavReader::new(STEREO)?;
     let tape = empty_tape(rt.alloc());
     let mut writer = WavWriter::new_with_spec_ex(tape, integers(2, 44100, 24, 3))?;
-    convert(&mut reader, &mut writer)?;
+    convert::<i32, _, _>(&mut reader, &mut writer)?;
     let counts = (writer.len(), reader.len());
     let (tape, result) = writer.finalize_into();
     result?;
@@ -58,8 +58,10 @@ fn a_written_file_is_opened(rt: HostRuntime) -> Result<(), Fail> {
 fn samples_are_collected_and_found(rt: HostRuntime) -> Result<(), Fail> {
     let samples: Vec<i32> = samples_of(rt.alloc(), WavReader::new(STEREO)?)?;
     assert_eq!(rt; samples.as_slice(), [2, -3, 5, -7].as_slice());
-    let second: Option<i16> = sample_at(WavReader::new(tape_of(rt.alloc(), STEREO)?)?, 1)?;
-    let third: Option<i16> = sample_at(WavReader::new(tape_of(rt.alloc(), STEREO)?)?, 2)?;
+    let mut reader = WavReader::new(tape_of(rt.alloc(), STEREO)?)?;
+    let second: Option<i16> = sample_at(&mut reader, 1)?;
+    let mut reader = WavReader::new(tape_of(rt.alloc(), STEREO)?)?;
+    let third: Option<i16> = sample_at(&mut reader, 2)?;
     assert_eq!(rt; (second, third), (Some(5), None));
     Ok(())
 }

@@ -1,9 +1,9 @@
 // The recorders of `hound_callers`, each run once.
-use crate::helpers::{FOUR_SAMPLES, empty_tape, integers, read_all, sixteen};
+use crate::helpers::{FOUR_SAMPLES, empty_tape, integers, read_all, sixteen, tape_of};
 use hound::{Durable, Journal, Step, Tape, WavReader, WavSpecEx, WavWriter};
 use hound_callers::{
-    Twelve, finish_durable, pack_one, record_at_once, record_batch, record_checkpoints,
-    record_mixed, record_steps, record_twelve, record_twelve_and_repair,
+    Twelve, append_blocks, finish_durable, pack_one, record_at_once, record_batch, record_mixed,
+    record_safely, record_steps, record_twelve, record_twelve_and_repair,
     record_twelve_through_a_loss, write_if_short,
 };
 use std::alloc::Global;
@@ -58,6 +58,21 @@ fn survives(alloc: Global, blocks: &[&[Twelve]]) -> hound::Result<bool> {
     }
 }
 
+// A file with a chunk before its two samples, and the same file with those of the blocks after them.
+const TAGGED: &[u8; 60] = b"RIFF\x34\0\0\0WAVEfmt \x10\0\0\0\x01\0\x01\0\x44\xac\0\0\
+    \x88\x58\x01\0\x02\0\x10\0LIST\x04\0\0\0INFOdata\x04\0\0\0\x02\0\xfd\xff";
+
+const APPENDED: &[u8; 72] = b"RIFF\x40\0\0\0WAVEfmt \x10\0\0\0\x01\0\x01\0\x44\xac\0\0\
+    \x88\x58\x01\0\x02\0\x10\0LIST\x04\0\0\0INFOdata\x10\0\0\0\x02\0\xfd\xff\
+    \x01\0\xfe\xff\x03\0\xff\x07\0\xf8\x05\0";
+
+fn appends(alloc: Global, blocks: &[&[Twelve]]) -> hound::Result<bool> {
+    match append_blocks(tape_of(alloc, TAGGED)?, blocks) {
+        Ok(tape) => Ok(tape.bytes() == APPENDED.as_slice()),
+        Err((_, error)) => Err(error),
+    }
+}
+
 // How many samples the first blocks have.
 const SIZES: [usize; 3] = [0, 2, 3];
 
@@ -70,7 +85,7 @@ fn published(
 ) -> hound::Result<Option<(usize, bool)>> {
     let mut journal = Journal::new(alloc, Vec::new(alloc))?;
     journal.fail(fail_from, u64::MAX);
-    let Ok((journal, count)) = record_checkpoints(journal, integers(1, 44100, 16, 2), blocks) else {
+    let Ok((journal, count)) = record_safely(journal, integers(1, 44100, 16, 2), blocks) else {
         return Ok(None);
     };
     let bytes = journal.bytes_after(alloc, journal.taken())?;
@@ -157,7 +172,7 @@ fn takes_steps(alloc: Global) -> bool {
 fn mixes(alloc: Global) -> bool {
     let spec_ex = WavSpecEx::from(sixteen(1));
     match record_mixed(alloc, empty_tape(alloc), spec_ex, &[7, -8], &[300, -301]) {
-        Ok(tape) => holds(alloc, tape.bytes(), &[7, -8, 300, -301]),
+        Ok((tape, answer)) => answer.is_ok() && holds(alloc, tape.bytes(), &[7, -8, 300, -301]),
         Err(_) => false,
     }
 }
@@ -171,8 +186,9 @@ fn recorders_leave_what_they_accepted(rt: HostRuntime) -> Result<(), Fail> {
         repairs(alloc, blocks),
         survives(alloc, blocks)?,
         mixes(alloc),
+        appends(alloc, blocks)?,
     );
-    assert_eq!(rt; found, (true, true, true, true));
+    assert_eq!(rt; found, (true, true, true, true, true));
     Ok(())
 }
 

@@ -1,6 +1,6 @@
 -- A file that begins: its header is written, and nothing else.
 use Rattle.std.proofs.lemmas.Grind.{common_steps}
-use Rattle.std.proofs.Common.{◌≡◌, ℕ, ◌+◌, ◌-◌, Bool, List, [], ◌++◌, length, take, drop, Ok, refl, rules, ◌∙◌, ap, arith, append_assoc, length-append}
+use Rattle.std.proofs.Common.{◌≡◌, ℕ, ◌+◌, ◌-◌, ◌≤◌, max, Bool, List, [], ◌++◌, length, take, drop, Ok, refl, rules, ◌∙◌, ap, arith, append_assoc, length-append, length-drop}
 use Rattle.std.proofs.lemmas.List.{take_at, take_all, drop_at}
 use Rattle.hound_number.specs.{bytes_of, number}
 use Rattle.hound_medium.specs.{MediumState, PutsAll}
@@ -73,6 +73,12 @@ module _ {W : Type 0} (keeps : Bool) (state : W → MediumState) (s : WavSpecEx)
         let put = rw puts.whole at puts.takes in
         let has : HasHeader s (state medium).contents =
         (0, 0, ap (take (length h)) contents_begin ∙ take_at h rest (length h) refl) in
+        let reach : length (state medium).contents ≤ max (length old.contents) (length h) = omega (
+          arith,
+          ap length contents_begin,
+          length-append h rest,
+          length-drop (length h) old.contents,
+        ) in
         let counts = counts_at state w sound (whole_out state w refl sound)
         (state medium).contents whole stands_begin refl in
         search rules

@@ -8,8 +8,8 @@ use Rattle.hound_medium.specs.{overlay, MediumState, WhereTells, WhereKeeps}
 use Rattle.hound_medium.proofs.Spans.{span_still, span_weaker}
 use Rattle.hound_sample.specs.{containers}
 use Rattle.hound_writer.specs.Accepting.{AcceptsBytes, AddsAtEach, KeepsStored}
-use Rattle.hound_writer.specs.Parts.{GoesAtEach, GoesOut, IsLimit, StaysAround, after_out, all_out, block_length, IsConsistent, IsStanding, PutsAt}
-use Rattle.hound_writer.specs.Writer.{Counts, WriterState, HasRoom, IsSound, IsWhole, accepted_samples, data_length, data_end}
+use Rattle.hound_writer.specs.Parts.{GoesAtEach, GoesOut, IsLimit, StaysAround, after_out, all_out, IsConsistent, IsStanding, PutsAt}
+use Rattle.hound_writer.specs.Writer.{Counts, WriterState, block_length, HasRoom, IsSound, IsWhole, accepted_samples, data_length, data_end}
 use Rattle.hound_writer.proofs.Accepting.{accepts_all, adds_nothing, around, at_each, goes_at_each, goes_beside, room_fits, sound_more, still}
 use Rattle.hound_writer.proofs.Containers.{joined_bytes, none_whole, whole_more}
 use Rattle.hound_writer.proofs.Counted.{counts_more}

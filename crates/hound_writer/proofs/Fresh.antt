@@ -1,13 +1,12 @@
 -- What one call for samples and an end leave in a medium that was empty: exactly the canonical file.
 use Rattle.std.proofs.lemmas.Grind.{common_steps}
-use Rattle.std.proofs.Common.{◌≡◌, ℕ, ◌+◌, Bool, List, [], ◌++◌, length, take, Ok, IsTrue, sym, ◌∙◌, ap, arith, length-append, length-drop}
+use Rattle.std.proofs.Common.{◌≡◌, ℕ, ◌+◌, Bool, List, [], ◌++◌, length, take, Ok, IsTrue, sym, ◌∙◌, ap, arith}
 use Rattle.std.proofs.lemmas.List.{take_all}
 use Rattle.std.specs.Io.{StartsWith}
 use Rattle.hound_spec.specs.declared.spec.WavSpecEx.{WavSpecEx}
 use Rattle.hound_spec.specs.{data_start, canonical}
-use Rattle.hound_spec.proofs.HeaderLemmas.{length-canonical, length-header}
+use Rattle.hound_spec.proofs.HeaderLemmas.{length-canonical}
 use Rattle.hound_medium.specs.{MediumState}
-use Rattle.hound_medium.proofs.Overlays.{overlay_is}
 use Rattle.hound_writer.specs.Accepting.{Accepts}
 use Rattle.hound_writer.specs.Beginning.{Begins}
 use Rattle.hound_writer.specs.Publishing.{Finishes}
@@ -30,17 +29,11 @@ begun_front state old new spec start front (has, at) = grind (arith, common_step
 module _ {W : Type 0} (tells keeps : Bool) (state : W → MediumState) (told : IsTrue tells)
     (s : WavSpecEx) (old : MediumState) (first : WriterState W)
     (begins : Begins tells keeps state s old first) where
-  -- the header alone is in a medium that was empty
-  pub only_header : old.contents ≡ [] → old.place ≡ 0
-      → length (state first.medium).contents ≡ data_start s
-  only_header empty start = grind (arith, common_steps, take_all, overlay_is, length-append, length-header, length-drop)
-
   -- a new file, one call for samples, and an end
   pub fresh_file : (last : WriterState W) (end : W) (list : List (List ℕ))
-      → old.contents ≡ [] → old.place ≡ 0
-      → Accepts tells keeps state (Ok list) (Ok tt) first last
+      → old.contents ≡ [] → Accepts tells keeps state (Ok list) (Ok tt) first last
       → Finishes tells keeps state last (Ok tt) end → (state end).contents ≡ canonical s list
-  fresh_file last end list empty start accepts finishes =
+  fresh_file last end list empty accepts finishes =
       let b = begins.begun in
       let f = begins.file told in
       let a = accepts.file told in
@@ -60,7 +53,8 @@ module _ {W : Type 0} (tells keeps : Bool) (state : W → MediumState) (told : I
         arith,
         p.reach,
         a.reach,
-        only_header empty start,
+        f.reach,
+        ap length empty,
         length-canonical s list,
         accepts.adds.data_length,
         accepts.adds.data_start,

@@ -172,6 +172,8 @@ publishes_at_each state w none sound stands padded small end patched are_frames 
           (omega (arith, sound.fits, sound.after_head, all)) span patches.puts);
       padded = λ i k from more before later to.
           rw (behind _ (span.each k (omega (arith, from, later)) to).same.behind) padded;
+      there = λ whole i k from more before later to.
+          omega (arith, whole, all, (span.each k (omega (arith, from, later)) to).same.long);
       stored =
           λ whole. stored_same w.data_start w.out (concat (accepted_samples state w)) old
           (state w.medium) (state end)

@@ -15,7 +15,7 @@ use Rattle.hound_spec.specs.declared.error.Error.{Error}
 use Rattle.hound_spec.specs.declared.error.Error.TheVariants.{IoError}
 use Rattle.hound_writer.specs.Accepting.{faults_told}
 use Rattle.hound_writer.specs.Parts.{GoesAtEach, GoesOut, StaysAround, after_out}
-use Rattle.hound_writer.specs.Writer.{Counts, ChangesSizesOnly, field, WriterState, IsBegun, IsPadded, IsSound, HasHeader, accepted_samples, data_length, padded_end}
+use Rattle.hound_writer.specs.Writer.{Counts, ChangesSizesOnly, field, WriterState, IsBegun, IsPadded, IsSound, HasHeader, accepted_samples, data_end, data_length, padded_end}
 use Rattle.hound_durable.specs.{place_of}
 use Rattle.hound_durable.proofs.Ascending.{place_before}
 use Rattle.hound_writer.specs.Publishing.{PublishesTo, Finishes, IsHalfPublished, IsOldOrNew, OncePutBefore, Publishes, PublishesAtEach}
@@ -109,6 +109,9 @@ module _ {W : Type 0} (tells keeps : Bool) (state : W → MediumState) (a : Writ
             (goes.front.each k from to));
         padded =
             λ i k from to before later last. absurd (omega (arith, before, goes.behind i from to));
+        there =
+            λ whole i k from to before later last.
+            absurd (omega (arith, before, goes.behind i from to));
         stored = goes.adds.stored;
       }
 
@@ -213,15 +216,16 @@ module _ {W : Type 0} (tells keeps : Bool) (state : W → MediumState) (a : Writ
           ]
 
       -- no byte is written before the data meanwhile
-      padded_later : OncePutBefore a.data_start (IsPadded a) (state a.medium) (state end)
-      padded_later i k from to before later last =
+      once_later : (P : List ℕ → Type 0) → OncePutBefore a.data_start P (state m) (state end)
+          → OncePutBefore a.data_start P (state a.medium) (state end)
+      once_later P once i k from to before later last =
           elim (cases_lt i (length (state m).past)) [
             | inl sooner ↦
                 let same : place_of (state end).past i ≡ place_of (state m).past i =
                 ap (λ l. place_of l i) g.half.past
                 ∙ place_before (state m).past g.half.added i sooner in
                 absurd (omega (arith, before, same, goes.behind i from sooner))
-            | inr then ↦ rw same_length at (g.padded i k then to before later last)
+            | inr then ↦ once i k then to before later last
           ]
 
       publishes_at_each_later : PublishesAtEach state a answer end
@@ -243,7 +247,9 @@ module _ {W : Type 0} (tells keeps : Bool) (state : W → MediumState) (a : Writ
                 search rules;
             whole = g.whole;
             old_or_new = old_or_new_later;
-            padded = padded_later;
+            padded = once_later (IsPadded a) (rw same_length at g.padded);
+            there = λ whole. once_later (λ c. data_end a ≤ length c)
+                (rw same_length at (g.there (f.whole whole)));
             stored =
                 λ whole. stored_join a.data_start (concat (accepted_samples state a))
                 (state a.medium) (state m) (state end) goes.front.added g.half.added goes.front.past

@@ -79,8 +79,8 @@ module _ {W : Type 0} (tells keeps : Bool) (state : W → MediumState) where
 
   pub opens_spec : (s : WavSpecEx) (file : Begun) (first : WriterState W)
       → Opens tells keeps state s file first → first.spec_ex ≡ s
-  opens_spec s new_file first opens = opens.1.begun.spec
-  opens_spec s (appended start found) first opens = opens.spec_is
+  opens_spec s (new_file old) first opens = opens.begun.spec
+  opens_spec s (appended old start found) first opens = opens.spec_is
 
   -- a flush or an end leaves its medium somewhere
   pub leaves : {at : ℕ} (answer : Result (Unit {0}) Error) (a b : WriterState W)
@@ -156,20 +156,20 @@ module _ {W : Type 0} (tells keeps : Bool) (state : W → MediumState) where
       record { first = w; calls = []; opens = opens; lead = (w.buffer, refl); are_known = tt }
 
   pub recorded_new : (s : WavSpecEx) (old : MediumState) (w : WriterState W)
-      → Begins tells keeps state s old w → Recorded tells keeps state s new_file [] w
-  recorded_new s old w begins = recorded_first s new_file w (old, begins)
+      → Begins tells keeps state s old w → Recorded tells keeps state s (new_file old) [] w
+  recorded_new s old w begins = recorded_first s (new_file old) w begins
 
   pub recorded_append : (old : MediumState) (w : WriterState W) → Appends tells state old w
       → WhereTells tells (IsWhole state w)
       → Recorded tells keeps state w.spec_ex
-      (appended w.data_start (accepted_samples state w)) [] w
+      (appended old w.data_start (accepted_samples state w)) [] w
   recorded_append old w appends whole = grind (arith, common_steps, recorded_first)
 
   pub recorded_appended : {E : Type 0} (Q : E → Type 0) (old : MediumState)
       (r : Result (WriterState W) E) → MatchResult r (Appends tells state old) Q
       → MatchResult r (λ w. WhereTells tells (IsWhole state w)
       → Recorded tells keeps state w.spec_ex
-      (appended w.data_start (accepted_samples state w)) [] w) (λ _. ⊤)
+      (appended old w.data_start (accepted_samples state w)) [] w) (λ _. ⊤)
   recorded_appended Q old (Ok w) appends = recorded_append old w appends
   recorded_appended Q old (Err e) appends = tt
 

@@ -8,7 +8,7 @@ use Rattle.hound_medium.specs.{MediumState, Stays, WhereTells, one_more}
 use Rattle.hound_reader.specs.declared.cause.Cause.{Cause}
 use Rattle.hound_reader.specs.declared.cause.Cause.TheVariants.{Format, Unsupported}
 use Rattle.hound_reader.specs.declared.cause.Reason.TheVariants.{DataLength, FrameLength}
-use Rattle.hound_reader.specs.{Head, Refused, Names}
+use Rattle.hound_reader.specs.{Head, IsSoundSpec, Refused, Names}
 use Rattle.hound_writer.specs.Accepting.{IsIoError}
 use Rattle.hound_writer.specs.Writer.{WriterState, IsSound, IsWhole, IsCounted, data_length, data_end}
 
@@ -79,6 +79,7 @@ pub record FollowsData {W : Type 0} (old : MediumState) (state : W → MediumSta
 pub record Appends {W : Type 0} (tells : Bool) (state : W → MediumState) (old : MediumState)
     (w : WriterState W) : Type 0 where
   pub sound : IsSound w
+  pub sound_spec : IsSoundSpec w.spec_ex
   pub none_waits : w.waiting ≡ []
   pub buffer : w.buffer ≡ []
   pub file : WhereTells tells (FollowsData old state w)

@@ -1,5 +1,5 @@
 -- How a new file begins.
-use Rattle.std.specs.Prelude.{◌≡◌, ◌⊎◌, Bool, [], length, Result, Err, MatchResult}
+use Rattle.std.specs.Prelude.{◌≡◌, ◌≤◌, ◌⊎◌, max, Bool, [], length, Result, Err, MatchResult}
 use Rattle.hound_spec.specs.declared.error.Error.{Error}
 use Rattle.hound_spec.specs.declared.error.Error.TheVariants.{OutOfMemory, Unsupported}
 use Rattle.hound_spec.specs.declared.spec.WavSpecEx.{WavSpecEx}
@@ -16,6 +16,7 @@ pub record PutsHeader {W : Type 0} (keeps : Bool) (state : W → MediumState) (o
       (state w.medium)
   pub faults : (state w.medium).faults ≡ old.faults
   pub header : HasHeader w.spec_ex (state w.medium).contents
+  pub reach : length (state w.medium).contents ≤ max (length old.contents) w.data_start
   pub whole : IsWhole state w
   pub counts : IsCounted state w
 

@@ -73,26 +73,31 @@ Lead {W} tells keeps state (call ∷ calls) old new =
     × Does tells keeps state call.asked call.answer (with_memory old memory) mid
     × Lead tells keeps state calls mid new
 
--- A file as its writer began it: a new one, or one whose data begin at a place and which had these
--- samples.
+-- A file as its writer began it in a medium that was handed in with this state: a new one, or one
+-- whose data begin at a place and which had these samples.
 pub data Begun : Type 0 where
-  new_file : Begun
-  appended : ℕ → List (List ℕ) → Begun
+  new_file : MediumState → Begun
+  appended : MediumState → ℕ → List (List ℕ) → Begun
+
+-- the medium as it was handed in
+abbrev pub handed_in : Begun → MediumState
+handed_in (new_file old) = old
+handed_in (appended old start found) = old
 
 -- where its data begin
 abbrev pub start_of : WavSpecEx → Begun → ℕ
-start_of s new_file = data_start s
-start_of s (appended start found) = start
+start_of s (new_file old) = data_start s
+start_of s (appended old start found) = start
 
 -- the samples that it had
 abbrev pub found_in : Begun → List (List ℕ)
-found_in new_file = []
-found_in (appended start found) = found
+found_in (new_file old) = []
+found_in (appended old start found) = found
 
--- A file that was appended to has this spec, and had its data at this place, all of them there.
+-- A file that was appended to in this medium has this spec, and had its data at this place, all of
+-- them there.
 pub record HadData {W : Type 0} (tells : Bool) (state : W → MediumState) (s : WavSpecEx)
-    (start : ℕ) (found : List (List ℕ)) (first : WriterState W) : Type 0 where
-  pub old : MediumState
+    (old : MediumState) (start : ℕ) (found : List (List ℕ)) (first : WriterState W) : Type 0 where
   pub appends : Appends tells state old first
   pub spec_is : first.spec_ex ≡ s
   pub start_is : first.data_start ≡ start
@@ -102,9 +107,9 @@ pub record HadData {W : Type 0} (tells : Bool) (state : W → MediumState) (s : 
 -- the writer of such a file, as its constructor returned it
 abbrev pub Opens : {W : Type 0} → Bool → Bool → (W → MediumState) → WavSpecEx → Begun →
     WriterState W → Type 0
-Opens tells keeps state s new_file first =
-    (old : MediumState) × Begins tells keeps state s old first
-Opens tells keeps state s (appended start found) first = HadData tells state s start found first
+Opens tells keeps state s (new_file old) first = Begins tells keeps state s old first
+Opens tells keeps state s (appended old start found) first =
+    HadData tells state s old start found first
 
 -- Calls of which these are known were made with the writer of such a file, and led to this one.
 pub record RecordedBy {W : Type 0} (tells keeps : Bool) (state : W → MediumState) (s : WavSpecEx)

@@ -9,7 +9,7 @@ use Rattle.hound_spec.specs.declared.spec.WavSpecEx.{WavSpecEx}
 use Rattle.hound_medium.specs.{placed, overlay, MediumState, faults_after, Span, WhereTells, WhereKeeps}
 use Rattle.hound_reader.specs.{Head}
 use Rattle.hound_writer.specs.Publishing.{PutsLast, PutsFrom}
-use Rattle.hound_writer.specs.Writer.{SameButSizes, field, with_sizes, WriterState, IsSound, IsWhole, IsCounted, accepted_samples, data_length}
+use Rattle.hound_writer.specs.Writer.{SameButSizes, block_length, field, with_sizes, WriterState, IsSound, IsWhole, IsCounted, accepted_samples, data_length}
 use Rattle.hound_spec.specs.{riff_size, greatest_u32}
 use Rattle.hound_writer.specs.Accepting.{AddsAtEach, short_bytes}
 use Rattle.hound_writer.specs.declared.outcome.Outcome.{Outcome}
@@ -70,10 +70,6 @@ abbrev pub IsPublishResult : Result (Unit {0}) IoFault → Bool → Result (Unit
 IsPublishResult (Err e) are_frames told = told ≡ Err (IoError e)
 IsPublishResult (Ok x) true told = told ≡ Ok x
 IsPublishResult (Ok x) false told = told ≡ Err UnfinishedSample
-
--- how many bytes a block holds
-abbrev pub block_length : ℕ
-block_length = 4096
 
 -- Ok if all were written, else an Err
 abbrev pub all_out : Bool → Result (Unit {0}) (Unit {0})

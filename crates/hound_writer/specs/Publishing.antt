@@ -97,8 +97,8 @@ IsOldOrNew p before after old new =
 
 -- The intermediate states of such a call: the accepted samples count, and the data length takes on
 -- the bytes of their length one by one, the low one first, after byte `split`, all four if all was
--- published. Once a byte was written before the data the pad byte is there. Of all accepted
--- bytes those that are stored stay stored.
+-- published. Once a byte was written before the data all accepted bytes are there, and the pad byte.
+-- Of all accepted bytes those that are stored stay stored.
 pub record PublishesAtEach {W : Type 0} (state : W → MediumState) (w : WriterState W)
     (answer : Result (Unit {0}) Error) (end : W) : Type 0 where
   pub counts : IsWhole state w →
@@ -112,6 +112,8 @@ pub record PublishesAtEach {W : Type 0} (state : W → MediumState) (w : WriterS
       (field (w.data_start - 4) (state w.medium).contents) (data_length w) (state w.medium)
       (state end)
   pub padded : OncePutBefore w.data_start (IsPadded w) (state w.medium) (state end)
+  pub there : IsWhole state w →
+      OncePutBefore w.data_start (λ c. data_end w ≤ length c) (state w.medium) (state end)
   pub stored : IsWhole state w →
       KeepsStored w.data_start (concat (accepted_samples state w)) (state w.medium) (state end)
 

@@ -125,11 +125,16 @@ abbrev pub IsCounted : {W : Type 0} → (W → MediumState) → WriterState W �
 IsCounted state w =
     Counts w.spec_ex w.data_start (accepted_samples state w) (state w.medium).contents
 
--- What holds of every writer: it is sound, and its data length counts accepted samples if the medium
--- has all their bytes.
+-- how many bytes a block holds
+abbrev pub block_length : ℕ
+block_length = 4096
+
+-- What holds of every writer: it is sound, no more than a block is buffered, and its data length
+-- counts accepted samples if the medium has all their bytes.
 pub record IsValid {W : Type 0} (tells : Bool) (state : W → MediumState)
     (w : WriterState W) : Type 0 where
   pub sound : IsSound w
+  pub buffered : length w.waiting ≤ block_length
   pub counts : WhereTells tells (IsWhole state w → IsCounted state w)
 
 -- the contents begin with the header of this spec, with any two sizes

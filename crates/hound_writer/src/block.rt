@@ -1,7 +1,7 @@
 // A block of buffered samples.
 ghost use Rattle.std.specs.Prelude.{◌≡◌, ◌+◌, ◌*◌, ◌≤◌, ◌++◌, [], IsOk, length, take};
 ghost use Rattle.hound_sample.specs.{all_containers, joined_containers};
-ghost use Rattle.hound_writer.specs.Parts.{block_length};
+ghost use Rattle.hound_writer.specs.Writer.{block_length};
 
 use hound_sample::{Sample, store_containers};
 use std::marker::Model;
@@ -21,7 +21,7 @@ pub(crate) struct Block {
 
 impl Model for Block {
     ghost use Rattle.std.specs.Prelude.{ℕ, ◌≤◌, List, take};
-    ghost use Rattle.hound_writer.specs.Parts.{block_length};
+    ghost use Rattle.hound_writer.specs.Writer.{block_length};
 
     ghost Value = { List ℕ };
 

@@ -96,9 +96,9 @@ impl<W: Medium> Output<W> {
     ghost use Rattle.hound_spec.specs.{riff_size};
     ghost use Rattle.hound_medium.specs.{WhereTells, WhereKeeps};
     ghost use Rattle.hound_writer.specs.Accepting.{Accepts, AcceptsBytes, one, containers_in, sample_bytes};
-    ghost use Rattle.hound_writer.specs.Parts.{GoesOut, result_of, block_length, or_fault, of_fields, IsStanding, Patches, PatchesAtEach};
+    ghost use Rattle.hound_writer.specs.Parts.{GoesOut, result_of, or_fault, of_fields, IsStanding, Patches, PatchesAtEach};
     ghost use Rattle.hound_writer.specs.Publishing.{PublishesTo, place_after};
-    ghost use Rattle.hound_writer.specs.Writer.{AreFrames, HasRoom, IsPadded, IsSound, IsValid, data_end, data_length, padded_end, sample_count};
+    ghost use Rattle.hound_writer.specs.Writer.{AreFrames, HasRoom, block_length, IsPadded, IsSound, IsValid, data_end, data_length, padded_end, sample_count};
 
     /// A file whose data begin at this place and have this length, with its medium after them.
     pub(crate) fn at_end(

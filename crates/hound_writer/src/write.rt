@@ -55,8 +55,8 @@ fn begin<W: Medium>(writer: &mut W, spec_ex: WavSpecEx) -> Result<u64>
     ensures begins { MatchResult result
         (λ start. Begins W.tells W.keeps W.state spec_ex (W.state writer.old) (of_fields writer.new spec_ex start 0 [] []))
         (λ e. IsNotBegun W.tells W.keeps W.state spec_ex writer.old writer.new e) }
-    ensures recorded { IfOk result (λ start. Recorded W.tells W.keeps W.state spec_ex new_file []
-        (of_fields writer.new spec_ex start 0 [] [])) }
+    ensures recorded { IfOk result (λ start. Recorded W.tells W.keeps W.state spec_ex
+        (new_file (W.state writer.old)) [] (of_fields writer.new spec_ex start 0 [] [])) }
     ensures stands { IfOk result (λ start. WhereTells W.tells
         (IsStanding spec_ex start 0 (W.state writer.new).contents)) }
     ensures place { IfOk result (λ start. WhereTells W.tells
@@ -94,7 +94,7 @@ impl<W: Medium> WavWriter<W> {
             (W.state writer))
             (λ e. (back : W) × IsNotBegun W.tells W.keeps W.state (with_default_width spec) writer back e) }
         ensures recorded { MatchResult result
-            (Recorded W.tells W.keeps W.state (with_default_width spec) new_file []) (λ _. ⊤) }
+            (Recorded W.tells W.keeps W.state (with_default_width spec) (new_file (W.state writer)) []) (λ _. ⊤) }
     {
         WavWriter::new_with_spec_ex(writer, WavSpecEx::from(spec))
     }
@@ -106,7 +106,7 @@ impl<W: Medium> WavWriter<W> {
         ensures begins { MatchResult result (Begins W.tells W.keeps W.state spec_ex (W.state writer))
             (λ e. (back : W) × IsNotBegun W.tells W.keeps W.state spec_ex writer back e) }
         ensures recorded { MatchResult result
-            (Recorded W.tells W.keeps W.state spec_ex new_file []) (λ _. ⊤) }
+            (Recorded W.tells W.keeps W.state spec_ex (new_file (W.state writer)) []) (λ _. ⊤) }
     {
         let mut writer = writer;
         let data_start = begin(&mut writer, spec_ex)?;
@@ -127,7 +127,7 @@ impl<W: Medium> WavWriter<W> {
         ensures begins { MatchResult result (Begins W.tells W.keeps W.state spec_ex (W.state writer))
             (λ refused. IsNotBegun W.tells W.keeps W.state spec_ex writer refused.0 refused.1) }
         ensures recorded { MatchResult result
-            (Recorded W.tells W.keeps W.state spec_ex new_file []) (λ _. ⊤) }
+            (Recorded W.tells W.keeps W.state spec_ex (new_file (W.state writer)) []) (λ _. ⊤) }
     {
         let mut writer = writer;
         match begin(&mut writer, spec_ex) {

@@ -1,4 +1,4 @@
-use Rattle.hound.proofs.Knowing.{among, accepted}
+use Rattle.hound.proofs.Knowing.{among, accepted, published}
 use Rattle.hound.proofs.laws.what_is_known.Goals as goal
 
 pub returns-clause-among : goal.returns-clause-among
@@ -6,3 +6,6 @@ returns-clause-among c = among
 
 pub returns-clause-accepted : goal.returns-clause-accepted
 returns-clause-accepted c = accepted
+
+pub returns-clause-published : goal.returns-clause-published
+returns-clause-published c = published

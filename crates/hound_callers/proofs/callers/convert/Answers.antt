@@ -1,34 +1,88 @@
-use Rattle.std.proofs.Common.{◌≡◌, ◌∙◌, ap, refl, ℕ, ◌+◌, ◌-◌, ◌/◌, ◌<◌, ◌≤◌, List, [], ◌∷◌, length, Result, Ok, Err, length-append, arith}
-use Rattle.std.specs.List.{concat}
-use Rattle.std.proofs.Math.Nat.{add-div_right}
-use Rattle.hound.specs.{Adds, one, Refusal, int_container-in_width, WriterState, data_length, sample_count}
+use Rattle.std.proofs.Common.{◌≡◌, ◌∙◌, ◌++◌, ◌∷◌, [], map, Some, Result, Ok, Err, IsErrAnd, MatchResult, refl, rules, subst, sym}
+use Rattle.std.proofs.lemmas.List.{length-map, map-append}
+use Rattle.hound.specs.{IsNext, lent_reader}
+use Rattle.hound_callers.proofs.Items.{accepted_more, one_more}
 use Rattle.hound_callers.proofs.callers.convert.Goals as goal
 
--- a container of the file's width is a sample more
-counted : {M : Type 0} (asked : Result (List ℕ) Refusal) (old new : WriterState M)
-    → ((c : List ℕ) → asked ≡ Ok c → let width = old.spec_ex.bytes_per_sample in (length c ≡ width)
-    × (1 ≤ width) × (width ≤ 4))
-    → Adds (one asked) (Ok tt) old new → sample_count new ≡ sample_count old + 1
-counted (Err refusal) old new sized adds = let h = adds.answers in absurd (cc h)
-counted (Ok c) old new sized adds =
-    let (size, some, _) = sized c refl in
-    let width = old.spec_ex.bytes_per_sample in
-    let joined : length (concat (c ∷ [])) ≡ length c = simp length-append (omega arith) in
-    let longer : data_length new ≡ data_length old + width =
-    omega (arith, adds.data_length, joined, size) in
-    ap (λ s. data_length new / s.bytes_per_sample) adds.spec_ex ∙ ap (λ n. n / width) longer
-    ∙ (let more : (data_length old + width) / width ≡ data_length old / width + 1 = omega
-    (arith, add-div_right (data_length old) {k = width} some) in more)
+-- what holds of an error holds of a result that is this error
+at_err : {T E : Type 0} (P : T → Type 0) (Q : E → Type 0) (result : Result T E) (e : E)
+    → IsErrAnd result (λ r. r ≡ e) → Q e → MatchResult result P Q
+at_err P Q (Ok x) e is holds = absurd is
+at_err P Q (Err r) e is holds = subst Q (sym is) holds
 
--- an item less to read is a sample more that is written
-kept : (written more read next count same total : ℕ) → more ≡ written + 1 → read < count
-    → next ≡ read + 1 → same ≡ count
-    → written + (count - read) ≡ total → more + (same - next) ≡ total
-kept written more read next count same total grows inside goes stays before = omega arith
+pub loop-sample-init : goal.loop-sample-init
+loop-sample-init g c = ([], search rules, refl)
 
 pub loop-sample-preserved : goal.loop-sample-preserved
 loop-sample-preserved g c =
-    let item = c.in-Some.ensures.steps.1 in
-    kept _ _ _ _ _ _ _
-    (counted _ _ _ (int_container-in_width _ _ _) c.in_ok-write_sample.ensures.accepts.adds)
-    item.inside item.counted item.num_samples c.loop-sample.invariant
+    let (values, given, accepted) = c.loop-sample.invariant in
+    let left = g.R.Read.remaining in
+    let refusal = g.S.Sample.refusal in
+    let meaning = g.S.Sample.meaning in
+    let M = g.M.Placed in
+    let old = lent_reader c.loop-sample.sample-iterator in
+    let new = lent_reader c.next.new.self in
+    let value = c.in_ok-sample.field-0 in (
+      values ++ value ∷ [],
+      rw map-append (one_more left refusal meaning (map Ok values) (Ok value) c.args.reader.now old
+          new given (subst (λ item. IsNext left refusal meaning (Some item) old new)
+          c.in_ok-sample.was c.in-Some.ensures.steps.1)),
+      accepted_more M.tells M.keeps M.state g.S.Sample.container values value c.args.writer.now
+          c.loop-sample.writer c.write_sample.new.self accepted c.in_ok-write_sample.ensures.accepts,
+    )
+
+pub returns-in_err-sample : goal.returns-in_err-sample
+returns-in_err-sample g c =
+    let (values, given, accepted) = c.loop-sample.invariant in
+    let left = g.R.Read.remaining in
+    let refusal = g.S.Sample.refusal in
+    let meaning = g.S.Sample.meaning in
+    let old = lent_reader c.loop-sample.sample-iterator in
+    let new = lent_reader c.next.new.self in
+    let e = c.in_err-sample.field-0.0 in
+    at_err _ _ c.from_residual.result e c.from_residual.ensures.1 (
+      values,
+      Err e,
+      new,
+      c.loop-sample.writer,
+      one_more left refusal meaning (map Ok values) (Err e) c.args.reader.now old new given
+          (subst (λ item. IsNext left refusal meaning (Some item) old new) c.in_err-sample.was
+          c.in-Some.ensures.steps.1),
+      accepted,
+      (refl, refl),
+    )
+
+pub returns-in_err-write_sample : goal.returns-in_err-write_sample
+returns-in_err-write_sample g c =
+    let (values, given, accepted) = c.loop-sample.invariant in
+    let left = g.R.Read.remaining in
+    let refusal = g.S.Sample.refusal in
+    let meaning = g.S.Sample.meaning in
+    let old = lent_reader c.loop-sample.sample-iterator in
+    let new = lent_reader c.next.new.self in
+    let value = c.in_ok-sample.field-0 in
+    let residual = c.from_residual-in_err-write_sample in
+    at_err _ _ residual.result c.in_err-write_sample.field-0.0 residual.ensures.1 (
+      values,
+      Ok value,
+      new,
+      c.loop-sample.writer,
+      one_more left refusal meaning (map Ok values) (Ok value) c.args.reader.now old new given
+          (subst (λ item. IsNext left refusal meaning (Some item) old new) c.in_ok-sample.was
+          c.in-Some.ensures.steps.1),
+      accepted,
+      c.in_err-write_sample.ensures.accepts,
+    )
+
+pub returns : goal.returns
+returns g c =
+    let (values, given, accepted) = c.loop-sample.invariant in
+    let last = lent_reader c.loop-sample.sample-iterator in (
+      values,
+      last,
+      sym (length-map values Ok)
+          ∙ c.an_iterator_gives_what_it_hints.ensures.after (map Ok values) c.args.reader.now last _
+          given c.in-None.ensures.steps.1,
+      given,
+      accepted,
+    )

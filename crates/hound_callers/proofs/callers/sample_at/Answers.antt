@@ -1,6 +1,6 @@
-use Rattle.std.proofs.Common.{◌≡◌, ℕ, List, [], Option, None, Some, Result, Ok, Err, MatchResult, ap, refl, subst, sym}
+use Rattle.std.proofs.Common.{◌≡◌, ◌⊎◌, ℕ, List, [], Option, None, Some, Result, Ok, Err, IfErr, MatchResult, ap, inr, refl, subst, sym}
 use Rattle.std.specs.Option.{option_transpose}
-use Rattle.hound.specs.{Error, IsIoError, IsMeaningOf, Seeks, container_at, meaning_at, samples_before, taken_reader, unread}
+use Rattle.hound.specs.{Error, IsIoError, IsMeaningOf, IsNext, ReaderState, Seeks, container_at, lent_reader, meaning_at, samples_before, unread}
 use Rattle.hound.specs.declared.Error.TheVariants.{IoError}
 use Rattle.hound_callers.proofs.callers.sample_at.Goals as goal
 
@@ -13,9 +13,17 @@ found meaning container (Some (Ok value)) is = ap Some is
 found meaning container (Some (Err (IoError e))) is = tt
 found meaning container (Some (Err _)) is = absurd is
 
-pub returns : goal.returns
-returns g c told inside none =
-    let reader = c.args.reader in
+-- an error is that of the item
+of_item : {A : Type 0} (Other : Error → Type 0) (P : Option (Result A Error) → Type 0)
+    (next : Option (Result A Error)) → P next
+    → IfErr (option_transpose next) (λ e. Other e ⊎ P (Some (Err e)))
+of_item Other P None is = tt
+of_item Other P (Some (Ok value)) is = tt
+of_item Other P (Some (Err e)) is = inr is
+
+pub returns-clause-sample : goal.returns-clause-sample
+returns-clause-sample g c told inside none =
+    let reader = c.args.reader.now in
     let s = reader.spec_ex in
     let state = g.R.Placed.state in
     let seeks : Seeks state c.args.time reader c.seek.new.self = record {
@@ -27,6 +35,25 @@ returns g c told inside none =
     (container_at s.bytes_per_sample (samples_before c.args.time s) (unread (state reader.reader)))
     c.next.result
     (c.a_seek_leads_to_its_frame.ensures.since_new [] c.args.time reader reader
-    (taken_reader c.into_samples.result) _ c.next.result told c.requires refl
-    (subst (Seeks state c.args.time reader) (sym c.into_samples.ensures) seeks) inside none
-    c.next.ensures.steps))
+    (lent_reader c.samples.result) _ c.next.result told c.requires refl
+    (subst (Seeks state c.args.time reader) (sym c.samples.ensures.reader) seeks) inside none
+    c.next.ensures.steps.1))
+
+pub returns-clause-err : goal.returns-clause-err
+returns-clause-err g c told =
+    let reader = c.args.reader.now in
+    let state = g.R.Placed.state in
+    let seeks : Seeks state c.args.time reader c.seek.new.self = record {
+      counts = c.in_ok-seek.ensures.counts;
+      source = c.in_ok-seek.ensures.source told;
+    } in
+    rw c.transpose.ensures
+    (of_item _ (λ next. (mid end : ReaderState g.row.R.Denot)
+    × Seeks state c.args.time reader mid
+    × IsNext g.R.Read.remaining g.S.Sample.refusal g.S.Sample.meaning next mid end) c.next.result (
+      c.seek.new.self,
+      lent_reader c.next.new.self,
+      seeks,
+      subst (λ mid. IsNext g.R.Read.remaining g.S.Sample.refusal g.S.Sample.meaning c.next.result mid
+          (lent_reader c.next.new.self)) c.samples.ensures.reader c.next.ensures.steps.1,
+    ))

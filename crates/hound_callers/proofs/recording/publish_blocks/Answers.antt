@@ -1,8 +1,9 @@
 use Rattle.std.proofs.Common.{◌++◌, ◌∷◌, [], take, IsOk, arith, sym, ap, ◌∙◌, subst}
 use Rattle.std.proofs.lemmas.List.Elements.{All-more}
-use Rattle.hound.specs.{Recorded, WavSpecEx}
-use Rattle.hound_callers.specs.Recording.{containers_by, published_calls, seen}
-use Rattle.hound_callers.proofs.Publishing.{at_ok, seen_more}
+use Rattle.hound.specs.{Recorded, WavSpecEx, seen}
+use Rattle.hound_callers.specs.Recording.{containers_by, published_calls}
+use Rattle.hound.proofs.Knowing.{at_ok}
+use Rattle.hound_callers.proofs.Publishing.{seen_more}
 use Rattle.hound_callers.proofs.recording.publish_blocks.Goals as goal
 
 pub loop-i-preserved : goal.loop-i-preserved

@@ -1,7 +1,7 @@
 use Rattle.std.proofs.Common.{◌≡◌, ◌≤◌, IsOk, [], length, take}
 use Rattle.std.specs.List.{All}
-use Rattle.hound.specs.{Begun, Recorded, WavSpecEx}
-use Rattle.hound_callers.specs.Recording.{containers_by, published_calls, seen}
+use Rattle.hound.specs.{Begun, Recorded, WavSpecEx, seen}
+use Rattle.hound_callers.specs.Recording.{containers_by, published_calls}
 use Rattle.hound_callers.proofs.recording.publish_blocks.Given as goal
 
 abbrev pub invariant-loop-i : goal.invariant-loop-i

@@ -1,4 +1,4 @@
-use Rattle.std.proofs.Common.{◌∙◌, Result, Ok, Err, OnOk}
+use Rattle.std.proofs.Common.{◌∙◌, Result, Ok, Err, OnOk, inr}
 use Rattle.hound_callers.proofs.recording.record_at_once.Goals as goal
 
 -- what holds whatever the result is
@@ -13,3 +13,10 @@ returns-clause-same g c told whole =
     c.flush.ensures.checkpoints.accepted told ((accepts.file told).whole whole)
     ∙ (c.a_block_is_its_samples.ensures told c.args.samples.now c.args.writer.now
     c.write_samples.new.self each whole accepts went).0)
+
+pub returns-clause-calls : goal.returns-clause-calls
+returns-clause-calls g c = inr (
+  c.write_samples.new.self,
+  c.in_ok-write_samples.ensures.accepts,
+  c.flush.ensures.checkpoints,
+)

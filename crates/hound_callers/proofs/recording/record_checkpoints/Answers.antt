@@ -1,6 +1,6 @@
 use Rattle.std.proofs.Common.{◌∷◌, [], IsOk, take, arith, refl, sym, subst, length-take}
 use Rattle.std.specs.List.{All}
-use Rattle.hound.specs.{made, new_file, publish, WavSpecEx}
+use Rattle.hound.specs.{made, publish, WavSpecEx}
 use Rattle.hound_callers.specs.contracts.twelve.TwelveSample.TheImpl.{ghosts}
 use Rattle.hound_callers.specs.Recording.{containers_by}
 use Rattle.hound_callers.proofs.Publishing.{last_flush}
@@ -13,9 +13,9 @@ returns g c = (
       let s = c.args.spec_ex in
       let first = take c.publish_blocks-published.result c.args.blocks.now in
       let (more, stops, recorded) =
-      c.publish_blocks-published.ensures.published s new_file c.in-Ok.ensures.recorded in
-      let kept = c.what_a_loss_leaves.ensures told keeps s new_file _ (made publish) refl
-      (c.drop_into-durable.ensures.left s new_file _ recorded) in (
+      c.publish_blocks-published.ensures.published s _ c.in-Ok.ensures.recorded in
+      let kept = c.what_a_loss_leaves.ensures told keeps s _ _ (made publish) refl
+      (c.drop_into-durable.ensures.left s _ _ recorded) in (
         c.new.result,
         c.drop_into-durable.result,
         c.new.ensures.within,
@@ -35,8 +35,16 @@ returns g c = (
               (subst (λ (x : WavSpecEx).
               All (λ block. IsOk (containers_by ghosts.container x block)) first)
               c.in-Ok.ensures.begins.begun.spec c.publish_blocks-published.ensures.have)
-              c.what_is_known.ensures.among c.what_is_known.ensures.accepted
-              kept.left.recorded.are_known,
+              c.what_is_known.ensures.published kept.left.recorded.are_known,
         ),
       ),
+)
+
+pub returns-in-Err : goal.returns-in-Err
+returns-in-Err g c = (
+  c.new.result,
+  c.in-Err.durable,
+  c.new.ensures.within,
+  sym c.into_inner.ensures,
+  c.in-Err.ensures.begins,
 )

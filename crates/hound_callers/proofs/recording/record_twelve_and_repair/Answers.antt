@@ -1,8 +1,7 @@
 use Rattle.std.specs.Prelude.{⊤}
-use Rattle.std.proofs.Common.{◌≡◌, ◌-◌, [], ◌∷◌, false, length, Result, Ok, Err, MatchResult, inl, refl, subst, sym, ◌∙◌, ap, arith}
+use Rattle.std.proofs.Common.{false, Result, Ok, Err, IfErr, MatchResult, inl, inr}
 use Rattle.std.proofs.lemmas.Bool.{false≢true}
-use Rattle.std.proofs.lemmas.List.{take_all}
-use Rattle.hound.specs.{moment, overlay, new_file, data_start, held, IsNoPad, field, accepted_by_all}
+use Rattle.hound.specs.{new_file}
 use Rattle.hound_callers.proofs.recording.record_twelve_and_repair.Goals as goal
 
 -- what holds of a result where a premise of it is there
@@ -11,31 +10,36 @@ if_told : {T E Told : Type 0} (r : Result T E) {P Q : T → Type 0} (R : E → T
 if_told (Ok x) R is then = then x is
 if_told (Err e) R is then = tt
 
+-- and of an error
+if_refused : {T E Told : Type 0} (r : Result T E) (P : T → Type 0) {Q R : E → Type 0}
+    → (Told → MatchResult r P Q) → ((e : E) → (Told → Q e) → R e) → IfErr r R
+if_refused (Ok x) P is then = tt
+if_refused (Err e) P is then = then e is
+
 pub returns : goal.returns
-returns g c = if_told c.repair_to_end.result _ c.repair_to_end.ensures.repaired (λ done repairs told keeps.
+returns g c =
     let s = c.args.spec_ex in
+    let M = g.M.Placed in
     let medium = c.drop_into-medium.result in
-    let left = g.M.Placed.state medium in
-    let cut = g.M.Placed.state c.go.new.self in
-    let same : cut.contents ≡ left.contents = (c.go.ensures told).stays.contents in
-    let kept = c.what_is_kept.ensures.kept told keeps s new_file _ medium
-    (c.drop_into-medium.ensures.left s new_file _ c.in_ok-writer.ensures) in
-    let last : cut.contents ≡ moment left.start left.past (length left.past) =
-    same ∙ g.met.M.Medium.replays medium told keeps
-    ∙ ap (overlay left.start) (sym (take_all (length left.past) left.past (omega arith))) in (
-      medium,
-      kept,
-      λ before after flush parts has_all no_pad.
-          c.a_repair_loses_no_published_sample.ensures s new_file kept.left.recorded.calls _ left
-          kept.promised before after flush false cut (g.M.Placed.state done.0) done.1
-          (kept.promised.at_end.sound refl) parts has_all
-          (inl (
-            length left.past,
-            (kept.promised.promises.in_order before (flush ∷ []) after parts).1,
-            omega arith,
-            last,
-          ))
-          (repairs told) (λ looks here. absurd (false≢true looks))
-          (subst (λ l. IsNoPad s (field (data_start s - 4) l) (held (data_start s) l)
-          (accepted_by_all before)) (sym same) no_pad),
-    ))
+    let file = new_file (M.state c.args.medium) in
+    let left = c.drop_into-medium.ensures.left s file _ c.in_ok-writer.ensures in
+    record {
+      none_lost = if_told c.repair_to_end.result _ c.repair_to_end.ensures.repaired
+          (λ done repairs told keeps.
+          let kept = c.what_is_kept.ensures.kept told keeps s file _ medium left in (
+            medium,
+            kept,
+            λ before after flush parts has_all.
+                c.a_repair_loses_no_published_sample.ensures s file kept.left.recorded.calls
+                (M.state medium) kept.promised before after flush false (M.state c.go.new.self)
+                (M.state done.0) done.1 parts has_all (inl (c.go.ensures told).stays.contents)
+                (repairs told) (λ looks here. absurd (false≢true looks)),
+          ));
+      err = if_refused c.repair_to_end.result _ c.repair_to_end.ensures.repaired
+          (λ refused not. inr (
+            medium,
+            c.go.new.self,
+            left,
+            λ told. inr ((c.go.ensures told).stays, not told),
+          ));
+    }

@@ -10,3 +10,7 @@ returns g c told keeps = (
   c.what_a_loss_leaves.ensures told keeps _ _ _ _ refl
       (c.finalize_into-durable.ensures.left _ _ _ c.in-Ok.ensures),
 )
+
+pub returns-in-Err : goal.returns-in-Err
+returns-in-Err g c =
+    (c.new.result, c.in-Err.durable, c.new.ensures.within, sym c.into_inner.ensures, c.in-Err.ensures)

@@ -22,6 +22,7 @@ returns g c =
     record {
       sound = sound_head _ head.spec_ex head.data_length head.data_start c.requires.sound
           c.requires.start.0 c.in_default.ensures;
+      sound_spec = c.requires.sound;
       none_waits = search rules;
       buffer = search rules;
       file = λ tells. follows g.W.Placed.state _ head.spec_ex head.data_length head.data_start
