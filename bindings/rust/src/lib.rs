@@ -153,26 +153,54 @@ mod c {
         pub state: u32,
     }
 
+    #[repr(C)]
+    #[derive(Clone, Default)]
+    pub struct Walk {
+        pub place: u64,
+        pub spec: Spec,
+        pub length: u32,
+        pub taken: u32,
+        pub part: u32,
+        pub fmt_length: u32,
+    }
+
     extern "C" {
         pub fn hound_info(file: *const u8, length: usize, info: *mut Info) -> i32;
+        pub fn hound_walk_next(walk: *mut Walk, bytes: *const u8, length: usize, info: *mut Info) -> i32;
         pub fn hound_size(spec: *const Spec, samples: u64) -> i64;
+        pub fn hound_header(spec: *const Spec, samples: u64, out: *mut u8, capacity: usize) -> i64;
+        pub fn hound_sizes(spec: *const Spec, data_start: u64, samples: u64, out: *mut u8, capacity: usize) -> i64;
+        pub fn hound_find_damage(file: *const u8, length: usize, found: *mut Repair) -> i32;
+        pub fn hound_to_f32(samples: *const i32, count: usize, bits: u16, out: *mut f32, capacity: usize) -> i64;
+        pub fn hound_from_f32(samples: *const f32, count: usize, bits: u16, out: *mut i32, capacity: usize, clipped: *mut u64) -> i64;
         pub fn hound_repair(file: *mut u8, capacity: usize, used: usize, found: *mut Repair) -> i64;
     }
 
-    macro_rules! calls {
-        ($sample:ty, $read:ident, $write:ident, $append:ident, $decode:ident, $encode:ident) => {
+    macro_rules! coding {
+        ($sample:ty, $decode:ident, $encode:ident) => {
             extern "C" {
-                pub fn $read(file: *const u8, length: usize, first: u64, out: *mut $sample, count: usize) -> i64;
-                pub fn $write(spec: *const Spec, samples: *const $sample, count: usize, out: *mut u8, capacity: usize) -> i64;
-                pub fn $append(file: *mut u8, capacity: usize, used: usize, samples: *const $sample, count: usize) -> i64;
                 pub fn $decode(spec: *const Spec, bytes: *const u8, length: usize, out: *mut $sample, count: usize) -> i64;
                 pub fn $encode(spec: *const Spec, samples: *const $sample, count: usize, out: *mut u8, capacity: usize) -> i64;
             }
         };
     }
-    calls!(i16, hound_read_i16, hound_write_i16, hound_append_i16, hound_decode_i16, hound_encode_i16);
-    calls!(i32, hound_read_i32, hound_write_i32, hound_append_i32, hound_decode_i32, hound_encode_i32);
-    calls!(f32, hound_read_f32, hound_write_f32, hound_append_f32, hound_decode_f32, hound_encode_f32);
+    coding!(i8, hound_decode_i8, hound_encode_i8);
+    coding!(i16, hound_decode_i16, hound_encode_i16);
+    coding!(i32, hound_decode_i32, hound_encode_i32);
+    coding!(f32, hound_decode_f32, hound_encode_f32);
+
+    macro_rules! calls {
+        ($sample:ty, $read:ident, $write:ident, $append:ident) => {
+            extern "C" {
+                pub fn $read(file: *const u8, length: usize, first: u64, out: *mut $sample, count: usize) -> i64;
+                pub fn $write(spec: *const Spec, samples: *const $sample, count: usize, out: *mut u8, capacity: usize) -> i64;
+                pub fn $append(file: *mut u8, capacity: usize, used: usize, samples: *const $sample, count: usize) -> i64;
+            }
+        };
+    }
+    calls!(i16, hound_read_i16, hound_write_i16, hound_append_i16);
+    calls!(i32, hound_read_i32, hound_write_i32, hound_append_i32);
+    calls!(f32, hound_read_f32, hound_write_f32, hound_append_f32);
 }
 
 impl Spec {
@@ -197,27 +225,77 @@ impl Spec {
     }
 }
 
+impl Info {
+    fn from_c(found: c::Info) -> Info {
+        Info {
+            spec: Spec::from_c(found.spec),
+            samples: found.samples,
+            data_start: found.data_start,
+        }
+    }
+}
+
+impl Repair {
+    fn from_c(found: c::Repair, length: usize) -> Repair {
+        Repair {
+            spec: Spec::from_c(found.spec),
+            frames: found.frames,
+            left_over: found.left_over,
+            state: match found.state {
+                0 => State::Whole,
+                1 => State::CutOff,
+                _ => State::HasChunksAfterData,
+            },
+            length,
+        }
+    }
+}
+
 fn checked(code: i64) -> Result<usize> {
     usize::try_from(code).map_err(|_| ERRORS[code.unsigned_abs() as usize - 1])
 }
 
 mod private {
+    pub trait Coding: Sized {
+        fn decode(spec: &super::c::Spec, bytes: &[u8], out: &mut [Self]) -> i64;
+        fn encode(spec: &super::c::Spec, samples: &[Self], out: &mut [u8]) -> i64;
+    }
+
     pub trait Calls: Sized {
         fn read(file: &[u8], first: u64, out: &mut [Self]) -> i64;
         fn write(spec: &super::c::Spec, samples: &[Self], out: &mut [u8]) -> i64;
         fn append(file: &mut [u8], used: usize, samples: &[Self]) -> i64;
-        fn decode(spec: &super::c::Spec, bytes: &[u8], out: &mut [Self]) -> i64;
-        fn encode(spec: &super::c::Spec, samples: &[Self], out: &mut [u8]) -> i64;
     }
 }
 
-/// The types of samples: `i16`, `i32` and `f32`.
-pub trait Sample: private::Calls {}
+/// The types that samples are decoded to and encoded from: `i8`, `i16`, `i32` and `f32`.
+pub trait Coded: private::Coding {}
+
+/// The types of samples of files: `i16`, `i32` and `f32`.
+pub trait Sample: Coded + private::Calls {}
 
 // SAFETY of each call: the pointers are those of slices and references, which are aligned,
 // initialized and not null, and a mutable one overlaps no other; nothing is kept.
+macro_rules! coded {
+    ($sample:ty, $decode:ident, $encode:ident) => {
+        impl Coded for $sample {}
+        impl private::Coding for $sample {
+            fn decode(spec: &c::Spec, bytes: &[u8], out: &mut [Self]) -> i64 {
+                unsafe { c::$decode(spec, bytes.as_ptr(), bytes.len(), out.as_mut_ptr(), out.len()) }
+            }
+            fn encode(spec: &c::Spec, samples: &[Self], out: &mut [u8]) -> i64 {
+                unsafe { c::$encode(spec, samples.as_ptr(), samples.len(), out.as_mut_ptr(), out.len()) }
+            }
+        }
+    };
+}
+coded!(i8, hound_decode_i8, hound_encode_i8);
+coded!(i16, hound_decode_i16, hound_encode_i16);
+coded!(i32, hound_decode_i32, hound_encode_i32);
+coded!(f32, hound_decode_f32, hound_encode_f32);
+
 macro_rules! sample {
-    ($sample:ty, $read:ident, $write:ident, $append:ident, $decode:ident, $encode:ident) => {
+    ($sample:ty, $read:ident, $write:ident, $append:ident) => {
         impl Sample for $sample {}
         impl private::Calls for $sample {
             fn read(file: &[u8], first: u64, out: &mut [Self]) -> i64 {
@@ -229,29 +307,73 @@ macro_rules! sample {
             fn append(file: &mut [u8], used: usize, samples: &[Self]) -> i64 {
                 unsafe { c::$append(file.as_mut_ptr(), file.len(), used, samples.as_ptr(), samples.len()) }
             }
-            fn decode(spec: &c::Spec, bytes: &[u8], out: &mut [Self]) -> i64 {
-                unsafe { c::$decode(spec, bytes.as_ptr(), bytes.len(), out.as_mut_ptr(), out.len()) }
-            }
-            fn encode(spec: &c::Spec, samples: &[Self], out: &mut [u8]) -> i64 {
-                unsafe { c::$encode(spec, samples.as_ptr(), samples.len(), out.as_mut_ptr(), out.len()) }
-            }
         }
     };
 }
-sample!(i16, hound_read_i16, hound_write_i16, hound_append_i16, hound_decode_i16, hound_encode_i16);
-sample!(i32, hound_read_i32, hound_write_i32, hound_append_i32, hound_decode_i32, hound_encode_i32);
-sample!(f32, hound_read_f32, hound_write_f32, hound_append_f32, hound_decode_f32, hound_encode_f32);
+sample!(i16, hound_read_i16, hound_write_i16, hound_append_i16);
+sample!(i32, hound_read_i32, hound_write_i32, hound_append_i32);
+sample!(f32, hound_read_f32, hound_write_f32, hound_append_f32);
 
 /// What is before the data of a file. The data needn't all be there.
 pub fn info(file: &[u8]) -> Result<Info> {
     let mut found = c::Info::default();
     // SAFETY: as above.
     checked(unsafe { c::hound_info(file.as_ptr(), file.len(), &mut found) } as i64)?;
-    Ok(Info {
-        spec: Spec::from_c(found.spec),
-        samples: found.samples,
-        data_start: found.data_start,
-    })
+    Ok(Info::from_c(found))
+}
+
+/// A walk to the data of a file that isn't in memory, or comes from a pipe. It requests one part of
+/// the file after the other, none of the data, and of a chunk that it skips the last byte alone.
+///
+/// ```no_run
+/// use std::io::{Read, Seek, SeekFrom};
+/// # fn main() -> Result<(), Box<dyn std::error::Error>> {
+/// let mut file = std::fs::File::open("tone.wav")?;
+/// let mut walk = hound_bindings::Walk::new();
+/// let info = loop {
+///     let mut part = Vec::new();
+///     file.seek(SeekFrom::Start(walk.place()))?;
+///     file.by_ref().take(walk.length() as u64).read_to_end(&mut part)?;
+///     if let Some(info) = walk.take(&part)? {
+///         break info; // and the next byte of the file is the first one of the data
+///     }
+/// };
+/// # Ok(())
+/// # }
+/// ```
+#[derive(Clone)]
+pub struct Walk(c::Walk);
+
+impl Walk {
+    /// A walk that requests the first bytes of a file.
+    pub fn new() -> Walk {
+        Walk(c::Walk { length: 12, ..c::Walk::default() })
+    }
+
+    /// Where in the file the requested bytes begin.
+    pub fn place(&self) -> u64 {
+        self.0.place
+    }
+
+    /// How many bytes are requested: at most 40.
+    pub fn length(&self) -> usize {
+        self.0.length as usize
+    }
+
+    /// Takes the requested bytes, fewer only where the file ends, and returns what is before the data,
+    /// which begin after these bytes, or nothing if other bytes are requested, which come after these.
+    pub fn take(&mut self, bytes: &[u8]) -> Result<Option<Info>> {
+        let mut found = c::Info::default();
+        // SAFETY: as above.
+        let code = unsafe { c::hound_walk_next(&mut self.0, bytes.as_ptr(), bytes.len(), &mut found) };
+        Ok(if checked(code as i64)? == 0 { Some(Info::from_c(found)) } else { None })
+    }
+}
+
+impl Default for Walk {
+    fn default() -> Walk {
+        Walk::new()
+    }
 }
 
 /// Reads samples from number `first` on into the front of `out`, and returns how many: as many as
@@ -276,6 +398,24 @@ pub fn size(spec: &Spec, samples: u64) -> Result<usize> {
     checked(unsafe { c::hound_size(&spec.to_c(), samples) })
 }
 
+/// The header of the file of so many samples: 44 or 68 bytes.
+pub fn header(spec: &Spec, samples: u64) -> Result<Vec<u8>> {
+    let mut header = vec![0; 68];
+    // SAFETY: as above.
+    let length = checked(unsafe { c::hound_header(&spec.to_c(), samples, header.as_mut_ptr(), header.len()) })?;
+    header.truncate(length);
+    Ok(header)
+}
+
+/// The RIFF size, which is at byte 4 of a file, and the data length, which is in the four bytes before
+/// the data, of the file of so many samples whose data begin at this place.
+pub fn sizes(spec: &Spec, data_start: u64, samples: u64) -> Result<([u8; 4], [u8; 4])> {
+    let mut both = [[0; 4]; 2];
+    // SAFETY: as above.
+    checked(unsafe { c::hound_sizes(&spec.to_c(), data_start, samples, both.as_mut_ptr().cast(), 8) })?;
+    Ok((both[0], both[1]))
+}
+
 /// Writes the file of these samples to the front of `out`, and returns its length.
 pub fn write_to<S: Sample>(spec: &Spec, samples: &[S], out: &mut [u8]) -> Result<usize> {
     checked(S::write(&spec.to_c(), samples, out))
@@ -298,25 +438,38 @@ pub fn repair(file: &mut [u8], used: usize) -> Result<Repair> {
     let mut found = c::Repair::default();
     // SAFETY: as above.
     let length = checked(unsafe { c::hound_repair(file.as_mut_ptr(), file.len(), used, &mut found) })?;
-    Ok(Repair {
-        spec: Spec::from_c(found.spec),
-        frames: found.frames,
-        left_over: found.left_over,
-        state: match found.state {
-            0 => State::Whole,
-            1 => State::CutOff,
-            _ => State::HasChunksAfterData,
-        },
-        length,
-    })
+    Ok(Repair::from_c(found, length))
+}
+
+/// Looks at a file as `repair` does, and changes nothing.
+pub fn find_damage(file: &[u8]) -> Result<Repair> {
+    let mut found = c::Repair::default();
+    // SAFETY: as above.
+    checked(unsafe { c::hound_find_damage(file.as_ptr(), file.len(), &mut found) } as i64)?;
+    Ok(Repair::from_c(found, file.len()))
 }
 
 /// Decodes samples without a file around them, and returns how many.
-pub fn decode<S: Sample>(spec: &Spec, bytes: &[u8], out: &mut [S]) -> Result<usize> {
+pub fn decode<S: Coded>(spec: &Spec, bytes: &[u8], out: &mut [S]) -> Result<usize> {
     checked(S::decode(&spec.to_c(), bytes, out))
 }
 
 /// Encodes samples without a file around them, and returns how many bytes they take.
-pub fn encode<S: Sample>(spec: &Spec, samples: &[S], out: &mut [u8]) -> Result<usize> {
+pub fn encode<S: Coded>(spec: &Spec, samples: &[S], out: &mut [u8]) -> Result<usize> {
     checked(S::encode(&spec.to_c(), samples, out))
+}
+
+/// Scales integers of so many bits, from 1 to 32, to floats whose full scale is 1, and returns how many.
+pub fn to_f32(samples: &[i32], bits: u16, out: &mut [f32]) -> Result<usize> {
+    // SAFETY: as above.
+    checked(unsafe { c::hound_to_f32(samples.as_ptr(), samples.len(), bits, out.as_mut_ptr(), out.len()) })
+}
+
+/// Scales floats whose full scale is 1 to integers of so many bits, each to the nearest one, and returns
+/// how many were clipped.
+pub fn from_f32(samples: &[f32], bits: u16, out: &mut [i32]) -> Result<u64> {
+    let mut clipped = 0;
+    // SAFETY: as above.
+    checked(unsafe { c::hound_from_f32(samples.as_ptr(), samples.len(), bits, out.as_mut_ptr(), out.len(), &mut clipped) })?;
+    Ok(clipped)
 }

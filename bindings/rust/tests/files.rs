@@ -1,6 +1,7 @@
 //! The calls over small files.
 use hound_bindings::{
-    append_to, decode, encode, info, read, read_into, repair, size, write, write_to, Error, Format, Spec, State, ERRORS,
+    append_to, decode, encode, find_damage, from_f32, header, info, read, read_into, repair, size, sizes, to_f32, write, write_to, Error,
+    Format, Spec, State, Walk, ERRORS,
 };
 
 const SPEC: Spec = Spec {
@@ -74,4 +75,56 @@ fn an_error_leaves_all_as_it_was() {
     for (i, error) in ERRORS.iter().enumerate() {
         assert_eq!(*error as i64, -1 - i as i64);
     }
+}
+
+#[test]
+fn a_walk_finds_what_info_finds() {
+    // A chunk of three bytes and its pad byte before the fmt chunk.
+    let mut file = write(&SPEC, &[7i16]).unwrap();
+    file.splice(12..12, *b"LIST\x03\0\0\0abc\0");
+    let mut walk = Walk::new();
+    let mut parts = Vec::new();
+    let found = loop {
+        let start = walk.place() as usize;
+        parts.push((start, walk.length()));
+        if let Some(found) = walk.take(&file[start..start + walk.length()]).unwrap() {
+            break found;
+        }
+    };
+    assert_eq!(parts, [(0, 12), (12, 8), (23, 9), (32, 16), (48, 8)]);
+    assert_eq!((found.samples, found.data_start, found), (1, 56, info(&file).unwrap()));
+    assert_eq!(Walk::default().take(b"RIFF"), Err(Error::Ended));
+}
+
+#[test]
+fn headers_and_sizes_are_those_of_the_file() {
+    let file = write(&SPEC, &[2i16, -3, 5]).unwrap();
+    assert_eq!(header(&SPEC, 3).unwrap(), file[..44]);
+    assert_eq!(sizes(&SPEC, 44, 3), Ok(([42, 0, 0, 0], [6, 0, 0, 0])));
+    assert_eq!(header(&Spec { channels: 0, ..SPEC }, 3), Err(Error::NotWritable));
+    assert_eq!(sizes(&SPEC, 19, 3), Err(Error::NotWritable));
+}
+
+#[test]
+fn damage_is_found_and_left() {
+    let file = write(&SPEC, &[2i16, 3, 5]).unwrap();
+    let cut = find_damage(&file[..49]).unwrap();
+    assert_eq!((cut.state, cut.frames, cut.left_over, cut.length), (State::CutOff, 2, 1, 49));
+    assert_eq!(find_damage(&file).unwrap().state, State::Whole);
+    assert_eq!(find_damage(b"RIFX"), Err(Error::NoRiffTag));
+}
+
+#[test]
+fn eight_bits_and_scales() {
+    let spec = Spec { bits_per_sample: 8, ..SPEC };
+    let mut bytes = [9; 3];
+    assert_eq!(encode(&spec, &[-128i8, 127], &mut bytes), Ok(2));
+    assert_eq!(bytes, [0, 255, 9]);
+    let mut out = [9i8; 3];
+    assert_eq!((decode(&spec, &bytes[..2], &mut out), out), (Ok(2), [-128, 127, 9]));
+    let mut floats = [9.0; 2];
+    assert_eq!((to_f32(&[16384], 16, &mut floats), floats), (Ok(1), [0.5, 9.0]));
+    let mut integers = [9; 3];
+    assert_eq!((from_f32(&[1.0, -1.0, 0.25], 16, &mut integers), integers), (Ok(1), [32767, -32768, 8192]));
+    assert_eq!(from_f32(&[1.0], 0, &mut integers), Err(Error::NotWritable));
 }
