@@ -1,9 +1,11 @@
 /* Writes the samples of a WAV file to standard output without a header: integers of up to 16 bits as
-   int16_t, wider ones as int32_t, floats as float. The file comes from standard input, which may be a
-   pipe: nothing is read twice, and no more than a block is in memory.
+   int16_t, wider ones as int32_t, floats as float; with --float all as float, integers in full scale 1.
+   The file comes from standard input, which may be a pipe: nothing is read twice, and no more than a
+   block is in memory.
      cc -Ibindings/c bindings/c/cat.c bindings/lib/x86_64-linux/libhound_c.a -o cat && ./cat < in.wav > out.raw */
 #include "hound.h"
 #include <stdio.h>
+#include <string.h>
 
 enum { BLOCK = 4096 };
 static uint64_t taken; /* how many bytes of the input were read */
@@ -31,11 +33,16 @@ static int32_t find_data(hound_info_t *info) {
     return code;
 }
 
+/* The samples of a block, of one type. */
+static union { int16_t shorts[BLOCK]; int32_t ints[BLOCK]; float floats[BLOCK]; } out;
+
 /* Decodes the containers of a block, and returns how many bytes `out` has of them. */
-static int64_t decode(const hound_spec *spec, const uint8_t *bytes, size_t length, int32_t *out) {
-    if (spec->sample_format == HOUND_FLOAT) return 4 * hound_decode_f32(spec, bytes, length, (float *)(void *)out, BLOCK);
-    if (spec->bits_per_sample <= 16) return 2 * hound_decode_i16(spec, bytes, length, (int16_t *)(void *)out, BLOCK);
-    return 4 * hound_decode_i32(spec, bytes, length, out, BLOCK);
+static int64_t decode(const hound_spec *spec, const uint8_t *bytes, size_t length, int as_floats) {
+    static int32_t ints[BLOCK];
+    if (spec->sample_format == HOUND_FLOAT) return 4 * hound_decode_f32(spec, bytes, length, out.floats, BLOCK);
+    if (spec->bits_per_sample <= 16 && !as_floats) return 2 * hound_decode_i16(spec, bytes, length, out.shorts, BLOCK);
+    int64_t count = hound_decode_i32(spec, bytes, length, as_floats ? ints : out.ints, BLOCK);
+    return 4 * (count < 0 || !as_floats ? count : hound_to_f32(ints, (size_t)count, spec->bits_per_sample, out.floats, BLOCK));
 }
 
 static int fail(const char *why) {
@@ -43,9 +50,10 @@ static int fail(const char *why) {
     return 1;
 }
 
-int main(void) {
+int main(int argc, char **argv) {
     static uint8_t bytes[4 * BLOCK];
-    static int32_t out[BLOCK];
+    int as_floats = argc == 2 && !strcmp(argv[1], "--float");
+    if (argc > 1 && !as_floats) return fail("usage: cat [--float] < FILE");
     hound_info_t info;
     int32_t code = find_data(&info);
     if (ferror(stdin)) return fail("reading failed");
@@ -53,9 +61,9 @@ int main(void) {
     uint64_t left = (uint64_t)info.samples * info.spec.bytes_per_sample;
     while (left > 0) {
         size_t wanted = least(left, (size_t)info.spec.bytes_per_sample * BLOCK), got = take(bytes, wanted);
-        int64_t length = decode(&info.spec, bytes, got, out);
+        int64_t length = decode(&info.spec, bytes, got, as_floats);
         if (length < 0) return fail("these samples are not read");
-        if (fwrite(out, 1, (size_t)length, stdout) != (size_t)length) return fail("writing failed");
+        if (fwrite(&out, 1, (size_t)length, stdout) != (size_t)length) return fail("writing failed");
         if (got < wanted) return fflush(stdout), fail(ferror(stdin) ? "reading failed" : hound_error_text(HOUND_TRUNCATED));
         left -= got;
     }

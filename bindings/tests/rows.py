@@ -8,6 +8,7 @@ these files are piped through it, too)"""
 import array
 import ctypes
 import os
+import struct
 import subprocess
 import sys
 
@@ -100,23 +101,28 @@ def files():
             yield data[:length]
 
 
-def catted_by_model(data):
+def catted_by_model(data, as_floats):
     """The status and the output of cat.c."""
     out = b""
     try:
         reader = model.Reader(model.Fed(data))
-        kind = "f" if reader.spec.is_float else "i16" if reader.spec.bits <= 16 else "i32"
+        bits = reader.spec.bits
+        kind = "f" if reader.spec.is_float else "i16" if bits <= 16 and not as_floats else "i32"
         while (value := reader.next(kind)) is not None:
-            out += value.to_bytes(2 if kind == "i16" else 4, "little", signed=kind != "f")
+            if as_floats and kind != "f":
+                out += struct.pack("<f", value / (1 << (bits - 1)))
+            else:
+                out += value.to_bytes(2 if kind == "i16" else 4, "little", signed=kind != "f")
     except model.Refused:
         return 1, out
     return 0, out
 
 
 def check_cat(program, data):
-    run = subprocess.run([program], input=data, stdout=subprocess.PIPE, stderr=subprocess.PIPE)
-    if (run.returncode, run.stdout) != catted_by_model(data) or (run.returncode == 1) != (run.stderr != b""):
-        sys.exit(f"rows: {program} makes something else of {data[:80].hex()} .. ({len(data)} bytes): {run}"[:600])
+    for options in ([], ["--float"]):
+        run = subprocess.run([program, *options], input=data, stdout=subprocess.PIPE, stderr=subprocess.PIPE)
+        if (run.returncode, run.stdout) != catted_by_model(data, options != []) or (run.returncode == 1) != (run.stderr != b""):
+            sys.exit(f"rows: {program} makes something else of {data[:80].hex()} .. ({len(data)} bytes): {run}"[:600])
 
 
 STATES = ["whole", "cut_off", "followed"]
