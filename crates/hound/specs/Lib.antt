@@ -14,7 +14,7 @@ unfoldable pub use Rattle.hound_sample.specs.{int_container, pattern_container}
 pub use Rattle.hound_sample.specs.declared.item.ItemError.{ItemError}
 pub use Rattle.hound_medium.specs.{FlushedSince, Flushes, Gets, Goes, IsMoved, MediumState, Puts, PutsAll, PutsFirst, Shifts, Span, Stays, WhereKeeps, WhereTells, count_of, faults_after, moment, one_more, overlay, place_reached, placed, put_at, unknown, FailsAt, IsNumbered, SameRequests, calls, greatest_count}
 pub use Rattle.hound_durable.specs.{Ascends, IsBelow, IsItsFault, IsLastBefore, LeadsBack, OnlySyncs, SurvivesLoss, byte_at, left_of, left_own, own, place_of, replays_own, Around, synced, within}
-pub use Rattle.hound_reader.specs.{IsSoundSpec, by_subformat, fmt_len, fmt_of, spec_of, width_of, with_format, with_valid_bits, Answer, Answers, AnswersFile, AreContainers, Chunk, Chunks, HasOneAnswer, HasOneFileAnswer, Head, IsChunk, IsDataPlace, Readable, Refused, Unreadable, Walk, chunk_bytes, cut_fault, data_fault, fault_of, first_fault, fmt_fault, joined, last_spec, ok_of, readable, unreadable, CountsFailed, Gives, IsSoundChunk, IsSoundOption, ReadsChunk, ReadsContent, ReadsFormat, RefusedAfter, Refuses, RefusesFront, ReportsFront, TakesAll, TakesFor, TakesFront, TakesLess, UnreadableAfter, Walked, Walks, chunk_taken, content_taken, content_takes, front_taken, AnswersNext, AnswersRead, AnswersReadMany, AreItems, AreTaken, CountsTaken, GivesItem, GivesItems, GivesItemsOfBytes, HasGiven, HasGiven-prop, HasSoundCounts, HasWholeFrames, IsNext, ReaderState, ReadsBlock, TookBytes, meaning_at, over_bytes, refusal_at, requested, samples_left, taken_without, FailsAs, IsRefusal, Names, OpensAs, ReportsError, reason_text, LendsNext, TakesNext, lender, lent_reader, taken_reader, AnswersBytes, FindsData, Untouched, account_of, faults_after_walk, unread, Follows, HasSought, IsAtCount, IsMeaningOf, PassesItem, ReadsInPlace, Recounts, Seeks, StandsAsCounted, bytes_before, container_at, count_after, samples_before, way_to}
+pub use Rattle.hound_reader.specs.{IsSoundSpec, by_subformat, fmt_len, fmt_of, spec_of, width_of, with_format, with_valid_bits, Answer, Answers, AnswersFile, AreContainers, Chunk, Chunks, HasOneAnswer, HasOneFileAnswer, Head, IsChunk, IsDataPlace, Readable, Refused, Unreadable, Walk, chunk_bytes, cut_fault, data_fault, fault_of, first_fault, fmt_fault, joined, last_spec, ok_of, readable, unreadable, CountsFailed, Gives, IsSoundChunk, IsSoundOption, ReadsChunk, ReadsContent, ReadsFormat, RefusedAfter, Refuses, RefusesFront, ReportsFront, SaysContent, TakesAll, TakesFor, TakesFront, TakesLess, UnreadableAfter, Walked, Walks, chunk_taken, content_taken, content_takes, front_taken, AnswersNext, AnswersRead, AnswersReadMany, AreItems, AreTaken, CountsTaken, GivesItem, GivesItems, GivesItemsOfBytes, HasGiven, HasGiven-prop, HasSoundCounts, HasWholeFrames, IsNext, ReaderState, ReadsBlock, TookBytes, meaning_at, over_bytes, refusal_at, requested, samples_left, taken_without, FailsAs, IsRefusal, Names, OpensAs, ReportsError, reason_text, LendsNext, TakesNext, lender, lent_reader, taken_reader, AnswersBytes, FindsData, Untouched, account_of, faults_after_walk, unread, Follows, HasSought, IsAtCount, IsMeaningOf, PassesItem, ReadsInPlace, Recounts, Seeks, StandsAsCounted, bytes_before, container_at, count_after, samples_before, way_to, IsAfter, IsAhead, IsAt, IsAtPart, IsNearer, IsSoundStep, LeadsTo, Reaches, part_bytes, part_length, part_start, parts_left}
 unfoldable pub use Rattle.hound_reader.specs.{by_tag, fmt_said, wave_format, wave_format_extensible, wave_format_ieee_float, wave_format_pcm, chunk_fault, content_fault, front_fault, spec_after}
 pub use Rattle.hound_reader.specs.declared.cause.Cause.{Cause}
 pub use Rattle.hound_reader.specs.declared.cause.HeadError.{HeadError}
@@ -22,7 +22,7 @@ pub use Rattle.hound_reader.specs.declared.cause.Reason.{Reason}
 pub use Rattle.hound_reader.specs.declared.chunks.FileHead.{FileHead}
 pub use Rattle.hound_writer.specs.{AcceptAnswer, Accepts, AcceptsBytes, AcceptsEach, Adds, AddsAtEach, AddsToFile, AreShort, FitAnswer, IsIoError, IsPublishing, IsStored, KeepsStored, OnPublished, OnRefused, StaysTrue, UnlessFailed, containers_in, faults_told, if_marked, mark_of, one, outcome_of, sample_bytes, short_bytes, whole_containers, AnswersAppend, AppendAnswer, AppendFault, Appends, FailsCheck, FollowsData, HasOneAppendAnswer, IsAppendFault, IsNotAppended, NamesFault, PutsNothing, appendable, by_bytes, faulty, too_long, IsSameFile, WritesToBatch, batch_bytes, batch_lender, batch_writer, remaining, Begins, BeginsFile, HasBegun, IsNotBegun, PutsHeader, GoesAtEach, GoesOut, GoesToFile, HasSize, IsConsistent, IsLimit, IsPatched, IsPublishResult, IsStanding, Patches, PatchesAtEach, PutsAt, StaysAround, after_out, all_out, bytes_kept, of_fields, or_fault, result_of, AreKnown, Asked, Begun, Call, Does, Ends, Extends, HadData, IsKnown, KeepsCalls, Known, Lead, LeftBy, Opens, RecordedBy, appended, asked_by_all, found_in, handed_in, made, marked, new_file, publish, start_of, with_memory, write, AreFrames, ChangesSizesOnly, Counts, HasHeader, HasRoom, IsBegun, IsCounted, IsPadded, IsSixteen, IsSound, IsValid, IsWhole, KeepsSamples, ReadsFirst, SameButSizes, WriterState, accepted_bytes, accepted_samples, block_length, data_end, data_length, field, padded_end, sample_count, Checkpoints, Finishes, IsHalfPublished, IsOldOrNew, IsOutside, LeavesWriter, OncePutBefore, Publishes, PublishesAtEach, PublishesTo, PutsFrom, PutsLast, ReadsAs, place_after}
 unfoldable pub use Rattle.hound_writer.specs.{head_fault, Left, Recorded, with_sizes}
-pub use Rattle.hound_repair.specs.{are_right, begins_chunk, broadcast_tags, frame_length, frames_held, has_tag, held, if_some, is_printable, known_tags, mended, metadata_tags, missing_pad, program_tags, riff_tags, right_length, said_length, torn_bytes, update_tags, Finds, FlushesBeforePad, HalfMended, HalfMendedAtEach, HasRightSizes, IsFoundAt, IsNoPad, IsNotFound, IsNotRepaired, IsRepairFault, LeavesFor, LeavesHalf, Looks, MendsAtEach, MendsMedium, ReadsFrames, Repairs, RepairsMedium, UnlessFollowed, found_length, frames_found, state_of, torn_found, whole_frames, AreRightSizes, FindsDamage, IsNotMeasured, IsSame, IsSoundDamage, IsUnrepaired, LacksRoom, PutsPad, PutsSizes, RepairsBytes, as_medium, bytes_fault, may_be_chunks, repair_of}
+pub use Rattle.hound_repair.specs.{are_right, begins_chunk, broadcast_tags, frame_length, frames_held, has_tag, held, if_some, is_printable, known_tags, mended, metadata_tags, missing_pad, program_tags, riff_tags, right_length, said_length, torn_bytes, update_tags, Finds, FlushesBeforePad, HalfMended, HalfMendedAtEach, HasRightSizes, IsFoundAt, IsNoPad, IsNotFound, IsNotRepaired, IsRepairFault, LeavesFor, LeavesHalf, Looks, MendsAtEach, MendsMedium, ReadsFrames, Repairs, RepairsMedium, UnlessFollowed, found_length, frames_found, state_of, torn_found, whole_frames, AreRightSizes, FindsDamage, IsNotMeasured, IsSame, IsSoundDamage, IsUnmeasured, IsUnrepaired, LacksRoom, PutsPad, PutsSizes, RepairsBytes, as_medium, bytes_fault, may_be_chunks, repair_of}
 unfoldable pub use Rattle.hound_repair.specs.{are_at_most, are_chunks, chunk_content, data_held, ends_with_id3, ends_with_pad, has_known_tag, is_followed, repair_fault, size_fault}
 pub use Rattle.hound_repair.specs.declared.bytes.Unrepaired.{Unrepaired}
 pub use Rattle.hound_repair.specs.declared.sizes.Repair.{Repair}
