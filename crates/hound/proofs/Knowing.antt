@@ -1,15 +1,18 @@
--- What is known of calls, and the calls.
+-- What is known of calls, and the calls; and lemmas of the layers below for the proofs of callers.
 use Rattle.std.proofs.lemmas.Grind.{common_steps}
 use Rattle.std.proofs.Common.{◌≡◌, ℕ, Bool, true, false, List, [], ◌∷◌, ◌++◌, map, Result, Ok, Err, OnOk, is_ok, refl, ap, arith}
 use Rattle.std.proofs.lemmas.Bool.{false≢true}
 use Rattle.hound_spec.specs.declared.error.Error.{Error}
-use Rattle.hound_spec.specs.declared.error.Error.TheVariants.{IoError}
+use Rattle.hound_spec.specs.declared.error.Error.TheVariants.{UnfinishedSample}
 use Rattle.hound_sample.specs.{Refusal, too_wide, unsupported}
-use Rattle.hound_writer.specs.{AcceptAnswer, AreKnown, Asked, Call, FitAnswer, IsKnown, Known, OnRefused, WriterState, made, mark_of, marked, asked_by_all, publish}
+use Rattle.hound_writer.specs.{AcceptAnswer, AreKnown, Asked, Call, FitAnswer, IsKnown, Known, WriterState, made, mark_of, marked, asked_by_all, publish}
 use Rattle.hound_spec.specs.declared.spec.WavSpecEx.{WavSpecEx}
 use Rattle.hound.specs.Headline.{HasPublished, accepted_as_seen, accepted_by_all, accepted_of, seen}
 use Rattle.hound.specs.Run.{asked_by}
 use Rattle.hound.specs.declared.session.Step.{Step}
+pub use Rattle.hound_spec.proofs.HeaderLemmas.{length-header}
+pub use Rattle.hound_reader.proofs.WrittenLemmas.{length-concat}
+pub use Rattle.hound_writer.proofs.Samples.{samples_out}
 
 -- a call of which something is known is among the calls
 pub among : (before after : List Known) (one : Known) (calls : List Call)
@@ -52,17 +55,14 @@ published before after calls are =
 pub mark_is_ok : {W : Type 0} (asked : Result (List (List ℕ)) Refusal) (w : WriterState W)
     (answer : Result (Unit {0}) Error) → AcceptAnswer asked w answer → mark_of answer ≡ is_ok answer
 mark_is_ok asked w (Ok x) is = refl
-mark_is_ok (Err too_wide) w (Err e) is = ap mark_of is
-mark_is_ok (Err unsupported) w (Err e) is = ap mark_of is
-mark_is_ok (Ok list) w (Err e) is = by _ is
+mark_is_ok (Err too_wide) w (Err UnfinishedSample) is = cc
+mark_is_ok (Err unsupported) w (Err UnfinishedSample) is = cc
+mark_is_ok (Ok list) w (Err UnfinishedSample) is = by _ is
   where
-    by : (b : Bool) → FitAnswer {T = Unit {0}} b (Err e) → mark_of {T = Unit {0}} (Err e) ≡ false
-    by false same = ap mark_of same
-    by true none = io e none
-      where
-        io : (e : Error) → OnRefused {T = Unit {0}} (Err e) ⊥ → mark_of {T = Unit {0}} (Err e) ≡ false
-        io (IoError fault) none = refl
-        io _ none = absurd none
+    by : (b : Bool) → FitAnswer {T = Unit {0}} b (Err UnfinishedSample) → true ≡ false
+    by true none = absurd none
+    by false same = cc
+mark_is_ok asked w (Err e) is = refl
 
 -- what holds at an Ok holds where the result is known to be one
 pub at_ok : {T E P : Type 0} (r : Result T E) → is_ok r ≡ true → OnOk r P → P

@@ -11,11 +11,11 @@ use Rattle.hound_medium.specs.{moment, overlay, MediumState}
 use Rattle.hound_medium.proofs.Overlays.{front_part}
 use Rattle.hound_medium.proofs.Spans.{moment_last}
 use Rattle.hound_durable.specs.{place_of}
-use Rattle.hound_writer.specs.{mark_of, Asked, Call, Does, Lead, publish, write, with_memory, IsOldOrNew, IsOutside, field, WriterState, IsWhole, accepted_samples, data_length}
-use Rattle.hound.specs.Headline.{FrontInWrites, HasPublished, IsUncut, MixedInPatches, NeverLess, OldOrNewInPatches, PublishedByFlushes, accepted_by_all, accepted_of, begins_at}
+use Rattle.hound_writer.specs.{Asked, Call, Does, Lead, publish, write, with_memory, IsOldOrNew, IsOutside, field, WriterState, IsWhole, accepted_samples, data_length}
+use Rattle.hound.specs.Headline.{FrontInWrites, HasPublished, IsUncut, MixedInPatches, NeverLess, OldOrNewInPatches, PublishedByFlushes, accepted_by_all, begins_at}
 use Rattle.hound_writer.proofs.Answers.{where_marked}
 use Rattle.hound_writer.proofs.Sizes.{take_front}
-use Rattle.hound.proofs.Calling.{Went, begin, call_went, later, lead_parts, length-concat-append, made, went}
+use Rattle.hound.proofs.Calling.{begin, call_went, later, lead_parts, length-concat-append, made, went}
 use Rattle.hound.proofs.Later.{Later, later_then, longer, same_moment}
 
 -- a state in which no write of the field is cut is so in one of the calls
@@ -143,7 +143,8 @@ module _ {W : Type 0} (tells keeps : Bool) (state : W → MediumState) (told : I
     rest : Lead tells keeps state after next new
     start : mid.data_start ≡ old.data_start
     whole : IsWhole state mid
-    goes_on : Went tells keeps state told (accepted_of call.asked (mark_of call.answer)) mid next
+    next_start : next.data_start ≡ old.data_start
+    next_whole : IsWhole state next
     all : data_length mid ≡ length (concat (accepted_samples state old ++ accepted_by_all before))
     began : call.began ≡ length (state mid.medium).past
     ended : begins_at after end.past ≡ length (state next.medium).past
@@ -169,7 +170,8 @@ module _ {W : Type 0} (tells keeps : Bool) (state : W → MediumState) (told : I
         rest = m.rest;
         start = w.data_start;
         whole = whole;
-        goes_on = m.here;
+        next_start = m.here.data_start ∙ w.data_start;
+        next_whole = m.here.whole whole;
         all = omega (
           arith,
           w.size,
@@ -259,55 +261,45 @@ module _ {W : Type 0} (tells keeps : Bool) (state : W → MediumState) (told : I
       uncut [] after patch i refl (omega (arith, since, c.began)) less before
       (is ∙ ap (λ n. n - 4) c.start))))
 
-  -- the writer after a flush of these calls that published all
-  record Flushed (before after : List Call) : Type 0 where
-    next : WriterState W
-    rest : Lead tells keeps state after next new
-    start : next.data_start ≡ old.data_start
-    whole : IsWhole state next
-    says : field at (state next.medium).contents ≡ data_length next
-    all : data_length next ≡ length (concat (accepted_samples state old ++ accepted_by_all before))
-
+  -- a flush that published all has counted it
   flushed : (before after : List Call) (flush : Call) → calls ≡ before ++ (flush ∷ after)
-      → HasPublished flush → Flushed before after
+      → HasPublished flush → (c : CallOf before after flush)
+      × (field at (state c.next.medium).contents ≡ data_length c.next)
+      × (data_length c.next ≡ length (concat (accepted_samples state old ++ accepted_by_all before)))
   flushed before after flush same (asked, marked) =
       let c = call_of before after flush same in
       let does = subst (λ a. Does tells keeps state a flush.answer (with_memory c.mid c.memory)
-      c.next) asked c.does in
-      record {
-        next = c.next;
-        rest = c.rest;
-        start = c.goes_on.data_start ∙ c.start;
-        whole = c.goes_on.whole c.whole;
-        says = ap (λ n. field (n - 4) (state c.next.medium).contents) (sym c.start)
+      c.next) asked c.does in (
+        c,
+        ap (λ n. field (n - 4) (state c.next.medium).contents) (sym c.start)
             ∙ where_marked flush.answer marked (does.publishes told).length_says
-            ∙ sym does.samples.data_length;
-        all = omega (arith, does.samples.data_length, c.all);
-      }
+            ∙ sym does.samples.data_length,
+        omega (arith, does.samples.data_length, c.all),
+      )
 
   pub published : PublishedByFlushes old.spec_ex old.data_start (accepted_samples state old) calls
       (state new.medium)
   published before then after flush k same has_all only from to =
-      let f = flushed before (then ++ after) flush same has_all in
+      let (f, says, all) = flushed before (then ++ after) flush same has_all in
       let (far, there, rest) = lead_parts tells keeps state told then after f.next new f.rest in
       let n = length (concat (accepted_samples state old ++ accepted_by_all before)) in
       subst (λ c. field at c ≡ n)
       (same_moment (state far.medium) (state new.medium) k
       (later tells keeps state told kept after far new rest
-      ((went tells keeps state told then f.next far there).whole f.whole))
+      ((went tells keeps state told then f.next far there).whole f.next_whole))
       (omega (arith, to, begin tells keeps state told after far new rest)))
       (stays tells keeps state told kept replays at (λ v. v ≡ n) then f.next far there
-      (ap (λ n. n - 4) (sym f.start)) (omega (arith, behind, f.start)) f.whole (f.says ∙ f.all) k
+      (ap (λ n. n - 4) (sym f.next_start)) (omega (arith, behind, f.next_start)) f.next_whole (says ∙ all) k
       (omega (arith, from, begin tells keeps state told (then ++ after) f.next new f.rest))
       (omega (arith, to, begin tells keeps state told after far new rest)) (inl only))
 
   pub never_less : NeverLess old.spec_ex old.data_start (accepted_samples state old) calls
       (state new.medium)
   never_less before after flush k same has_all from to uncut =
-      let f = flushed before after flush same has_all in
+      let (f, says, all) = flushed before after flush same has_all in
       let n = length (concat (accepted_samples state old ++ accepted_by_all before)) in
       stays tells keeps state told kept replays at (λ v. n ≤ v) after f.next new f.rest
-      (ap (λ n. n - 4) (sym f.start)) (omega (arith, behind, f.start)) f.whole
-      (omega (arith, f.says, f.all)) k
+      (ap (λ n. n - 4) (sym f.next_start)) (omega (arith, behind, f.next_start)) f.next_whole
+      (omega (arith, says, all)) k
       (omega (arith, from, begin tells keeps state told after f.next new f.rest)) to
-      (inr (λ v le. omega (arith, le, f.all), uncut))
+      (inr (λ v le. omega (arith, le, all), uncut))

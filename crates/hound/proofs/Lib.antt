@@ -7,7 +7,6 @@ pub mod Keeping
 pub mod Recovering
 pub mod Running
 pub mod Knowing
-pub mod Lasting
 pub mod Within
 pub mod Whole
 pub mod Batching

@@ -73,89 +73,83 @@ moments_grow start past i k le =
       ap length (overlay-append start first (drop i (take k past))),
     )
 
-module _ (start : List ℕ) (past : List (ℕ × ℕ)) where
-  -- a state, and the byte that is written next
-  next : (m : ℕ) → m < length past
-      → (b : ℕ) × (moment start past (suc m) ≡ put_at (place_of past m) b (moment start past m))
-  next m less =
-      let e : m + 1 ≡ suc m = omega arith in
-      let x : ℕ × ℕ = get_or past m (0, 0) in
-      (x.1, ap (moment start past) (sym e) ∙ overlay_more start past m (0, 0) less)
+-- a state, and the byte that is written next
+next : (start : List ℕ) (past : List (ℕ × ℕ)) (m : ℕ) → m < length past
+    → (b : ℕ) × (moment start past (suc m) ≡ put_at (place_of past m) b (moment start past m))
+next start past m less =
+    let e : m + 1 ≡ suc m = omega arith in
+    let x : ℕ × ℕ = get_or past m (0, 0) in
+    (x.1, ap (moment start past) (sym e) ∙ overlay_more start past m (0, 0) less)
 
-  -- one that is written to the data leaves the field before them
-  field_next : (h m : ℕ) → 20 ≤ h → m < length past → h ≤ place_of past m
-      → h ≤ length (moment start past m)
-      → field (h - 4) (moment start past (suc m)) ≡ field (h - 4) (moment start past m)
-  field_next h m behind less high long =
-      let one = next m less in
-      let at = moment start past in
-      ap number (front_part h (h - 4) 4 (at (suc m)) (at m) (omega (arith, behind))
-      (ap (take h) one.1 ∙ take_overlay_before (one.0 ∷ []) h (place_of past m) (at m) high long))
+longer_then : {P : Type 0} (n : ℕ) (a b : List ℕ) → length a ≤ length b → P ⊎ (n < length a)
+    → P ⊎ (n < length b)
+longer_then n a b le (inl other) = inl other
+longer_then n a b le (inr longer) = inr (omega (arith, longer, le))
 
-  -- If the data length has this value in each state or more than that is held, and the bytes went to
-  -- ascending places, that holds also of the data length of one state and of what another holds.
-  module _ (h n f k : ℕ) (behind : 20 ≤ h) (within : k ≤ length past) (ascends : Ascends past f k)
-      (long : (j : ℕ) → f ≤ j → j ≤ k → h ≤ length (moment start past j))
-      (either : (j : ℕ) → f ≤ j → j ≤ k → (field (h - 4) (moment start past j) ≡ n)
-      ⊎ (h + n < length (moment start past j))) where
-    abbrev holds : ℕ → ℕ → Type 0
-    holds j m = (field (h - 4) (moment start past j) ≡ n) ⊎ (h + n < length (moment start past m))
-
-    sooner : (d j m : ℕ) → f ≤ m → m + d ≡ j → j ≤ k → holds j m
-        × (((t : ℕ) → m ≤ t → t < j → h ≤ place_of past t)
-        → field (h - 4) (moment start past m) ≡ field (h - 4) (moment start past j))
-    sooner zero j m from is to =
-        let e : j ≡ m = omega (arith, is) in (
-          subst (holds j) e (either j (omega (arith, from, e)) to),
-          λ _. ap (λ m. field (h - 4) (moment start past m)) (sym e),
+-- States from f to k between which bytes went to ascending places, with all that is before the data.
+module _ (h f k : ℕ) (start : List ℕ) (past : List (ℕ × ℕ)) (behind : 20 ≤ h)
+    (within : k ≤ length past) (ascends : Ascends past f k)
+    (long : (j : ℕ) → f ≤ j → j ≤ k → h ≤ length (moment start past j)) where
+  -- What holds of a state since it holds of the next one, where a byte before the data is written,
+  -- and else since its data length is that of a later state.
+  back : (j : ℕ) (X : ℕ → Type 0)
+      → ((m : ℕ) → f ≤ m → m < k → place_of past m < h → X (suc m) → X m)
+      → ((m : ℕ) → f ≤ m → m ≤ j
+      → field (h - 4) (moment start past m) ≡ field (h - 4) (moment start past j) → X m)
+      → (d m : ℕ) → f ≤ m → m + d ≡ j → j ≤ k
+      → X m × (((t : ℕ) → m ≤ t → t < j → h ≤ place_of past t)
+      → field (h - 4) (moment start past m) ≡ field (h - 4) (moment start past j))
+  back j X over same zero m from is to =
+      let e : m ≡ j = omega (arith, is) in
+      let says = ap (λ m. field (h - 4) (moment start past m)) e in
+      (same m from (omega (arith, e)) says, λ _. says)
+  back j X over same (suc d) m from is to =
+      let rest = back j X over same d (suc m) (omega (arith, from)) (omega (arith, is)) to in
+      let less : m < k = omega (arith, is, to) in
+      let p = place_of past m in
+      elim (cases_lt p h) [
+        | inl low ↦ (
+          over m from less low rest.0,
+          λ high. absurd (omega (arith, low, high m (omega arith) (omega (arith, is)))),
         )
-    sooner (suc d) j m from is to =
-        let rest = sooner d j (suc m) (omega (arith, from)) (omega (arith, is)) to in
-        let p = place_of past m in
-        let less : m < length past = omega (arith, is, to, within) in
-        let there = long m from (omega (arith, is, to)) in
-        let one = next m less in
-        elim (cases_lt p h) [
-          | inl low ↦ (
-            elim rest.0 [
-              | inl says ↦ inl says
-              | inr longer ↦
-                  inr (omega (
-                    arith,
-                    longer,
-                    low,
-                    there,
-                    ap length one.1,
-                    length-put_at p one.0 (moment start past m),
-                  ))
-            ],
-            λ high. absurd (omega (arith, low, high m (omega arith) (omega (arith, is)))),
-          )
-          | inr high ↦
-              let same = sym (field_next h m behind less high there)
-              ∙ rest.1 (λ t le before. omega (
-                arith,
-                high,
-                ascends m t from (omega (arith, le))
-                    (omega (arith, before, to)),
-              )) in (
-                elim (either m from (omega (arith, is, to))) [
-                  | inl says ↦ inl (sym same ∙ says)
-                  | inr longer ↦ inr longer
-                ],
-                λ _. same,
-              )
-        ]
+        | inr high ↦
+            let at = moment start past in
+            let one = next start past m (omega (arith, less, within)) in
+            let front : take h (at (suc m)) ≡ take h (at m) =
+            ap (take h) one.1
+            ∙ take_overlay_before (one.0 ∷ []) h p (at m) high (long m from (omega (arith, less))) in
+            let says : field (h - 4) (at m) ≡ field (h - 4) (at j) =
+            sym (ap number (front_part h (h - 4) 4 (at (suc m)) (at m) (omega (arith, behind)) front))
+            ∙ rest.1 (λ t le before. omega (arith, high, ascends m t from (omega (arith, le)) (omega (arith, before, to)))) in
+            (same m from (omega (arith, is)) says, λ _. says)
+      ]
 
-    pub either_survives : (j m : ℕ) → f ≤ j → j ≤ k → f ≤ m → m ≤ k → holds j m
-    either_survives j m from to since until = elim (cases_lt m j) [
-      | inl before ↦ (sooner (j - m) j m since (omega (arith, before)) to).0
-      | inr after ↦
-          elim (either j from to) [
-            | inl says ↦ inl says
-            | inr longer ↦ inr (omega (arith, longer, moments_grow start past j m after))
-          ]
-    ]
+  -- If in each state the data length is n or more than that is held, that is so of the data length
+  -- of one state and of what another holds.
+  pub either_survives : (n : ℕ)
+      → ((j : ℕ) → f ≤ j → j ≤ k → (field (h - 4) (moment start past j) ≡ n)
+      ⊎ (h + n < length (moment start past j)))
+      → (j m : ℕ) → f ≤ j → j ≤ k → f ≤ m → m ≤ k
+      → (field (h - 4) (moment start past j) ≡ n) ⊎ (h + n < length (moment start past m))
+  either_survives n either j m from to since until =
+      let at = moment start past in
+      elim (cases_lt m j) [
+        | inr after ↦
+            longer_then (h + n) (at j) (at m) (moments_grow start past j m after) (either j from to)
+        | inl before ↦
+            (back j (λ m. (field (h - 4) (at j) ≡ n) ⊎ (h + n < length (at m)))
+            (λ m from less low.
+            let one = next start past m (omega (arith, less, within)) in
+            longer_then (h + n) (at (suc m)) (at m) (omega (
+              arith,
+              low,
+              long m from (omega (arith, less)),
+              ap length one.1,
+              length-put_at (place_of past m) one.0 (at m),
+            )))
+            (λ m from le same. subst (λ v. (v ≡ n) ⊎ (h + n < length (at m))) same
+            (either m from (omega (arith, le, to)))) (j - m) m since (omega (arith, before)) to).0
+      ]
 
 -- A file whose data begin at h, whose past has bytes at ascending places from f to k: in each of
 -- these states what the data length covers of these bytes is stored, and stays so.
@@ -174,45 +168,24 @@ module _ (h : ℕ) (bytes base start : List ℕ) (past : List (ℕ × ℕ)) (cov
   says j = field (h - 4) (at j)
 
   -- what a later state's data length covers was stored in each earlier one
-  earlier : (n j m : ℕ) → f ≤ m → m + n ≡ j → j ≤ k
-      → (take (cover (says j)) (drop h (at m)) ≡ take (cover (says j)) bytes)
-      × (((t : ℕ) → m ≤ t → t < j → h ≤ place_of past t) → says m ≡ says j)
-  earlier zero j m from is to =
-      let e : j ≡ m = omega (arith, is) in (
-        kept j m (omega (arith, from, e)) (omega (arith, e)) (omega (arith, to, e)),
-        λ _. ap says (sym e),
-      )
-  earlier (suc n) j m from is to =
-      let rest = earlier n j (suc m) (omega (arith, from)) (omega (arith, is)) to in
-      let p = place_of past m in
-      let less : m < length past = omega (arith, is, to, within) in
-      let one = next start past m less in
-      elim (cases_lt p h) [
-        | inl low ↦
-            let same : drop h (at (suc m)) ≡ drop h (at m) =
-            ap (drop h) one.1
-            ∙ drop_behind (at m) p (one.0 ∷ [])
-            (omega (arith, low, long m from (omega (arith, is, to)))) h (omega (arith, low)) in (
-              ap (take (cover (says j))) (sym same) ∙ rest.0,
-              λ high. absurd (omega (arith, low, high m (omega arith) (omega (arith, is)))),
-            )
-        | inr high ↦
-            let all : (t : ℕ) → suc m ≤ t → t < j → h ≤ place_of past t =
-            λ t le less. omega (arith, high, ascends m t from (omega (arith, le)) (omega (arith, less, to))) in
-            let same : says m ≡ says j =
-            sym (field_next start past h m behind less high (long m from (omega (arith, is, to))))
-            ∙ rest.1 all in (
-              subst (λ v. take (cover v) (drop h (at m)) ≡ take (cover v) bytes) same
-                  (kept m m from (omega arith) (omega (arith, is, to))),
-              λ _. same,
-            )
-      ]
+  earlier : (j m : ℕ) → f ≤ m → m ≤ j → j ≤ k
+      → take (cover (says j)) (drop h (at m)) ≡ take (cover (says j)) bytes
+  earlier j m from le to =
+      (back h f k start past behind within ascends long j
+      (λ m. take (cover (says j)) (drop h (at m)) ≡ take (cover (says j)) bytes)
+      (λ m from less low rest.
+      let one = next start past m (omega (arith, less, within)) in
+      ap (take (cover (says j))) (sym (ap (drop h) one.1
+      ∙ drop_behind (at m) (place_of past m) (one.0 ∷ [])
+      (omega (arith, low, long m from (omega (arith, less)))) h (omega (arith, low)))) ∙ rest)
+      (λ m from before same. subst (λ v. take (cover v) (drop h (at m)) ≡ take (cover v) bytes) same
+      (kept m m from (omega arith) (omega (arith, before, to)))) (j - m) m from (omega (arith, le)) to).0
 
   -- what the data length of any state covers is stored in each state
   anywhere : (j m : ℕ) → f ≤ j → j ≤ k → f ≤ m → m ≤ k
       → take (cover (says j)) (drop h (at m)) ≡ take (cover (says j)) bytes
   anywhere j m from to since until = elim (cases_lt m j) [
-    | inl before ↦ (earlier (j - m) j m since (omega (arith, before)) to).0
+    | inl before ↦ earlier j m since (omega (arith, before)) to
     | inr after ↦ kept j m from after until
   ]
 

@@ -152,14 +152,7 @@ module _ (s : WavSpecEx) (h : ℕ) (found : List (List ℕ)) (calls : List Call)
   more : (first : List Call) (call : Call)
       → length (concat list) ≤ length (concat (found ++ accepted_by_all first))
       → length (concat list) ≤ length (concat (found ++ accepted_by_all (first ++ (call ∷ []))))
-  more first call few = omega (
-    arith,
-    few,
-    length-concat-append found (accepted_by_all first),
-    length-concat-append found (accepted_by_all (first ++ (call ∷ []))),
-    ap (λ l. length (concat l)) (accepted_parts first (call ∷ [])),
-    length-concat-append (accepted_by_all first) (accepted_by_all (call ∷ [])),
-  )
+  more first call few = grind (arith, common_steps, length-concat-append, accepted_parts)
 
   onward : (rest first : List Call) → calls ≡ first ++ rest
       → length (concat list) ≤ length (concat (found ++ accepted_by_all first))
@@ -225,9 +218,9 @@ module _ (s : WavSpecEx) (h : ℕ) (found : List (List ℕ)) (calls : List Call)
             end.past c (omega arith) lost (λ j low high. (state j low high).stored);
         counts = subst (λ (x : ℕ × ℕ). (x.0 ≡ length (concat list))
             ⊎ (h + length (concat list) < x.1)) (λ i. (sym is i, sym long i))
-            (either_survives end.start end.past h (length (concat list)) f k behind until ascends
+            (either_survives h f k end.start end.past behind until ascends
             (λ j low high. head_inside (at j) s (field (h - 4) (at j)) h (state j low high).head)
-            (λ j low high. (state j low high).counts) j m low high since_m until_m);
+            (length (concat list)) (λ j low high. (state j low high).counts) j m low high since_m until_m);
       }
 
   -- none of their bytes is taken for a pad byte

@@ -70,8 +70,7 @@ module _ (s : WavSpecEx) (start : ℕ) (found : List (List ℕ)) (calls : List C
   HeadAtEach = (k : ℕ) → begins_at calls medium.past ≤ k → k ≤ length medium.past →
       Head (contents_at k) s (field (start - 4) (contents_at k)) start
 
-  -- Before the data only the eight bytes of the two sizes change: in each state all others are as in
-  -- each earlier one.
+  -- Before the data only the eight bytes of the two sizes change from any state to a later one.
   abbrev pub FrontAtEach : Type 0
   FrontAtEach = (k m : ℕ) → begins_at calls medium.past ≤ k → k ≤ m → m ≤ length medium.past →
       ChangesSizesOnly start (contents_at k) (contents_at m)
@@ -83,10 +82,9 @@ module _ (s : WavSpecEx) (start : ℕ) (found : List (List ℕ)) (calls : List C
       k ≤ begins_at after medium.past →
       take start (contents_at k) ≡ take start (contents_at call.began)
 
-  -- In a patch the length field takes on the bytes of the new length one by one, the low one first:
-  -- in each state it has so many bytes of the length of all accepted samples, and the others from the
-  -- old one. Their number never falls, from 0 to 4, and it is 4 at the return of an Ok or an
-  -- `UnfinishedSample`. Before the first of them is written, all accepted bytes are there.
+  -- In a patch the length field has some low bytes of the new length, that of all accepted samples,
+  -- and the others from the old one. Their number never falls, from 0 to 4, and is 4 at the return of
+  -- an Ok or an `UnfinishedSample`. Before the first of them is written, all accepted bytes are there.
   abbrev pub MixedInPatches : Type 0
   MixedInPatches = (before after : List Call) (patch : Call) →
       calls ≡ before ++ (patch ∷ after) → patch.asked ≡ publish →
@@ -136,10 +134,6 @@ module _ (s : WavSpecEx) (start : ℕ) (found : List (List ℕ)) (calls : List C
       a + len ≤ length (concat (accepted before)) →
       IsStored start (concat (accepted before)) a len (contents_at k) →
       IsStored start (concat (accepted before)) a len (contents_at m)
-
-  -- The last state is the medium as it is now.
-  abbrev pub LastIsNow : Type 0
-  LastIsNow = contents_at (length medium.past) ≡ medium.contents
 
   -- Each call began after those before it, within the past.
   abbrev pub BeginInOrder : Type 0
@@ -200,7 +194,7 @@ KeptAfterLoss s start found calls medium =
     LosesNothing s start found calls (record medium { flushed = f }) contents
 
 -- What calls promise of a medium that records every byte written, in each of its states since the
--- first of them.
+-- first of them; the last state is the medium as it is now.
 pub record Promises (s : WavSpecEx) (start : ℕ) (found : List (List ℕ)) (calls : List Call)
     (medium : MediumState) : Type 0 where
   pub counted : CountedAtEach s start found calls medium
@@ -213,7 +207,7 @@ pub record Promises (s : WavSpecEx) (start : ℕ) (found : List (List ℕ)) (cal
   pub never_less : NeverLess s start found calls medium
   pub flushed : FlushedByFlushes s start found calls medium
   pub stored : StoredAtEach s start found calls medium
-  pub now : LastIsNow s start found calls medium
+  pub now : moment medium.start medium.past (length medium.past) ≡ medium.contents
   pub in_order : BeginInOrder s start found calls medium
   pub after_loss : CountedAfterLoss s start found calls medium
   pub kept_after_loss : KeptAfterLoss s start found calls medium
@@ -229,9 +223,8 @@ abbrev pub NoFault : MediumState → MediumState → Type 0
 NoFault old new = (new.faults ≡ old.faults) × (old.faults < 18446744073709551615)
 
 -- What calls leave in a medium whose bytes are known: it counts what they accepted, each sample as
--- wide as its spec says; and a file that was begun with the header of its spec is the canonical one at
--- an end that published, and of no more bytes than that or than there were in the medium that was
--- handed in if no call failed since.
+-- wide as its spec says; and a file that was begun with its header is the canonical one at an end that
+-- published, and of no more bytes than that or than were handed in if no call of the medium failed.
 pub record HoldsAtEnd (s : WavSpecEx) (file : Begun) (calls : List Call)
     (medium : MediumState) : Type 0 where
   pub sound : IsSoundSpec s
@@ -290,9 +283,8 @@ IsLeftAfter start from medium contents =
     × Ascends medium.past f k × (1 ≤ sector) × ((start - 4) / sector ≡ (start - 1) / sector)
     × SurvivesLoss sector medium.start medium.past f k contents)
 
--- What a writer over a `Durable` has left: calls of which these are known, each by its contract, led
--- to this durable medium; all that these calls promise of it; and what a loss of power leaves of the
--- medium within it, which is left after each flush that published.
+-- What a writer over a `Durable` has left: calls of which these are known led to it, each by its
+-- contract; all that they promise; and what a loss of power leaves within it, after each flush.
 pub record KeptWithin {W : Type 0} (tells keeps : Bool) (state : W → MediumState) (s : WavSpecEx)
     (file : Begun) (known : List Known) (durable : W) (medium : MediumState) : Type 0 where
   pub left : LeftBy tells keeps state s file known durable

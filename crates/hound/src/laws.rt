@@ -1,13 +1,12 @@
 // What holds for every run.
 ghost use Rattle.std.specs.Prelude.{◌≡◌, ◌<◌, ◌≤◌, ◌-◌, ◌/◌, ℕ, Bool, true, IsTrue, List, [], ◌∷◌, ◌++◌, Ok, Result, is_ok, length, map};
-ghost use Rattle.std.specs.List.{AllByRecursion, concat};
 ghost use Rattle.hound_spec.specs.declared.error.Error.{Error};
 ghost use Rattle.hound_spec.specs.declared.spec.WavSpecEx.{WavSpecEx};
 ghost use Rattle.hound_spec.specs.{canonical};
 ghost use Rattle.hound_medium.specs.{MediumState, WhereKeeps, WhereTells};
 ghost use Rattle.hound_durable.specs.{within};
 ghost use Rattle.hound_sample.specs.{Refusal, containers, int_container};
-ghost use Rattle.hound_writer.specs.{mark_of, AcceptAnswer, Accepts, ChangesSizesOnly, appended, AcceptsEach, short_bytes, AreKnown, Asked, Begun, Call, IsKnown, Known, Lead, Left, asked_by_all, found_in, made, marked, new_file, publish, start_of, IsSameFile, Finishes, WriterState, IsWhole, Recorded, accepted_samples, data_length, field};
+ghost use Rattle.hound_writer.specs.{mark_of, AcceptAnswer, Accepts, ChangesSizesOnly, appended, AcceptsEach, short_bytes, AreKnown, Asked, Begun, Call, IsKnown, Known, Lead, Left, asked_by_all, found_in, made, marked, new_file, publish, start_of, IsSameFile, Finishes, WriterState, IsWhole, accepted_samples, data_length};
 ghost use Rattle.hound_repair.specs.{ReadsFrames, Repairs};
 ghost use Rattle.hound_repair.specs.declared.sizes.Repair.{Repair};
 ghost use Rattle.hound_repair.specs.declared.sizes.RepairState.TheVariants.{HasChunksAfterData};
@@ -117,19 +116,6 @@ pub fn what_is_known()
         → AreKnown (seen before ++ (marked publish true ∷ after)) calls →
         (first last : List Call) × (flush : Call) × (calls ≡ first ++ (flush ∷ last))
         × HasPublished flush × (accepted_by_all first ≡ accepted_as_seen before) }
-{}
-
-/// What an Ok flush has published stays counted until the next one begins, also over a medium that
-/// keeps no past: while only samples were written since, the length field is that of all samples
-/// accepted before it.
-pub fn a_flush_lasts<M: Medium>()
-    ensures { WhereTells M.tells ((s : WavSpecEx) (file : Begun) (before later : List Known)
-        (w : WriterState M)
-        → Recorded M.tells M.keeps M.state s file (before ++ (marked publish true ∷ later)) w
-        → AllByRecursion (λ (one : Known). one.asked ≡ publish → ⊥) later →
-        (calls : List Call) × AreKnown before calls
-        × (field (start_of s file - 4) (M.state w.medium).contents
-        ≡ length (concat (found_in file ++ accepted_by_all calls)))) }
 {}
 
 /// The mark of a call for samples is its being Ok: by its answer it is never `UnfinishedSample`, whose

@@ -1,3 +1,1 @@
-pub mod Failing
-pub mod Items
 pub mod Publishing

@@ -1,11 +1,9 @@
 -- What a recorder asks of its writer, and what it sees; the checkpoints of a session.
-use Rattle.std.specs.Prelude.{◌≡◌, ◌⊎◌, ℕ, ℤ, suc, ◌*◌, ◌%◌, ◌==◌, Bool, true, false, List, [], ◌∷◌, ◌++◌, Result, Ok, Err, IsOk, ◌+◌, ◌<◌, ◌≤◌, length, slice_index_or, Option, None, Some}
+use Rattle.std.specs.Prelude.{◌≡◌, ◌⊎◌, ℕ, suc, ◌*◌, ◌%◌, ◌==◌, Bool, true, false, List, [], ◌∷◌, ◌++◌, Result, Ok, Err, IsOk, ◌<◌, length}
 use Rattle.std.specs.Borrow.{Bor}
 use Rattle.std.specs.List.{All, flat_map}
-use Rattle.hound.specs.{Accepts, Asked, Checkpoints, Error, HasRoom, IsWhole, Known, MediumState, ReadsAs, Refusal, WavSpecEx, WriterState, IsIoError, IsNotRepaired, Stays, accepted_samples, containers_in, if_marked, int_container, made, mark_of, marked, one, one_more, publish, short_bytes, whole_containers, write}
+use Rattle.hound.specs.{Accepts, Asked, Checkpoints, Error, HasRoom, IsWhole, Known, MediumState, ReadsAs, Refusal, WavSpecEx, WriterState, accepted_samples, containers_in, if_marked, made, marked, publish, write}
 use Rattle.hound.specs.declared.Error.TheVariants.{OutOfMemory, TooLong}
-use Rattle.hound.specs.declared.session.Step.{Step}
-use Rattle.hound.specs.declared.session.Step.TheVariants.{Flush}
 
 -- a block is written, and if it is to be published a flush follows
 abbrev pub block_asks : Result (List (List ℕ)) Refusal → Bool → List Known
@@ -55,24 +53,7 @@ HaveContainers containers blocks list =
     All (λ block. IsOk (containers block)) blocks
     × (list ≡ flat_map (λ block. if_marked true (containers block)) blocks)
 
--- the step with this number is a flush with a mark: it published all that was accepted
-abbrev pub IsCheckpoint : List Step → List Bool → ℕ → Type 0
-IsCheckpoint steps marks i =
-    (i < length steps) × (slice_index_or steps i Flush ≡ Flush)
-    × (slice_index_or marks i false ≡ true)
-
--- no step from one to before another is a checkpoint
-abbrev pub HasNone : List Step → List Bool → ℕ → ℕ → Type 0
-HasNone steps marks from to = (i : ℕ) → from ≤ i → i < to → IsCheckpoint steps marks i → ⊥
-
--- of the first n steps this one is the last checkpoint, or there is none
-abbrev pub IsLast : List Step → List Bool → ℕ → Option ℕ → Type 0
-IsLast steps marks n None = HasNone steps marks 0 n
-IsLast steps marks n (Some i) =
-    (i < n) × IsCheckpoint steps marks i × HasNone steps marks (i + 1) n
-
--- A call for samples failed, and nothing followed; or it accepted them, and then a flush has this
--- result.
+-- a call for samples that failed, or one that was Ok and a flush with this result
 abbrev pub WritesAndFlushes : {M : Type 0} → Bool → Bool → (M → MediumState) →
     Result (List (List ℕ)) Refusal → Result (Unit {0}) Error → WriterState M → WriterState M → Type 0
 WritesAndFlushes {M} tells keeps state asked answer old new =
@@ -85,26 +66,6 @@ WritesAndFlushes {M} tells keeps state asked answer old new =
 abbrev pub IsNoBatch : {M : Type 0} → WriterState M → ℕ → Error → Type 0
 IsNoBatch w count e = ((e ≡ TooLong) × (HasRoom w (2 * count) → ⊥))
     ⊎ ((e ≡ OutOfMemory) × (length w.buffer < 2 * count))
-
--- what is known of the calls that write one integer, of which one returned this error: the write, whose
--- medium was left by a drop, or the end
-abbrev pub one_asked : WavSpecEx → ℤ → Bool → Error → List Known
-one_asked s value false e =
-    marked (write (one (int_container value s.spec.bits_per_sample s.bytes_per_sample))) false
-    ∷ made publish ∷ []
-one_asked s value true e =
-    marked (write (one (int_container value s.spec.bits_per_sample s.bytes_per_sample))) true
-    ∷ marked publish (mark_of {T = Unit {0}} (Err e)) ∷ []
-
--- why a file that was left isn't mended: the medium doesn't go to its beginning, or isn't repaired
-abbrev pub IsNotMended : MediumState → MediumState → MediumState → Error → Type 0
-IsNotMended left cut back e =
-    (IsIoError e × Stays left back × (back.faults ≡ one_more left.faults))
-    ⊎ (Stays left cut × IsNotRepaired false cut back e)
-
--- a call with the containers of a batch, by the spec of the file
-abbrev pub batch_asked : WavSpecEx → List ℤ → Asked
-batch_asked s values = write (whole_containers s (short_bytes values))
 
 -- the samples of a call follow those that were accepted before, and the file is read as all of these
 abbrev pub IsPublished : {M : Type 0} → (M → MediumState) → Result (List (List ℕ)) Refusal →

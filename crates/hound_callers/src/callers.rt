@@ -1,19 +1,13 @@
 // Functions of a user of the library, whose contracts follow from its public ones.
-ghost use Rattle.std.specs.Prelude.{◌≡◌, ℕ, suc, ◌+◌, ◌-◌, ◌/◌, ◌<◌, ◌≤◌, ◌++◌, ◌⊎◌, Bool, false, true, List, length, map, drop, [], ◌∷◌, slice_index_or, None, Some, Ok, Err, Result, IfErr, IfOk, IfSome, MatchResult, OnOk};
-ghost use Rattle.std.specs.List.{concat};
-ghost use Rattle.hound.specs.{Accepts, AcceptsEach, Asked, Begun, Call, Checkpoints, found_in, start_of, GivesItems, IsNext, IsSameFile, ReaderState, RepairsMedium, Seeks, WriterState, containers, AreContainers, Counts, canonical, data_start, Around, HasPublished, IsLeftAfter, Keeps, LosesNothing, accepted_by_all, begins_at, SurvivesLoss, one, one_more, samples_left, OpensAs, ReadsFrames, IsIoError, IsSixteen, IsSession, Ran, all_calls, accepted_by_steps, MediumState, WhereKeeps, WhereTells, Error, IsWritable, IsWhole, accepted_samples, sample_count, WavSpecEx, container_at, meaning_at, refusal_at, samples_before, unread};
+ghost use Rattle.std.specs.Prelude.{◌≡◌, ℕ, ◌/◌, ◌<◌, ◌++◌, ◌⊎◌, false, List, length, map, ◌∷◌, None, Some, Ok, Err, Result, IfErr, IfOk, IfSome, MatchResult, OnOk};
+ghost use Rattle.hound.specs.{Begun, Call, Checkpoints, found_in, start_of, IsSameFile, ReaderState, RepairsMedium, Seeks, containers, AreContainers, canonical, HasPublished, IsLeftAfter, Keeps, accepted_by_all, begins_at, one, one_more, samples_left, OpensAs, ReadsFrames, IsIoError, IsSixteen, MediumState, WhereTells, Error, IsWritable, IsWhole, sample_count, WavSpecEx, container_at, meaning_at, refusal_at, samples_before, unread};
 ghost use Rattle.hound.specs.declared.Error.TheVariants.{OutOfMemory};
-ghost use Rattle.hound.specs.declared.session.Begin.TheVariants.{New};
-ghost use Rattle.hound.specs.declared.session.End.{End};
-ghost use Rattle.hound.specs.declared.session.End.TheVariants.{Drop};
-ghost use Rattle.hound.specs.declared.session.Step.TheVariants.{Flush};
-ghost use Rattle.hound_callers.specs.Recording.{IsLast, IsPublished, WritesAndFlushes};
+ghost use Rattle.hound_callers.specs.Recording.{IsPublished, WritesAndFlushes};
 
 use hound::{
-    Begin, Durable, End, Error, Medium, Placed, Repair, Sample, Source, Step, WavReader, WavSpecEx,
-    WavWriter, a_repair_loses_no_published_sample, a_seek_leads_to_its_frame,
-    an_iterator_gives_what_it_hints, items_are_of_the_file, one_answer, repair_to_end,
-    run_durable_session, written_is_read,
+    Error, Medium, Repair, Sample, Source, WavReader, WavWriter,
+    a_repair_loses_no_published_sample, a_seek_leads_to_its_frame, an_iterator_gives_what_it_hints,
+    items_are_of_the_file, one_answer, repair_to_end, written_is_read,
 };
 use std::alloc::Global;
 use std::{io, result};
@@ -46,63 +40,6 @@ pub fn record_checkpoint<S: Sample, M: Medium>(
     writer.flush()
 }
 
-// The number of the last `Flush` with a mark.
-fn last_checkpoint(steps: &[Step], marks: &[bool]) -> Option<usize>
-    requires { length steps.now ≡ length marks.now }
-    ensures { IsLast steps.now marks.now (length steps.now) result }
-{
-    let mut last = None;
-    for i in 0..steps.len() {
-        if marks[i] && matches!(steps[i], Step::Flush) {
-            last = Some(i);
-        }
-    }
-    last
-}
-
-/// Records over a medium that may lose its power, and returns the number of the step that was the
-/// last checkpoint: the last `Flush` with a mark. Without one, no step is a `Flush`, the spec can't
-/// be written, or the medium failed.
-///
-/// Whatever a loss of power then leaves is read as the first of the accepted samples: at least as
-/// those accepted before this checkpoint, or any before it, unless a write of the length since then
-/// is cut in each state that has this length.
-pub fn record_through_a_loss<M: Source + Medium>(
-    alloc: Global,
-    medium: M,
-    spec_ex: WavSpecEx,
-    steps: &[Step],
-    marks: &mut [bool],
-) -> (M, Option<usize>)
-    requires place { WhereTells M.tells ((M.state medium).place ≡ 0) }
-    requires past { WhereKeeps M.tells M.keeps ((M.state medium).past ≡ []) }
-    requires flushed { WhereKeeps M.tells M.keeps ((M.state medium).flushed ≡ 0) }
-    requires empty { (M.state medium).contents ≡ [] }
-    requires size { length steps.now ≡ length marks.old }
-    ensures size { length marks.new ≡ length marks.old }
-    ensures last { IsLast steps.now marks.new (length steps.now) result.1 }
-    ensures none { WhereTells M.tells (result.1 ≡ None → IsWritable spec_ex
-        → (i : ℕ) → i < length steps.now → slice_index_or steps.now i Flush ≡ Flush →
-        let state = ⟦<Durable<M> as Placed>⟧.state in
-        Around (M.state medium) (M.state result.0) (λ old new. (answer : Result Unit Error)
-        × ((state old).faults ≡ 0) × IsSession M.tells M.keeps state (New spec_ex) steps.now marks.new Drop old answer new
-        × (1 ≤ (state new).faults))) }
-    ensures survives { WhereKeeps M.tells M.keeps (IfSome result.1 (λ i.
-        let state = ⟦<Durable<M> as Placed>⟧.state in
-        Around (M.state medium) (M.state result.0) (λ old new. (answer : Result Unit Error)
-        × (run : Ran M.tells M.keeps state (New spec_ex) steps.now marks.new Drop old answer new)
-        × ((sector : ℕ) (contents : List ℕ) → 1 ≤ sector
-        → (data_start spec_ex - 4) / sector ≡ (data_start spec_ex - 1) / sector
-        → (let s = M.state result.0 in
-        SurvivesLoss sector s.start s.past s.flushed (length s.past) contents) →
-        Counts spec_ex (data_start spec_ex) (accepted_by_steps spec_ex steps.now marks.new) contents
-        × LosesNothing spec_ex (data_start spec_ex) [] (all_calls run) (M.state result.0) contents)))) }
-{
-    let begin = Begin::New(spec_ex);
-    let (medium, _) = run_durable_session(alloc, medium, begin, steps, marks, End::Drop);
-    (medium, last_checkpoint(steps, marks))
-}
-
 /// Repairs what a recorder has left, whoever made its calls, over whichever medium: it does what
 /// `repair_to_end` does (`repaired`), and no sample is missing that one of the recorder's flushes has
 /// published, whether calls failed or the power went (`none_lost`).
@@ -121,33 +58,8 @@ pub fn repair_recording<N: Source + Medium>(left: N) -> result::Result<(N, Repai
     repair_to_end(left)
 }
 
-/// Writes all samples that a reader has left, whatever the widths of the two are: at an Ok all these
-/// values were written, one by one. At an error those before it were; it is that of the next item, or
-/// of the call that wrote it.
-pub fn convert<S: Sample, R: io::Read + Drop, M: Medium>(
-    reader: &mut WavReader<R>,
-    writer: &mut WavWriter<M>,
-) -> hound::Result<()>
-    ensures { MatchResult result
-        (λ _. (values : List S) × (end : ReaderState R) × (length values ≡ samples_left reader.old)
-        × GivesItems R.remaining S.refusal S.meaning (map Ok values) reader.old end
-        × AcceptsEach M.tells M.keeps M.state S.container values writer.old writer.new)
-        (λ e. (values : List S) × (next : Result S Error) × (end : ReaderState R) × (last : WriterState M)
-        × GivesItems R.remaining S.refusal S.meaning (map Ok values ++ next ∷ []) reader.old end
-        × AcceptsEach M.tells M.keeps M.state S.container values writer.old last
-        × MatchResult next (λ value. Accepts M.tells M.keeps M.state
-        (one (S.container value last.spec_ex.spec.bits_per_sample last.spec_ex.bytes_per_sample)) (Err e) last writer.new)
-        (λ why. (why ≡ e) × (writer.new ≡ last))) }
-{
-    an_iterator_gives_what_it_hints::<R, S>();
-    for sample in reader.samples::<S>() {
-        writer.write_sample(sample?)?;
-    }
-    Ok(())
-}
-
 /// The first sample of a frame, by a reader that has read nothing yet: that of its container, or an
-/// `IoError`, for a type that reads the file (`sample`). An error is a fault of the seek, or the item
+/// `IoError`, for a type that reads the file (`sample`). An error is a fault of the seek, or comes
 /// after it (`err`).
 pub fn sample_at<S: Sample, R: Source>(
     reader: &mut WavReader<R>,
@@ -160,8 +72,7 @@ pub fn sample_at<S: Sample, R: Source>(
         (samples_before time reader.old.spec_ex) (unread (R.state reader.old.reader))))) IsIoError) }
     ensures err { WhereTells R.tells (IfErr result (λ e.
         (IsIoError e × ((R.state reader.new.reader).faults ≡ one_more (R.state reader.old.reader).faults))
-        ⊎ ((mid end : ReaderState R) × Seeks R.state time reader.old mid
-        × IsNext R.remaining S.refusal S.meaning (Some (Err e)) mid end))) }
+        ⊎ ((mid : ReaderState R) × Seeks R.state time reader.old mid))) }
 {
     a_seek_leads_to_its_frame::<R, S>();
     reader.seek(time)?;

@@ -11,8 +11,8 @@ mod recording;
 mod twelve;
 
 pub use callers::{
-    convert, give_up_batch, open_written, publish, record_checkpoint, record_through_a_loss,
-    repair_recording, sample_at, samples_of,
+    give_up_batch, open_written, publish, record_checkpoint, repair_recording, sample_at,
+    samples_of,
 };
 pub use editing::append_blocks;
 pub use either::EitherSample;

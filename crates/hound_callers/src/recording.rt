@@ -1,19 +1,19 @@
 // Recorders that make their calls themselves.
-ghost use Rattle.std.specs.Prelude.{◌≡◌, ◌⊎◌, ◌-◌, ◌/◌, ◌<◌, ◌≤◌, ℕ, Bool, false, true, List, ◌∷◌, ◌++◌, [], Ok, MatchResult, IsFalse, IsOk, IfOk, IfErr, IsErrAnd, IsTrue, OnErr, OnOk, drop, length, map, replicate, take};
+ghost use Rattle.std.specs.Prelude.{◌≡◌, ◌⊎◌, ◌-◌, ◌/◌, ◌<◌, ◌≤◌, ℕ, false, true, List, ◌∷◌, ◌++◌, [], Ok, MatchResult, IsFalse, IsOk, IfOk, IfErr, IsErrAnd, IsTrue, OnErr, OnOk, drop, length, map, replicate, take};
 ghost use Rattle.std.specs.List.{All};
-ghost use Rattle.hound.specs.{Finishes, IsNotBegun, MediumState, Repair, Repairs, SurvivesLoss, one, Begun, Call, Known, Left, Recorded, made, mark_of, marked, new_file, publish, seen, write, int_container, Around, within, HasPublished, Kept, KeptWithin, accepted_by_all, canonical, data_start, AcceptsEach, Ascends, WritesToBatch, containers_in, fits, remaining, signed_bytes_of, ReadsFrames, IsSixteen, Ran, asked_by, containers_of, WhereKeeps, WhereTells, WriterState, IsWhole, accepted_samples, data_length, WavSpecEx};
+ghost use Rattle.hound.specs.{Finishes, short_bytes, whole_containers, IsIoError, IsNotBegun, IsNotRepaired, Stays, MediumState, Repair, Repairs, SurvivesLoss, one, Begun, Call, Known, Left, Recorded, made, mark_of, marked, new_file, publish, seen, write, int_container, Around, within, HasPublished, Kept, KeptWithin, accepted_by_all, canonical, data_start, AcceptsEach, Ascends, WritesToBatch, containers_in, fits, remaining, signed_bytes_of, ReadsFrames, IsSixteen, Ran, asked_by, containers_of, WhereKeeps, WhereTells, WriterState, IsWhole, accepted_samples, data_length, WavSpecEx};
 ghost use Rattle.hound.specs.declared.session.Begin.TheVariants.{New};
 ghost use Rattle.hound.specs.declared.session.End.TheVariants.{Drop, Finalize};
 ghost use Rattle.hound.specs.declared.session.Step.TheVariants.{Whole};
-ghost use Rattle.hound_callers.specs.Recording.{HaveContainers, IsNoBatch, IsNotMended, IsPublished, IsStopped, StopsAt, WritesAndFlushes, all_asked, batch_asked, block_asks, containers_by, one_asked, published_calls, recorder_asks};
+ghost use Rattle.hound_callers.specs.Recording.{HaveContainers, IsNoBatch, IsPublished, IsStopped, StopsAt, WritesAndFlushes, all_asked, block_asks, containers_by, published_calls, recorder_asks};
 
 use crate::twelve::Twelve;
 use hound::{
     Begin, Durable, End, Error, Medium, Placed, Repair, Sample, SampleWriter16, Source, Step,
     WavSpecEx, WavWriter, a_batch_is_its_values, a_block_is_its_samples, a_durable_medium_ascends,
-    a_repair_loses_no_published_sample, a_run_leaves_its_calls, a_write_is_marked_by_its_ok,
-    calls_are_a_run, repair_to_end, run_session, sessions_leave_one_file, short_integers_are_kept,
-    what_a_loss_leaves, what_is_kept, what_is_known,
+    a_repair_loses_no_published_sample, a_run_leaves_its_calls, calls_are_a_run, repair_to_end,
+    run_session, sessions_leave_one_file, short_integers_are_kept, what_a_loss_leaves,
+    what_is_kept, what_is_known,
 };
 use std::alloc::Global;
 use std::result;
@@ -233,7 +233,9 @@ pub fn record_twelve_and_repair<M: Source + Medium>(
     ensures err { IfErr result (λ refused.
         IsNotBegun M.tells M.keeps M.state spec_ex medium refused.0 refused.1
         ⊎ ((left cut : M) × Left M.tells M.keeps M.state spec_ex (new_file (M.state medium)) (all_asked ⟦<Twelve as Sample>⟧.container spec_ex blocks.now) left
-        × WhereTells M.tells (IsNotMended (M.state left) (M.state cut) (M.state refused.0) refused.1))) }
+        × WhereTells M.tells ((IsIoError refused.1 × Stays (M.state left) (M.state refused.0))
+        ⊎ (Stays (M.state left) (M.state cut)
+        × IsNotRepaired false (M.state cut) (M.state refused.0) refused.1)))) }
 {
     what_is_kept::<M>();
     a_repair_loses_no_published_sample();
@@ -285,11 +287,10 @@ pub fn pack_one<M: Source + Medium>(
     ensures exact { IfOk result (λ left. WhereTells M.tells ((M.state left).contents ≡ canonical spec_ex (containers_of spec_ex (Whole value ∷ [])))) }
     ensures err { IfErr result (λ refused.
         IsNotBegun M.tells M.keeps M.state spec_ex medium refused.0 refused.1
-        ⊎ ((mark : Bool) × Left M.tells M.keeps M.state spec_ex (new_file (M.state medium))
-        (one_asked spec_ex value mark refused.1) refused.0)) }
+        ⊎ Left M.tells M.keeps M.state spec_ex (new_file (M.state medium))
+        (made (asked_by spec_ex (Whole value)) ∷ made publish ∷ []) refused.0) }
 {
     let steps = [Step::Whole(value)];
-    a_write_is_marked_by_its_ok::<M>();
     calls_are_a_run::<M>(&steps);
     sessions_leave_one_file::<M>(spec_ex, &[&steps[..]]);
     let mut writer = WavWriter::try_new(medium, spec_ex)?;
@@ -333,7 +334,7 @@ pub fn record_batch<M: Medium>(
         → (IsErrAnd result (IsNoBatch writer.old (length batch.now))
         × Recorded M.tells M.keeps M.state s file known writer.new)
         ⊎ Recorded M.tells M.keeps M.state s file
-        (known ++ marked (batch_asked s batch.now) (mark_of result) ∷ []) writer.new }
+        (known ++ marked (write (whole_containers s (short_bytes batch.now))) (mark_of result) ∷ []) writer.new }
 {
     if batch.len() > u32::MAX as usize {
         return Err(Error::TooLong);
@@ -366,7 +367,7 @@ pub fn record_mixed<M: Source + Medium>(
         × Recorded M.tells M.keeps M.state spec_ex file asked w
         × Kept M.tells M.keeps M.state spec_ex file (asked ++ made publish ∷ []) done.0)
         ⊎ Kept M.tells M.keeps M.state spec_ex file
-        ((asked ++ marked (batch_asked spec_ex batch.now) (mark_of done.1) ∷ []) ++ made publish ∷ []) done.0))
+        ((asked ++ marked (write (whole_containers spec_ex (short_bytes batch.now))) (mark_of done.1) ∷ []) ++ made publish ∷ []) done.0))
         (λ refused. IsNotBegun M.tells M.keeps M.state spec_ex medium refused.0 refused.1) }
 {
     what_is_kept::<M>();

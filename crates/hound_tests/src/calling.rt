@@ -1,9 +1,9 @@
 // The functions of `callers` and `reading`, each run once.
-use crate::helpers::{FOUR_SAMPLES, NO_SAMPLES, empty_tape, integers, sixteen, tape_of};
+use crate::helpers::{FOUR_SAMPLES, NO_SAMPLES, empty_tape, sixteen, tape_of};
 use hound::{Source, WavReader, WavWriter};
 use hound_callers::{
-    convert, open_written, publish, read_block, read_from, record_at_once, record_checkpoint,
-    reopen, sample_at, samples_of,
+    open_written, publish, read_block, read_from, record_at_once, record_checkpoint, reopen,
+    sample_at, samples_of,
 };
 use std::test::Fail;
 
@@ -11,12 +11,6 @@ use std::test::Fail;
 const STEREO: &[u8] = b"RIFF\x2c\0\0\0WAVEfmt \x10\0\0\0\
     \x01\0\x02\0\x44\xac\0\0\x10\xb1\x02\0\x04\0\x10\0\
     data\x08\0\0\0\x02\0\xfd\xff\x05\0\xf9\xff";
-
-// The same with 24 bits in three bytes.
-const WIDE_STEREO: &[u8] = b"RIFF\x48\0\0\0WAVEfmt \x28\0\0\0\
-    \xfe\xff\x02\0\x44\xac\0\0\x98\x09\x04\0\x06\0\x18\0\x16\0\x18\0\x03\0\0\0\
-    \x01\0\0\0\0\0\x10\0\x80\0\0\xaa\0\x38\x9b\x71\
-    data\x0c\0\0\0\x02\0\0\xfd\xff\xff\x05\0\0\xf9\xff\xff";
 
 #[test]
 fn a_recorder_publishes_each_sample(rt: HostRuntime) -> Result<(), Fail> {
@@ -28,20 +22,6 @@ fn a_recorder_publishes_each_sample(rt: HostRuntime) -> Result<(), Fail> {
     let tape = writer.drop_into();
     let is_whole = tape.bytes() == FOUR_SAMPLES.as_slice();
     assert_eq!(rt; (published, is_whole), (4, true));
-    Ok(())
-}
-
-#[test]
-fn a_file_is_written_in_another_width(rt: HostRuntime) -> Result<(), Fail> {
-    let mut reader = WavReader::new(STEREO)?;
-    let tape = empty_tape(rt.alloc());
-    let mut writer = WavWriter::new_with_spec_ex(tape, integers(2, 44100, 24, 3))?;
-    convert::<i32, _, _>(&mut reader, &mut writer)?;
-    let counts = (writer.len(), reader.len());
-    let (tape, result) = writer.finalize_into();
-    result?;
-    let is_wide = tape.bytes() == WIDE_STEREO;
-    assert_eq!(rt; (counts, is_wide), ((4, 4), true));
     Ok(())
 }
 

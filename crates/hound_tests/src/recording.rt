@@ -66,10 +66,10 @@ const APPENDED: &[u8; 72] = b"RIFF\x40\0\0\0WAVEfmt \x10\0\0\0\x01\0\x01\0\x44\x
     \x88\x58\x01\0\x02\0\x10\0LIST\x04\0\0\0INFOdata\x10\0\0\0\x02\0\xfd\xff\
     \x01\0\xfe\xff\x03\0\xff\x07\0\xf8\x05\0";
 
-fn appends(alloc: Global, blocks: &[&[Twelve]]) -> hound::Result<bool> {
+fn appends(alloc: Global, blocks: &[&[Twelve]]) -> Result<bool, Fail> {
     match append_blocks(tape_of(alloc, TAGGED)?, blocks) {
         Ok(tape) => Ok(tape.bytes() == APPENDED.as_slice()),
-        Err((_, error)) => Err(error),
+        Err((_, error)) => Err(Fail::from(error)),
     }
 }
 

@@ -1,6 +1,6 @@
 use Rattle.std.proofs.Common.{◌≡◌, ◌⊎◌, ℕ, List, [], Option, None, Some, Result, Ok, Err, IfErr, MatchResult, ap, inr, refl, subst, sym}
 use Rattle.std.specs.Option.{option_transpose}
-use Rattle.hound.specs.{Error, IsIoError, IsMeaningOf, IsNext, ReaderState, Seeks, container_at, lent_reader, meaning_at, samples_before, unread}
+use Rattle.hound.specs.{Error, IsIoError, IsMeaningOf, Seeks, container_at, lent_reader, meaning_at, samples_before, unread}
 use Rattle.hound.specs.declared.Error.TheVariants.{IoError}
 use Rattle.hound_callers.proofs.callers.sample_at.Goals as goal
 
@@ -13,13 +13,10 @@ found meaning container (Some (Ok value)) is = ap Some is
 found meaning container (Some (Err (IoError e))) is = tt
 found meaning container (Some (Err _)) is = absurd is
 
--- an error is that of the item
-of_item : {A : Type 0} (Other : Error → Type 0) (P : Option (Result A Error) → Type 0)
-    (next : Option (Result A Error)) → P next
-    → IfErr (option_transpose next) (λ e. Other e ⊎ P (Some (Err e)))
-of_item Other P None is = tt
-of_item Other P (Some (Ok value)) is = tt
-of_item Other P (Some (Err e)) is = inr is
+-- what holds anyway holds at an error
+at_err : {T E P : Type 0} (Q : E → Type 0) (r : Result T E) → P → IfErr r (λ e. Q e ⊎ P)
+at_err Q (Ok x) here = tt
+at_err Q (Err e) here = inr here
 
 pub returns-clause-sample : goal.returns-clause-sample
 returns-clause-sample g c told inside none =
@@ -40,20 +37,7 @@ returns-clause-sample g c told inside none =
     c.next.ensures.steps.1))
 
 pub returns-clause-err : goal.returns-clause-err
-returns-clause-err g c told =
-    let reader = c.args.reader.now in
-    let state = g.R.Placed.state in
-    let seeks : Seeks state c.args.time reader c.seek.new.self = record {
-      counts = c.in_ok-seek.ensures.counts;
-      source = c.in_ok-seek.ensures.source told;
-    } in
-    rw c.transpose.ensures
-    (of_item _ (λ next. (mid end : ReaderState g.row.R.Denot)
-    × Seeks state c.args.time reader mid
-    × IsNext g.R.Read.remaining g.S.Sample.refusal g.S.Sample.meaning next mid end) c.next.result (
-      c.seek.new.self,
-      lent_reader c.next.new.self,
-      seeks,
-      subst (λ mid. IsNext g.R.Read.remaining g.S.Sample.refusal g.S.Sample.meaning c.next.result mid
-          (lent_reader c.next.new.self)) c.samples.ensures.reader c.next.ensures.steps.1,
-    ))
+returns-clause-err g c told = at_err _ c.transpose.result (
+  c.seek.new.self,
+  record { counts = c.in_ok-seek.ensures.counts; source = c.in_ok-seek.ensures.source told },
+)

@@ -1,10 +1,23 @@
-use Rattle.std.proofs.Common.{◌≡◌, ℕ, List, [], ◌∷◌, ◌++◌, length, map, drop, None, Some, Result, Ok, Err, IsErrAnd, MatchResult, ◌⊎◌, inl, refl, sym, ap, subst, ◌∙◌}
+use Rattle.std.proofs.Common.{◌≡◌, ℕ, List, [], ◌∷◌, ◌++◌, length, map, drop, Option, None, Some, Result, Ok, Err, IsErrAnd, MatchResult, ◌⊎◌, inl, refl, sym, ap, subst, ◌∙◌}
 use Rattle.std.proofs.lemmas.List.{length-map, map-append}
 use Rattle.std.proofs.lemmas.Option.{IfSome_then}
-use Rattle.hound.specs.{AreItems, Error, IsIoError, IsNext, containers, meaning_at, taken_reader}
+use Rattle.hound.specs.{AreItems, Error, GivesItems, IsIoError, IsNext, ReaderState, ReadRefusal, containers, meaning_at, taken_reader}
 use Rattle.hound.specs.declared.Error.TheVariants.{IoError, OutOfMemory}
-use Rattle.hound_callers.proofs.Items.{one_more}
+use Rattle.hound.specs.declared.SampleFormat.{SampleFormat}
 use Rattle.hound_callers.proofs.callers.samples_of.Goals as goal
+
+-- items, and one more
+module _ {R A : Type 0} (left : R → Option (List ℕ))
+    (refusal : SampleFormat → ℕ → ℕ → Option ReadRefusal)
+    (meaning : SampleFormat → ℕ → ℕ → List ℕ → A) where
+  one_more : (items : List (Result A Error)) (item : Result A Error) (old mid new : ReaderState R)
+      → GivesItems left refusal meaning items old mid
+      → IsNext left refusal meaning (Some item) mid new
+      → GivesItems left refusal meaning (items ++ item ∷ []) old new
+  one_more [] item old mid new is next =
+      (new, subst (λ r. IsNext left refusal meaning (Some item) r new) is next, refl)
+  one_more (first ∷ items) item old mid new (then, given, others) next =
+      (then, given, one_more items item then mid new others next)
 
 -- items that are all samples are the meanings of the containers
 meanings : {A : Type 0} (meaning : List ℕ → A) (width : ℕ) (bytes : List ℕ) (values : List A)

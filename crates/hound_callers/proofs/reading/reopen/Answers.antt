@@ -1,32 +1,11 @@
-use Rattle.std.proofs.Common.{◌≡◌, ◌∙◌, ℕ, zero, suc, ◌+◌, ◌-◌, ◌*◌, ◌/◌, ◌%◌, ◌≤◌, Bool, true, not, cond, eqb, le-ltb, List, [], ◌∷◌, ◌++◌, length, take, drop, Some, None, inl, inr, refl, sym, ap, subst, arith, length-append, append-nil, drop_at}
+use Rattle.std.proofs.Common.{◌≡◌, ◌∙◌, ℕ, ◌+◌, ◌*◌, ◌/◌, ◌%◌, ◌≤◌, Bool, true, not, cond, eqb, le-ltb, [], ◌++◌, length, drop, Some, None, inl, inr, refl, sym, ap, subst, arith, length-append, drop_at}
 use Rattle.std.proofs.Math.Nat.{div-mul-le_self, mod-eq-sub-div-mul}
-use Rattle.std.proofs.lemmas.Bool.{cases_Bool, eqb-true}
-use Rattle.std.proofs.lemmas.List.{drop-take, take-take}
+use Rattle.std.proofs.lemmas.Bool.{eqb-true}
 use Rattle.std.proofs.lemmas.Result.{MatchResult-weaker}
-use Rattle.std.specs.List.{AllByRecursion, concat}
-use Rattle.hound.specs.{Cause, FollowsData, HasOneAppendAnswer, Head, IsWhole, IsWritable, MediumState, SampleFormat, WavSpecEx, WriterState, accepted_samples, appendable, bytes_of, containers, data_fault, data_length, data_start, data_tag, faulty, fmt_tag, greatest_u32, head_fault, header, is_short, long_fmt, padding, riff_size, riff_tag, sized_fmt, subformat, wave_tag}
-use Rattle.hound.specs.declared.SampleFormat.TheVariants.{Int, Float}
+use Rattle.std.specs.List.{concat}
+use Rattle.hound.proofs.Knowing.{length-concat, length-header, samples_out}
+use Rattle.hound.specs.{Cause, IsSound, FollowsData, HasOneAppendAnswer, Head, IsWhole, IsWritable, MediumState, WavSpecEx, WriterState, accepted_samples, appendable, containers, data_fault, data_length, data_start, faulty, greatest_u32, head_fault, header, padding, riff_size}
 use Rattle.hound_callers.proofs.reading.reopen.Goals as goal
-
-subformat_long : (format : SampleFormat) → length (subformat format) ≡ 16
-subformat_long Int = refl
-subformat_long Float = refl
-
-sized_long : (s : WavSpecEx) → length (bytes_of 4 40 ++ long_fmt s) ≡ 44
-sized_long s = simp length-append (omega (arith, subformat_long s.spec.sample_format))
-
-around : (fmt : List ℕ) (size len : ℕ)
-    → length (riff_tag ++ bytes_of 4 size ++ wave_tag ++ fmt_tag ++ fmt ++ data_tag ++ bytes_of 4 len)
-    ≡ 24 + length fmt
-around fmt size len = simp length-append (omega arith)
-
--- a header ends where its data begin
-header_long : (s : WavSpecEx) (size len : ℕ) → length (header s size len) ≡ data_start s
-unfolding header sized_fmt
-header_long s size len = elim (cases_Bool (is_short s)) [
-  | inl short ↦ rw short refl
-  | inr long ↦ rw long (around (bytes_of 4 40 ++ long_fmt s) size len ∙ ap (λ n. 24 + n) (sized_long s))
-]
 
 -- whole samples, and whole frames
 are_whole : (s : WavSpecEx) (len : ℕ) → data_fault s len ≡ None
@@ -51,24 +30,6 @@ no_fault s len writable none fits =
     let room = le-ltb greatest_u32 (riff_size (data_start s) len) fits in
     rw (samples, pair, frames, room) refl
 
--- containers are in the bytes that they take
-containers_in_first : (w n m : ℕ) (bytes : List ℕ) → n * w ≤ m
-    → containers w n (take m bytes) ≡ containers w n bytes
-containers_in_first w zero m bytes inside = refl
-containers_in_first w (suc n) m bytes inside =
-    let j = m - w in
-    let whole : w + j ≡ m = omega (arith, inside) in
-    λ i. take-take w m bytes (omega (arith, inside)) i ∷
-    (ap (λ k. containers w n (drop w (take k bytes))) (sym whole)
-    ∙ ap (containers w n) (drop-take w j bytes)
-    ∙ containers_in_first w n j (drop w bytes) (omega (arith, inside))) i
-
-concat_long : (w : ℕ) (list : List (List ℕ)) → AllByRecursion (λ c. length c ≡ w) list
-    → length (concat list) ≡ length list * w
-concat_long w [] each = omega arith
-concat_long w (c ∷ list) (one, each) =
-    omega (arith, one, concat_long w list each, length-append c (concat list))
-
 module _ {M : Type 0} (state : M → MediumState) (s : WavSpecEx) (len : ℕ) (old : MediumState)
     (answer : HasOneAppendAnswer old.contents) (head : Head old.contents s len (data_start s))
     (sound : head_fault s len (data_start s) ≡ None) where
@@ -76,11 +37,11 @@ module _ {M : Type 0} (state : M → MediumState) (s : WavSpecEx) (len : ℕ) (o
   this = answer.2 (appendable s len (data_start s)) (head, sound)
 
   -- a writer that appends has these samples
-  opened : (w : WriterState M) → w.waiting ≡ [] → FollowsData old state w
+  opened : (w : WriterState M) → w.waiting ≡ [] → IsSound w → FollowsData old state w
       → (w.spec_ex ≡ s) × (data_start s + len ≤ length old.contents → IsWhole state w)
       × (accepted_samples state w
       ≡ containers s.bytes_per_sample (len / s.bytes_per_sample) (drop (data_start s) old.contents))
-  opened w none found =
+  opened w none is_sound found =
       let a = answer.2 (appendable w.spec_ex (data_length w) w.data_start) (found.head, found.check) in
       let b = this in
       let spec : w.spec_ex ≡ s = cc in
@@ -88,23 +49,17 @@ module _ {M : Type 0} (state : M → MediumState) (s : WavSpecEx) (len : ℕ) (o
       let start : w.data_start ≡ data_start s = cc in
       let same = found.puts.stays.contents in
       let out : w.out ≡ len = omega (arith, long, ap length none) in
-      let all : accepted_samples state w ≡ containers s.bytes_per_sample (len / s.bytes_per_sample)
-      (take len (drop (data_start s) old.contents) ++ []) =
-      λ i. containers (spec i).bytes_per_sample (long i / (spec i).bytes_per_sample)
-      (take (out i) (drop (start i) (same i)) ++ none i) in (
-        spec,
-        λ whole. omega (arith, start, out, whole, ap length same),
-        all ∙ ap (containers s.bytes_per_sample (len / s.bytes_per_sample)) (append-nil _)
-            ∙ containers_in_first s.bytes_per_sample (len / s.bytes_per_sample) len
-            (drop (data_start s) old.contents) (div-mul-le_self len s.bytes_per_sample),
-      )
+      let all = samples_out state w none is_sound
+      ∙ (λ i. containers (spec i).bytes_per_sample (out i / (spec i).bytes_per_sample)
+      (drop (start i) (same i))) in
+      (spec, λ whole. omega (arith, start, out, whole, ap length same), all)
 
 pub returns-clause-begun : goal.returns-clause-begun
 returns-clause-begun g c told s size len rest writable none fits is =
     let M = g.M.Placed in
     let old = M.state c.args.medium in
     let few : len ≤ greatest_u32 = omega (arith, fits) in
-    let long = header_long s size len in
+    let long = length-header s size len in
     let after : drop (data_start s) old.contents ≡ rest =
     ap (drop (data_start s)) is ∙ drop_at (header s size len) rest (data_start s) long in
     let answer = c.one_append_answer.ensures old.contents in
@@ -114,7 +69,7 @@ returns-clause-begun g c told s size len rest writable none fits is =
     MatchResult-weaker c.try_append.result c.try_append.ensures.appends
     (λ w appends.
     let (spec, whole, all) = opened M.state s len old answer head sound w appends.none_waits
-    (appends.file told) in (
+    appends.sound (appends.file told) in (
       spec,
       λ within. whole (omega (
         arith,
@@ -141,7 +96,7 @@ returns-clause-written g c told s list writable each fits is =
     let size = riff_size (data_start s) n in
     let rest = concat list ++ padding n in
     let w = s.bytes_per_sample in
-    let bytes : n ≡ length list * w = concat_long w list each.each in
+    let bytes : n ≡ length list * w = length-concat w list each.each in
     let samples = eqb-true (read.len % w) 0 (are_whole s read.len read.frames).0 in
     let long : read.len ≡ n =
     omega (
@@ -161,6 +116,6 @@ returns-clause-written g c told s list writable each fits is =
       whole (omega (arith, length-append (concat list) (padding n))),
       all ∙ (λ i. containers s.bytes_per_sample
           ((ap (λ k. k / s.bytes_per_sample) (sym long) ∙ sym read.count) i)
-          (sym (drop_at (header s size n) rest (data_start s) (header_long s size n)) i)) ∙ same,
+          (sym (drop_at (header s size n) rest (data_start s) (length-header s size n)) i)) ∙ same,
     ))
     (λ refused failed. failed)

@@ -1,72 +1,36 @@
-use Rattle.std.proofs.Common.{◌≡◌, ℤ, Bool, [], ◌∷◌, false, true, Result, Ok, Err, ap, arith, inr, length, of_z, refl, rules, subst, sym, to_z, w32}
+use Rattle.std.proofs.Common.{◌≡◌, ℤ, Bool, [], ◌∷◌, true, Ok, arith, inr, length, of_z, refl, rules, subst, to_z, w32}
 use Rattle.std.proofs.Math.Facts.{to_z-of_z}
-use Rattle.hound.specs.{Begun, Call, Error, Left, MediumState, WavSpecEx, canonical, Finishes, Ran, Takes, asked_by, containers_of, int_container, made, mark_of, marked, new_file, one, publish, write}
+use Rattle.hound.specs.{Begun, Call, Left, MediumState, WavSpecEx, canonical, Finishes, Ran, Takes, asked_by, containers_of, made, new_file, publish}
 use Rattle.hound.specs.declared.session.Begin.TheVariants.{New}
 use Rattle.hound.specs.declared.session.End.TheVariants.{Finalize}
 use Rattle.hound.specs.declared.session.Step.TheVariants.{Whole}
 use Rattle.hound.proofs.Running.{is_ok}
-use Rattle.hound_callers.specs.Recording.{one_asked}
 use Rattle.hound_callers.proofs.recording.pack_one.Goals as goal
 
--- the calls of the one integer, where one returned an error
-module _ {M : Type 0} (tells keeps : Bool) (state : M → MediumState) (s : WavSpecEx) (file : Begun)
-    (end : M) where
-  left_at : (e : Error) (v w : ℤ) (mark : Bool) → v ≡ w → mark ≡ false
-      → Left tells keeps state s file
-      (marked (write (one (int_container v s.spec.bits_per_sample s.bytes_per_sample))) mark
-      ∷ made publish ∷ []) end
-      → Left tells keeps state s file (one_asked s w false e) end
-  left_at e v w mark same unmarked left =
-      subst (λ (x : ℤ × Bool). Left tells keeps state s file
-      (marked (write (one (int_container x.0 s.spec.bits_per_sample s.bytes_per_sample))) x.1
-      ∷ made publish ∷ []) end) (λ i. (same i, unmarked i)) left
-
-  ended_at : (e : Error) (v w : ℤ) (mark : Bool) (answer : Result (Unit {0}) Error) → v ≡ w
-      → mark ≡ true → answer ≡ Err e
-      → Left tells keeps state s file
-      (marked (write (one (int_container v s.spec.bits_per_sample s.bytes_per_sample))) mark
-      ∷ marked publish (mark_of answer) ∷ []) end
-      → Left tells keeps state s file (one_asked s w true e) end
-  ended_at e v w mark answer same is_marked is left =
-      subst (λ (x : ℤ × (Bool × Bool)). Left tells keeps state s file
-      (marked (write (one (int_container x.0 s.spec.bits_per_sample s.bytes_per_sample))) x.1.0
-      ∷ marked publish x.1.1 ∷ []) end) (λ i. (same i, (is_marked i, mark_of (is i)))) left
+-- what is left of the calls of a value is so of one that is the same
+as_value : {M : Type 0} (tells keeps : Bool) (state : M → MediumState) (s : WavSpecEx) (file : Begun)
+    (end : M) (v w : ℤ) → v ≡ w
+    → Left tells keeps state s file (made (asked_by s (Whole v)) ∷ made publish ∷ []) end
+    → Left tells keeps state s file (made (asked_by s (Whole w)) ∷ made publish ∷ []) end
+as_value tells keeps state s file end v w same left =
+    subst (λ v. Left tells keeps state s file (made (asked_by s (Whole v)) ∷ made publish ∷ []) end)
+    same left
 
 pub returns-in-Err-clause-err : goal.returns-in-Err-clause-err
 returns-in-Err-clause-err g c =
     let M = g.M.Placed in
-    let s = c.args.spec_ex in
-    let file = new_file (M.state c.args.medium) in
-    let e = c.in-Err.error in
-    let w = c.in_ok-writer.writer in
-    inr (
-      false,
-      left_at M.tells M.keeps M.state s file c.drop_into.result e
-          (to_z w32 (of_z w32 c.args.value)) c.args.value (mark_of {T = Unit {0}} (Err e))
-          (to_z-of_z {w = w32} (search rules))
-          (c.a_write_is_marked_by_its_ok.ensures
-          (one (int_container (to_z w32 (of_z w32 c.args.value)) w.spec_ex.spec.bits_per_sample
-          w.spec_ex.bytes_per_sample)) w (Err e) c.in-Err.ensures.accepts.adds.answers)
-          (c.drop_into.ensures.left s file _
-          (c.in-Err.ensures.marked s file [] c.in_ok-writer.ensures.recorded)),
-    )
+    inr (as_value M.tells M.keeps M.state c.args.spec_ex (new_file (M.state c.args.medium)) _
+    (to_z w32 (of_z w32 c.args.value)) c.args.value (to_z-of_z {w = w32} (search rules))
+    (c.drop_into.ensures.left c.args.spec_ex _ _
+    (c.write_sample.ensures.recorded c.args.spec_ex _ [] c.in_ok-writer.ensures.recorded)))
 
 pub returns-in_default-Err-clause-err : goal.returns-in_default-Err-clause-err
 returns-in_default-Err-clause-err g c =
     let M = g.M.Placed in
-    let s = c.args.spec_ex in
-    let file = new_file (M.state c.args.medium) in
-    inr (
-      true,
-      subst (λ e. Left M.tells M.keeps M.state s file (one_asked s c.args.value true e)
-          c.finalize_into.result.0) (sym c.in_default-Err.error-is)
-          (ended_at M.tells M.keeps M.state s file c.finalize_into.result.0 c.in_default-Err.error
-          (to_z w32 (of_z w32 c.args.value)) c.args.value (mark_of c.write_sample.result)
-          c.finalize_into.result.1 (to_z-of_z {w = w32} (search rules))
-          (ap mark_of (is_ok c.write_sample.result c.in_default.not-Err)) c.in_default-Err.is-1
-          (c.finalize_into.ensures.marked s file _
-          (c.write_sample.ensures.marked s file [] c.in_ok-writer.ensures.recorded))),
-    )
+    inr (as_value M.tells M.keeps M.state c.args.spec_ex (new_file (M.state c.args.medium)) _
+    (to_z w32 (of_z w32 c.args.value)) c.args.value (to_z-of_z {w = w32} (search rules))
+    (c.finalize_into.ensures.left c.args.spec_ex _ _
+    (c.write_sample.ensures.recorded c.args.spec_ex _ [] c.in_ok-writer.ensures.recorded)))
 
 pub returns-in_default-Ok : goal.returns-in_default-Ok
 returns-in_default-Ok g c =
