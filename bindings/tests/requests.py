@@ -61,7 +61,7 @@ def requests(file, some):
     spec = struct.pack("<IHHHH", some.choice((0, 8000, 44100, 2**32 - 1)) if some.random() < 0.2 else 44100, channels, bits, width, is_float)
     kept = max(0, min(32, bits if some.random() < 0.8 else 32) - 1)
     size, used, few = len(file) + FILE + MORE, len(file), some.randrange(COUNT // channels) * channels + (some.random() < 0.1)
-    for suffix, code, most in (("i16", "h", 15), ("i32", "i", 31), ("f32", "I", 32)):
+    for suffix, code, most in (("i8", "b", 7), ("i16", "h", 15), ("i32", "i", 31), ("f32", "I", 32)):
         low = 0 if suffix == "f32" else -(2 ** min(kept, most))
         high = 2**32 if suffix == "f32" else 2 ** min(kept, most)
         samples = struct.pack(f"<{COUNT}{code}", *(some.randrange(low, high) for _ in range(COUNT)))
@@ -69,15 +69,27 @@ def requests(file, some):
         yield f"memory {size} {(memory.ljust(FILE, bytes([0x5A])) + file).hex()}"
         if suffix == "i16":
             yield f"info @{FILE} {used} @{FOUND}"
+            yield f"walk @{FILE} {used} @{FOUND}"
+            yield f"find_damage @{FILE} {used} @{FOUND}"
             yield f"size @{SPEC} {some.choice((few, used, 2**31, 2**64 - 1))}"
+            yield f"header @{SPEC} {some.choice((few, used, 2**31))} @{OUT} {some.choice((68, 67, 44, 43))}"
+            yield f"sizes @{SPEC} {some.choice((44, 68, 20, 19, used, 2**33))} {some.choice((few, used, 2**31))} @{OUT} {some.choice((8, 8, 7))}"
             for room in (used, used + 1, used - (used > 0)):
                 yield f"repair @{FILE} {room} {used} @{FOUND}"
+        yield f"decode_{suffix} @{SPEC} @{FILE} {used} @{OUT} {ROOM // 4}"
+        capacities = (ROOM, some.randrange(ROOM))
+        for capacity in capacities:
+            yield f"encode_{suffix} @{SPEC} @{SAMPLES} {few} @{OUT} {capacity}"
+        if suffix == "i8":
+            continue
+        if suffix == "i32":
+            yield f"to_f32 @{SAMPLES} {few} #{some.choice((bits, 0, 33))} @{OUT} {some.choice((COUNT, few, 0))}"
+        if suffix == "f32":
+            yield f"from_f32 @{SAMPLES} {few} #{some.choice((bits, 1, 33))} @{OUT} {some.choice((COUNT, few, 0))} @{FOUND}"
         for first, count in ((0, ROOM // 4), (some.randrange(9), some.randrange(9)), (2**33, 4)):
             yield f"read_{suffix} @{FILE} {used} {first} @{OUT} {count}"
-        yield f"decode_{suffix} @{SPEC} @{FILE} {used} @{OUT} {ROOM // 4}"
-        for capacity in (ROOM, some.randrange(ROOM)):
+        for capacity in capacities:
             yield f"write_{suffix} @{SPEC} @{SAMPLES} {few} @{OUT} {capacity}"
-            yield f"encode_{suffix} @{SPEC} @{SAMPLES} {few} @{OUT} {capacity}"
         for capacity in (used + MORE, used + some.randrange(MORE)):
             yield f"append_{suffix} @{FILE} {capacity} {used} @{SAMPLES} {few}"
 

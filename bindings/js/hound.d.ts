@@ -1,0 +1,92 @@
+/** A file; of a Blob only what is needed is read. */
+export type WavFile = Uint8Array | Blob;
+
+/** The arrays of samples, by the names of their types. Integers are signed at every width, also at 8 bits. */
+export interface Arrays {
+  int8: Int8Array;
+  int16: Int16Array;
+  int32: Int32Array;
+  float32: Float32Array;
+}
+
+/** Interleaved samples: a frame has one of each channel. */
+export type Samples = Arrays[keyof Arrays];
+
+export interface Spec {
+  sampleRate: number;
+  channels: number;
+  bitsPerSample: number;
+  /** How many bytes a sample takes in the file. */
+  bytesPerSample: number;
+  isFloat: boolean;
+}
+
+export interface Info extends Spec {
+  /** How many frames the header counts. */
+  frames: number;
+  /** How many bytes are before the first frame. */
+  dataStart: number;
+}
+
+export interface Damage extends Spec {
+  /** How the file was found. */
+  state: "whole" | "cutOff" | "hasChunksAfterData";
+  /** How many whole frames the file holds. */
+  frames: number;
+  /** How many bytes of a torn frame follow them. */
+  leftOver: number;
+}
+
+export interface Part {
+  /** The first frame that is read; 0 without it. */
+  start?: number;
+  /** How many frames are read at most; all without it. */
+  frames?: number;
+}
+
+export interface Format {
+  sampleRate: number;
+  /** 1 without it. */
+  channels?: number;
+  /** The width of the samples' type without it. */
+  bitsPerSample?: number;
+  /** As many as the bits need without it. */
+  bytesPerSample?: number;
+}
+
+/** A call failed. */
+export class HoundError extends Error {
+  constructor(code: string);
+  /** The name of the cause in hound.h, without HOUND_; or CUT_OFF, or CHUNKS_AFTER_DATA. */
+  readonly code: string;
+}
+
+/** What the header of a file says. The data needn't all be there. */
+export function info(file: WavFile): Promise<Info>;
+
+/**
+ * Reads frames, and returns their samples. Without `type` it is the narrowest one from 16 bits on that reads the file. Of
+ * a file that holds fewer frames than its header counts these are read, and a read that starts after them is an error.
+ */
+export function read<T extends keyof Arrays>(file: WavFile, options: Part & { type: T }): Promise<Arrays[T]>;
+export function read(file: WavFile, options?: Part): Promise<Int16Array | Int32Array | Float32Array>;
+
+/** Makes the file of these samples. */
+export function write(samples: Samples, format: Format): Promise<Uint8Array>;
+
+/**
+ * Returns the file with whole frames appended after the samples that its header counts. A recording that was cut off is
+ * an error, and so are chunks or a tag after the data, unless they may be overwritten.
+ */
+export function append(file: Uint8Array, samples: Samples, options?: { overwrite?: boolean }): Promise<Uint8Array>;
+export function append(file: Blob, samples: Samples, options?: { overwrite?: boolean }): Promise<Blob>;
+
+/** Reports what `repair` would find, or fails as it would. */
+export function findDamage(file: WavFile): Promise<Damage>;
+
+/**
+ * Repairs a file whose recording was cut off, and returns how it was found and the repaired file, in which only the two
+ * sizes and a missing pad byte differ. A file that is whole, or that chunks or a tag follow, is returned as it is.
+ */
+export function repair(file: Uint8Array): Promise<Damage & { file: Uint8Array }>;
+export function repair(file: Blob): Promise<Damage & { file: Blob }>;

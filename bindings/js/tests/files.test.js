@@ -1,0 +1,228 @@
+// Files written, read, appended to and repaired, beside bytes that were made by hand from the format.
+import assert from "node:assert/strict";
+import { test } from "node:test";
+import { HoundError, append, findDamage, info, read, repair, write } from "../hound.js";
+
+const text = (characters) => [...Buffer.from(characters, "latin1")];
+const u16 = (n) => [n & 255, n >> 8 & 255];
+const u32 = (n) => [...u16(n), ...u16(n >>> 16)];
+
+/** A PCM file of these data, whose header may count others. */
+function byHand(data, { counted = data.length, after = [], riff, channels = 1, bits = 16 } = {}) {
+  const frame = channels * Math.ceil(bits / 8);
+  const fmt = [...u32(16), ...u16(1), ...u16(channels), ...u32(8000), ...u32(8000 * frame), ...u16(frame), ...u16(bits)];
+  const rest = [...text("WAVEfmt "), ...fmt, ...text("data"), ...u32(counted), ...data, ...after];
+  return Uint8Array.from([...text("RIFF"), ...u32(riff ?? rest.length), ...rest]);
+}
+
+const LIST = [...text("LIST"), ...u32(4), ...text("INFO")];
+const fails = (promise, code) => assert.rejects(promise, (error) => error instanceof HoundError && error.code === code);
+const bytes = async (file) => file instanceof Blob ? new Uint8Array(await file.arrayBuffer()) : file;
+
+/** Both kinds of files. */
+const kinds = (file) => [file, new Blob([file])];
+
+/** A Blob that counts the bytes that are read of it, and may be said to have more than it has: zeros. */
+class Counted extends Blob {
+  constructor(file, size = file.length) {
+    super([]);
+    Object.assign(this, { file, said: size, taken: 0 });
+  }
+  get size() {
+    return this.said;
+  }
+  slice(from, to) {
+    const part = new Uint8Array(Math.max(Math.min(to, this.said) - from, 0));
+    part.set(this.file.subarray(from, to));
+    this.taken += part.length;
+    return new Blob([part]);
+  }
+}
+
+test("integers of 16 bits are written in the canonical layout", async () => {
+  const file = await write(Int16Array.of(2, -3, 5, -7), { sampleRate: 8000, channels: 2 });
+  assert.deepEqual(file, byHand([2, 0, 253, 255, 5, 0, 249, 255], { channels: 2 }));
+});
+
+test("odd data have a pad byte, and 8 bits are stored from 128 on", async () => {
+  const file = byHand([0, 128, 255], { bits: 8, after: [0] });
+  assert.deepEqual(await write(Int8Array.of(-128, 0, 127), { sampleRate: 8000 }), file);
+  assert.deepEqual(await write(Int16Array.of(-128, 0, 127), { sampleRate: 8000, bitsPerSample: 8 }), file);
+  assert.deepEqual(await read(file, { type: "int8" }), Int8Array.of(-128, 0, 127));
+  assert.deepEqual(await read(file), Int16Array.of(-128, 0, 127));
+});
+
+test("24 bits take three bytes or four, and floats keep their bits", async () => {
+  const three = await write(Int32Array.of(1, -1), { sampleRate: 48000, bitsPerSample: 24 });
+  assert.deepEqual([...three.subarray(68)], [1, 0, 0, 255, 255, 255]);
+  const four = await write(Int32Array.of(1, -1), { sampleRate: 48000, bitsPerSample: 24, bytesPerSample: 4 });
+  assert.deepEqual([...four.subarray(68)], [1, 0, 0, 0, 255, 255, 255, 0]); // The fourth byte is 0.
+  assert.deepEqual(await read(three), Int32Array.of(1, -1));
+  const floats = await write(Float32Array.of(0.5, -0), { sampleRate: 48000 });
+  assert.deepEqual([...floats.subarray(68)], [0, 0, 0, 63, 0, 0, 0, 128]);
+  assert.deepEqual(await read(floats), Float32Array.of(0.5, -0));
+  assert.equal((await info(floats)).isFloat, true);
+});
+
+test("the header and a part of the frames are read of both kinds", async () => {
+  const data = Array.from({ length: 20 }, (_, i) => [i, 0]).flat();
+  for (const file of kinds(byHand(data, { channels: 2, after: LIST }))) {
+    assert.deepEqual(await info(file), {
+      sampleRate: 8000, channels: 2, bitsPerSample: 16, bytesPerSample: 2, isFloat: false, frames: 10, dataStart: 44,
+    });
+    assert.deepEqual(await read(file, { start: 3, frames: 2 }), Int16Array.of(6, 7, 8, 9));
+    assert.deepEqual(await read(file, { start: 9, type: "int32" }), Int32Array.of(18, 19));
+    assert.equal((await read(file, { start: 10 })).length, 0);
+    await fails(read(file, { type: "float32" }), "OTHER_FORMAT");
+    await fails(read(file, { type: "int8" }), "TOO_WIDE");
+  }
+});
+
+test("blocks are joined", async () => {
+  const samples = Int32Array.from({ length: 600001 }, (_, i) => i * 13 % 8388608 - 4000000);
+  const file = await write(samples, { sampleRate: 44100, bitsPerSample: 24 });
+  assert.equal(file.length, 68 + 3 * 600001 + 1);
+  for (const place of [0, 262143, 262144, 600000]) {
+    const at = 68 + 3 * place;
+    assert.equal((file[at] | file[at + 1] << 8 | file[at + 2] << 16) << 8 >> 8, samples[place]);
+  }
+  for (const kind of kinds(file)) assert.deepEqual(await read(kind), samples);
+});
+
+test("of a long file only the header and the frames are read", async () => {
+  const head = byHand([], { counted: 1e9, riff: 1e9 + 36 });
+  const file = new Counted(head, 1e9 + 44);
+  assert.equal((await info(file)).frames, 5e8);
+  assert.equal(file.taken, 44);
+  assert.deepEqual(await read(file, { start: 4e8, frames: 3 }), Int16Array.of(0, 0, 0));
+  assert.equal(file.taken, 44 + 44 + 6);
+});
+
+test("a file that was cut off is repaired", async () => {
+  const data = [2, 0, 253, 255, 5, 0, 249, 255, 9, 9];
+  const good = byHand([2, 0, 253, 255, 5, 0, 249, 255], { channels: 2, after: [9, 9], riff: 44 });
+  for (const [counted, riff] of [[0, 36], [4, 40], [400, 436], [0xffffffff, 0xffffffff], [10, 46], [3, 39]]) {
+    const cut = byHand(data, { channels: 2, counted, riff }), before = cut.slice();
+    for (const file of kinds(cut)) {
+      const { state, frames, leftOver } = await findDamage(file);
+      assert.deepEqual({ state, frames, leftOver }, { state: "cutOff", frames: 2, leftOver: 2 });
+      const repaired = await repair(file);
+      assert.deepEqual(await bytes(repaired.file), good);
+      assert.deepEqual((await repair(repaired.file)).state, "whole");
+    }
+    assert.deepEqual(cut, before);
+  }
+});
+
+test("a missing pad byte is added", async () => {
+  const cut = byHand([1, 2, 3], { bits: 8, riff: 39 });
+  for (const file of kinds(cut)) {
+    assert.deepEqual(await bytes((await repair(file)).file), byHand([1, 2, 3], { bits: 8, after: [0] }));
+  }
+});
+
+test("chunks and a tag after the data stay", async () => {
+  const tag = [...text("TAG"), ...Array(125).fill(32)];
+  for (const after of [LIST, tag, [...text("abcd"), ...u32(1), 7, 0, ...LIST]]) {
+    for (const file of kinds(byHand([1, 0, 2, 0], { after, riff: 40 }))) {
+      const found = await repair(file);
+      assert.equal(found.state, "hasChunksAfterData");
+      assert.equal(found.file, file);
+      assert.equal(found.frames, 2);
+    }
+  }
+});
+
+test("frames are appended", async () => {
+  for (const file of kinds(byHand([1, 0, 2, 0]))) {
+    assert.deepEqual(await bytes(await append(file, Int16Array.of(3, -1))), byHand([1, 0, 2, 0, 3, 0, 255, 255]));
+  }
+  for (const file of kinds(byHand([1], { bits: 8, after: [0] }))) {
+    const two = await append(file, Int8Array.of(-1));
+    assert.deepEqual(await bytes(two), byHand([1, 127], { bits: 8 }));
+    assert.deepEqual(await bytes(await append(two, Int8Array.of(0))), byHand([1, 127, 128], { bits: 8, after: [0] }));
+  }
+  await fails(append(byHand([], { channels: 2 }), Int16Array.of(1)), "UNFINISHED_FRAME");
+  await fails(append(byHand([]), Float32Array.of(1)), "OTHER_FORMAT");
+  await fails(append(byHand([], { bits: 8 }), Int16Array.of(128)), "TOO_WIDE");
+});
+
+test("an append overwrites only what it may", async () => {
+  const one = Int16Array.of(7), followed = byHand([1, 0], { after: LIST });
+  await fails(append(followed, one), "CHUNKS_AFTER_DATA");
+  assert.deepEqual(await append(followed, one, { overwrite: true }), byHand([1, 0, 7, 0]));
+  for (const cut of [byHand([1, 0, 2, 0], { counted: 0 }), byHand([1, 0], { counted: 4 }), byHand([1, 0, 2, 0], { counted: 3 })]) {
+    for (const overwrite of [false, true]) await fails(append(cut, one, { overwrite }), "CUT_OFF");
+  }
+});
+
+test("a header that counts more than there is", async () => {
+  const file = byHand([1, 0, 2, 0, 3], { counted: 400 });
+  assert.deepEqual(await read(file), Int16Array.of(1, 2));
+  await fails(read(file, { start: 2 }), "TRUNCATED");
+});
+
+test("errors have the sentences of hound.h", async () => {
+  for (const [file, code, sentence] of [
+    [[], "ENDED", "the bytes end before the data begin"],
+    [[...text("RIFX"), ...Array(60).fill(0)], "NO_RIFF_TAG", "no RIFF tag found"],
+    [[...text("RIFF"), ...u32(4), ...text("AVI ")], "NO_WAVE_TAG", "no WAVE tag found"],
+    [byHand([], { channels: 0 }), "ZERO_CHANNELS", "file contains zero channels"],
+    [byHand([1], { counted: 1 }), "FRAME_LENGTH", /./],
+  ]) {
+    for (const kind of kinds(Uint8Array.from(file))) {
+      await assert.rejects(info(kind), { name: "HoundError", ...(sentence instanceof RegExp ? {} : { code, message: sentence }) });
+    }
+  }
+  await fails(write(Int32Array.of(128), { sampleRate: 8000, bitsPerSample: 8 }), "TOO_WIDE");
+  await fails(write(Int16Array.of(1), { sampleRate: 8000, bitsPerSample: 12 }), "NOT_WRITABLE");
+  await fails(write(Int16Array.of(1), { sampleRate: 8000, channels: 2 }), "UNFINISHED_FRAME");
+});
+
+test("an argument out of range is named", async () => {
+  const file = byHand([1, 0]), one = Int16Array.of(1);
+  for (const [call, kind, name] of [
+    [() => info("a.wav"), TypeError, "file"],
+    [() => info(file.buffer), TypeError, "file"],
+    [() => repair(null), TypeError, "file"],
+    [() => findDamage([1]), TypeError, "file"],
+    [() => append(undefined, one), TypeError, "file"],
+    [() => append(file, [1]), TypeError, "samples"],
+    [() => write(Float64Array.of(1), { sampleRate: 1 }), TypeError, "samples"],
+    [() => write(one), TypeError, "sampleRate"],
+    [() => write(one, { sampleRate: "8000" }), TypeError, "sampleRate"],
+    [() => write(one, { sampleRate: 0 }), RangeError, "sampleRate"],
+    [() => write(one, { sampleRate: 2 ** 32 }), RangeError, "sampleRate"],
+    [() => write(one, { sampleRate: 8000, channels: 65536 }), RangeError, "channels"],
+    [() => write(one, { sampleRate: 8000, bitsPerSample: NaN }), RangeError, "bitsPerSample"],
+    [() => write(one, { sampleRate: 8000, bytesPerSample: -1 }), RangeError, "bytesPerSample"],
+    [() => read(file, { start: -1 }), RangeError, "start"],
+    [() => read(file, { start: 1n }), TypeError, "start"],
+    [() => read(file, { frames: 0.5 }), RangeError, "frames"],
+    [() => read(file, { type: "int24" }), TypeError, "type"],
+    [() => read(file, { type: "toString" }), TypeError, "type"],
+    [() => repair(new Counted(byHand([1, 0], { counted: 0 }), 5e9)), RangeError, "file"],
+  ]) {
+    await assert.rejects(call(), (error) => error instanceof kind && error.message.startsWith(name + " "), `${call}`);
+  }
+});
+
+test("calls that are made at once don't disturb each other", async () => {
+  await Promise.all(Array.from({ length: 200 }, async (_, i) => {
+    const samples = Int16Array.of(i, -i, i + 1, 2 * i), cut = byHand([i, 0, 1, 0, 9], { counted: 0 });
+    const file = new Blob([await write(samples, { sampleRate: 1000 + i, channels: 2 })]);
+    assert.equal((await info(file)).sampleRate, 1000 + i);
+    assert.deepEqual(await read(await append(file, samples)), Int16Array.of(...samples, ...samples));
+    assert.deepEqual(await read((await repair(i % 2 ? cut : new Blob([cut]))).file), Int16Array.of(i, 1));
+  }));
+});
+
+test("a long file is repaired without being in memory, and the memory is given back", async () => {
+  for (let i = 0; i < 40; i++) {
+    const file = new Counted(byHand([], { channels: 2, counted: 0 }), 3e9 + 47);
+    const found = await findDamage(file);
+    assert.deepEqual([found.state, found.frames, found.leftOver], ["cutOff", 75e7, 3]);
+    assert.ok(file.taken < 300000);
+  }
+  assert.ok(process.memoryUsage().rss < 5e8);
+});

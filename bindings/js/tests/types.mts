@@ -1,0 +1,19 @@
+// What hound.d.ts declares: `tsc` accepts this file, where each call has its arguments and its result.
+import { HoundError, append, findDamage, info, read, repair, write, type Damage, type Info } from "../hound.js";
+
+export async function uses(blob: Blob, bytes: Uint8Array): Promise<string> {
+  const wide: Int32Array = await read(blob, { type: "int32", start: 1, frames: 2 });
+  const any: Int16Array | Int32Array | Float32Array = await read(bytes);
+  const written: Uint8Array = await write(wide, { sampleRate: 8000, channels: 2, bitsPerSample: 24, bytesPerSample: 4 });
+  const longer: Blob = await append(blob, any, { overwrite: true });
+  const found: Damage = await findDamage(written);
+  const mended: Blob = (await repair(longer)).file;
+  const head: Info = await info(mended);
+  // @ts-expect-error: a repaired Uint8Array is no Blob.
+  const wrong: Blob = (await repair(bytes)).file;
+  // @ts-expect-error: there is no such type.
+  await read(wrong, { type: "int24" });
+  // @ts-expect-error: the rate is missing.
+  await write(wide, { channels: 2 });
+  return found.state === "cutOff" ? new HoundError("CUT_OFF").code : `${head.frames} ${head.isFloat}`;
+}
