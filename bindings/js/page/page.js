@@ -71,7 +71,8 @@ function showRows(all) {
   }));
 }
 
-/** Takes the least and the largest sample of each column, from so many frames on. */
+/** Takes the least and the largest sample of each column, from so many frames on; the sample before a column is among
+    them, so that columns join. */
 function takePeaks(peaks, samples, first) {
   const { columns, frames, channels, low, high } = peaks, count = samples.length / channels;
   for (let frame = 0; frame < count;) {
@@ -79,7 +80,7 @@ function takePeaks(peaks, samples, first) {
     const end = Math.min(count, Math.max(frame + 1, Math.ceil((column + 1) * frames / columns) - first));
     for (let channel = 0; channel < channels; channel++) {
       let least = Infinity, most = -Infinity;
-      for (let i = frame * channels + channel; i < end * channels; i += channels) {
+      for (let i = Math.max(0, frame - 1) * channels + channel; i < end * channels; i += channels) {
         least = Math.min(least, samples[i]);
         most = Math.max(most, samples[i]);
       }
