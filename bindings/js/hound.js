@@ -58,10 +58,10 @@ const BLOCK_BYTES = 4 * BLOCK;
 // Where arguments are in the memory of an instance, from its start on: small ones in a page, then two blocks, or a file.
 const [SPEC, WALK, PART, INFO, FOUND, HEADER, SIZES, FIRST, SECOND] = [0, 16, 64, 128, 160, 192, 320, PAGE, PAGE + BLOCK_BYTES];
 
-/** An instance of the module with so much memory of its own: no two calls use it at once. */
+/** An instance of the module and so much memory of it: no two calls use it at once. */
 class Memory {
-  constructor(size) {
-    const { memory, ...exports } = new WebAssembly.Instance(module).exports;
+  constructor({ exports }, size) {
+    const { memory } = exports;
     this.exports = exports;
     this.start = PAGE * memory.grow(Math.ceil(size / PAGE));
     this.bytes = new Uint8Array(memory.buffer, this.start);
@@ -89,7 +89,7 @@ class Memory {
 }
 
 // The instance of all calls over small arguments. They are synchronous, so none is made during another.
-const shared = new Memory(SECOND + BLOCK_BYTES);
+const shared = new Memory(await WebAssembly.instantiate(module), SECOND + BLOCK_BYTES);
 
 // The types of samples: their arrays, and the calls that decode and encode them.
 const TYPES = {
@@ -199,7 +199,7 @@ function encode(type, samples, out) {
  * Without `type` it is the narrowest one from 16 bits on that reads the file. Of a file that holds fewer frames than its
  * header counts these are read, and a read that starts after them is an error.
  */
-export async function read(file, { start = 0, frames = Infinity, type = undefined } = {}) {
+export async function read(file, { start = 0, frames = Infinity, type } = {}) {
   const length = lengthOf(file);
   integer("start", start, 0, Number.MAX_SAFE_INTEGER);
   if (frames !== Infinity) integer("frames", frames, 0, Number.MAX_SAFE_INTEGER);
@@ -236,7 +236,7 @@ function encoded(type, samples, spec) {
 }
 
 /** Makes the file of these samples. `bitsPerSample` is the width of the samples unless it is given. */
-export async function write(samples, { sampleRate, channels = 1, bitsPerSample = undefined, bytesPerSample = 0 } = {}) {
+export async function write(samples, { sampleRate, channels = 1, bitsPerSample, bytesPerSample = 0 } = {}) {
   const type = typeOf(samples);
   const spec = {
     sampleRate: integer("sampleRate", sampleRate, 1, 0xffffffff),
@@ -258,9 +258,10 @@ const MENDED = ["DATA_LENGTH", "FRAME_LENGTH"].map((name) => -ERRORS[name][0]);
 const isPrintable = (byte) => byte >= 32 && byte <= 126;
 
 /** Makes memory for a file and a pad byte. Its pages cost nothing until something is put there. */
-function memoryFor(size) {
+async function memoryFor(size) {
+  const instance = await WebAssembly.instantiate(module);
   try {
-    return new Memory(FIRST + size + 1);
+    return new Memory(instance, FIRST + size + 1);
   } catch {
     throw new RangeError(`file has ${size} bytes, and WebAssembly gets no memory for so many`);
   }
@@ -283,7 +284,7 @@ async function loadRest(load, memory, dataStart, counted, size) {
 
 /** A memory with the parts of a long file that a repair looks at. */
 async function sparse(file, size, parts, dataStart) {
-  const memory = memoryFor(size), loaded = new Set(), [lastPlace, last] = parts.at(-1);
+  const memory = await memoryFor(size), loaded = new Set(), [lastPlace, last] = parts.at(-1);
   for (const [place, part] of parts) memory.bytes.set(part, FIRST + place);
   const load = async (from, to) => {
     for (let page = Math.floor(Math.max(from, 0) / PAGE); page * PAGE < to; page++) {

@@ -7,7 +7,7 @@ const memory = new Uint8Array(hound.memory.buffer, start, 65536);
 const value = { "@": (word) => BigInt(start) + BigInt(word.slice(1)), "#": (word) => Number(word.slice(1)) };
 const argument = (word) => (value[word[0]] ?? ((word) => BigInt.asIntN(64, BigInt(word))))(word);
 
-// Walks to the data of a file in memory; each part that is asked for is copied into the page after it.
+// Walks to the data of a file in memory; each part that it requests is copied into the page after it.
 function walked(file, used, info) {
   const walk = start + 65536, part = walk + 64;
   const view = new DataView(hound.memory.buffer);

@@ -1,0 +1,70 @@
+// The JavaScript package beside the exports of its module, over the files of requests.py: a file that is read by parts
+// gives what the calls over the whole one give.   node package.mjs < REQUESTS
+import fs from "node:fs";
+import * as hound from "../js/hound.js";
+import { module } from "../js/module.js";
+
+// Where requests.py has the file in memory, and how much room for samples and after the file there is here.
+const FILE = 832, ROOM = 16384, MORE = 1024;
+const ARRAYS = { int16: [Int16Array, "i16"], int32: [Int32Array, "i32"], float32: [Float32Array, "f32"] };
+const { exports } = new WebAssembly.Instance(module);
+const start = 65536 * exports.memory.grow(4), out = start + 64, file = out + ROOM;
+const memory = new Uint8Array(exports.memory.buffer), view = new DataView(exports.memory.buffer);
+const call = (name, ...words) => Number(exports["hound_" + name](...words.map(BigInt)));
+// The names of the codes, as hound.h has them.
+const header = fs.readFileSync(new URL("../c/hound.h", import.meta.url), "utf8");
+const names = new Map([...header.matchAll(/^ {4}HOUND_(\w+) = (-\d+)/gm)].map(([, name, code]) => [Number(code), name]));
+const tried = new Map();
+
+/** What a call of the package gives: its result, or its error's name. */
+async function given(what, promise) {
+  const result = await promise.catch((error) => { if (error instanceof hound.HoundError) return error.code; throw error; });
+  tried.set(what, (tried.get(what) ?? 0) + (typeof result !== "string"));
+  return result;
+}
+
+function must(holds, what, bytes, ...values) {
+  if (!holds) throw new Error(`${what} differs for ${Buffer.from(bytes).toString("hex")}: ${JSON.stringify(values)}`);
+}
+
+const same = (a, b) => a === b || typeof a !== "string" && typeof b !== "string" && Buffer.compare(Buffer.from(a.buffer, a.byteOffset, a.byteLength), Buffer.from(b.buffer, b.byteOffset, b.byteLength)) === 0;
+const bytesOf = async (one) => one instanceof Blob ? new Uint8Array(await one.arrayBuffer()) : one;
+const put = (bytes) => memory.fill(0, file).set(bytes, file);
+
+async function compare(bytes, kind) {
+  put(bytes);
+  const code = call("info", file, bytes.length, start), info = await given("info", hound.info(kind));
+  const channels = view.getUint16(start + 4, true), counted = view.getUint32(start + 12, true);
+  if (code < 0) must(info === names.get(code), "info", bytes, info, code);
+  else must(info.frames * channels === counted && info.dataStart === Number(view.getBigUint64(start + 16, true)) && info.sampleRate === view.getUint32(start, true), "info", bytes, info);
+
+  for (const [type, [array, suffix]] of Object.entries(ARRAYS)) {
+    const count = call("read_" + suffix, file, bytes.length, 0, out, ROOM / 4), read = await given("read", hound.read(kind, { type }));
+    const whole = count - count % channels;
+    const expected = count < 0 ? names.get(count) : count > 0 && whole === 0 ? "TRUNCATED" : new array(memory.buffer, out, whole);
+    must(same(read, expected), "read", bytes, type, read, expected);
+  }
+
+  const found = await given("repair", hound.repair(kind)), length = call("repair", file, bytes.length + 1, bytes.length, start);
+  if (length < 0) must(found === names.get(length), "repair", bytes, found, length);
+  else must(found.frames === view.getUint32(start + 12, true) && found.leftOver === view.getUint32(start + 16, true) && same(await bytesOf(found.file), memory.subarray(file, file + length)), "repair", bytes, found);
+
+  put(bytes);
+  const samples = new Int16Array(code < 0 || channels > 64 ? 0 : 2 * channels).fill(100), longer = await given("append", hound.append(kind, samples, { overwrite: true }));
+  if (longer === "CUT_OFF") return;
+  new Int16Array(memory.buffer, out, samples.length).set(samples);
+  const size = call("append_i16", file, bytes.length + MORE, bytes.length, out, samples.length);
+  // Where two errors hold, either is returned.
+  must(size < 0 ? typeof longer === "string" : same(await bytesOf(longer), memory.subarray(file, file + size)), "append", bytes, longer, size);
+}
+
+let files = 0, last = "";
+for (const line of fs.readFileSync(0, "latin1").split("\n")) {
+  const [name, , hex] = line.split(" ");
+  if (name !== "memory" || hex.slice(2 * FILE) === last) continue;
+  last = hex.slice(2 * FILE);
+  const bytes = new Uint8Array(Buffer.from(last, "hex"));
+  await compare(bytes, files++ % 2 ? new Blob([bytes]) : bytes);
+}
+for (const what of ["info", "read", "repair", "append"]) must(tried.get(what) >= 50, what, [], tried.get(what));
+console.log(`package: ${files} files, and of these ${[...tried].map(([what, count]) => `${count} ${what}`).join(", ")} without an error`);
