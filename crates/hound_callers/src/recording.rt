@@ -268,8 +268,8 @@ pub fn record_steps<M: Source + Medium>(
     what_is_kept::<M>();
     a_run_leaves_its_calls::<M>(steps);
     match run_session(alloc, medium, Begin::New(spec_ex), steps, marks, End::Drop) {
-        (medium, Ok(())) => Ok(medium),
-        (medium, Err(error)) => Err((medium, error)),
+        (left, Ok(())) => Ok(left),
+        (left, Err(error)) => Err((left, error)),
     }
 }
 
