@@ -184,8 +184,8 @@ function play(found, isCurrent) {
     player.hidden = false;
     player.textContent = "This browser doesn't play such samples.";
     if (found.frames === 0 || found.frames * found.channels > COPIED) return;
-    const copy = await copied(found.file, found);
-    if (!isCurrent()) return;
+    const copy = await copied(found.file, found).catch(() => null); // There is no memory for it, or the rate is 0.
+    if (!copy || !isCurrent()) return;
     audio.src = urlOf(copy);
     player.textContent += " The player has a copy in 16 bits.";
   };
