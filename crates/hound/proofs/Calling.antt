@@ -1,9 +1,9 @@
 -- What calls lead to, in each state.
 use Rattle.std.proofs.lemmas.Grind.{common_steps}
-use Rattle.std.proofs.Common.{◌≡◌, ℕ, ◌+◌, ◌%◌, ◌<◌, ◌≤◌, max, Bool, List, [], ◌∷◌, ◌++◌, length, Result, IsTrue, refl, sym, ◌∙◌, ap, subst, arith, inl, inr, append_assoc, length-append}
+use Rattle.std.proofs.Common.{◌≡◌, ℕ, ◌+◌, ◌%◌, ◌<◌, ◌≤◌, max, Bool, List, [], ◌∷◌, ◌++◌, length, take, Result, IsTrue, refl, sym, ◌∙◌, ap, subst, arith, inl, inr, append_assoc, length-append}
 use Rattle.std.proofs.lemmas.Bool.{cases_lt}
 use Rattle.std.proofs.lemmas.List.{append-nil}
-use Rattle.std.specs.List.{concat}
+use Rattle.std.specs.List.{AllByRecursion, concat}
 use Rattle.hound_spec.specs.declared.error.Error.{Error}
 use Rattle.hound_spec.specs.{data_start}
 use Rattle.hound_medium.specs.{moment, overlay, MediumState, Span}
@@ -254,6 +254,26 @@ module _ {W : Type 0} (tells keeps : Bool) (state : W → MediumState) (told : I
         here = call_went call.answer memory mid next call.asked does;
         rest = rest;
       }
+
+  -- calls that only write samples leave what is before the data
+  pub front_stays : (calls : List Call) (old new : WriterState W) → Lead tells keeps state calls old new
+      → AllByRecursion (λ (call : Call). call.asked ≡ publish → ⊥) calls
+      → take old.data_start (state new.medium).contents
+      ≡ take old.data_start (state old.medium).contents
+  front_stays [] old new (memory, same) only =
+      ap (λ (w : WriterState W). take old.data_start (state w.medium).contents) same
+  front_stays (call ∷ calls) old new (memory, mid, at, does, rest) (writes, only) =
+      subst (λ n. take n (state new.medium).contents ≡ take n (state mid.medium).contents)
+      (call_went call.answer memory old mid call.asked does).data_start
+      (front_stays calls mid new rest only)
+      ∙ by call.asked does writes
+    where
+      by : (asked : Asked) → Does tells keeps state asked call.answer (with_memory old memory) mid
+          → (asked ≡ publish → ⊥)
+          → take old.data_start (state mid.medium).contents
+          ≡ take old.data_start (state old.medium).contents
+      by (write list) does writes = (does.file told).front
+      by publish does writes = absurd (writes refl)
 
   pub begin : (calls : List Call) (old new : WriterState W) → Lead tells keeps state calls old new
       → begins_at calls (state new.medium).past ≡ length (state old.medium).past

@@ -6,10 +6,12 @@ use Rattle.std.proofs.lemmas.Nat.{mul-le}
 use Rattle.std.proofs.Math.Nat.{div-mul-le_self}
 use Rattle.std.specs.List.{concat, AllByRecursion}
 use Rattle.std.specs.Io.{StartsWith}
+use Rattle.hound_number.specs.{number}
 use Rattle.hound_spec.specs.declared.spec.WavSpecEx.{WavSpecEx}
 use Rattle.hound_spec.specs.{canonical, data_start}
 use Rattle.hound_spec.proofs.HeaderLemmas.{length-canonical}
 use Rattle.hound_medium.specs.{moment, overlay, MediumState, WhereKeeps, WhereTells}
+use Rattle.hound_medium.proofs.Overlays.{front_part}
 use Rattle.hound_medium.proofs.Spans.{moment_last}
 use Rattle.hound_durable.specs.{Ascends}
 use Rattle.hound_reader.specs.{Head, IsSoundSpec}
@@ -19,8 +21,8 @@ use Rattle.hound_writer.proofs.Fresh.{none_accepted}
 use Rattle.hound_writer.proofs.Publishing.{reads_all}
 use Rattle.hound_writer.proofs.Heads.{head_inside, head_with}
 use Rattle.hound_writer.proofs.Samples.{concat-samples, length-out, length_out}
-use Rattle.hound.specs.Headline.{CanonicalAtEnd, HeadAtEach, Holds, HoldsAtEnd, IfBegun, Keeps, Kept, NoFault, Promises, SurvivesAtEnd, accepted_by_all, begins_at}
-use Rattle.hound.proofs.Calling.{Went, begin, counted, in_order, length-concat-append, made, stays_flushed, stored, went}
+use Rattle.hound.specs.Headline.{CanonicalAtEnd, HeadAtEach, Holds, HoldsAtEnd, IfBegun, Keeps, Kept, LastsToEnd, NoFault, Promises, SurvivesAtEnd, accepted_by_all, begins_at}
+use Rattle.hound.proofs.Calling.{Went, begin, counted, front_stays, in_order, length-concat-append, made, stays_flushed, stored, went}
 use Rattle.hound.proofs.Later.{no_fault_parts, same_moment}
 use Rattle.hound_writer.proofs.Answers.{all_marked, where_marked}
 use Rattle.hound.proofs.Losing.{moments_grow}
@@ -166,6 +168,28 @@ module _ {W : Type 0} (tells keeps : Bool) (state : W → MediumState) where
           (w.spec_ex i, w.accepted whole i),
         )) file
 
+    -- what a flush has published stays counted while samples are written
+    lasts_to_end : LastsToEnd first.spec_ex first.data_start (accepted_samples state first) calls
+        (state last.medium)
+    lasts_to_end before later flush same has_all only =
+        let m = made tells keeps state told calls before later flush first last same lead in
+        let does = subst (λ a. Does tells keeps state a flush.answer (with_memory m.mid m.memory)
+        m.next) has_all.0 m.does in
+        let n = m.next.data_start in
+        let start : n ≡ first.data_start = m.here.data_start ∙ m.earlier.data_start in
+        ap (λ k. field (k - 4) (state last.medium).contents) (sym start)
+        ∙ ap number (front_part n (n - 4) 4 (state last.medium).contents (state m.next.medium).contents
+        (omega (arith, start, behind))
+        (front_stays tells keeps state told later m.next last m.rest only))
+        ∙ ap (λ k. field (k - 4) (state m.next.medium).contents) m.here.data_start
+        ∙ where_marked flush.answer has_all.1 (does.publishes told).length_says
+        ∙ omega (
+          arith,
+          m.earlier.size,
+          sized state first is_first.sound is_first.none_waits whole,
+          length-concat-append (accepted_samples state first) (accepted_by_all before),
+        )
+
     -- and if no call of the medium failed, an end leaves exactly that
     exact_at_end : IsBegun state first → NoFault (state first.medium) (state last.medium)
         → (before : List Call) (end : Call) → calls ≡ before ++ (end ∷ []) → end.asked ≡ publish
@@ -304,6 +328,7 @@ module _ {W : Type 0} (tells keeps : Bool) (state : W → MediumState) where
               (found ++ accepted_by_all calls)) all_wide;
           counts = of_file (λ s start found. Counts s start (found ++ accepted_by_all calls)
               m.contents) counts_at_end;
+          lasts = of_file (λ s start found. LastsToEnd s start found calls m) lasts_to_end;
           exact = if_begun_then s file (is_first.begun told) (λ begun (none, small) before end same
               asked.
               let faults = is_first.faults told in

@@ -177,6 +177,14 @@ module _ (s : WavSpecEx) (start : ℕ) (found : List (List ℕ)) (calls : List C
       HasPublished flush → HasWholeLength after contents →
       length (concat (accepted before)) ≤ field (start - 4) contents)
 
+  -- What an Ok `flush` has published lasts: after further calls that write samples only, the length
+  -- field is that of all samples accepted before it.
+  abbrev pub LastsToEnd : Type 0
+  LastsToEnd = (before later : List Call) (flush : Call) →
+      calls ≡ before ++ (flush ∷ later) → HasPublished flush →
+      AllByRecursion (λ call. call.asked ≡ publish → ⊥) later →
+      field (start - 4) medium.contents ≡ length (concat (accepted before))
+
   -- An end that published leaves the canonical file of all accepted samples.
   abbrev pub CanonicalAtEnd : Type 0
   CanonicalAtEnd = (before : List Call) (end : Call) → calls ≡ before ++ (end ∷ []) →
@@ -223,7 +231,7 @@ abbrev pub NoFault : MediumState → MediumState → Type 0
 NoFault old new = (new.faults ≡ old.faults) × (old.faults < 18446744073709551615)
 
 -- What calls leave in a medium whose bytes are known: it counts what they accepted, each sample as
--- wide as its spec says; and a file that was begun with its header is the canonical one at an end that
+-- wide as its spec says, and all that the last flush published if no other follows; and a file that was begun with its header is the canonical one at an end that
 -- published, and of no more bytes than that or than were handed in if no call of the medium failed.
 pub record HoldsAtEnd (s : WavSpecEx) (file : Begun) (calls : List Call)
     (medium : MediumState) : Type 0 where
@@ -231,6 +239,7 @@ pub record HoldsAtEnd (s : WavSpecEx) (file : Begun) (calls : List Call)
   pub wide : AllByRecursion (λ c. length c ≡ s.bytes_per_sample)
       (found_in file ++ accepted_by_all calls)
   pub counts : Counts s (start_of s file) (found_in file ++ accepted_by_all calls) medium.contents
+  pub lasts : LastsToEnd s (start_of s file) (found_in file) calls medium
   pub exact : IfBegun s file (NoFault (handed_in file) medium →
       (before : List Call) (end : Call) → calls ≡ before ++ (end ∷ []) → end.asked ≡ publish →
       let list = canonical s (found_in file ++ accepted_by_all before) in
