@@ -19,7 +19,7 @@ pub use either::EitherSample;
 pub use example::record_and_read;
 pub use reading::{read_block, read_from, reopen};
 pub use recording::{
-    finish_durable, pack_one, record, record_at_once, record_batch, record_checkpoints,
+    finish_durable, pack_one, publish_and_continue, record, record_at_once, record_batch, record_checkpoints,
     record_mixed, record_safely, record_steps, record_twelve, record_twelve_and_repair,
     record_twelve_through_a_loss, write_if_short,
 };

@@ -1,7 +1,7 @@
 // Recorders that make their calls themselves.
-ghost use Rattle.std.specs.Prelude.{◌≡◌, ◌⊎◌, ◌-◌, ◌/◌, ◌<◌, ◌≤◌, ℕ, false, true, List, ◌∷◌, ◌++◌, [], Ok, MatchResult, IsFalse, IsOk, IfOk, IfErr, IsErrAnd, IsTrue, OnErr, OnOk, drop, length, map, replicate, take};
-ghost use Rattle.std.specs.List.{All};
-ghost use Rattle.hound.specs.{Finishes, short_bytes, whole_containers, IsIoError, IsNotBegun, IsNotRepaired, Stays, MediumState, Repair, Repairs, SurvivesLoss, one, Begun, Call, Known, Left, Recorded, made, mark_of, marked, new_file, publish, seen, write, int_container, Around, within, HasPublished, Kept, KeptWithin, accepted_by_all, canonical, data_start, AcceptsEach, Ascends, WritesToBatch, containers_in, fits, remaining, signed_bytes_of, ReadsFrames, IsSixteen, Ran, asked_by, containers_of, WhereKeeps, WhereTells, WriterState, IsWhole, accepted_samples, data_length, WavSpecEx};
+ghost use Rattle.std.specs.Prelude.{◌≡◌, ◌⊎◌, ◌-◌, ◌/◌, ◌<◌, ◌≤◌, ℕ, Bool, false, true, List, ◌∷◌, ◌++◌, [], Err, Ok, Result, MatchResult, IsFalse, IsOk, IfOk, IfErr, IsErrAnd, IsTrue, OnErr, OnOk, drop, length, map, replicate, take};
+ghost use Rattle.std.specs.List.{All, concat};
+ghost use Rattle.hound.specs.{Accepts, Asked, Checkpoints, Error, Finishes, accepted_as_seen, field, found_in, start_of, short_bytes, whole_containers, IsIoError, IsNotBegun, IsNotRepaired, Stays, MediumState, Repair, Repairs, SurvivesLoss, one, Begun, Call, Known, Left, Recorded, made, mark_of, marked, new_file, publish, seen, write, int_container, Around, within, HasPublished, Kept, KeptWithin, accepted_by_all, canonical, data_start, AcceptsEach, Ascends, WritesToBatch, containers_in, fits, remaining, signed_bytes_of, ReadsFrames, IsSixteen, Ran, asked_by, containers_of, WhereKeeps, WhereTells, WriterState, IsWhole, accepted_samples, data_length, WavSpecEx};
 ghost use Rattle.hound.specs.declared.session.Begin.TheVariants.{New};
 ghost use Rattle.hound.specs.declared.session.End.TheVariants.{Drop, Finalize};
 ghost use Rattle.hound.specs.declared.session.Step.TheVariants.{Whole};
@@ -396,6 +396,29 @@ pub fn record_at_once<S: Sample + Copy, M: Medium>(
     a_block_is_its_samples::<S, M>();
     writer.write_samples(samples)?;
     writer.flush()
+}
+
+/// Publishes what was accepted, and continues with a block, whatever becomes of that: until the next
+/// flush the file counts exactly the samples that were accepted before this one, over a medium without
+/// a past too (`lasts`). An error is that of the flush, and then nothing is written after it (`calls`).
+pub fn publish_and_continue<S: Sample + Copy, M: Medium>(
+    writer: &mut WavWriter<M>,
+    block: &[S],
+) -> hound::Result<()>
+    ensures lasts { WhereTells M.tells (OnOk result ((s : WavSpecEx) (file : Begun) (before : List (Asked × Bool))
+        → Recorded M.tells M.keeps M.state s file (seen before) writer.old →
+        field (start_of s file - 4) (M.state writer.new.medium).contents
+        ≡ length (concat (found_in file ++ accepted_as_seen before)))) }
+    ensures calls { MatchResult result (λ _. (mid : WriterState M) × (answer : Result Unit Error)
+        × Checkpoints M.tells M.keeps M.state (Ok tt) writer.old mid
+        × Accepts M.tells M.keeps M.state (containers_in S.container mid.spec_ex block.now) answer mid writer.new)
+        (λ e. Checkpoints M.tells M.keeps M.state (Err e) writer.old writer.new) }
+{
+    what_is_kept::<M>();
+    what_is_known();
+    writer.flush()?;
+    let _ = writer.write_samples(block);
+    Ok(())
 }
 
 /// Writes an integer to a batch as itself if it has sixteen bits, and returns whether it has; a batch

@@ -1,0 +1,49 @@
+use Rattle.std.proofs.Common.{◌≡◌, ℕ, List, [], ◌∷◌, ◌++◌, true, Bool, Result, length, refl, sym, ap, subst, ◌∙◌, append_assoc}
+use Rattle.std.specs.List.{AllByRecursion, concat}
+use Rattle.hound.specs.{AreKnown, Begun, Call, Known, Left, MediumState, Recorded, Refusal, WavSpecEx, WriterState, containers_in, found_in, made, marked, publish, seen, write}
+use Rattle.hound_callers.proofs.recording.publish_and_continue.Goals as goal
+
+-- what calls led to so far is what they left there
+left_so_far : {W : Type 0} (tells keeps : Bool) (state : W → MediumState) (s : WavSpecEx) (file : Begun)
+    (known : List Known) (w : WriterState W) → Recorded tells keeps state s file known w
+    → Left tells keeps state s file known w.medium
+unfolding Recorded Left
+left_so_far tells keeps state s file known w recorded =
+    record { last = w; recorded = recorded; is = refl }
+
+-- a call for samples publishes nothing
+only_writes : (asked : Result (List (List ℕ)) Refusal) (calls : List Call)
+    → AreKnown (made (write asked) ∷ []) calls
+    → AllByRecursion (λ (call : Call). call.asked ≡ publish → ⊥) calls
+only_writes asked (call ∷ []) (is, none) = (λ same. no (sym is.0 ∙ same), tt)
+  where
+    no : write asked ≡ publish → ⊥
+    no same = cc
+only_writes asked (call ∷ other ∷ calls) are = absurd are.1
+only_writes asked [] are = absurd are
+
+pub returns-clause-lasts : goal.returns-clause-lasts
+returns-clause-lasts g c told s file before recorded =
+    let M = g.M.Placed in
+    let w = c.write_samples.new.self in
+    let call = made (write (containers_in g.S.Sample.container s c.args.block.now)) in
+    let known = seen before ++ (marked publish true ∷ (call ∷ [])) in
+    let all : Recorded M.tells M.keeps M.state s file known w =
+    subst (λ l. Recorded M.tells M.keeps M.state s file l w)
+    (append_assoc (seen before) (marked publish true ∷ []) (call ∷ []))
+    (c.write_samples.ensures.recorded s file _ (c.in_ok-flush.ensures.marked s file _ recorded)) in
+    let holds = c.what_is_kept.ensures.at_end told s file known w.medium
+    (left_so_far M.tells M.keeps M.state s file known w all) in
+    let (first, last, flush, parts, are, is, then) =
+    c.what_is_known.ensures.among (seen before) (call ∷ []) (marked publish true)
+    holds.left.recorded.calls holds.left.recorded.are_known in
+    holds.at_end.lasts first last flush parts is (only_writes _ last then)
+    ∙ ap (λ l. length (concat (found_in file ++ l))) (c.what_is_known.ensures.accepted before first are)
+
+pub returns-clause-calls : goal.returns-clause-calls
+returns-clause-calls g c = (
+  c.flush.new.self,
+  c.write_samples.result,
+  c.in_ok-flush.ensures.checkpoints,
+  c.write_samples.ensures.accepts,
+)
