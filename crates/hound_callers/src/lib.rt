@@ -17,10 +17,10 @@ pub use callers::{
 pub use editing::append_blocks;
 pub use either::EitherSample;
 pub use example::record_and_read;
-pub use reading::{read_block, read_from, reopen};
+pub use reading::{opened_meanwhile, read_block, read_from, reopen};
 pub use recording::{
-    finish_durable, pack_one, publish_and_continue, record, record_at_once, record_batch, record_checkpoints,
-    record_mixed, record_safely, record_steps, record_twelve, record_twelve_and_repair,
-    record_twelve_through_a_loss, write_if_short,
+    finish_durable, pack_one, publish_and_continue, record, record_at_once, record_batch,
+    record_checkpoints, record_mixed, record_safely, record_steps, record_twelve,
+    record_twelve_and_repair, record_twelve_through_a_loss, write_if_short,
 };
 pub use twelve::Twelve;

@@ -1,11 +1,13 @@
 // Reading a block, and opening a file again.
-ghost use Rattle.std.specs.Prelude.{◌≡◌, ℕ, ◌+◌, ◌-◌, ◌*◌, ◌/◌, ◌≤◌, ◌++◌, List, None, Some, Ok, IsSome, IfOk, MatchResult, drop, length, map, min, take};
-ghost use Rattle.hound.specs.{AreContainers, GivesItems, IsIoError, IsWhole, IsWritable, ReaderState, WavSpecEx, WhereTells, accepted_samples, canonical, containers, data_fault, data_start, greatest_u32, header, one_more, over_bytes, riff_size, samples_before, samples_left};
+ghost use Rattle.std.specs.Prelude.{◌≡◌, ◌⊎◌, ℕ, ◌+◌, ◌-◌, ◌*◌, ◌/◌, ◌≤◌, ◌++◌, ◌∷◌, List, None, Some, Ok, IsSome, IfErr, IfOk, MatchResult, drop, length, map, min, take};
+ghost use Rattle.std.specs.List.{concat};
+ghost use Rattle.hound.specs.{Begun, Call, Error, IsUncut, Keeps, accepted_by_all, begins_at, field, found_in, mix, moment, publish, start_of, AreContainers, GivesItems, IsIoError, IsWhole, IsWritable, ReaderState, WavSpecEx, WhereTells, accepted_samples, canonical, containers, data_fault, data_start, greatest_u32, header, one_more, over_bytes, riff_size, samples_before, samples_left};
 
 use hound::{
-    Error, Medium, Sample, Source, WavReader, WavWriter, a_block_is_its_items,
+    Error, Journal, Medium, Placed, Sample, Source, WavReader, WavWriter, a_block_is_its_items,
     a_reader_stands_as_counted, one_append_answer, written_is_head, written_is_read,
 };
+use std::alloc::Global;
 use std::{io, result};
 
 /// Reads a block: at an Ok it has all samples that fit or are left (`all`), those that as many calls
@@ -71,4 +73,33 @@ pub fn reopen<M: Source + Medium>(medium: M) -> result::Result<WavWriter<M>, (M,
     written_is_read();
     one_append_answer();
     WavWriter::try_append(medium)
+}
+
+/// What a player finds that opens a recording after its first k bytes were written, by what the calls of
+/// its writer promise. While one writes samples, all before the data is as it was (`front`). While one makes a
+/// checkpoint, the data length has some bytes of the old one and the others of the new one (`mixed`), and is one of
+/// these two unless a write of it is cut (`whole`).
+pub fn opened_meanwhile(alloc: Global, journal: &Journal, k: usize) -> hound::Result<Vec<u8>>
+    requires { k ≤ length (⟦<Journal as Placed>⟧.state journal.now).past }
+    ensures front { let m = ⟦<Journal as Placed>⟧.state journal.now in IfOk result (λ bytes.
+        (s : WavSpecEx) (file : Begun) (calls : List Call) → Keeps s file calls m → (before after : List Call)
+        (call : Call) → calls ≡ before ++ (call ∷ after) → (call.asked ≡ publish → ⊥) → call.began ≤ k
+        → k ≤ begins_at after m.past →
+        take (start_of s file) bytes.items ≡ take (start_of s file) (moment m.start m.past call.began)) }
+    ensures mixed { let m = ⟦<Journal as Placed>⟧.state journal.now in IfOk result (λ bytes.
+        (s : WavSpecEx) (file : Begun) (calls : List Call) → Keeps s file calls m → (before after : List Call)
+        (patch : Call) → calls ≡ before ++ (patch ∷ after) → patch.asked ≡ publish → patch.began ≤ k
+        → k ≤ begins_at after m.past →
+        let at = start_of s file - 4 in
+        (count : ℕ) × (count ≤ 4) × (field at bytes.items ≡ mix count (field at (moment m.start m.past patch.began))
+        (length (concat (found_in file ++ accepted_by_all before))))) }
+    ensures whole { let m = ⟦<Journal as Placed>⟧.state journal.now in IfOk result (λ bytes.
+        (s : WavSpecEx) (file : Begun) (calls : List Call) → Keeps s file calls m → (before after : List Call)
+        (patch : Call) → calls ≡ before ++ (patch ∷ after) → patch.asked ≡ publish → patch.began ≤ k
+        → k ≤ begins_at after m.past → let at = start_of s file - 4 in IsUncut at (patch ∷ after) m.past k →
+        (field at bytes.items ≡ field at (moment m.start m.past patch.began))
+        ⊎ (field at bytes.items ≡ length (concat (found_in file ++ accepted_by_all before)))) }
+    ensures err { IfErr result (λ e. e ≡ Error.OutOfMemory) }
+{
+    journal.bytes_after(alloc, k)
 }

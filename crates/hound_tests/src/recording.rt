@@ -2,9 +2,9 @@
 use crate::helpers::{FOUR_SAMPLES, empty_tape, integers, read_all, sixteen, tape_of};
 use hound::{Durable, Journal, Step, Tape, WavReader, WavSpecEx, WavWriter};
 use hound_callers::{
-    Twelve, append_blocks, finish_durable, pack_one, record_at_once, record_batch, record_mixed,
-    record_safely, record_steps, record_twelve, record_twelve_and_repair,
-    record_twelve_through_a_loss, write_if_short,
+    Twelve, append_blocks, finish_durable, opened_meanwhile, pack_one, publish_and_continue,
+    record_at_once, record_batch, record_mixed, record_safely, record_steps, record_twelve,
+    record_twelve_and_repair, record_twelve_through_a_loss, write_if_short,
 };
 use std::alloc::Global;
 use std::test::Fail;
@@ -177,6 +177,21 @@ fn mixes(alloc: Global) -> bool {
     }
 }
 
+// Publishes two samples and continues with a third. Who opens the file just before the sizes of the end are
+// written finds the two, and then all three.
+fn continues(alloc: Global) -> hound::Result<bool> {
+    let journal = Journal::new(alloc, Vec::new(alloc))?;
+    let mut writer = WavWriter::new(journal, sixteen(1))?;
+    writer.write_samples(&[300i16, -301])?;
+    publish_and_continue(&mut writer, &[7i16])?;
+    let (journal, result) = writer.finalize_into();
+    result?;
+    let taken = journal.taken();
+    let before = opened_meanwhile(alloc, &journal, taken.saturating_sub(8))?;
+    let after = opened_meanwhile(alloc, &journal, taken)?;
+    Ok(holds(alloc, &before, &[300, -301]) && holds(alloc, &after, &[300, -301, 7]))
+}
+
 #[test]
 fn recorders_leave_what_they_accepted(rt: HostRuntime) -> Result<(), Fail> {
     let alloc = rt.alloc();
@@ -207,8 +222,9 @@ fn batches_steps_and_single_calls_are_recorded(rt: HostRuntime) -> Result<(), Fa
         takes_shorts(alloc)?,
         packs(alloc),
         takes_steps(alloc),
+        continues(alloc)?,
     );
-    assert_eq!(rt; found, (true, true, true, true));
+    assert_eq!(rt; found, (true, true, true, true, true));
     assert!(rt; ends_durably(alloc)?);
     Ok(())
 }
