@@ -8,7 +8,7 @@ use Rattle.hound_spec.specs.declared.spec.WavSpec.{WavSpec}
 use Rattle.hound_spec.specs.declared.spec.WavSpecEx.{WavSpecEx}
 use Rattle.hound_sample.specs.{Refusal, unsupported, int_container, pattern_container, containers}
 use Rattle.hound_medium.specs.{MediumState, WhereTells, WhereKeeps}
-use Rattle.hound_writer.specs.{one, containers_in, mark_of, Asked, Does, publish, write, Begun, Call, Lead, appended, asked_by_all, found_in, new_file, start_of, WriterState, ChangesSizesOnly, IsWhole, accepted_samples, Appends, IsNotAppended, Begins, IsNotBegun, Finishes}
+use Rattle.hound_writer.specs.{container_in, containers_in, mark_of, Asked, Does, publish, write, Begun, Call, Lead, appended, asked_by_all, found_in, new_file, start_of, WriterState, ChangesSizesOnly, IsWhole, accepted_samples, Appends, IsNotAppended, Begins, IsNotBegun, Finishes}
 use Rattle.hound.specs.Headline.{accepted_of, HoldsAtEnd, Promises, SurvivesAtEnd}
 use Rattle.hound.specs.declared.session.Step.{Step}
 use Rattle.hound.specs.declared.session.Step.TheVariants.{Whole, Bits, Batch, Flush}
@@ -34,10 +34,8 @@ batch_containers s values =
 
 -- what a step asks of a writer: to accept its containers, one for each value of a batch, or to publish
 abbrev pub asked_by : WavSpecEx → Step → Asked
-asked_by s (Whole value) =
-    write (one (int_container value s.spec.bits_per_sample s.bytes_per_sample))
-asked_by s (Bits bits) =
-    write (one (pattern_container bits.0 s.spec.bits_per_sample s.bytes_per_sample))
+asked_by s (Whole value) = write (container_in int_container s value)
+asked_by s (Bits bits) = write (container_in pattern_container s bits.0)
 asked_by s (Batch values) = write (batch_containers s values.now)
 asked_by s Flush = publish
 

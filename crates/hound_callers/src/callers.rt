@@ -1,6 +1,6 @@
 // Functions of a user of the library, whose contracts follow from its public ones.
 ghost use Rattle.std.specs.Prelude.{◌≡◌, ℕ, ◌/◌, ◌<◌, ◌++◌, ◌⊎◌, false, List, length, map, ◌∷◌, None, Some, Ok, Err, Result, IfErr, IfOk, IfSome, MatchResult, OnOk};
-ghost use Rattle.hound.specs.{Begun, Call, Checkpoints, found_in, start_of, IsSameFile, ReaderState, RepairsMedium, Seeks, containers, AreContainers, canonical, HasPublished, IsLeftAfter, Keeps, accepted_by_all, begins_at, one, one_more, samples_left, OpensAs, ReadsFrames, IsIoError, IsSixteen, MediumState, WhereTells, Error, IsWritable, IsWhole, sample_count, WavSpecEx, container_at, meaning_at, refusal_at, samples_before, unread};
+ghost use Rattle.hound.specs.{Begun, Call, Checkpoints, found_in, start_of, IsSameFile, ReaderState, RepairsMedium, Seeks, containers, AreContainers, canonical, HasPublished, IsLeftAfter, Keeps, accepted_by_all, begins_at, container_in, one_more, samples_left, OpensAs, ReadsFrames, IsIoError, IsSixteen, MediumState, WhereTells, Error, IsWritable, IsWhole, sample_count, WavSpecEx, container_at, meaning_at, refusal_at, samples_before, unread};
 ghost use Rattle.hound.specs.declared.Error.TheVariants.{OutOfMemory};
 ghost use Rattle.hound_callers.specs.Recording.{IsPublished, WritesAndFlushes};
 
@@ -30,10 +30,10 @@ pub fn record_checkpoint<S: Sample, M: Medium>(
     sample: S,
 ) -> hound::Result<()>
     ensures published { WhereTells M.tells (IsWhole M.state writer.old → OnOk result (IsPublished M.state
-        (one (S.container sample writer.old.spec_ex.spec.bits_per_sample writer.old.spec_ex.bytes_per_sample))
+        (container_in S.container writer.old.spec_ex sample)
         writer.old writer.new)) }
     ensures calls { WritesAndFlushes M.tells M.keeps M.state
-        (one (S.container sample writer.old.spec_ex.spec.bits_per_sample writer.old.spec_ex.bytes_per_sample))
+        (container_in S.container writer.old.spec_ex sample)
         result writer.old writer.new }
 {
     writer.write_sample(sample)?;

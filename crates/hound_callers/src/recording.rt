@@ -1,7 +1,7 @@
 // Recorders that make their calls themselves.
 ghost use Rattle.std.specs.Prelude.{◌≡◌, ◌⊎◌, ◌-◌, ◌/◌, ◌<◌, ◌≤◌, ℕ, Bool, false, true, List, ◌∷◌, ◌++◌, [], Err, Ok, Result, MatchResult, is_ok, IsFalse, IsOk, IfOk, IfErr, IsErrAnd, IsTrue, OnErr, OnOk, drop, length, map, replicate, take};
 ghost use Rattle.std.specs.List.{All, concat};
-ghost use Rattle.hound.specs.{Accepts, Asked, Checkpoints, Error, Finishes, accepted_as_seen, field, found_in, start_of, short_bytes, whole_containers, IsIoError, IsNotBegun, IsNotRepaired, Stays, MediumState, Repair, Repairs, SurvivesLoss, one, Begun, Call, Known, Left, Recorded, made, marked, new_file, publish, seen, write, int_container, Around, within, HasPublished, Kept, KeptWithin, accepted_by_all, canonical, data_start, AcceptsEach, Ascends, WritesToBatch, containers_in, fits, remaining, signed_bytes_of, ReadsFrames, IsSixteen, Ran, asked_by, containers_of, WhereKeeps, WhereTells, WriterState, IsWhole, accepted_samples, data_length, WavSpecEx};
+ghost use Rattle.hound.specs.{Accepts, Asked, Checkpoints, Error, Finishes, accepted_as_seen, field, found_in, start_of, short_bytes, whole_containers, IsIoError, IsNotBegun, IsNotRepaired, Stays, MediumState, Repair, Repairs, SurvivesLoss, container_in, Begun, Call, Known, Left, Recorded, made, marked, new_file, publish, seen, write, int_container, Around, within, HasPublished, Kept, KeptWithin, accepted_by_all, canonical, data_start, AcceptsEach, Ascends, WritesToBatch, containers_in, fits, remaining, signed_bytes_of, ReadsFrames, IsSixteen, Ran, asked_by, containers_of, WhereKeeps, WhereTells, WriterState, IsWhole, accepted_samples, data_length, WavSpecEx};
 ghost use Rattle.hound.specs.declared.session.Begin.TheVariants.{New};
 ghost use Rattle.hound.specs.declared.session.End.TheVariants.{Drop, Finalize};
 ghost use Rattle.hound.specs.declared.session.Step.TheVariants.{Whole};
@@ -309,7 +309,7 @@ fn record_singles<S: Sample + Copy, M: Medium>(writer: &mut WavWriter<M>, single
     ensures recorded { (s : WavSpecEx) (file : Begun) (known : List Known)
         → Recorded M.tells M.keeps M.state s file known writer.old
         → Recorded M.tells M.keeps M.state s file
-        (known ++ map (λ v. made (write (one (S.container v s.spec.bits_per_sample s.bytes_per_sample)))) singles.now) writer.new }
+        (known ++ map (λ v. made (write (container_in S.container s v))) singles.now) writer.new }
 {
     for sample in singles {
         let _ = writer.write_sample(*sample);
@@ -361,7 +361,7 @@ pub fn record_mixed<M: Source + Medium>(
     requires place { WhereTells M.tells ((M.state medium).place ≡ 0) }
     requires sixteen { IsSixteen spec_ex }
     ensures { MatchResult result (λ done.
-        let asked = map (λ v. made (write (one (⟦<i8 as Sample>⟧.container v spec_ex.spec.bits_per_sample spec_ex.bytes_per_sample)))) singles.now in
+        let asked = map (λ v. made (write (container_in ⟦<i8 as Sample>⟧.container spec_ex v))) singles.now in
         let file = new_file (M.state medium) in
         WhereKeeps M.tells M.keeps (
         ((w : WriterState M) × IsErrAnd done.1 (IsNoBatch w (length batch.now))

@@ -107,7 +107,7 @@ pub record Adds {W : Type 0} (asked : Result (List (List ℕ)) Refusal)
   pub data_start : new.data_start ≡ old.data_start
   pub data_length : data_length new
       ≡ data_length old + length (concat (if_marked (mark_of answer) asked))
-  pub kept : length old.buffer ≤ length new.buffer
+  pub buffer : new.buffer ≡ old.buffer
 
 -- What it left in the medium. A fault is counted exactly at an `IoError`; what is before the data
 -- stays, and unless the medium failed what is after the accepted data. If the bytes in the medium
@@ -168,6 +168,11 @@ outcome_of (Ok list) = Accepted
 outcome_of (Err too_wide) = OutOfRange
 outcome_of (Err unsupported) = WrongPair
 
+-- the container of a sample in a file of this spec, by its type's table, or the error
+abbrev pub container_in : {V : Type 0} → (V → ℕ → ℕ → Result (List ℕ) Refusal) → WavSpecEx → V →
+    Result (List (List ℕ)) Refusal
+container_in container s value = one (container value s.spec.bits_per_sample s.bytes_per_sample)
+
 -- the containers of samples in a file of this spec, by their type's table, or the first error
 abbrev pub containers_in : {V : Type 0} → (V → ℕ → ℕ → Result (List ℕ) Refusal) → WavSpecEx → List V →
     Result (List (List ℕ)) Refusal
@@ -194,7 +199,5 @@ abbrev pub AcceptsEach : {V W : Type 0} → Bool → Bool → (W → MediumState
 AcceptsEach tells keeps state container [] old new = new ≡ old
 AcceptsEach {V} {W} tells keeps state container (value ∷ values) old new =
     (mid : WriterState W)
-    × Accepts tells keeps state
-    (one (container value old.spec_ex.spec.bits_per_sample old.spec_ex.bytes_per_sample)) (Ok tt)
-    old mid
+    × Accepts tells keeps state (container_in container old.spec_ex value) (Ok tt) old mid
     × AcceptsEach tells keeps state container values mid new

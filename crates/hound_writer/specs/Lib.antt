@@ -1,5 +1,5 @@
 -- The words of this crate, for those above it. The file is made by `scripts/make_words`.
-pub use Rattle.hound_writer.specs.Accepting.{AcceptAnswer, Accepts, AcceptsBytes, AcceptsEach, Adds, AddsAtEach, AddsToFile, AreShort, FitAnswer, IsIoError, IsPublishing, IsStored, KeepsStored, OnPublished, OnRefused, StaysTrue, UnlessFailed, containers_in, faults_told, if_marked, mark_of, one, outcome_of, sample_bytes, short_bytes, whole_containers}
+pub use Rattle.hound_writer.specs.Accepting.{AcceptAnswer, Accepts, AcceptsBytes, AcceptsEach, Adds, AddsAtEach, AddsToFile, AreShort, FitAnswer, IsIoError, IsPublishing, IsStored, KeepsStored, OnPublished, OnRefused, StaysTrue, UnlessFailed, container_in, containers_in, faults_told, if_marked, mark_of, one, outcome_of, sample_bytes, short_bytes, whole_containers}
 pub use Rattle.hound_writer.specs.Appending.{AnswersAppend, AppendAnswer, AppendFault, Appends, FailsCheck, FollowsData, HasOneAppendAnswer, IsAppendFault, IsNotAppended, NamesFault, PutsNothing, appendable, by_bytes, faulty, too_long}
 unfoldable pub use Rattle.hound_writer.specs.Appending.{head_fault}
 pub use Rattle.hound_writer.specs.Batch.{IsSameFile, WritesToBatch, batch_bytes, batch_lender, batch_writer, remaining}

@@ -2,9 +2,7 @@
 ghost use Rattle.std.specs.Prelude.{◌≡◌, [], ⊤, MatchResult};
 ghost use Rattle.hound_medium.specs.{WhereTells};
 ghost use Rattle.hound_reader.specs.{IsSoundSpec, Head, IsDataPlace};
-ghost use Rattle.hound_writer.specs.Calls.{Recorded, appended};
-ghost use Rattle.hound_writer.specs.Writer.{IsWhole, accepted_samples};
-ghost use Rattle.hound_writer.specs.Appending.{Appends, IsNotAppended, FailsCheck, head_fault};
+ghost use Rattle.hound_writer.specs.{Recorded, appended, IsWhole, accepted_samples, Appends, IsNotAppended, FailsCheck, head_fault};
 
 use crate::WavWriter;
 use crate::output::{Output, riff_size};

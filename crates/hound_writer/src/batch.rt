@@ -53,7 +53,6 @@ impl<W: Medium, B: BatchMemory> SampleWriter16<'_, W, B> {
         requires { remaining self ≡ 0 }
         ensures accepts { let old = batch_writer self.entry in Accepts W.tells W.keeps W.state
             (whole_containers old.spec_ex (batch_bytes self.entry)) result old self.exit.0.now }
-        ensures buffer { self.exit.0.now.buffer ≡ (batch_writer self.entry).buffer }
         ensures recorded { Extends W.tells W.keeps W.state
             (λ s. made (write (whole_containers s (batch_bytes self.entry))))
             (batch_writer self.entry) self.exit.0.now }

@@ -2,8 +2,7 @@
 ghost use Rattle.std.specs.Prelude.{◌≡◌, ◌≤◌, false, not, IsOk};
 ghost use Rattle.hound_medium.specs.{PutsAll, WhereTells};
 ghost use Rattle.hound_sample.specs.{all_containers, joined_containers};
-ghost use Rattle.hound_writer.specs.Parts.{all_out, PutsAt};
-ghost use Rattle.hound_writer.specs.Accepting.{containers_in, outcome_of, sample_bytes};
+ghost use Rattle.hound_writer.specs.{all_out, PutsAt, containers_in, outcome_of, sample_bytes};
 
 use crate::block::{BLOCK_LENGTH, Block};
 use crate::outcome::Outcome;

@@ -95,7 +95,7 @@ impl<W: Medium> Output<W> {
     ghost use Rattle.std.specs.Prelude.{◌≡◌, ◌+◌, ◌*◌, ◌-◌, ◌/◌, ◌%◌, ◌≤◌, ◌^◌, ◌↔◌, [], IsTrue, IsOk, Ok, OnOk, length, take};
     ghost use Rattle.hound_spec.specs.{riff_size};
     ghost use Rattle.hound_medium.specs.{WhereTells, WhereKeeps};
-    ghost use Rattle.hound_writer.specs.Accepting.{Accepts, AcceptsBytes, one, containers_in, sample_bytes};
+    ghost use Rattle.hound_writer.specs.Accepting.{Accepts, AcceptsBytes, container_in, containers_in, sample_bytes};
     ghost use Rattle.hound_writer.specs.Parts.{GoesOut, result_of, or_fault, of_fields, IsStanding, Patches, PatchesAtEach};
     ghost use Rattle.hound_writer.specs.Publishing.{PublishesTo, place_after};
     ghost use Rattle.hound_writer.specs.Writer.{AreFrames, HasRoom, block_length, IsPadded, IsSound, IsValid, data_end, data_length, padded_end, sample_count};
@@ -191,8 +191,7 @@ impl<W: Medium> Output<W> {
         requires room { HasRoom self.old (length bytes.now) }
         requires whole { length bytes.now % self.old.spec_ex.bytes_per_sample ≡ 0 }
         requires few { length self.old.waiting + length bytes.now ≤ block_length }
-        ensures accepts { AcceptsBytes W.tells W.keeps W.state bytes.now (Ok tt) self.old self.new }
-        ensures buffer { self.new.buffer ≡ self.old.buffer }
+        ensures { AcceptsBytes W.tells W.keeps W.state bytes.now (Ok tt) self.old self.new }
     {
         self.block.extend(bytes);
     }
@@ -202,9 +201,8 @@ impl<W: Medium> Output<W> {
     #[cold]
     #[inline(never)]
     fn accept_slowly(&mut self, container: [u8; 4], fault: &mut io::Error) -> Outcome
-        ensures accepts { AcceptsBytes W.tells W.keeps W.state
+        ensures { AcceptsBytes W.tells W.keeps W.state
             (take self.old.spec_ex.bytes_per_sample container) (result_of result fault.new) self.old self.new }
-        ensures buffer { self.new.buffer ≡ self.old.buffer }
     {
         let width = self.spec_ex.bytes_per_sample as usize;
         if !self.has_room(width as u64) {
@@ -224,9 +222,8 @@ impl<W: Medium> Output<W> {
     /// Accepts a sample, or returns why it doesn't, and saves a fault.
     #[inline(always)]
     pub(crate) fn accept_sample<S: Sample>(&mut self, sample: S, fault: &mut io::Error) -> Outcome
-        ensures accepts { Accepts W.tells W.keeps W.state
-            (one (S.container sample self.old.spec_ex.spec.bits_per_sample self.old.spec_ex.bytes_per_sample)) (result_of result fault.new) self.old self.new }
-        ensures buffer { self.new.buffer ≡ self.old.buffer }
+        ensures { Accepts W.tells W.keeps W.state
+            (container_in S.container self.old.spec_ex sample) (result_of result fault.new) self.old self.new }
     {
         let width = self.spec_ex.bytes_per_sample;
         match sample.encode(self.spec_ex.spec.bits_per_sample, width) {
@@ -252,9 +249,8 @@ impl<W: Medium> Output<W> {
             (self.old.spec_ex.bytes_per_sample * length samples.now) }
         requires few { length self.old.waiting
             + self.old.spec_ex.bytes_per_sample * length samples.now ≤ block_length }
-        ensures accepts { AcceptsBytes W.tells W.keeps W.state
+        ensures { AcceptsBytes W.tells W.keeps W.state
             (sample_bytes S.container self.old.spec_ex samples.now) (Ok tt) self.old self.new }
-        ensures buffer { self.new.buffer ≡ self.old.buffer }
     {
         let spec = self.spec_ex.spec;
         self.block.extend_by(samples, spec.bits_per_sample, self.spec_ex.bytes_per_sample);
@@ -271,9 +267,8 @@ impl<W: Medium> Output<W> {
         requires room { HasRoom self.old
             (self.old.spec_ex.bytes_per_sample * length samples.now) }
         requires none_waits { self.old.waiting ≡ [] }
-        ensures accepts { AcceptsBytes W.tells W.keeps W.state
+        ensures { AcceptsBytes W.tells W.keeps W.state
             (sample_bytes S.container self.old.spec_ex samples.now) (or_fault result fault.new) self.old self.new }
-        ensures buffer { self.new.buffer ≡ self.old.buffer }
     {
         let end = self.data_start + self.data_bytes_written as u64;
         if !put_samples_at_end(
@@ -300,9 +295,8 @@ impl<W: Medium> Output<W> {
         requires have { IsOk (containers_in S.container self.old.spec_ex samples.now) }
         requires room { HasRoom self.old
             (self.old.spec_ex.bytes_per_sample * length samples.now) }
-        ensures accepts { AcceptsBytes W.tells W.keeps W.state
+        ensures { AcceptsBytes W.tells W.keeps W.state
             (sample_bytes S.container self.old.spec_ex samples.now) (or_fault result fault.new) self.old self.new }
-        ensures buffer { self.new.buffer ≡ self.old.buffer }
     {
         let num_bytes = samples.len() * self.spec_ex.bytes_per_sample as usize;
         if num_bytes <= BLOCK_LENGTH - self.block.len() {
@@ -325,9 +319,8 @@ impl<W: Medium> Output<W> {
         samples: &[S],
         fault: &mut io::Error,
     ) -> Outcome
-        ensures accepts { Accepts W.tells W.keeps W.state
+        ensures { Accepts W.tells W.keeps W.state
             (containers_in S.container self.old.spec_ex samples.now) (result_of result fault.new) self.old self.new }
-        ensures buffer { self.new.buffer ≡ self.old.buffer }
     {
         let bits = self.spec_ex.spec.bits_per_sample;
         let width = self.spec_ex.bytes_per_sample;

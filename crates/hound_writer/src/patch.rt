@@ -2,7 +2,7 @@
 ghost use Rattle.hound_medium.specs.{WhereKeeps, WhereTells};
 ghost use Rattle.std.specs.Prelude.{◌≡◌, ◌+◌, ◌≤◌, ◌<◌, length, false, OnOk, not};
 ghost use Rattle.hound_number.specs.{bytes_of};
-ghost use Rattle.hound_writer.specs.Parts.{PatchesAtEach, PutsAt, Patches, all_out};
+ghost use Rattle.hound_writer.specs.{PatchesAtEach, PutsAt, Patches, all_out};
 
 use hound_medium::{Medium, put_all};
 use hound_number::le_u32;

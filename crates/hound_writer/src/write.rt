@@ -76,7 +76,7 @@ impl<W: Medium> WavWriter<W> {
     ghost use Rattle.hound_spec.specs.declared.error.Error.{Error};
     ghost use Rattle.hound_spec.specs.{with_default_width};
     ghost use Rattle.hound_medium.specs.{WhereTells};
-    ghost use Rattle.hound_writer.specs.Accepting.{Accepts, mark_of, one, containers_in};
+    ghost use Rattle.hound_writer.specs.Accepting.{Accepts, mark_of, container_in, containers_in};
     ghost use Rattle.hound_writer.specs.Beginning.{Begins, IsNotBegun};
     ghost use Rattle.hound_writer.specs.Calls.{Ends, Extends, Recorded, made, marked, new_file, publish, write};
     ghost use Rattle.hound_spec.specs.declared.spec.WavSpecEx.{WavSpecEx};
@@ -156,12 +156,11 @@ impl<W: Medium> WavWriter<W> {
     #[inline(always)]
     pub fn write_sample<S: Sample>(&mut self, sample: S) -> Result<()>
         ensures accepts { Accepts W.tells W.keeps W.state
-            (one (S.container sample self.old.spec_ex.spec.bits_per_sample self.old.spec_ex.bytes_per_sample)) result self.old self.new }
-        ensures buffer { self.new.buffer ≡ self.old.buffer }
+            (container_in S.container self.old.spec_ex sample) result self.old self.new }
         ensures recorded { Extends W.tells W.keeps W.state
-            (λ s. made (write (one (S.container sample s.spec.bits_per_sample s.bytes_per_sample)))) self.old self.new }
+            (λ s. made (write (container_in S.container s sample))) self.old self.new }
         ensures marked { Extends W.tells W.keeps W.state
-            (λ s. marked (write (one (S.container sample s.spec.bits_per_sample s.bytes_per_sample))) (mark_of result)) self.old self.new }
+            (λ s. marked (write (container_in S.container s sample)) (mark_of result)) self.old self.new }
     {
         let outcome = self.output.accept_sample(sample, &mut self.fault);
         if let Outcome::Accepted = outcome {
@@ -185,7 +184,6 @@ impl<W: Medium> WavWriter<W> {
     pub fn write_samples<S: Sample + Copy>(&mut self, samples: &[S]) -> Result<()>
         ensures accepts { Accepts W.tells W.keeps W.state
             (containers_in S.container self.old.spec_ex samples.now) result self.old self.new }
-        ensures buffer { self.new.buffer ≡ self.old.buffer }
         ensures recorded { Extends W.tells W.keeps W.state
             (λ s. made (write (containers_in S.container s samples.now))) self.old self.new }
         ensures marked { Extends W.tells W.keeps W.state

@@ -1,5 +1,5 @@
 use Rattle.std.proofs.Common.{◌≡◌, List, ◌++◌, map, take}
-use Rattle.hound.specs.{one, Begun, Known, Recorded, made, write, WavSpecEx}
+use Rattle.hound.specs.{container_in, Begun, Known, Recorded, made, write, WavSpecEx}
 use Rattle.hound_callers.proofs.recording.record_singles.Given as goal
 
 abbrev pub invariant-loop-sample : goal.invariant-loop-sample
@@ -8,6 +8,6 @@ invariant-loop-sample g l = record {
   recorded : (s : WavSpecEx) (file : Begun) (known : List Known)
       → Recorded g.M.Placed.tells g.M.Placed.keeps g.M.Placed.state s file known l.fn.writer
       → Recorded g.M.Placed.tells g.M.Placed.keeps g.M.Placed.state s file
-      (known ++ map (λ v. made (write (one (g.S.Sample.container v s.spec.bits_per_sample
-      s.bytes_per_sample)))) (take l.sample-index l.singles)) l.writer;
+      (known ++ map (λ v. made (write (container_in g.S.Sample.container s v))) (take l.sample-index l.singles))
+      l.writer;
 }

@@ -4,8 +4,8 @@ use Rattle.hound_writer.proofs.AcceptingMany.{fit}
 use Rattle.hound_writer.proofs.Later.{accepts_cut, accepts_later, kept_fails}
 use Rattle.hound_writer.proofs.output.Output.accept_encoded.Goals as goal
 
-pub returns-then-not-put_block-clause-accepts : goal.returns-then-not-put_block-clause-accepts
-returns-then-not-put_block-clause-accepts g c =
+pub returns-then-not-put_block : goal.returns-then-not-put_block
+returns-then-not-put_block g c =
     let W = g.W.Placed in
     let w = c.args.self.now in
     let values = c.args.samples.now in
@@ -14,18 +14,18 @@ returns-then-not-put_block-clause-accepts g c =
     accepts_cut W.tells W.keeps W.state _ w _ (sample_bytes g.S.Sample.container w.spec_ex values)
     c.put_block.new.fault c.if-not-put_block.ensures fits.room fits.whole
 
-pub returns-then-num_bytes-gt-BLOCK_LENGTH-clause-accepts :
-    goal.returns-then-num_bytes-gt-BLOCK_LENGTH-clause-accepts
-returns-then-num_bytes-gt-BLOCK_LENGTH-clause-accepts g c =
+pub returns-then-num_bytes-gt-BLOCK_LENGTH :
+    goal.returns-then-num_bytes-gt-BLOCK_LENGTH
+returns-then-num_bytes-gt-BLOCK_LENGTH g c =
     let W = g.W.Placed in
     let out = c.if-not-put_block.ensures in
     let once = c.accept_samples_at_once in
     accepts_later W.tells W.keeps W.state _ _ _ _ _ out (kept_fails once.result _)
-    (rw out.value at once.ensures.accepts)
+    (rw out.value at once.ensures)
 
-pub returns-clause-accepts : goal.returns-clause-accepts
-returns-clause-accepts g c =
+pub returns : goal.returns
+returns g c =
     let W = g.W.Placed in
     let out = c.if-not-put_block.ensures in
     accepts_later W.tells W.keeps W.state _ _ _ _ (Ok tt) out tt
-    (rw out.value at c.accept_samples_in_block-2.ensures.accepts)
+    (rw out.value at c.accept_samples_in_block-2.ensures)

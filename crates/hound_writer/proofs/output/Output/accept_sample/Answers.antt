@@ -6,8 +6,8 @@ use Rattle.hound_writer.proofs.Writing.{else_unsupported, sample_refused, sample
 use Rattle.hound_writer.proofs.output.Output.accept_sample.Goals as goal
 use Rattle.hound_writer.proofs.output.Output.accept_sample.Goals.{in-TooWide, in_default}
 
-pub returns-after-refusal-clause-accepts : goal.returns-after-refusal-clause-accepts
-returns-after-refusal-clause-accepts g c =
+pub returns-after-refusal : goal.returns-after-refusal
+returns-after-refusal g c =
     let W = g.W.Placed in
     let refused = sample_refused W.tells W.keeps W.state _ _ _ c.self.invariant _ c.in-Err.refusal
     c.in-Err.ensures (g.met.W.Medium.replays _) in
@@ -19,8 +19,8 @@ returns-after-refusal-clause-accepts g c =
           (rw (else_unsupported _ _ c.in-Err.ensures b.in_default.not-TooWide) at refused)
     ])
 
-pub returns-then-len-self-clause-accepts : goal.returns-then-len-self-clause-accepts
-returns-then-len-self-clause-accepts g c =
+pub returns-then-len-self : goal.returns-then-len-self
+returns-then-len-self g c =
     let W = g.W.Placed in
     let s = c.self.inside.spec_ex in
     let known = c.self.invariant in
@@ -40,12 +40,12 @@ returns-then-len-self-clause-accepts g c =
     ))
     (one_whole _ _ width.0) (g.met.W.Medium.replays _)))
 
-pub returns-else-len-self-clause-accepts : goal.returns-else-len-self-clause-accepts
-returns-else-len-self-clause-accepts g c =
+pub returns-else-len-self : goal.returns-else-len-self
+returns-else-len-self g c =
     let W = g.W.Placed in
     let s = c.self.inside.spec_ex in
     let sized = g.met.S.Sample.in_width c.args.sample s.spec.bits_per_sample s.bytes_per_sample in
     let is = encoded_bytes _ _ s.bytes_per_sample (λ b e. (sized b e).0) c.in-Ok.ensures in
     rw (← c.self.view_is)
     (sample_accepts W.tells W.keeps W.state _ _ _ c.self.invariant _ _ _ _ is (sized _ is).0
-    (rw (← c.self.view_is) at c.accept_slowly.ensures.accepts))
+    (rw (← c.self.view_is) at c.accept_slowly.ensures))

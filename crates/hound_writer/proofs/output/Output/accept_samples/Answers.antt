@@ -5,9 +5,9 @@ use Rattle.hound_spec.specs.declared.error.Error.TheVariants.{IoError}
 use Rattle.hound_writer.proofs.AcceptingMany.{looked_at, many_asked, many_refused, many_too_long, too_many}
 use Rattle.hound_writer.proofs.output.Output.accept_samples.Goals as goal
 
-pub returns-then-not-have_containers-clause-accepts :
-    goal.returns-then-not-have_containers-clause-accepts
-returns-then-not-have_containers-clause-accepts g c =
+pub returns-then-not-have_containers :
+    goal.returns-then-not-have_containers
+returns-then-not-have_containers g c =
     let W = g.W.Placed in
     let outcome = c.first_outcome in
     rw (← c.self.view_is)
@@ -18,17 +18,17 @@ returns-then-not-have_containers-clause-accepts g c =
     (λ is. false≢true (sym c.if-not-have_containers.true ∙ c.have_containers.ensures
     ∙ looked_at _ (sym is ∙ outcome.ensures))))
 
-pub returns-then-len-samples-clause-accepts : goal.returns-then-len-samples-clause-accepts
-returns-then-len-samples-clause-accepts g c =
+pub returns-then-len-samples : goal.returns-then-len-samples
+returns-then-len-samples g c =
     let W = g.W.Placed in
     rw (← c.self.view_is)
     (many_asked g.S.Sample.container g.met.S.Sample.in_width c.args.samples.now W.tells W.keeps
     W.state _ _ _ c.self.invariant (Ok tt) _
     (sym c.have_containers.ensures ∙ c.if-not-have_containers.false)
-    (rw (← c.self.view_is) at c.accept_samples_in_block.ensures.accepts))
+    (rw (← c.self.view_is) at c.accept_samples_in_block.ensures))
 
-pub returns-then-samples-clause-accepts : goal.returns-then-samples-clause-accepts
-returns-then-samples-clause-accepts g c =
+pub returns-then-samples : goal.returns-then-samples
+returns-then-samples g c =
     let W = g.W.Placed in
     rw (← c.self.view_is)
     (too_many g.S.Sample.container g.met.S.Sample.in_width c.args.samples.now W.tells W.keeps
@@ -36,8 +36,8 @@ returns-then-samples-clause-accepts g c =
     (g.met.W.Medium.replays _)
     (sym c.have_containers.ensures ∙ c.if-not-have_containers.false) c.if-samples.true)
 
-pub returns-then-not-has_room-clause-accepts : goal.returns-then-not-has_room-clause-accepts
-returns-then-not-has_room-clause-accepts g c =
+pub returns-then-not-has_room : goal.returns-then-not-has_room
+returns-then-not-has_room g c =
     let W = g.W.Placed in
     let fits = rw (← c.self.view_is) at c.has_room.ensures.room in
     rw (← c.self.view_is)
@@ -47,24 +47,24 @@ returns-then-not-has_room-clause-accepts g c =
     (sym c.have_containers.ensures ∙ c.if-not-have_containers.false)
     (λ room. false≢true (sym c.if-not-has_room.true ∙ fits.1 room)))
 
-pub returns-then-not-accept_encoded-clause-accepts :
-    goal.returns-then-not-accept_encoded-clause-accepts
-returns-then-not-accept_encoded-clause-accepts g c =
+pub returns-then-not-accept_encoded :
+    goal.returns-then-not-accept_encoded
+returns-then-not-accept_encoded g c =
     let W = g.W.Placed in
     rw (← c.self.view_is)
     (many_asked g.S.Sample.container g.met.S.Sample.in_width c.args.samples.now W.tells W.keeps
     W.state _ _ _ c.self.invariant (Err (IoError c.accept_encoded.new.fault)) _
     (sym c.have_containers.ensures ∙ c.if-not-have_containers.false)
-    (rw (← c.self.view_is) at c.if-not-accept_encoded.ensures.accepts))
+    (rw (← c.self.view_is) at c.if-not-accept_encoded.ensures))
 
-pub returns-clause-accepts : goal.returns-clause-accepts
-returns-clause-accepts g c =
+pub returns : goal.returns
+returns g c =
     let W = g.W.Placed in
     rw (← c.self.view_is)
     (many_asked g.S.Sample.container g.met.S.Sample.in_width c.args.samples.now W.tells W.keeps
     W.state _ _ _ c.self.invariant (Ok tt) _
     (sym c.have_containers.ensures ∙ c.if-not-have_containers.false)
-    (rw (← c.self.view_is) at c.if-not-accept_encoded.ensures.accepts))
+    (rw (← c.self.view_is) at c.if-not-accept_encoded.ensures))
 
 pub has_room-requires : goal.has_room-requires
 has_room-requires g c = grind (arith, common_steps)

@@ -15,9 +15,9 @@ invariant_of-self g c =
     (sample_bytes g.S.Sample.container i.spec_ex c.args.samples.now) false
     c.if-not-put_samples_at_end.ensures.puts)
 
-pub returns-then-not-put_samples_at_end-clause-accepts :
-    goal.returns-then-not-put_samples_at_end-clause-accepts
-returns-then-not-put_samples_at_end-clause-accepts g c =
+pub returns-then-not-put_samples_at_end :
+    goal.returns-then-not-put_samples_at_end
+returns-then-not-put_samples_at_end g c =
     let W = g.W.Placed in
     let i = c.self.inside in
     let known = c.self.invariant in
@@ -46,8 +46,8 @@ invariant_of-self-2 g c =
     (rw more at c.fast_path_limit_of-self-inside.ensures.room) fits.room fits.whole
     c.if-not-put_samples_at_end.ensures.puts)
 
-pub returns-clause-accepts : goal.returns-clause-accepts
-returns-clause-accepts g c =
+pub returns : goal.returns
+returns g c =
     let W = g.W.Placed in
     let i = c.self.inside in
     let known = c.self.invariant in

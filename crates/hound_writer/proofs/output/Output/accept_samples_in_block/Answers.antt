@@ -17,8 +17,8 @@ invariant_of-self g c =
     (sample_bytes g.S.Sample.container i.spec_ex values) fits.room fits.whole
     (omega (arith, few, fits.size)))
 
-pub returns-clause-accepts : goal.returns-clause-accepts
-returns-clause-accepts g c =
+pub returns : goal.returns
+returns g c =
     let W = g.W.Placed in
     let i = c.self.inside in
     let values = c.args.samples.now in

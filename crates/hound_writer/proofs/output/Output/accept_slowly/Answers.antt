@@ -5,8 +5,8 @@ use Rattle.hound_writer.proofs.Later.{accepts_cut, accepts_later}
 use Rattle.hound_writer.proofs.Writing.{bytes_too_long}
 use Rattle.hound_writer.proofs.output.Output.accept_slowly.Goals as goal
 
-pub returns-then-not-has_room-clause-accepts : goal.returns-then-not-has_room-clause-accepts
-returns-then-not-has_room-clause-accepts g c =
+pub returns-then-not-has_room : goal.returns-then-not-has_room
+returns-then-not-has_room g c =
     let W = g.W.Placed in
     let w = c.args.self.now in
     let wide = w.spec_ex.bytes_per_sample in
@@ -19,8 +19,8 @@ returns-then-not-has_room-clause-accepts g c =
     absurd (false≢true (sym c.if-not-has_room.true
     ∙ c.has_room.ensures.room.1 (omega (arith, room, size, same)))))
 
-pub returns-then-not-put_block-clause-accepts : goal.returns-then-not-put_block-clause-accepts
-returns-then-not-put_block-clause-accepts g c =
+pub returns-then-not-put_block : goal.returns-then-not-put_block
+returns-then-not-put_block g c =
     let W = g.W.Placed in
     let w = c.args.self.now in
     let bytes = take w.spec_ex.bytes_per_sample c.args.container in
@@ -29,10 +29,10 @@ returns-then-not-put_block-clause-accepts g c =
     accepts_cut W.tells W.keeps W.state _ w _ bytes c.put_block.new.fault c.if-not-put_block.ensures
     (search (rules, room, size)) (one_whole _ _ size)
 
-pub returns-clause-accepts : goal.returns-clause-accepts
-returns-clause-accepts g c =
+pub returns : goal.returns
+returns g c =
     let W = g.W.Placed in
     let out = rw (← c.self.view_is) at c.if-not-put_block.ensures in
     rw (← c.self.view_is)
     (accepts_later W.tells W.keeps W.state _ _ _ _ (Ok tt) out tt
-    (rw out.value at c.accept_in_block-2.ensures.accepts))
+    (rw out.value at c.accept_in_block-2.ensures))
