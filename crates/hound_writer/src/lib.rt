@@ -5,6 +5,7 @@
 mod append;
 mod batch;
 mod block;
+mod effects;
 mod file;
 mod laws;
 mod many;
@@ -15,6 +16,7 @@ mod patch;
 mod write;
 
 pub use batch::SampleWriter16;
+pub use effects::{Effect, effect};
 pub use laws::{a_block_is_its_samples, one_append_answer};
 pub use output::riff_size;
 pub use patch::patch as patch_sizes;
