@@ -14,12 +14,12 @@ pad_effects end zero = []
 pad_effects end (suc n) = Pad end ∷ []
 
 -- the sizes of n data bytes from `start` on, once all before them is synced
-abbrev pub sizes : ℕ → ℕ → List Effect
-sizes start n = Sync ∷ Size 4 (riff_size start n) ∷ Size (start - 4) n ∷ Sync ∷ []
+abbrev pub size_effects : ℕ → ℕ → List Effect
+size_effects start n = Sync ∷ Size 4 (riff_size start n) ∷ Size (start - 4) n ∷ Sync ∷ []
 
 -- The effects of a checkpoint of a file whose data begin at `start` and have n bytes, all written.
 abbrev pub checkpoint : ℕ → ℕ → List Effect
-checkpoint start n = pad_effects (start + n) (n % 2) ++ sizes start n
+checkpoint start n = pad_effects (start + n) (n % 2) ++ size_effects start n
 
 -- the effect with this number
 abbrev pub nth : List Effect → ℕ → Option Effect
@@ -34,8 +34,8 @@ pub record Log : Type 0 where
   pub replays : state.contents ≡ overlay state.start state.past
   pub small : AreBytes state.contents
 
-abbrev pub state_of : Log → MediumState
-state_of log = log.state
+abbrev pub log_state : Log → MediumState
+log_state log = log.state
 
 -- what one effect did: at an Err a write may have written a beginning
 abbrev pub Performs : Effect → Result (Unit {0}) IoFault → MediumState → MediumState → Type 0

@@ -1,7 +1,7 @@
 // What a recorder does at a checkpoint, one effect after the other.
 ghost use Rattle.std.specs.Prelude.{◌≡◌, ◌≤◌, Option};
 ghost use Rattle.hound_spec.specs.{riff_size, greatest_u32};
-ghost use Rattle.hound_writer.specs.Effects.{checkpoint, nth, sizes};
+ghost use Rattle.hound_writer.specs.Effects.{checkpoint, nth, size_effects};
 
 use crate::output::riff_size;
 
@@ -38,7 +38,7 @@ pub fn effect(data_start: u64, data_length: u32, number: u32) -> Option<Effect>
 fn effect_of_sizes(data_start: u64, data_length: u32, number: u32) -> Option<Effect>
     requires after_header { 20 ≤ data_start }
     requires fits { riff_size data_start data_length ≤ greatest_u32 }
-    ensures { result ≡ nth (sizes data_start data_length) number }
+    ensures { result ≡ nth (size_effects data_start data_length) number }
 {
     match number {
         0 => Some(Effect::Sync),
