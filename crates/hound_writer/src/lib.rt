@@ -16,7 +16,7 @@ mod patch;
 mod write;
 
 pub use batch::SampleWriter16;
-pub use effects::{Effect, effect};
+pub use effects::{Effect, checkpoint_effect};
 pub use laws::{a_block_is_its_samples, one_append_answer};
 pub use output::riff_size;
 pub use patch::patch as patch_sizes;
