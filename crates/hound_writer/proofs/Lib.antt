@@ -26,3 +26,4 @@ pub mod AcceptingMany
 pub mod OneByOne
 pub mod Recording
 pub mod Fresh
+pub mod Checkpoint
