@@ -27,3 +27,4 @@ pub mod OneByOne
 pub mod Recording
 pub mod Fresh
 pub mod Checkpoint
+pub mod Acting

@@ -5,7 +5,7 @@ use Rattle.hound_medium.specs.{MediumState, Flushes, PutsAll}
 use Rattle.hound_sample.specs.{containers}
 use Rattle.hound_spec.specs.declared.spec.WavSpecEx.{WavSpecEx}
 use Rattle.hound_spec.specs.{header, data_start, IsWritable}
-use Rattle.hound_reader.specs.{Readable}
+use Rattle.hound_reader.specs.{IsSoundSpec, Readable}
 use Rattle.hound_writer.specs.Accepting.{whole_containers}
 use Rattle.hound_writer.specs.Appending.{head_fault}
 use Rattle.hound_writer.specs.Calls.{Asked, Begun, Known, appended, marked, publish, write}
@@ -52,12 +52,14 @@ pub record Opened (s : WavSpecEx) (old : MediumState) (log : Log) : Type 0 where
   pub begins : old.place ≡ 0
   pub puts : PutsAll {T = Unit {0}} {E = IoFault} true (header s 0 0) (Ok tt) old log.state
 
--- A file is recorded further: a walk found so many samples from this place on, its head fails no check
--- of an append, and all of its data are there.
+-- A file is recorded further: a walk found this spec, and so many samples from this place on, its head
+-- fails no check of an append, and all of its data are there; the file is after them.
 pub record Resumed (s : WavSpecEx) (samples start : ℕ) (log : Log) : Type 0 where
+  pub sound : IsSoundSpec s
   pub readable : Readable log.state.contents s samples start
   pub check : head_fault s (samples * s.bytes_per_sample) start ≡ None
   pub held : start + samples * s.bytes_per_sample ≤ length log.state.contents
+  pub place : log.state.place ≡ start + samples * s.bytes_per_sample
 
 -- the recording at its beginning, with so many bytes of data from a place on
 abbrev pub recording : WavSpecEx → ℕ → ℕ → Log → WriterState Log
@@ -72,7 +74,7 @@ resumed_file s samples start log =
 abbrev pub asked_of : WavSpecEx → Action → Asked
 asked_of s (block bytes) = write (whole_containers s bytes)
 asked_of s save = publish
-asked_of s resync = write (whole_containers s [])
+asked_of s resync = write (Ok [])
 
 -- what the caller knows of that call
 abbrev pub known_of : WavSpecEx → Acted → Known

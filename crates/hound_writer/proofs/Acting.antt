@@ -1,0 +1,205 @@
+-- The actions of a recording are calls of a writer.
+use Rattle.std.proofs.lemmas.Grind.{common_steps}
+use Rattle.std.proofs.lemmas.Bool.{false≢true}
+use Rattle.std.proofs.lemmas.List.{append-nil}
+use Rattle.std.proofs.Common.{◌≡◌, ℕ, zero, suc, ◌+◌, ◌-◌, ◌*◌, ◌/◌, ◌%◌, ◌≤◌, Bool, true, false, IsTrue, List, [], ◌∷◌, ◌++◌, length, map, Result, Ok, Err, is_ok, refl, sym, ◌∙◌, ap, subst, arith, length-append}
+use Rattle.std.specs.declared.io.Error.{Error as IoFault}
+use Rattle.hound_number.proofs.Mixing.{mix_le}
+use Rattle.hound_sample.specs.{containers}
+use Rattle.hound_spec.specs.declared.error.Error.{Error}
+use Rattle.hound_spec.specs.declared.error.Error.TheVariants.{IoError, UnfinishedSample}
+use Rattle.hound_spec.specs.declared.spec.WavSpecEx.{WavSpecEx}
+use Rattle.hound_medium.specs.{Flushes, MediumState}
+use Rattle.hound_medium.proofs.Spans.{flushed_since, moment_last}
+use Rattle.hound_writer.specs.Accepting.{Accepts, mark_of, whole_containers}
+use Rattle.hound_writer.specs.Calls.{AreKnown, Asked, Call, Does, Lead, write}
+use Rattle.hound_writer.specs.Effects.{Log, Performed, checkpoint, log_state}
+use Rattle.hound_writer.specs.Parts.{after_out, IsPublishResult, IsStanding}
+use Rattle.hound_writer.specs.Publishing.{PublishesTo}
+use Rattle.hound_writer.specs.Recording.{Acted, Action, Acts, ActsAll, after_action, asked_of, block, known_of, resync, save}
+use Rattle.hound_writer.specs.Writer.{WriterState, IsSound, data_end, data_length, field, sample_count}
+use Rattle.hound_writer.proofs.Accepting.{accepts_all, accepts_none, sound_more, still}
+use Rattle.hound_writer.proofs.Blocks.{accepts_waiting}
+use Rattle.hound_writer.proofs.Checkpoint.{as_all, as_cut, bad, fine, goes_still, known, publishes_checkpoint, sound_over}
+use Rattle.hound_writer.proofs.Containers.{none_whole, zero_div}
+use Rattle.hound_writer.proofs.Heads.{head_with}
+use Rattle.hound_writer.proofs.Later.{accepts_cut, accepts_later}
+use Rattle.hound_writer.proofs.Recording.{call_at, call_spec}
+use Rattle.hound_writer.proofs.Samples.{length_out}
+use Rattle.hound_writer.proofs.Standing.{inside, stands_more}
+
+-- what holds between the actions
+pub record Good (w : WriterState Log) : Type 0 where
+  pub none : w.waiting ≡ []
+  pub sound : IsSound w
+  pub stands : IsStanding w.spec_ex w.data_start w.out w.medium.state.contents
+
+-- what an action did is what a call does, with this mark
+pub record IsCall (asked : Asked) (ok : Bool) (old new : WriterState Log) : Type 0 where
+  pub answer : Result (Unit {0}) Error
+  pub does : Does true true log_state asked answer old new
+  pub mark : mark_of answer ≡ ok
+  pub good : Good new
+
+-- the result of the call, by that of the effects and whether there are whole frames
+abbrev told_of : Result (Unit {0}) IoFault → Bool → Result (Unit {0}) Error
+told_of (Err e) frames = Err (IoError e)
+told_of (Ok x) true = Ok x
+told_of (Ok x) false = Err UnfinishedSample
+
+is_told : (r : Result (Unit {0}) IoFault) (frames : Bool)
+    → IsPublishResult r frames (told_of r frames) × (mark_of (told_of r frames) ≡ is_ok r)
+is_told (Err e) frames = (refl, refl)
+is_told (Ok x) true = (refl, refl)
+is_told (Ok x) false = (refl, refl)
+
+is_zero : (n : ℕ) → (b : Bool) × (IsTrue b → n ≡ 0) × (n ≡ 0 → IsTrue b)
+is_zero zero = (true, (λ _. refl), (λ _. refl))
+is_zero (suc n) = (false, (λ is. absurd (false≢true is)), (λ e. absurd (omega (arith, e))))
+
+module _ (w : WriterState Log) (good : Good w) (m : Log) where
+  abbrev over : WriterState Log
+  over = record w { medium = m }
+
+  -- a checkpoint leaves the head, and a length that counts no more than the data
+  stands_then : (at : ℕ) (told : Result (Unit {0}) Error)
+      → PublishesTo true true log_state at told w (record w { medium = m })
+      → IsStanding w.spec_ex w.data_start w.out m.state.contents
+  stands_then at told p =
+      let a = w.medium.state in
+      let left = p.publishes refl in
+      let half = (p.moments refl refl).half in
+      let n = length m.state.past in
+      let more : length a.past ≤ n = omega (arith, ap length half.past, length-append a.past half.added) in
+      let torn = rw (moment_last m.state m.replays) at (half.each n more (omega arith)).length_is in
+      record {
+        head = head_with a.contents w.spec_ex (field (w.data_start - 4) a.contents) w.data_start
+            good.stands.head m.state.contents
+            (omega (arith, left.grows, inside w.spec_ex w.data_start w.out a.contents a.contents good.stands))
+            left.front.front left.front.middle;
+        counted = omega (
+          arith,
+          torn,
+          length_out log_state w good.none,
+          mix_le (n - (p.moments refl refl).split) (field (w.data_start - 4) a.contents) (data_length w)
+              (omega (arith, good.stands.counted, length_out log_state w good.none)),
+        );
+      }
+
+  save_call : (r : Result (Unit {0}) IoFault)
+      → Performed (checkpoint w.data_start w.out) r w.medium m
+      → IsCall (asked_of w.spec_ex save) (is_ok r) w (record w { medium = m })
+  save_call r did =
+      let (frames, so, back) = is_zero (sample_count w % w.spec_ex.spec.channels) in
+      let told = told_of r frames in
+      let does : PublishesTo true true log_state m.state.place told w over =
+      publishes_checkpoint w m r frames told good.none good.sound good.stands did
+      (is_told r frames).0 (so, back) in
+      record {
+        answer = told;
+        does = does;
+        mark = (is_told r frames).1;
+        good = record {
+          none = good.none;
+          sound = sound_over w m good.sound;
+          stands = stands_then m.state.place told does;
+        };
+      }
+
+  good_still : (r : Result (Unit {0}) IoFault) → Flushes r w.medium.state m.state
+      → Good (record w { medium = m })
+  good_still r flush = record {
+    none = good.none;
+    sound = sound_over w m good.sound;
+    stands = rw flush.stays.contents good.stands;
+  }
+
+  -- an Ok sync leaves what a call for no samples leaves
+  accepts_no : (x : Unit {0}) → Flushes (fine x) w.medium.state m.state
+      → Accepts true true log_state (whole_containers w.spec_ex []) (Ok tt) w (record w { medium = m })
+  accepts_no x flush =
+      let out = goes_still w good.none good.sound good.stands (data_end w) (omega arith) m true
+      flush.stays (flushed_since (fine x) w.medium.state m.state flush) flush.faults in
+      let now = good_still (Ok x) flush in
+      let nothing : Accepts true true log_state (whole_containers w.spec_ex []) (Ok tt) over over =
+      subst (λ l. Accepts true true log_state (whole_containers w.spec_ex []) (Ok tt) over
+      (record w { medium = m; waiting = l })) (append-nil w.waiting)
+      (accepts_waiting true true log_state over true 0 (known over now.none now.sound now.stands) []
+      (omega (arith, good.sound.fits)) (none_whole w.spec_ex.bytes_per_sample) (λ _ _. m.replays)) in
+      accepts_later true true log_state w over over (whole_containers w.spec_ex []) (Ok tt) out tt
+      (subst (λ v. Accepts true true log_state (whole_containers w.spec_ex []) (Ok tt) v over) out.value
+      nothing)
+
+  sync_call : (r : Result (Unit {0}) IoFault) → Flushes r w.medium.state m.state
+      → IsCall (write (whole_containers w.spec_ex [])) (is_ok r) w (record w { medium = m })
+  sync_call (Ok x) flush = record {
+    answer = Ok tt;
+    does = accepts_no x flush;
+    mark = refl;
+    good = good_still (Ok x) flush;
+  }
+  sync_call (Err e) flush = record {
+    answer = Err (IoError e);
+    does = accepts_cut true true log_state (data_end w) w over [] e
+        (goes_still w good.none good.sound good.stands (data_end w) (omega arith) m false flush.stays
+        (flushed_since (bad e) w.medium.state m.state flush) flush.faults)
+        (omega (arith, good.sound.fits)) (none_whole w.spec_ex.bytes_per_sample);
+    mark = refl;
+    good = good_still (Err e) flush;
+  }
+
+-- an action is a call
+pub acts_call : (action : Action) (r : Result (Unit {0}) IoFault) (w : WriterState Log) (m : Log)
+    → Good w → Acts action r w m
+    → IsCall (asked_of w.spec_ex action) (is_ok r) w (after_action action r m w)
+acts_call (block bytes) (Ok x) w m good (room, whole, puts) =
+    let all = as_all (w.data_start + w.out) bytes x w.medium.state m.state puts in
+    record {
+      answer = Ok tt;
+      does = accepts_all true true log_state w good.none good.sound (λ _. good.stands) m bytes room
+          whole (λ _. all) (λ _ _. w.medium.replays);
+      mark = refl;
+      good = record {
+        none = good.none;
+        sound = sound_more true true log_state w good.none good.sound (λ _. good.stands) m bytes room whole;
+        stands = stands_more w.spec_ex w.data_start w.out (w.out + length bytes) m.state.contents
+            (omega arith) (still true true log_state w (λ _. good.stands) m bytes _ refl all);
+      };
+    }
+acts_call (block bytes) (Err e) w m good (room, whole, puts) =
+    let some = as_cut (w.data_start + w.out) bytes e w.medium.state m.state puts in
+    record {
+      answer = Err (IoError e);
+      does = accepts_none true true log_state w good.none good.sound (λ _. good.stands) m bytes room
+          whole e (λ _. some) (λ _ _. w.medium.replays);
+      mark = refl;
+      good = record {
+        none = good.none;
+        sound = sound_over w m good.sound;
+        stands = still true true log_state w (λ _. good.stands) m bytes _ refl some;
+      };
+    }
+acts_call save r w m good did = save_call w good m r did
+acts_call resync r w m good flush =
+    subst (λ l. IsCall (write (Ok l)) (is_ok r) w (record w { medium = m }))
+    (ap (λ n. containers w.spec_ex.bytes_per_sample n []) (zero_div w.spec_ex.bytes_per_sample))
+    (sync_call w good m r flush)
+
+-- actions lead as calls of which the same is known
+pub acts_lead : (s : WavSpecEx) (actions : List Acted) (w last : WriterState Log) → w.spec_ex ≡ s → Good w
+    → ActsAll actions w last
+    → (calls : List Call) × Lead true true log_state calls w last
+    × AreKnown (map (known_of s) actions) calls
+acts_lead s [] w last spec good is = ([], (w.buffer, is), tt)
+acts_lead s (one ∷ rest) w last spec good (log, acts, then) =
+    let next = after_action one.action one.result log w in
+    let call : IsCall (asked_of s one.action) (is_ok one.result) w next =
+    subst (λ t. IsCall (asked_of t one.action) (is_ok one.result) w next) spec
+    (acts_call one.action one.result w log good acts) in
+    let asked = asked_of s one.action in
+    let same = call_spec true true log_state asked call.answer w next call.does ∙ spec in
+    let (calls, lead, known) = acts_lead s rest next last same call.good then in (
+      call_at true true log_state asked call.answer w ∷ calls,
+      (w.buffer, next, refl, call.does, lead),
+      ((refl, call.mark), known),
+    )
