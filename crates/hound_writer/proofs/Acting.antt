@@ -2,30 +2,37 @@
 use Rattle.std.proofs.lemmas.Grind.{common_steps}
 use Rattle.std.proofs.lemmas.Bool.{false≢true}
 use Rattle.std.proofs.lemmas.List.{append-nil}
-use Rattle.std.proofs.Common.{◌≡◌, ℕ, zero, suc, ◌+◌, ◌-◌, ◌*◌, ◌/◌, ◌%◌, ◌≤◌, Bool, true, false, IsTrue, List, [], ◌∷◌, ◌++◌, length, map, Result, Ok, Err, is_ok, refl, sym, ◌∙◌, ap, subst, arith, length-append}
+use Rattle.std.proofs.Common.{◌≡◌, ℕ, zero, suc, ◌+◌, ◌-◌, ◌*◌, ◌/◌, ◌%◌, ◌≤◌, Bool, true, false, IsTrue, List, [], ◌∷◌, ◌++◌, length, drop, map, Result, Ok, Err, is_ok, refl, sym, ◌∙◌, ap, subst, arith, length-append}
+use Rattle.std.proofs.Math.Nat.{mul-div_cancel}
 use Rattle.std.specs.declared.io.Error.{Error as IoFault}
 use Rattle.hound_number.proofs.Mixing.{mix_le}
 use Rattle.hound_sample.specs.{containers}
+use Rattle.hound_spec.specs.{data_start, header}
+use Rattle.hound_spec.proofs.HeaderLemmas.{length-header}
 use Rattle.hound_spec.specs.declared.error.Error.{Error}
 use Rattle.hound_spec.specs.declared.error.Error.TheVariants.{IoError, UnfinishedSample}
 use Rattle.hound_spec.specs.declared.spec.WavSpecEx.{WavSpecEx}
-use Rattle.hound_medium.specs.{Flushes, MediumState}
+use Rattle.hound_medium.specs.{Flushes, MediumState, Stays}
 use Rattle.hound_medium.proofs.Spans.{flushed_since, moment_last}
+use Rattle.hound_reader.specs.{Head, Readable}
 use Rattle.hound_writer.specs.Accepting.{Accepts, mark_of, whole_containers}
-use Rattle.hound_writer.specs.Calls.{AreKnown, Asked, Call, Does, Lead, write}
+use Rattle.hound_writer.specs.Beginning.{Begins}
+use Rattle.hound_writer.specs.Calls.{AreKnown, Asked, Call, Does, Lead, Opens, new_file, write}
 use Rattle.hound_writer.specs.Effects.{Log, Performed, checkpoint, log_state}
 use Rattle.hound_writer.specs.Parts.{after_out, IsPublishResult, IsStanding}
 use Rattle.hound_writer.specs.Publishing.{PublishesTo}
-use Rattle.hound_writer.specs.Recording.{Acted, Action, Acts, ActsAll, after_action, asked_of, block, known_of, resync, save}
+use Rattle.hound_writer.specs.Recording.{Acted, Action, Acts, ActsAll, Opened, Resumed, asked_of, block, known_of, out_after, recording, resumed_file, resync, save}
 use Rattle.hound_writer.specs.Writer.{WriterState, IsSound, data_end, data_length, field, sample_count}
 use Rattle.hound_writer.proofs.Accepting.{accepts_all, accepts_none, sound_more, still}
+use Rattle.hound_writer.proofs.Appending.{follows, sound_head, stands_on}
+use Rattle.hound_writer.proofs.Beginning.{header_file, sound_begin, stands_begin}
 use Rattle.hound_writer.proofs.Blocks.{accepts_waiting}
 use Rattle.hound_writer.proofs.Checkpoint.{as_all, as_cut, bad, fine, goes_still, known, publishes_checkpoint, sound_over}
-use Rattle.hound_writer.proofs.Containers.{none_whole, zero_div}
-use Rattle.hound_writer.proofs.Heads.{head_with}
+use Rattle.hound_writer.proofs.Containers.{count_bytes, none_whole, zero_div}
+use Rattle.hound_writer.proofs.Heads.{head_behind, head_with}
 use Rattle.hound_writer.proofs.Later.{accepts_cut, accepts_later}
 use Rattle.hound_writer.proofs.Recording.{call_at, call_spec}
-use Rattle.hound_writer.proofs.Samples.{length_out}
+use Rattle.hound_writer.proofs.Samples.{length_out, samples_out}
 use Rattle.hound_writer.proofs.Standing.{inside, stands_more}
 
 -- what holds between the actions
@@ -151,7 +158,7 @@ module _ (w : WriterState Log) (good : Good w) (m : Log) where
 -- an action is a call
 pub acts_call : (action : Action) (r : Result (Unit {0}) IoFault) (w : WriterState Log) (m : Log)
     → Good w → Acts action r w m
-    → IsCall (asked_of w.spec_ex action) (is_ok r) w (after_action action r m w)
+    → IsCall (asked_of w.spec_ex action) (is_ok r) w (record w { medium = m; out = out_after action r w.out })
 acts_call (block bytes) (Ok x) w m good (room, whole, puts) =
     let all = as_all (w.data_start + w.out) bytes x w.medium.state m.state puts in
     record {
@@ -192,7 +199,7 @@ pub acts_lead : (s : WavSpecEx) (actions : List Acted) (w last : WriterState Log
     × AreKnown (map (known_of s) actions) calls
 acts_lead s [] w last spec good is = ([], (w.buffer, is), tt)
 acts_lead s (one ∷ rest) w last spec good (log, acts, then) =
-    let next = after_action one.action one.result log w in
+    let next = record w { medium = log; out = out_after one.action one.result w.out } in
     let call : IsCall (asked_of s one.action) (is_ok one.result) w next =
     subst (λ t. IsCall (asked_of t one.action) (is_ok one.result) w next) spec
     (acts_call one.action one.result w log good acts) in
@@ -202,4 +209,76 @@ acts_lead s (one ∷ rest) w last spec good (log, acts, then) =
       call_at true true log_state asked call.answer w ∷ calls,
       (w.buffer, next, refl, call.does, lead),
       ((refl, call.mark), known),
+    )
+
+-- the recording of a new file begins as a writer does
+pub opened : (s : WavSpecEx) (old : MediumState) (log : Log) → Opened s old log
+    → let w = recording s (data_start s) 0 log in Opens true true log_state s (new_file old) w × Good w
+opened s old log opens =
+    subst (λ n. let w = recording s n 0 log in Begins true true log_state s old w × Good w)
+    (length-header s 0 0)
+    (let start = length (header s 0 0) in
+    let sound : IsSound (recording s start 0 log) =
+    sound_begin log s start opens.writable (length-header s 0 0) in (
+      record {
+        begun = record {
+          writable = opens.writable;
+          sound = sound;
+          spec = refl;
+          start = length-header s 0 0;
+          none_out = refl;
+          none_waits = refl;
+          buffer = refl;
+        };
+        file = λ _. header_file true log_state s old log opens.writable opens.begins opens.puts;
+      },
+      record {
+        none = refl;
+        sound = sound;
+        stands = stands_begin true log_state s old log opens.writable opens.begins opens.puts;
+      },
+    ))
+
+-- a count of samples that can be read is that of all data
+readable_length : (s : WavSpecEx) (samples start : ℕ) (contents : List ℕ)
+    → (r : Readable contents s samples start) → r.len ≡ samples * s.bytes_per_sample
+readable_length s samples start contents r =
+    let whole : r.len % s.bytes_per_sample ≡ 0 = grind (arith, common_steps) in
+    sym (count_bytes r.len s.bytes_per_sample whole) ∙ ap (λ n. n * s.bytes_per_sample) (sym r.count)
+
+-- and that of a file that was there as one that appends
+pub resumed : (s : WavSpecEx) (samples start : ℕ) (log : Log) → Resumed s samples start log
+    → let w = recording s start (samples * s.bytes_per_sample) log in
+    Opens true true log_state s (resumed_file s samples start log) w × Good w
+resumed s samples start log is =
+    let len = samples * s.bytes_per_sample in
+    let w = recording s start len log in
+    let old = log.state in
+    let head : Head old.contents s len start =
+    subst (λ n. Head old.contents s n start) (readable_length s samples start old.contents is.readable)
+    is.readable.head in
+    let after = head_behind old.contents s len start head in
+    let sound : IsSound w = sound_head log s len start is.sound after is.check in
+    let stays : Stays old old = record { contents = refl; start = refl; past = refl } in
+    let count : len / s.bytes_per_sample ≡ samples = mul-div_cancel samples is.sound.1 in (
+      record {
+        appends = record {
+          sound = sound;
+          sound_spec = is.sound;
+          none_waits = refl;
+          buffer = refl;
+          file = λ _. follows log_state log s len start old is.sound after head is.check
+              (record { stays = stays; place = is.place; flushed = refl; faults = refl });
+        };
+        spec_is = refl;
+        start_is = refl;
+        whole = λ _. is.held;
+        found_is = λ _. samples_out log_state w refl sound
+            ∙ ap (λ n. containers s.bytes_per_sample n (drop start old.contents)) count;
+      },
+      record {
+        none = refl;
+        sound = sound;
+        stands = stands_on s len start old.contents old.contents head refl;
+      },
     )

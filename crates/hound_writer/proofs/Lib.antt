@@ -28,3 +28,4 @@ pub mod Recording
 pub mod Fresh
 pub mod Checkpoint
 pub mod Acting
+pub mod Ordering

@@ -25,12 +25,10 @@ pub record Acted : Type 0 where
   pub action : Action
   pub result : Result (Unit {0}) IoFault
 
--- the recording after an action, over what it left: the bytes of a block count if all were written
-abbrev pub after_action : Action → Result (Unit {0}) IoFault → Log → WriterState Log → WriterState Log
-after_action (block bytes) (Ok x) log w = record w { medium = log; out = w.out + length bytes }
-after_action (block bytes) (Err e) log w = record w { medium = log }
-after_action save result log w = record w { medium = log }
-after_action resync result log w = record w { medium = log }
+-- how many bytes of data there are then: those of a block count if all were written
+abbrev pub out_after : Action → Result (Unit {0}) IoFault → ℕ → ℕ
+out_after (block bytes) (Ok x) out = out + length bytes
+out_after action result out = out
 
 -- What an action does to the file. A short write that is continued with its rest is one write.
 abbrev pub Acts : Action → Result (Unit {0}) IoFault → WriterState Log → Log → Type 0
@@ -44,7 +42,8 @@ Acts resync result w log = Flushes result w.medium.state log.state
 abbrev pub ActsAll : List Acted → WriterState Log → WriterState Log → Type 0
 ActsAll [] old new = new ≡ old
 ActsAll (one ∷ rest) old new = (log : Log) × Acts one.action one.result old log
-    × ActsAll rest (after_action one.action one.result log old) new
+    × ActsAll rest
+    (record old { medium = log; out = out_after one.action one.result old.out }) new
 
 -- A new file is recorded: its header was written, with both sizes 0.
 pub record Opened (s : WavSpecEx) (old : MediumState) (log : Log) : Type 0 where
