@@ -164,14 +164,14 @@ next_ready resync (next ∷ rest) high m may calm = absurd may
 next_ready (block bytes) (next ∷ rest) high m may calm = inr (calm, may)
 next_ready save (next ∷ rest) high m may calm = inr (calm, may)
 
-pub actions_ordered : (actions : List Acted) (w last : WriterState Log) → 20 ≤ w.data_start
+ready_ordered : (actions : List Acted) (w last : WriterState Log) → 20 ≤ w.data_start
     → Ready actions (end_of w) w.medium.state → IsCareful actions → ActsAll actions w last
     → Calm last.medium.state
-actions_ordered [] w last after order careful is = rw is order
-actions_ordered (one ∷ rest) w last after order careful (log, acts, then) =
+ready_ordered [] w last after order careful is = rw is order
+ready_ordered (one ∷ rest) w last after order careful (log, acts, then) =
     let next = record w { medium = log; out = out_after one.action one.result w.out } in
     let (calm, ordered) = action_ordered one.action one.result w log after order acts in
-    actions_ordered rest next last after (go (is_ok one.result) refl calm ordered) careful.1 then
+    ready_ordered rest next last after (go (is_ok one.result) refl calm ordered) careful.1 then
   where
     go : (ok : Bool) → is_ok one.result ≡ ok → Calm log.state
         → (is_ok one.result ≡ true
@@ -179,6 +179,13 @@ actions_ordered (one ∷ rest) w last after order careful (log, acts, then) =
         → Ready rest (w.data_start + out_after one.action one.result w.out) log.state
     go true is calm ordered = ready rest _ log.state (ordered is)
     go false is calm ordered = next_ready one.action rest _ log.state (careful.0 is) calm
+
+-- careful actions after bytes in order
+pub actions_ordered : (actions : List Acted) (w last : WriterState Log) → 20 ≤ w.data_start
+    → InOrder (w.data_start + w.out) w.medium.state → IsCareful actions → ActsAll actions w last
+    → Calm last.medium.state
+actions_ordered actions w last after order careful did =
+    ready_ordered actions w last after (ready actions (end_of w) w.medium.state order) careful did
 
 -- a header that was written to a medium to which nothing was written before
 pub header_in_order : (s : WavSpecEx) (old : MediumState) (log : Log) → Opened s old log → IsFresh old
