@@ -12,7 +12,8 @@ use Rattle.hound_sample.specs.{too_wide}
 use Rattle.hound_writer.specs.{Acted, ActsAll, Begun, Call, IsCareful, IsFresh, IsSound, IsStanding, LeavesWriter, Left, Log, Opened, Opens, Performed, PutsAt, Resumed, WriterState, field, found_in, known_of, log_state, new_file, recording, resumed_file, start_of, write}
 use Rattle.hound_writer.specs.declared.effects.Effect.TheVariants.{Size, Sync}
 use Rattle.hound_writer.proofs.Accepting.{type_refuses}
-use Rattle.hound_writer.proofs.Acting.{Good, acts_lead, opened, resumed}
+use Rattle.hound_writer.proofs.Acting.{acts_lead, opened, resumed}
+use Rattle.hound_writer.proofs.Checkpoint.{Good}
 use Rattle.hound_writer.proofs.Ordering.{Calm, actions_ordered, header_in_order, in_order_none}
 use Rattle.hound_writer.proofs.Recording.{call_at, lead_more, opens_spec}
 use Rattle.hound_writer.proofs.Samples.{length_out}

@@ -6,7 +6,7 @@ use Rattle.std.proofs.Common.{◌≡◌, ℕ, zero, suc, ◌+◌, ◌-◌, ◌*�
 use Rattle.std.proofs.Math.Nat.{mul-div_cancel}
 use Rattle.std.specs.declared.io.Error.{Error as IoFault}
 use Rattle.hound_number.proofs.Mixing.{mix_le}
-use Rattle.hound_sample.specs.{containers}
+use Rattle.hound_sample.specs.{Refusal, containers}
 use Rattle.hound_spec.specs.{data_start, header}
 use Rattle.hound_spec.proofs.HeaderLemmas.{length-header}
 use Rattle.hound_spec.specs.declared.error.Error.{Error}
@@ -17,9 +17,9 @@ use Rattle.hound_medium.proofs.Spans.{flushed_since, moment_last}
 use Rattle.hound_reader.specs.{Head, Readable}
 use Rattle.hound_writer.specs.Accepting.{Accepts, mark_of, whole_containers}
 use Rattle.hound_writer.specs.Beginning.{Begins}
-use Rattle.hound_writer.specs.Calls.{AreKnown, Asked, Call, Does, Lead, Opens, new_file, write}
+use Rattle.hound_writer.specs.Calls.{AreKnown, Asked, Call, Does, Lead, Opens, new_file, publish, write}
 use Rattle.hound_writer.specs.Effects.{Log, Performed, checkpoint, log_state}
-use Rattle.hound_writer.specs.Parts.{after_out, IsPublishResult, IsStanding}
+use Rattle.hound_writer.specs.Parts.{GoesOut, IsPublishResult}
 use Rattle.hound_writer.specs.Publishing.{PublishesTo}
 use Rattle.hound_writer.specs.Recording.{Acted, Action, Acts, ActsAll, Opened, Resumed, asked_of, block, known_of, out_after, recording, resumed_file, resync, save}
 use Rattle.hound_writer.specs.Writer.{WriterState, IsSound, data_end, data_length, field, sample_count}
@@ -27,19 +27,13 @@ use Rattle.hound_writer.proofs.Accepting.{accepts_all, accepts_none, sound_more,
 use Rattle.hound_writer.proofs.Appending.{follows, sound_head, stands_on}
 use Rattle.hound_writer.proofs.Beginning.{header_file, sound_begin, stands_begin}
 use Rattle.hound_writer.proofs.Blocks.{accepts_waiting}
-use Rattle.hound_writer.proofs.Checkpoint.{as_all, as_cut, bad, fine, goes_still, known, publishes_checkpoint, sound_over}
+use Rattle.hound_writer.proofs.Checkpoint.{Good, as_out, bad, fine, goes_still, good_over, known, publishes_checkpoint, stands_still}
 use Rattle.hound_writer.proofs.Containers.{count_bytes, none_whole, zero_div}
 use Rattle.hound_writer.proofs.Heads.{head_behind, head_with}
 use Rattle.hound_writer.proofs.Later.{accepts_cut, accepts_later}
 use Rattle.hound_writer.proofs.Recording.{call_at, call_spec}
 use Rattle.hound_writer.proofs.Samples.{length_out, samples_out}
 use Rattle.hound_writer.proofs.Standing.{inside, stands_more}
-
--- what holds between the actions
-pub record Good (w : WriterState Log) : Type 0 where
-  pub none : w.waiting ≡ []
-  pub sound : IsSound w
-  pub stands : IsStanding w.spec_ex w.data_start w.out w.medium.state.contents
 
 -- what an action did is what a call does, with this mark
 pub record IsCall (asked : Asked) (ok : Bool) (old new : WriterState Log) : Type 0 where
@@ -64,95 +58,60 @@ is_zero : (n : ℕ) → (b : Bool) × (IsTrue b → n ≡ 0) × (n ≡ 0 → IsT
 is_zero zero = (true, (λ _. refl), (λ _. refl))
 is_zero (suc n) = (false, (λ is. absurd (false≢true is)), (λ e. absurd (omega (arith, e))))
 
-module _ (w : WriterState Log) (good : Good w) (m : Log) where
+-- a checkpoint is a call that publishes
+save_call : (r : Result (Unit {0}) IoFault) (w : WriterState Log) (m : Log) → Good w
+    → Performed (checkpoint w.data_start w.out) r w.medium m
+    → IsCall publish (is_ok r) w (record w { medium = m })
+save_call r w m good did =
+    let (frames, so, back) = is_zero (sample_count w % w.spec_ex.spec.channels) in
+    let told = is_told r frames in
+    let (does, stands) =
+    publishes_checkpoint r frames (told_of r frames) told.0 m w good (so, back) did in
+    record {
+      answer = told_of r frames;
+      does = does;
+      mark = told.1;
+      good = good_over w m good stands;
+    }
+
+-- a sync is a call for no samples
+module _ (w : WriterState Log) (m : Log) (good : Good w) where
   abbrev over : WriterState Log
   over = record w { medium = m }
 
-  -- a checkpoint leaves the head, and a length that counts no more than the data
-  stands_then : (at : ℕ) (told : Result (Unit {0}) Error)
-      → PublishesTo true true log_state at told w (record w { medium = m })
-      → IsStanding w.spec_ex w.data_start w.out m.state.contents
-  stands_then at told p =
-      let a = w.medium.state in
-      let left = p.publishes refl in
-      let half = (p.moments refl refl).half in
-      let n = length m.state.past in
-      let more : length a.past ≤ n = omega (arith, ap length half.past, length-append a.past half.added) in
-      let torn = rw (moment_last m.state m.replays) at (half.each n more (omega arith)).length_is in
-      record {
-        head = head_with a.contents w.spec_ex (field (w.data_start - 4) a.contents) w.data_start
-            good.stands.head m.state.contents
-            (omega (arith, left.grows, inside w.spec_ex w.data_start w.out a.contents a.contents good.stands))
-            left.front.front left.front.middle;
-        counted = omega (
-          arith,
-          torn,
-          length_out log_state w good.none,
-          mix_le (n - (p.moments refl refl).split) (field (w.data_start - 4) a.contents) (data_length w)
-              (omega (arith, good.stands.counted, length_out log_state w good.none)),
-        );
-      }
+  abbrev none : Result (List (List ℕ)) Refusal
+  none = whole_containers w.spec_ex []
 
-  save_call : (r : Result (Unit {0}) IoFault)
-      → Performed (checkpoint w.data_start w.out) r w.medium m
-      → IsCall (asked_of w.spec_ex save) (is_ok r) w (record w { medium = m })
-  save_call r did =
-      let (frames, so, back) = is_zero (sample_count w % w.spec_ex.spec.channels) in
-      let told = told_of r frames in
-      let does : PublishesTo true true log_state m.state.place told w over =
-      publishes_checkpoint w m r frames told good.none good.sound good.stands did
-      (is_told r frames).0 (so, back) in
-      record {
-        answer = told;
-        does = does;
-        mark = (is_told r frames).1;
-        good = record {
-          none = good.none;
-          sound = sound_over w m good.sound;
-          stands = stands_then m.state.place told does;
-        };
-      }
-
-  good_still : (r : Result (Unit {0}) IoFault) → Flushes r w.medium.state m.state
-      → Good (record w { medium = m })
-  good_still r flush = record {
-    none = good.none;
-    sound = sound_over w m good.sound;
-    stands = rw flush.stays.contents good.stands;
-  }
-
-  -- an Ok sync leaves what a call for no samples leaves
-  accepts_no : (x : Unit {0}) → Flushes (fine x) w.medium.state m.state
+  -- an Ok one accepts them
+  accepts_no : Good (record w { medium = m })
+      → GoesOut true true log_state (data_end w) true w (record w { medium = m })
       → Accepts true true log_state (whole_containers w.spec_ex []) (Ok tt) w (record w { medium = m })
-  accepts_no x flush =
-      let out = goes_still w good.none good.sound good.stands (data_end w) (omega arith) m true
-      flush.stays (flushed_since (fine x) w.medium.state m.state flush) flush.faults in
-      let now = good_still (Ok x) flush in
-      let nothing : Accepts true true log_state (whole_containers w.spec_ex []) (Ok tt) over over =
-      subst (λ l. Accepts true true log_state (whole_containers w.spec_ex []) (Ok tt) over
-      (record w { medium = m; waiting = l })) (append-nil w.waiting)
-      (accepts_waiting true true log_state over true 0 (known over now.none now.sound now.stands) []
+  accepts_no now out =
+      let nothing : Accepts true true log_state none (Ok tt) over over =
+      subst (λ l. Accepts true true log_state none (Ok tt) over (record w { medium = m; waiting = l }))
+      (append-nil w.waiting)
+      (accepts_waiting true true log_state over true 0 (known over now) []
       (omega (arith, good.sound.fits)) (none_whole w.spec_ex.bytes_per_sample) (λ _ _. m.replays)) in
-      accepts_later true true log_state w over over (whole_containers w.spec_ex []) (Ok tt) out tt
-      (subst (λ v. Accepts true true log_state (whole_containers w.spec_ex []) (Ok tt) v over) out.value
-      nothing)
+      accepts_later true true log_state w over over none (Ok tt) out tt
+      (subst (λ v. Accepts true true log_state none (Ok tt) v over) out.value nothing)
 
   sync_call : (r : Result (Unit {0}) IoFault) → Flushes r w.medium.state m.state
       → IsCall (write (whole_containers w.spec_ex [])) (is_ok r) w (record w { medium = m })
-  sync_call (Ok x) flush = record {
-    answer = Ok tt;
-    does = accepts_no x flush;
-    mark = refl;
-    good = good_still (Ok x) flush;
-  }
+  sync_call (Ok x) flush =
+      let now = good_over w m good (stands_still w good (data_end w) m (fine x) flush) in
+      record {
+        answer = Ok tt;
+        does = accepts_no now (goes_still w good (data_end w) m (fine x) flush);
+        mark = refl;
+        good = now;
+      }
   sync_call (Err e) flush = record {
     answer = Err (IoError e);
     does = accepts_cut true true log_state (data_end w) w over [] e
-        (goes_still w good.none good.sound good.stands (data_end w) (omega arith) m false flush.stays
-        (flushed_since (bad e) w.medium.state m.state flush) flush.faults)
-        (omega (arith, good.sound.fits)) (none_whole w.spec_ex.bytes_per_sample);
+        (goes_still w good (data_end w) m (bad e) flush) (omega (arith, good.sound.fits))
+        (none_whole w.spec_ex.bytes_per_sample);
     mark = refl;
-    good = good_still (Err e) flush;
+    good = good_over w m good (stands_still w good (data_end w) m (bad e) flush);
   }
 
 -- an action is a call
@@ -160,7 +119,7 @@ pub acts_call : (action : Action) (r : Result (Unit {0}) IoFault) (w : WriterSta
     → Good w → Acts action r w m
     → IsCall (asked_of w.spec_ex action) (is_ok r) w (record w { medium = m; out = out_after action r w.out })
 acts_call (block bytes) (Ok x) w m good (room, whole, puts) =
-    let all = as_all (w.data_start + w.out) bytes x w.medium.state m.state puts in
+    let all = as_out (w.data_start + w.out) bytes (fine x) w.medium.state m.state puts in
     record {
       answer = Ok tt;
       does = accepts_all true true log_state w good.none good.sound (λ _. good.stands) m bytes room
@@ -174,23 +133,19 @@ acts_call (block bytes) (Ok x) w m good (room, whole, puts) =
       };
     }
 acts_call (block bytes) (Err e) w m good (room, whole, puts) =
-    let some = as_cut (w.data_start + w.out) bytes e w.medium.state m.state puts in
+    let some = as_out (w.data_start + w.out) bytes (bad e) w.medium.state m.state puts in
     record {
       answer = Err (IoError e);
       does = accepts_none true true log_state w good.none good.sound (λ _. good.stands) m bytes room
           whole e (λ _. some) (λ _ _. w.medium.replays);
       mark = refl;
-      good = record {
-        none = good.none;
-        sound = sound_over w m good.sound;
-        stands = still true true log_state w (λ _. good.stands) m bytes _ refl some;
-      };
+      good = good_over w m good (still true true log_state w (λ _. good.stands) m bytes _ refl some);
     }
-acts_call save r w m good did = save_call w good m r did
+acts_call save r w m good did = save_call r w m good did
 acts_call resync r w m good flush =
     subst (λ l. IsCall (write (Ok l)) (is_ok r) w (record w { medium = m }))
     (ap (λ n. containers w.spec_ex.bytes_per_sample n []) (zero_div w.spec_ex.bytes_per_sample))
-    (sync_call w good m r flush)
+    (sync_call w m good r flush)
 
 -- actions lead as calls of which the same is known
 pub acts_lead : (s : WavSpecEx) (actions : List Acted) (w last : WriterState Log) → w.spec_ex ≡ s → Good w
