@@ -2,38 +2,35 @@
 use Rattle.std.proofs.lemmas.Grind.{common_steps}
 use Rattle.std.proofs.lemmas.Bool.{false≢true}
 use Rattle.std.proofs.lemmas.List.{append-nil}
-use Rattle.std.proofs.Common.{◌≡◌, ℕ, zero, suc, ◌+◌, ◌-◌, ◌*◌, ◌/◌, ◌%◌, ◌≤◌, Bool, true, false, IsTrue, List, [], ◌∷◌, ◌++◌, length, drop, map, Result, Ok, Err, is_ok, refl, sym, ◌∙◌, ap, subst, arith, length-append}
+use Rattle.std.proofs.Common.{◌≡◌, ℕ, zero, suc, ◌+◌, ◌*◌, ◌/◌, ◌%◌, Bool, true, false, IsTrue, List, [], ◌∷◌, length, drop, map, Result, Ok, Err, is_ok, refl, rules, ◌∙◌, ap, subst, arith}
 use Rattle.std.proofs.Math.Nat.{mul-div_cancel}
 use Rattle.std.specs.declared.io.Error.{Error as IoFault}
-use Rattle.hound_number.proofs.Mixing.{mix_le}
 use Rattle.hound_sample.specs.{Refusal, containers}
 use Rattle.hound_spec.specs.{data_start, header}
 use Rattle.hound_spec.proofs.HeaderLemmas.{length-header}
 use Rattle.hound_spec.specs.declared.error.Error.{Error}
 use Rattle.hound_spec.specs.declared.error.Error.TheVariants.{IoError, UnfinishedSample}
 use Rattle.hound_spec.specs.declared.spec.WavSpecEx.{WavSpecEx}
-use Rattle.hound_medium.specs.{Flushes, MediumState, Stays}
-use Rattle.hound_medium.proofs.Spans.{flushed_since, moment_last}
+use Rattle.hound_medium.specs.{Flushes, Goes, MediumState, Stays}
 use Rattle.hound_reader.specs.{Head, Readable}
 use Rattle.hound_writer.specs.Accepting.{Accepts, mark_of, whole_containers}
 use Rattle.hound_writer.specs.Beginning.{Begins}
 use Rattle.hound_writer.specs.Calls.{AreKnown, Asked, Call, Does, Lead, Opens, new_file, publish, write}
 use Rattle.hound_writer.specs.Effects.{Log, Performed, checkpoint, log_state}
 use Rattle.hound_writer.specs.Parts.{GoesOut, IsPublishResult}
-use Rattle.hound_writer.specs.Publishing.{PublishesTo}
 use Rattle.hound_writer.specs.Recording.{Acted, Action, Acts, ActsAll, Opened, Resumed, asked_of, block, known_of, out_after, recording, resumed_file, resync, save}
-use Rattle.hound_writer.specs.Writer.{WriterState, IsSound, data_end, data_length, field, sample_count}
+use Rattle.hound_writer.specs.Writer.{WriterState, IsSound, accepted_samples, data_end, sample_count}
 use Rattle.hound_writer.proofs.Accepting.{accepts_all, accepts_none, sound_more, still}
 use Rattle.hound_writer.proofs.Appending.{follows, sound_head, stands_on}
 use Rattle.hound_writer.proofs.Beginning.{header_file, sound_begin, stands_begin}
 use Rattle.hound_writer.proofs.Blocks.{accepts_waiting}
 use Rattle.hound_writer.proofs.Checkpoint.{Good, as_out, bad, fine, goes_still, good_over, known, publishes_checkpoint, stands_still}
 use Rattle.hound_writer.proofs.Containers.{count_bytes, none_whole, zero_div}
-use Rattle.hound_writer.proofs.Heads.{head_behind, head_with}
+use Rattle.hound_writer.proofs.Heads.{head_behind}
 use Rattle.hound_writer.proofs.Later.{accepts_cut, accepts_later}
 use Rattle.hound_writer.proofs.Recording.{call_at, call_spec}
-use Rattle.hound_writer.proofs.Samples.{length_out, samples_out}
-use Rattle.hound_writer.proofs.Standing.{inside, stands_more}
+use Rattle.hound_writer.proofs.Samples.{samples_out}
+use Rattle.hound_writer.proofs.Standing.{stands_more}
 
 -- what an action did is what a call does, with this mark
 pub record IsCall (asked : Asked) (ok : Bool) (old new : WriterState Log) : Type 0 where
@@ -176,15 +173,7 @@ opened s old log opens =
     let sound : IsSound (recording s start 0 log) =
     sound_begin log s start opens.writable (length-header s 0 0) in (
       record {
-        begun = record {
-          writable = opens.writable;
-          sound = sound;
-          spec = refl;
-          start = length-header s 0 0;
-          none_out = refl;
-          none_waits = refl;
-          buffer = refl;
-        };
+        begun = let writable = opens.writable in let begins = length-header s 0 0 in search rules;
         file = λ _. header_file true log_state s old log opens.writable opens.begins opens.puts;
       },
       record {
@@ -197,9 +186,7 @@ opened s old log opens =
 -- a count of samples that can be read is that of all data
 readable_length : (s : WavSpecEx) (samples start : ℕ) (contents : List ℕ)
     → (r : Readable contents s samples start) → r.len ≡ samples * s.bytes_per_sample
-readable_length s samples start contents r =
-    let whole : r.len % s.bytes_per_sample ≡ 0 = grind (arith, common_steps) in
-    sym (count_bytes r.len s.bytes_per_sample whole) ∙ ap (λ n. n * s.bytes_per_sample) (sym r.count)
+readable_length s samples start contents r = grind (arith, common_steps, count_bytes)
 
 -- and that of a file that was there as one that appends
 pub resumed : (s : WavSpecEx) (samples start : ℕ) (log : Log) → Resumed s samples start log
@@ -214,26 +201,15 @@ resumed s samples start log is =
     is.readable.head in
     let after = head_behind old.contents s len start head in
     let sound : IsSound w = sound_head log s len start is.sound after is.check in
-    let stays : Stays old old = record { contents = refl; start = refl; past = refl } in
-    let count : len / s.bytes_per_sample ≡ samples = mul-div_cancel samples is.sound.1 in (
-      record {
-        appends = record {
-          sound = sound;
-          sound_spec = is.sound;
-          none_waits = refl;
-          buffer = refl;
-          file = λ _. follows log_state log s len start old is.sound after head is.check
-              (record { stays = stays; place = is.place; flushed = refl; faults = refl });
-        };
-        spec_is = refl;
-        start_is = refl;
-        whole = λ _. is.held;
-        found_is = λ _. samples_out log_state w refl sound
-            ∙ ap (λ n. containers s.bytes_per_sample n (drop start old.contents)) count;
-      },
-      record {
-        none = refl;
-        sound = sound;
-        stands = stands_on s len start old.contents old.contents head refl;
-      },
-    )
+    let stays : Stays old old = search rules in
+    let goes : Goes {T = Unit {0}} {E = IoFault} (start + len) (Ok tt) old old =
+    record { stays = stays; place = is.place; flushed = refl; faults = refl } in
+    let file = λ (told : IsTrue true).
+    follows log_state log s len start old is.sound after head is.check goes in
+    let count : len / s.bytes_per_sample ≡ samples = mul-div_cancel samples is.sound.1 in
+    let found : accepted_samples log_state w ≡ containers s.bytes_per_sample samples (drop start old.contents) =
+    rw count at (samples_out log_state w refl sound) in
+    let stands = stands_on s len start old.contents old.contents head refl in
+    let kind = is.sound in
+    let held = is.held in
+    search rules

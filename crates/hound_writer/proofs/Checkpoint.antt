@@ -1,7 +1,6 @@
 -- The effects of a checkpoint publish as a writer does.
-use Rattle.std.proofs.lemmas.Bool.{false≢true}
 use Rattle.std.proofs.lemmas.Grind.{common_steps}
-use Rattle.std.proofs.Common.{◌≡◌, ℕ, zero, suc, ◌+◌, ◌-◌, ◌%◌, ◌<◌, ◌^◌, ◌≤◌, Bool, true, false, IsTrue, List, [], ◌∷◌, ◌++◌, replicate, length, take, drop, Result, Ok, Err, MatchResult, is_ok, refl, rules, sym, ◌∙◌, ap, subst, arith}
+use Rattle.std.proofs.Common.{◌≡◌, ℕ, zero, suc, ◌+◌, ◌-◌, ◌%◌, ◌<◌, ◌^◌, Bool, true, false, IsTrue, List, [], ◌∷◌, ◌++◌, replicate, length, Result, Ok, Err, MatchResult, is_ok, refl, rules, sym, ◌∙◌, ap, subst, arith}
 use Rattle.std.specs.declared.io.Error.{Error as IoFault}
 use Rattle.hound_number.specs.{bytes_of}
 use Rattle.hound_spec.specs.{riff_size, padding}
@@ -14,14 +13,14 @@ use Rattle.hound_writer.specs.Accepting.{AddsAtEach}
 use Rattle.hound_writer.specs.Effects.{Log, Performed, checkpoint, log_state, pad_effects, size_effects}
 use Rattle.hound_writer.specs.Parts.{all_out, after_out, GoesOut, HasSize, IsConsistent, IsPublishResult, IsStanding, Patches, PatchesAtEach, PutsAt, StaysAround}
 use Rattle.hound_writer.specs.Publishing.{PublishesTo}
-use Rattle.hound_writer.specs.Writer.{Counts, WriterState, AreFrames, IsPadded, IsSound, accepted_samples, data_length, padded_end}
+use Rattle.hound_writer.specs.Writer.{WriterState, AreFrames, IsPadded, IsSound, data_length, padded_end}
 use Rattle.hound_writer.specs.declared.effects.Effect.{Effect}
 use Rattle.hound_writer.specs.declared.effects.Effect.TheVariants.{Size, Sync}
 use Rattle.hound_writer.proofs.Accepting.{goes_beside}
 use Rattle.hound_writer.proofs.Containers.{none_whole}
 use Rattle.hound_writer.proofs.Keeping.{sound_with}
 use Rattle.hound_writer.proofs.Padding.{goes_out, padded_odd}
-use Rattle.hound_writer.proofs.Patching.{cut, first_half, has_size, patched, second_half}
+use Rattle.hound_writer.proofs.Patching.{cut, first_half, patched, second_half}
 use Rattle.hound_writer.proofs.PatchMoments.{patches_none, patches_both, patches_still, publishes_to, riff_span}
 use Rattle.hound_writer.proofs.PublishLater.{published_cut, published_later}
 use Rattle.hound_writer.proofs.Samples.{length_out, valid_of, whole_out}
@@ -78,20 +77,10 @@ module _ (w : WriterState Log) (good : Good w) where
   long = length_out log_state w good.none
 
   pub known : IsConsistent true log_state w true 0
-  known = record {
-    sound = good.sound;
-    whole_out = whole_out log_state w good.none good.sound;
-    whole_waiting = ap (λ l. length l % w.spec_ex.bytes_per_sample) good.none ∙ none_whole w.spec_ex.bytes_per_sample;
-    block = omega (arith, ap length good.none);
-    room = record { block = omega arith; file = λ some. absurd (omega (arith, some)) };
-    stands = λ _. good.stands;
-    place = λ _ is. absurd (false≢true (sym is));
-  }
+  known = grind (arith, common_steps, whole_out, none_whole)
 
   has : HasSize p a.contents
-  has = has_size p a.contents (omega (arith, good.sound.after_head))
-      (omega (arith, good.sound.after_head, inside w.spec_ex w.data_start w.out a.contents a.contents good.stands))
-      w.medium.small
+  has = grind (arith, common_steps, inside)
 
   fits : size < 2 ^ 32
   fits = omega (arith, good.sound.fits, long)
@@ -162,12 +151,11 @@ module _ (w : WriterState Log) (good : Good w) where
       sound = good.sound;
       file = λ _. goes_beside log_state far (is_ok r) w m good.sound (whole_out log_state w good.none good.sound)
           (flush.faults ∙ faults_as r a.faults) around_still;
-      moments = λ _ _. record {
-        adds = adds_still;
-        front = span_still (λ _ c. take w.data_start c ≡ take w.data_start a.contents) 0 a m.state
-            w.medium.replays flush.stays.start flush.stays.past (flushed_since r a m.state flush) refl;
-        behind = λ i from to. absurd (omega (arith, from, to, ap length flush.stays.past));
-      };
+      moments = λ _ _.
+          let adds = adds_still in
+          let since = flushed_since r a m.state flush in
+          let same : length m.state.past ≡ length a.past = ap length flush.stays.past in
+          grind (arith, common_steps, span_still);
     }
 
 -- a checkpoint of such a writer, and its result by the frames

@@ -1,12 +1,13 @@
 -- A careful recording writes at ascending places only since it was synced.
 use Rattle.std.proofs.lemmas.Bool.{false≢true}
-use Rattle.std.proofs.Common.{◌≡◌, ◌⊎◌, ℕ, zero, suc, ◌+◌, ◌-◌, ◌%◌, ◌≤◌, Bool, true, false, List, [], ◌∷◌, ◌++◌, length, take, inl, inr, Result, Ok, Err, is_ok, refl, ◌∙◌, ap, subst, arith, length-take}
+use Rattle.std.proofs.lemmas.Grind.{common_steps}
+use Rattle.std.proofs.Common.{◌≡◌, ◌⊎◌, ℕ, zero, suc, ◌+◌, ◌%◌, ◌≤◌, Bool, true, false, List, [], ◌∷◌, ◌++◌, length, take, inl, inr, Result, Ok, Err, is_ok, refl, rules, ◌∙◌, ap, subst, arith, length-take}
 use Rattle.std.specs.Prelude.{⊤}
 use Rattle.std.specs.declared.io.Error.{Error as IoFault}
-use Rattle.hound_spec.specs.{data_start, header, riff_size}
+use Rattle.hound_spec.specs.{data_start, header}
 use Rattle.hound_spec.specs.declared.spec.WavSpecEx.{WavSpecEx}
 use Rattle.hound_spec.proofs.HeaderLemmas.{length-header}
-use Rattle.hound_medium.specs.{placed, Flushes, MediumState}
+use Rattle.hound_medium.specs.{Flushes, MediumState}
 use Rattle.hound_durable.specs.{Ascends, IsBelow}
 use Rattle.hound_durable.proofs.Ascending.{ascends_more, below_more, length_put}
 use Rattle.hound_writer.specs.Effects.{Log, Performed, Performs, checkpoint, pad_effects, size_effects}
@@ -29,13 +30,7 @@ pub record InOrder (high : ℕ) (m : MediumState) : Type 0 where
 
 -- nothing was written since then
 pub in_order_none : (high : ℕ) (m : MediumState) → m.flushed ≡ length m.past → InOrder high m
-in_order_none high m all = record {
-  calm = record {
-    within = omega (arith, all);
-    ascends = λ i j from less to. absurd (omega (arith, all, from, less, to));
-  };
-  below = λ i from to. absurd (omega (arith, all, from, to));
-}
+in_order_none high m all = grind (arith, common_steps)
 
 -- bytes that are written from there on
 pub puts_in_order : {T E : Type 0} (high at : ℕ) (bytes : List ℕ) (r : Result T E) (old new : MediumState)
@@ -45,14 +40,11 @@ puts_in_order high at bytes r old new le order puts =
     let past = puts.past refl in
     let below : IsBelow (at + length bs) new.past new.flushed =
     rw (past, puts.flushed) (below_more old.past at high old.flushed bs order.below le) in
-    record {
-      calm = record {
-        within = omega (arith, puts.flushed, order.calm.within, ap length past, length_put old.past at bs);
-        ascends = rw (past, puts.flushed)
-            (ascends_more old.past at high old.flushed bs order.below le order.calm.ascends);
-      };
-      below = λ i from to. omega (arith, below i from to, length-take puts.count bytes);
-    }
+    let ascends : Ascends new.past new.flushed (length new.past) =
+    rw (past, puts.flushed) (ascends_more old.past at high old.flushed bs order.below le order.calm.ascends) in
+    let long = ap length past ∙ length_put old.past at bs in
+    let few = length-take puts.count bytes in
+    grind arith
 
 -- a sync
 syncs : {T E : Type 0} (high : ℕ) (r : Result T E) (old new : MediumState) → Calm old
@@ -60,10 +52,7 @@ syncs : {T E : Type 0} (high : ℕ) (r : Result T E) (old new : MediumState) →
 syncs high (Ok x) old new calm flush =
     let order = in_order_none high new flush.flushed in (order.calm, λ _. order)
 syncs high (Err e) old new calm flush = (
-  record {
-    within = omega (arith, calm.within, ap length flush.stays.past, flush.flushed);
-    ascends = rw (flush.stays.past, flush.flushed) calm.ascends;
-  },
+  grind (arith, common_steps),
   λ ok. absurd (false≢true ok),
 )
 
@@ -121,8 +110,7 @@ abbrev end_of : WriterState Log → ℕ
 end_of w = w.data_start + w.out
 
 later : (low high : ℕ) (m : MediumState) → low ≤ high → InOrder low m → InOrder high m
-later low high m le order =
-    record { calm = order.calm; below = λ i from to. omega (arith, order.below i from to, le) }
+later low high m le order = grind (arith, common_steps)
 
 -- what an action needs: a sync needs no order
 abbrev Ready : List Acted → ℕ → MediumState → Type 0
@@ -141,14 +129,17 @@ action_ordered : (action : Action) (r : Result (Unit {0}) IoFault) (w : WriterSt
 action_ordered (block bytes) (Ok x) w log after (inl order) (room, whole, puts) =
     let next = puts_in_order (end_of w) (end_of w) bytes (fine x) w.medium.state log.state (omega arith) order puts in
     (next.calm, λ _. later (end_of w + length bytes) (w.data_start + (w.out + length bytes)) log.state (omega arith) next)
-action_ordered (block bytes) (Err e) w log after (inl order) (room, whole, puts) =
-    ((puts_in_order (end_of w) (end_of w) bytes (bad e) w.medium.state log.state (omega arith) order puts).calm,
-    λ ok. absurd (false≢true ok))
+action_ordered (block bytes) (Err e) w log after (inl order) (room, whole, puts) = (
+  (puts_in_order (end_of w) (end_of w) bytes (bad e) w.medium.state log.state (omega arith) order puts).calm,
+  λ ok. absurd (false≢true ok),
+)
 action_ordered save r w log after (inl order) did =
     let (ordered, low) = checkpoint_ordered w.data_start w.out (w.out % 2) after in
-    let (calm, then) = all_ordered (checkpoint w.data_start w.out) (end_of w) r w.medium log ordered order did in
-    (calm, λ ok. later 0 (end_of w) log.state (omega arith)
-    (subst (λ n. InOrder n log.state) low (then ok)))
+    let (calm, then) = all_ordered (checkpoint w.data_start w.out) (end_of w) r w.medium log ordered order did in (
+      calm,
+      λ ok. later 0 (end_of w) log.state (omega arith)
+          (subst (λ n. InOrder n log.state) low (then ok)),
+    )
 action_ordered resync r w log after (inl order) did =
     syncs (end_of w) r w.medium.state log.state order.calm did
 action_ordered resync r w log after (inr (calm, is)) did =
@@ -193,17 +184,8 @@ pub header_in_order : (s : WavSpecEx) (old : MediumState) (log : Log) → Opened
 header_in_order s old log opens fresh =
     let p = opens.puts in
     let takes = rw opens.begins at p.takes in
-    let puts : PutsAt {T = Unit {0}} {E = IoFault} true 0 (header s 0 0) (Ok tt) old log.state = record {
-      count = p.count;
-      within = p.within;
-      whole = p.whole;
-      contents = takes.contents;
-      place = takes.place ∙ ap (λ n. 0 + n) p.whole;
-      start = takes.start;
-      past = takes.past;
-      flushed = takes.flushed;
-      faults = p.faults;
-    } in
+    let place : log.state.place ≡ 0 + length (header s 0 0) = takes.place ∙ ap (λ n. 0 + n) p.whole in
+    let puts : PutsAt {T = Unit {0}} {E = IoFault} true 0 (header s 0 0) (Ok tt) old log.state = search rules in
     let end : 0 + length (header s 0 0) ≡ data_start s + 0 = omega (arith, length-header s 0 0) in
     subst (λ n. InOrder n log.state) end
     (puts_in_order 0 0 (header s 0 0) (fine tt) old log.state (omega arith)

@@ -1,10 +1,10 @@
 -- A recording whose caller writes the samples and performs the effects: one action after the other.
-use Rattle.std.specs.Prelude.{◌≡◌, ℕ, ⊤, ◌+◌, ◌*◌, ◌%◌, ◌≤◌, true, false, List, [], ◌∷◌, length, drop, None, Result, Ok, Err, is_ok}
+use Rattle.std.specs.Prelude.{◌≡◌, ℕ, ⊤, ◌+◌, ◌*◌, ◌%◌, ◌≤◌, true, false, List, [], ◌∷◌, length, drop, None, Result, Ok, is_ok}
 use Rattle.std.specs.declared.io.Error.{Error as IoFault}
 use Rattle.hound_medium.specs.{MediumState, Flushes, PutsAll}
 use Rattle.hound_sample.specs.{containers}
 use Rattle.hound_spec.specs.declared.spec.WavSpecEx.{WavSpecEx}
-use Rattle.hound_spec.specs.{header, data_start, IsWritable}
+use Rattle.hound_spec.specs.{header, IsWritable}
 use Rattle.hound_reader.specs.{IsSoundSpec, Readable}
 use Rattle.hound_writer.specs.Accepting.{whole_containers}
 use Rattle.hound_writer.specs.Appending.{head_fault}
