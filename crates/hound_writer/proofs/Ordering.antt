@@ -12,7 +12,7 @@ use Rattle.hound_durable.specs.{Ascends, IsBelow}
 use Rattle.hound_durable.proofs.Ascending.{ascends_more, below_more, length_put}
 use Rattle.hound_writer.specs.Effects.{Log, Performed, Performs, checkpoint, pad_effects, size_effects}
 use Rattle.hound_writer.specs.Parts.{PutsAt}
-use Rattle.hound_writer.specs.Recording.{Acted, Action, Acts, ActsAll, IsCareful, IsFresh, MayFollow, Opened, block, out_after, resync, save}
+use Rattle.hound_writer.specs.Recording.{Acted, Action, Acts, ActsAll, IsCareful, IsFresh, Opened, block, out_after, resync, save}
 use Rattle.hound_writer.specs.Writer.{WriterState}
 use Rattle.hound_writer.proofs.Checkpoint.{bad, fine}
 use Rattle.hound_writer.specs.declared.effects.Effect.{Effect}
@@ -148,12 +148,14 @@ action_ordered (block bytes) r w log after (inr (calm, is)) did = cc
 action_ordered save r w log after (inr (calm, is)) did = cc
 
 -- after a failure the next action, if there is one, needs only what is left
-next_ready : (action : Action) (rest : List Acted) (high : ℕ) (m : MediumState) → MayFollow action rest
-    → Calm m → Ready rest high m
-next_ready action [] high m may calm = calm
-next_ready resync (next ∷ rest) high m may calm = absurd may
-next_ready (block bytes) (next ∷ rest) high m may calm = inr (calm, may)
-next_ready save (next ∷ rest) high m may calm = inr (calm, may)
+next_ready : (one : Acted) (rest : List Acted) (high : ℕ) (m : MediumState) → IsCareful (one ∷ rest)
+    → Calm m → is_ok one.result ≡ false → Ready rest high m
+next_ready one [] high m careful calm failed = calm
+next_ready one (next ∷ rest) high m careful calm failed = inr (calm, careful.0 failed)
+
+careful_rest : (one : Acted) (rest : List Acted) → IsCareful (one ∷ rest) → IsCareful rest
+careful_rest one [] careful = tt
+careful_rest one (next ∷ rest) careful = careful.1
 
 ready_ordered : (actions : List Acted) (w last : WriterState Log) → 20 ≤ w.data_start
     → Ready actions (end_of w) w.medium.state → IsCareful actions → ActsAll actions w last
@@ -162,14 +164,15 @@ ready_ordered [] w last after order careful is = rw is order
 ready_ordered (one ∷ rest) w last after order careful (log, acts, then) =
     let next = record w { medium = log; out = out_after one.action one.result w.out } in
     let (calm, ordered) = action_ordered one.action one.result w log after order acts in
-    ready_ordered rest next last after (go (is_ok one.result) refl calm ordered) careful.1 then
+    ready_ordered rest next last after (go (is_ok one.result) refl calm ordered)
+    (careful_rest one rest careful) then
   where
     go : (ok : Bool) → is_ok one.result ≡ ok → Calm log.state
         → (is_ok one.result ≡ true
         → InOrder (w.data_start + out_after one.action one.result w.out) log.state)
         → Ready rest (w.data_start + out_after one.action one.result w.out) log.state
     go true is calm ordered = ready rest _ log.state (ordered is)
-    go false is calm ordered = next_ready one.action rest _ log.state (careful.0 is) calm
+    go false is calm ordered = next_ready one rest _ log.state careful calm is
 
 -- careful actions after bytes in order
 pub actions_ordered : (actions : List Acted) (w last : WriterState Log) → 20 ≤ w.data_start

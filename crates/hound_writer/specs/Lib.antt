@@ -11,7 +11,7 @@ pub use Rattle.hound_writer.specs.Writer.{AreFrames, ChangesSizesOnly, Counts, H
 unfoldable pub use Rattle.hound_writer.specs.Writer.{with_sizes}
 pub use Rattle.hound_writer.specs.Publishing.{Checkpoints, Finishes, IsHalfPublished, IsOldOrNew, IsOutside, LeavesWriter, OncePutBefore, Publishes, PublishesAtEach, PublishesTo, PutsFrom, PutsLast, ReadsAs, place_after}
 pub use Rattle.hound_writer.specs.Effects.{Log, Performed, Performs, checkpoint, log_state, nth, pad_effects, size_effects}
-pub use Rattle.hound_writer.specs.Recording.{Acted, Action, Acts, ActsAll, IsCareful, IsFresh, MayFollow, Opened, Resumed, asked_of, block, known_of, out_after, recording, resumed_file, resync, save}
+pub use Rattle.hound_writer.specs.Recording.{Acted, Action, Acts, ActsAll, IsCareful, IsFresh, Opened, Resumed, asked_of, block, known_of, out_after, recording, resumed_file, resync, save}
 pub mod Accepting
 pub mod Appending
 pub mod Batch

@@ -79,16 +79,11 @@ asked_of s resync = write (Ok [])
 abbrev pub known_of : WavSpecEx → Acted → Known
 known_of s one = marked (asked_of s one.action) (is_ok one.result)
 
--- what may follow an action that failed: a sync, or nothing, which alone follows a sync
-abbrev pub MayFollow : Action → List Acted → Type 0
-MayFollow action [] = ⊤
-MayFollow resync (next ∷ rest) = ⊥
-MayFollow action (next ∷ rest) = next.action ≡ resync
-
--- nothing is written again after a failure before a sync
+-- after an action that failed comes a sync, or none
 abbrev pub IsCareful : List Acted → Type 0
-IsCareful [] = ⊤
-IsCareful (one ∷ rest) = (is_ok one.result ≡ false → MayFollow one.action rest) × IsCareful rest
+IsCareful (one ∷ next ∷ rest) =
+    (is_ok one.result ≡ false → next.action ≡ resync) × IsCareful (next ∷ rest)
+IsCareful _ = ⊤
 
 -- nothing was written to the medium before
 abbrev pub IsFresh : MediumState → Type 0
