@@ -12,6 +12,7 @@ unfoldable pub use Rattle.hound_writer.specs.Writer.{with_sizes}
 pub use Rattle.hound_writer.specs.Publishing.{Checkpoints, Finishes, IsHalfPublished, IsOldOrNew, IsOutside, LeavesWriter, OncePutBefore, Publishes, PublishesAtEach, PublishesTo, PutsFrom, PutsLast, ReadsAs, place_after}
 pub use Rattle.hound_writer.specs.Effects.{Log, Performed, Performs, checkpoint, log_state, nth, pad_effects, size_effects}
 pub use Rattle.hound_writer.specs.Recording.{Acted, Action, Acts, ActsAll, IsCareful, IsFresh, Opened, Resumed, asked_of, block, known_of, out_after, recording, resumed_file, resync, save}
+pub use Rattle.hound_writer.specs.Recorder.{AppendsRecorder, BeginsRecorder, HasData, HasFailed, HasNoData, NextEffect, Places, Reports, advanced, effects_of, length_with, recorder_of}
 pub mod Accepting
 pub mod Appending
 pub mod Batch
@@ -22,3 +23,4 @@ pub mod Writer
 pub mod Publishing
 pub mod Effects
 pub mod Recording
+pub mod Recorder

@@ -13,6 +13,7 @@ mod memory;
 mod outcome;
 mod output;
 mod patch;
+mod recorder;
 mod write;
 
 pub use batch::SampleWriter16;
@@ -20,4 +21,5 @@ pub use effects::{Effect, checkpoint_effect};
 pub use laws::{a_block_is_its_samples, one_append_answer};
 pub use output::riff_size;
 pub use patch::patch as patch_sizes;
+pub use recorder::{Recorder, RecorderError};
 pub use write::WavWriter;
