@@ -13,7 +13,7 @@ use Rattle.hound_spec.proofs.HeaderLemmas.{length-canonical}
 use Rattle.hound_medium.specs.{moment, overlay, MediumState, WhereKeeps, WhereTells}
 use Rattle.hound_medium.proofs.Overlays.{front_part}
 use Rattle.hound_medium.proofs.Spans.{moment_last}
-use Rattle.hound_durable.specs.{Ascends}
+use Rattle.hound_durable.specs.{Ascends, SurvivesLoss}
 use Rattle.hound_reader.specs.{Head, IsSoundSpec}
 use Rattle.hound_writer.specs.{Begun, Call, Does, Known, Lead, Left, Opens, appended, found_in, handed_in, new_file, publish, start_of, with_memory, Counts, ChangesSizesOnly, field, WriterState, HasHeader, IsBegun, IsCounted, IsSound, IsWhole, accepted_bytes, accepted_samples, data_length}
 use Rattle.hound_writer.proofs.Containers.{none_whole, zero_div}
@@ -403,13 +403,16 @@ pub all_accepted : (before : List Call) (end : Call) → end.asked ≡ publish
 all_accepted before end asked = grind (arith, common_steps)
 
 -- What survives in a medium of this past that was flushed up to f, no earlier than the flushes of
--- these calls did, and then wrote bytes at ascending places only.
-pub survives : (s : WavSpecEx) (start : ℕ) (found : List (List ℕ)) (before : List Call)
-    (end : Call) (medium : MediumState) (f n : ℕ)
-    → Promises s start found (before ++ (end ∷ [])) medium → end.asked ≡ publish
+-- these calls did, and then wrote bytes at ascending places only, if what a loss leaves counts.
+pub survives_counted : (s : WavSpecEx) (start : ℕ) (found : List (List ℕ)) (calls : List Call)
+    (medium : MediumState) (f n : ℕ) → Promises s start found calls medium
     → medium.flushed ≤ f → f ≤ length medium.past → Ascends medium.past f (length medium.past)
-    → SurvivesAtEnd s start found (before ++ (end ∷ [])) (record medium { flushed = f; faults = n })
-survives s start found before end medium f n p asked later within ascends = record {
+    → (begins_at calls medium.past ≤ f → (sector : ℕ) (contents : List ℕ) → 1 ≤ sector
+    → (start - 4) / sector ≡ (start - 1) / sector
+    → SurvivesLoss sector medium.start medium.past f (length medium.past) contents
+    → Counts s start (found ++ accepted_by_all calls) contents)
+    → SurvivesAtEnd s start found calls (record medium { flushed = f; faults = n })
+survives_counted s start found calls medium f n p later within ascends counts = record {
   header = λ front after flush at has_all.
       let parts = at ∙ sym (append_assoc front (flush ∷ []) after) in
       omega (
@@ -420,9 +423,20 @@ survives s start found before end medium f n p asked later within ascends = reco
         ap (λ l. begins_at l medium.past) parts,
       );
   after_loss = λ begun sector contents some one lost. (
-    subst (λ l. Counts s start (found ++ l) contents) (sym (all_accepted before end asked))
-        (p.after_loss before [] end f (length medium.past) sector contents refl begun within
-        (p.in_order before [] (end ∷ []) refl).1 (omega arith) ascends some one lost).0,
+    counts begun sector contents some one lost,
     p.kept_after_loss f sector contents begun later within ascends some one lost,
   );
 }
+
+-- it does after an end
+pub survives : (s : WavSpecEx) (start : ℕ) (found : List (List ℕ)) (before : List Call)
+    (end : Call) (medium : MediumState) (f n : ℕ)
+    → Promises s start found (before ++ (end ∷ [])) medium → end.asked ≡ publish
+    → medium.flushed ≤ f → f ≤ length medium.past → Ascends medium.past f (length medium.past)
+    → SurvivesAtEnd s start found (before ++ (end ∷ [])) (record medium { flushed = f; faults = n })
+survives s start found before end medium f n p asked later within ascends =
+    survives_counted s start found (before ++ (end ∷ [])) medium f n p later within ascends
+    (λ begun sector contents some one lost.
+    subst (λ l. Counts s start (found ++ l) contents) (sym (all_accepted before end asked))
+    (p.after_loss before [] end f (length medium.past) sector contents refl begun within
+    (p.in_order before [] (end ∷ []) refl).1 (omega arith) ascends some one lost).0)

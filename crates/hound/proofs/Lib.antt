@@ -8,6 +8,7 @@ pub mod Recovering
 pub mod Running
 pub mod Knowing
 pub mod Within
+pub mod Recorders
 pub mod Whole
 pub mod Batching
 pub mod WholeSessions

@@ -1,12 +1,14 @@
 // What holds for every run.
-ghost use Rattle.std.specs.Prelude.{◌≡◌, ◌<◌, ◌≤◌, ◌-◌, ◌/◌, ℕ, Bool, true, IsTrue, List, [], ◌∷◌, ◌++◌, Ok, Result, is_ok, length, map};
+ghost use Rattle.std.specs.Prelude.{◌≡◌, ◌<◌, ◌≤◌, ◌-◌, ◌*◌, ◌/◌, ℕ, Bool, true, IsTrue, List, [], ◌∷◌, ◌++◌, Ok, Result, is_ok, length, map};
+ghost use Rattle.std.specs.declared.io.Error.{Error as IoFault};
 ghost use Rattle.hound_spec.specs.declared.error.Error.{Error};
 ghost use Rattle.hound_spec.specs.declared.spec.WavSpecEx.{WavSpecEx};
-ghost use Rattle.hound_spec.specs.{canonical};
+ghost use Rattle.hound_spec.specs.{canonical, data_start, riff_size};
 ghost use Rattle.hound_medium.specs.{MediumState, WhereKeeps, WhereTells};
-ghost use Rattle.hound_durable.specs.{within};
+ghost use Rattle.hound_durable.specs.{Ascends, place_of, within};
 ghost use Rattle.hound_sample.specs.{Refusal, containers, int_container};
-ghost use Rattle.hound_writer.specs.{mark_of, AcceptAnswer, Accepts, ChangesSizesOnly, appended, AcceptsEach, short_bytes, AreKnown, Asked, Begun, Call, IsKnown, Known, Lead, Left, asked_by_all, found_in, made, marked, new_file, publish, start_of, IsSameFile, Finishes, WriterState, IsWhole, accepted_samples, data_length};
+ghost use Rattle.hound_writer.specs.{mark_of, AcceptAnswer, Accepts, ChangesSizesOnly, appended, AcceptsEach, short_bytes, AreKnown, Asked, Begun, Call, IsKnown, Known, Lead, Left, asked_by_all, found_in, made, marked, new_file, publish, start_of, IsSameFile, Finishes, WriterState, IsWhole, accepted_samples, data_length, AreFrames, IsPublishResult, IsSound, IsStanding, LeavesWriter, PutsAt, field, Log, Performed, checkpoint, log_state, Acted, ActsAll, IsCareful, IsFresh, Opened, Resumed, known_of, recording, resumed_file};
+ghost use Rattle.hound_writer.specs.declared.effects.Effect.TheVariants.{Size, Sync};
 ghost use Rattle.hound_repair.specs.{ReadsFrames, Repairs};
 ghost use Rattle.hound_repair.specs.declared.sizes.Repair.{Repair};
 ghost use Rattle.hound_repair.specs.declared.sizes.RepairState.TheVariants.{HasChunksAfterData};
@@ -140,4 +142,69 @@ pub fn what_a_loss_leaves<M: Medium>(durable: &Durable<M>)
         (end : Known) → end.asked ≡ publish
         → Left M.tells M.keeps (⟦<Durable<M> as Placed>⟧.state) s file (known ++ end ∷ []) durable.now
         → KeptWithin M.tells M.keeps (⟦<Durable<M> as Placed>⟧.state) s file (known ++ end ∷ []) durable.now (within durable.now)) }
+{}
+
+/// The effects of a checkpoint, all of them or up to one that failed, publish as `flush` does: at an Ok
+/// of whole frames the file is read as exactly the samples that were written.
+pub fn a_checkpoint_publishes()
+    ensures { (w : WriterState Log) (end : Log) (performed : Result Unit IoFault) (are_frames : Bool)
+        (answer : Result Unit Error) → w.waiting ≡ [] → IsSound w
+        → IsStanding w.spec_ex w.data_start w.out w.medium.state.contents
+        → Performed (checkpoint w.data_start w.out) performed w.medium end
+        → IsPublishResult performed are_frames answer
+        → (IsTrue are_frames → AreFrames w) × (AreFrames w → IsTrue are_frames)
+        → LeavesWriter true true log_state answer w (record w { medium = end }) }
+{}
+
+/// A recording whose caller writes the samples and performs the effects keeps all that a list of calls
+/// promises, whatever failed: of a new file, and of one that was there (`resumed`), as a walk found it.
+pub fn a_recording_is_kept()
+    ensures new { (s : WavSpecEx) (old : MediumState) (log : Log) (actions : List Acted)
+        (last : WriterState Log) → Opened s old log
+        → ActsAll actions (recording s (data_start s) 0 log) last
+        → Kept true true log_state s (new_file old) (map (known_of s) actions) last.medium }
+    ensures resumed { (s : WavSpecEx) (samples start : ℕ) (log : Log) (actions : List Acted)
+        (last : WriterState Log) → Resumed s samples start log
+        → ActsAll actions (recording s start (samples * s.bytes_per_sample) log) last
+        → Kept true true log_state s (resumed_file s samples start log) (map (known_of s) actions) last.medium }
+{}
+
+/// If each action that failed was followed by a sync, or by none, a loss of power at the end of such a
+/// recording, within an action too, loses no sample of a checkpoint; and what it leaves counts.
+pub fn a_recording_survives_a_loss()
+    ensures new { (s : WavSpecEx) (old : MediumState) (log : Log) (actions : List Acted)
+        (last : WriterState Log) → Opened s old log → IsFresh old → IsCareful actions
+        → ActsAll actions (recording s (data_start s) 0 log) last
+        → KeptWithin true true log_state s (new_file old) (map (known_of s) actions) last.medium last.medium.state }
+    ensures resumed { (s : WavSpecEx) (samples start : ℕ) (log : Log) (actions : List Acted)
+        (last : WriterState Log) → Resumed s samples start log → IsFresh log.state → IsCareful actions
+        → ActsAll actions (recording s start (samples * s.bytes_per_sample) log) last
+        → KeptWithin true true log_state s (resumed_file s samples start log) (map (known_of s) actions) last.medium last.medium.state }
+{}
+
+/// Wherever it ends, such a recording has written at ascending places only since it was synced.
+pub fn a_recording_ascends()
+    ensures new { (s : WavSpecEx) (old : MediumState) (log : Log) (actions : List Acted)
+        (last : WriterState Log) → Opened s old log → IsFresh old → IsCareful actions
+        → ActsAll actions (recording s (data_start s) 0 log) last
+        → Ascends last.medium.state.past last.medium.state.flushed (length last.medium.state.past) }
+    ensures resumed { (s : WavSpecEx) (samples start : ℕ) (log : Log) (actions : List Acted)
+        (last : WriterState Log) → Resumed s samples start log → IsFresh log.state → IsCareful actions
+        → ActsAll actions (recording s start (samples * s.bytes_per_sample) log) last
+        → Ascends last.medium.state.past last.medium.state.flushed (length last.medium.state.past) }
+{}
+
+/// Other orders of effects don't serve. Where the RIFF size is left out, and isn't right already, nothing is
+/// published. A write at or before a byte that isn't synced, as a size before the samples are, or a
+/// block again that was cut, is a step back, after which a loss of power may lose what was published.
+pub fn other_orders_lose()
+    ensures riff { (w : WriterState Log) (end : Log) → w.waiting ≡ [] → IsSound w
+        → IsStanding w.spec_ex w.data_start w.out w.medium.state.contents
+        → (field 4 w.medium.state.contents ≡ riff_size w.data_start w.out → ⊥)
+        → Performed (Sync ∷ Size (w.data_start - 4) w.out ∷ Sync ∷ []) (Ok tt) w.medium end
+        → LeavesWriter true true log_state (Ok tt) w (record w { medium = end }) → ⊥ }
+    ensures synced { (at i : ℕ) (bytes : List ℕ) (old new : MediumState) (result : Result Unit IoFault)
+        → old.flushed ≤ i → i < length old.past → at ≤ place_of old.past i
+        → PutsAt true at bytes result old new → length old.past < length new.past
+        → Ascends new.past new.flushed (length new.past) → ⊥ }
 {}

@@ -26,3 +26,6 @@ pub mod AcceptingMany
 pub mod OneByOne
 pub mod Recording
 pub mod Fresh
+pub mod Checkpoint
+pub mod Acting
+pub mod Ordering

@@ -1,0 +1,7 @@
+use Rattle.hound_writer.proofs.Checkpoint.{publishes_checkpoint}
+use Rattle.hound.proofs.laws.a_checkpoint_publishes.Goals as goal
+
+pub returns : goal.returns
+returns c w end performed are_frames answer none sound stands did is frames =
+    (publishes_checkpoint performed are_frames answer is end w
+    (record { none = none; sound = sound; stands = stands }) frames did).0

@@ -1,0 +1,195 @@
+-- A careful recording writes at ascending places only since it was synced.
+use Rattle.std.proofs.lemmas.Bool.{false≢true}
+use Rattle.std.proofs.lemmas.Grind.{common_steps}
+use Rattle.std.proofs.Common.{◌≡◌, ◌⊎◌, ℕ, zero, suc, ◌+◌, ◌%◌, ◌≤◌, Bool, true, false, List, [], ◌∷◌, ◌++◌, length, take, inl, inr, Result, Ok, Err, is_ok, refl, rules, ◌∙◌, ap, subst, arith, length-take}
+use Rattle.std.specs.Prelude.{⊤}
+use Rattle.std.specs.declared.io.Error.{Error as IoFault}
+use Rattle.hound_spec.specs.{data_start, header}
+use Rattle.hound_spec.specs.declared.spec.WavSpecEx.{WavSpecEx}
+use Rattle.hound_spec.proofs.HeaderLemmas.{length-header}
+use Rattle.hound_medium.specs.{Flushes, MediumState}
+use Rattle.hound_durable.specs.{Ascends, IsBelow}
+use Rattle.hound_durable.proofs.Ascending.{ascends_more, below_more, length_put}
+use Rattle.hound_writer.specs.Effects.{Log, Performed, Performs, checkpoint, pad_effects, size_effects}
+use Rattle.hound_writer.specs.Parts.{PutsAt}
+use Rattle.hound_writer.specs.Recording.{Acted, Action, Acts, ActsAll, IsCareful, IsFresh, Opened, block, out_after, resync, save}
+use Rattle.hound_writer.specs.Writer.{WriterState}
+use Rattle.hound_writer.proofs.Checkpoint.{bad, fine}
+use Rattle.hound_writer.specs.declared.effects.Effect.{Effect}
+use Rattle.hound_writer.specs.declared.effects.Effect.TheVariants.{Pad, Size, Sync}
+
+-- since it was synced, a medium was written at ascending places only
+pub record Calm (m : MediumState) : Type 0 where
+  pub within : m.flushed ≤ length m.past
+  pub ascends : Ascends m.past m.flushed (length m.past)
+
+-- and only before this one
+pub record InOrder (high : ℕ) (m : MediumState) : Type 0 where
+  pub calm : Calm m
+  pub below : IsBelow high m.past m.flushed
+
+-- nothing was written since then
+pub in_order_none : (high : ℕ) (m : MediumState) → m.flushed ≡ length m.past → InOrder high m
+in_order_none high m all = grind (arith, common_steps)
+
+-- bytes that are written from there on
+pub puts_in_order : {T E : Type 0} (high at : ℕ) (bytes : List ℕ) (r : Result T E) (old new : MediumState)
+    → high ≤ at → InOrder high old → PutsAt true at bytes r old new → InOrder (at + length bytes) new
+puts_in_order high at bytes r old new le order puts =
+    let bs = take puts.count bytes in
+    let past = puts.past refl in
+    let below : IsBelow (at + length bs) new.past new.flushed =
+    rw (past, puts.flushed) (below_more old.past at high old.flushed bs order.below le) in
+    let ascends : Ascends new.past new.flushed (length new.past) =
+    rw (past, puts.flushed) (ascends_more old.past at high old.flushed bs order.below le order.calm.ascends) in
+    let long = ap length past ∙ length_put old.past at bs in
+    let few = length-take puts.count bytes in
+    grind arith
+
+-- a sync
+syncs : {T E : Type 0} (high : ℕ) (r : Result T E) (old new : MediumState) → Calm old
+    → Flushes r old new → Calm new × (is_ok r ≡ true → InOrder high new)
+syncs high (Ok x) old new calm flush =
+    let order = in_order_none high new flush.flushed in (order.calm, λ _. order)
+syncs high (Err e) old new calm flush = (
+  grind (arith, common_steps),
+  λ ok. absurd (false≢true ok),
+)
+
+-- an effect may come after bytes before this place: it writes none before it
+abbrev Follows : ℕ → Effect → Type 0
+Follows high Sync = ⊤
+Follows high (Pad at) = high ≤ at
+Follows high (Size at size) = high ≤ at
+
+-- the place before which all bytes are then
+abbrev high_after : Effect → ℕ
+high_after Sync = 0
+high_after (Pad at) = at + 1
+high_after (Size at size) = at + 4
+
+effect_ordered : (effect : Effect) (high : ℕ) (r : Result (Unit {0}) IoFault) (old new : MediumState)
+    → Follows high effect → InOrder high old → Performs effect r old new
+    → Calm new × (is_ok r ≡ true → InOrder (high_after effect) new)
+effect_ordered Sync high r old new le order did = syncs 0 r old new order.calm did
+effect_ordered (Pad at) high r old new le order did =
+    let next = puts_in_order high at (0 ∷ []) r old new le order did in (next.calm, λ _. next)
+effect_ordered (Size at size) high r old new le order did =
+    let next = puts_in_order high at _ r old new le order did in (next.calm, λ _. next)
+
+-- effects, each after the one before
+abbrev Ordered : ℕ → List Effect → Type 0
+Ordered high [] = ⊤
+Ordered high (effect ∷ effects) = Follows high effect × Ordered (high_after effect) effects
+
+abbrev last_high : ℕ → List Effect → ℕ
+last_high high [] = high
+last_high high (effect ∷ effects) = last_high (high_after effect) effects
+
+all_ordered : (effects : List Effect) (high : ℕ) (result : Result (Unit {0}) IoFault) (old new : Log)
+    → Ordered high effects → InOrder high old.state → Performed effects result old new
+    → Calm new.state × (is_ok result ≡ true → InOrder (last_high high effects) new.state)
+all_ordered [] high result old new ordered order (is, last) = rw last (order.calm, λ _. order)
+all_ordered (effect ∷ effects) high result old new (le, ordered) order (mid, Ok x, did, rest) =
+    all_ordered effects (high_after effect) result mid new ordered
+    ((effect_ordered effect high (Ok x) old.state mid.state le order did).1 refl) rest
+all_ordered (effect ∷ effects) high result old new (le, ordered) order (mid, Err e, did, (is, last)) =
+    rw (is, last)
+    ((effect_ordered effect high (Err e) old.state mid.state le order did).0, λ ok. absurd (false≢true ok))
+
+checkpoint_ordered : (start n odd : ℕ) → 20 ≤ start
+    → let effects = pad_effects (start + n) odd ++ size_effects start n in
+    Ordered (start + n) effects × (last_high (start + n) effects ≡ 0)
+checkpoint_ordered start n zero after =
+    ((tt, (omega arith, (omega (arith, after), (tt, tt)))), refl)
+checkpoint_ordered start n (suc odd) after =
+    ((omega arith, (tt, (omega arith, (omega (arith, after), (tt, tt))))), refl)
+
+-- the end of the data
+abbrev end_of : WriterState Log → ℕ
+end_of w = w.data_start + w.out
+
+later : (low high : ℕ) (m : MediumState) → low ≤ high → InOrder low m → InOrder high m
+later low high m le order = grind (arith, common_steps)
+
+-- what an action needs: a sync needs no order
+abbrev Ready : List Acted → ℕ → MediumState → Type 0
+Ready [] high m = Calm m
+Ready (one ∷ rest) high m = InOrder high m ⊎ (Calm m × (one.action ≡ resync))
+
+ready : (actions : List Acted) (high : ℕ) (m : MediumState) → InOrder high m → Ready actions high m
+ready [] high m order = order.calm
+ready (one ∷ rest) high m order = inl order
+
+-- what an action leaves
+action_ordered : (action : Action) (r : Result (Unit {0}) IoFault) (w : WriterState Log) (log : Log)
+    → 20 ≤ w.data_start → InOrder (end_of w) w.medium.state ⊎ (Calm w.medium.state × (action ≡ resync))
+    → Acts action r w log
+    → Calm log.state × (is_ok r ≡ true → InOrder (end_of (record w { medium = log; out = out_after action r w.out })) log.state)
+action_ordered (block bytes) (Ok x) w log after (inl order) (room, whole, puts) =
+    let next = puts_in_order (end_of w) (end_of w) bytes (fine x) w.medium.state log.state (omega arith) order puts in
+    (next.calm, λ _. later (end_of w + length bytes) (w.data_start + (w.out + length bytes)) log.state (omega arith) next)
+action_ordered (block bytes) (Err e) w log after (inl order) (room, whole, puts) = (
+  (puts_in_order (end_of w) (end_of w) bytes (bad e) w.medium.state log.state (omega arith) order puts).calm,
+  λ ok. absurd (false≢true ok),
+)
+action_ordered save r w log after (inl order) did =
+    let (ordered, low) = checkpoint_ordered w.data_start w.out (w.out % 2) after in
+    let (calm, then) = all_ordered (checkpoint w.data_start w.out) (end_of w) r w.medium log ordered order did in (
+      calm,
+      λ ok. later 0 (end_of w) log.state (omega arith)
+          (subst (λ n. InOrder n log.state) low (then ok)),
+    )
+action_ordered resync r w log after (inl order) did =
+    syncs (end_of w) r w.medium.state log.state order.calm did
+action_ordered resync r w log after (inr (calm, is)) did =
+    syncs (end_of w) r w.medium.state log.state calm did
+action_ordered (block bytes) r w log after (inr (calm, is)) did = cc
+action_ordered save r w log after (inr (calm, is)) did = cc
+
+-- after a failure the next action, if there is one, needs only what is left
+next_ready : (one : Acted) (rest : List Acted) (high : ℕ) (m : MediumState) → IsCareful (one ∷ rest)
+    → Calm m → is_ok one.result ≡ false → Ready rest high m
+next_ready one [] high m careful calm failed = calm
+next_ready one (next ∷ rest) high m careful calm failed = inr (calm, careful.0 failed)
+
+careful_rest : (one : Acted) (rest : List Acted) → IsCareful (one ∷ rest) → IsCareful rest
+careful_rest one [] careful = tt
+careful_rest one (next ∷ rest) careful = careful.1
+
+ready_ordered : (actions : List Acted) (w last : WriterState Log) → 20 ≤ w.data_start
+    → Ready actions (end_of w) w.medium.state → IsCareful actions → ActsAll actions w last
+    → Calm last.medium.state
+ready_ordered [] w last after order careful is = rw is order
+ready_ordered (one ∷ rest) w last after order careful (log, acts, then) =
+    let next = record w { medium = log; out = out_after one.action one.result w.out } in
+    let (calm, ordered) = action_ordered one.action one.result w log after order acts in
+    ready_ordered rest next last after (go (is_ok one.result) refl calm ordered)
+    (careful_rest one rest careful) then
+  where
+    go : (ok : Bool) → is_ok one.result ≡ ok → Calm log.state
+        → (is_ok one.result ≡ true
+        → InOrder (w.data_start + out_after one.action one.result w.out) log.state)
+        → Ready rest (w.data_start + out_after one.action one.result w.out) log.state
+    go true is calm ordered = ready rest _ log.state (ordered is)
+    go false is calm ordered = next_ready one rest _ log.state careful calm is
+
+-- careful actions after bytes in order
+pub actions_ordered : (actions : List Acted) (w last : WriterState Log) → 20 ≤ w.data_start
+    → InOrder (w.data_start + w.out) w.medium.state → IsCareful actions → ActsAll actions w last
+    → Calm last.medium.state
+actions_ordered actions w last after order careful did =
+    ready_ordered actions w last after (ready actions (end_of w) w.medium.state order) careful did
+
+-- a header that was written to a medium to which nothing was written before
+pub header_in_order : (s : WavSpecEx) (old : MediumState) (log : Log) → Opened s old log → IsFresh old
+    → InOrder (data_start s + 0) log.state
+header_in_order s old log opens fresh =
+    let p = opens.puts in
+    let takes = rw opens.begins at p.takes in
+    let place : log.state.place ≡ 0 + length (header s 0 0) = takes.place ∙ ap (λ n. 0 + n) p.whole in
+    let puts : PutsAt {T = Unit {0}} {E = IoFault} true 0 (header s 0 0) (Ok tt) old log.state = search rules in
+    let end : 0 + length (header s 0 0) ≡ data_start s + 0 = omega (arith, length-header s 0 0) in
+    subst (λ n. InOrder n log.state) end
+    (puts_in_order 0 0 (header s 0 0) (fine tt) old log.state (omega arith)
+    (in_order_none 0 old (omega (arith, fresh.1, ap length fresh.0))) puts)
