@@ -3,21 +3,23 @@
 spec, each sample as 32 bits or the cause, also where a file is cut at each byte; and what a repair finds and
 leaves. Each code is met.
 
-usage: rows.py [CAT]     (with the package hound_bindings on the path; CAT is bindings/c/cat.c, compiled: then
-these files are piped through it, too)"""
+usage: rows.py [CAT RECORD]     (with the package hound_bindings on the path; CAT and RECORD are bindings/c/cat.c and
+record.c, compiled: then these files are piped through the one, too, and the other records beside the model)"""
 import array
 import ctypes
 import os
+import random
 import struct
 import subprocess
 import sys
+import tempfile
 
 TOP = os.path.dirname(os.path.dirname(os.path.dirname(os.path.abspath(__file__))))
 sys.path.insert(0, os.path.join(TOP, "crates", "hound_rows"))
 import expected as model  # noqa: E402
 
 import hound_bindings as hound  # noqa: E402
-from hound_bindings import Cause, HoundError  # noqa: E402
+from hound_bindings import Cause, HoundError, streams  # noqa: E402
 
 # The causes of a head, by the model's words.
 REASONS = {
@@ -125,6 +127,38 @@ def check_cat(program, data):
             sys.exit(f"rows: {program} makes something else of {data[:80].hex()} .. ({len(data)} bytes): {run}"[:600])
 
 
+def file_by_model(spec, data):
+    """The file of this data."""
+    size = len(spec.header(0, 0)) - 8 + len(data) + len(data) % 2
+    return spec.header(size, len(data)) + data + bytes(len(data) % 2)
+
+
+def check_record(program):
+    """Records PCM with checkpoints, and continues it after its header was set back, as by a kill: each file, and what is
+    printed. Half a frame at the end of the input isn't recorded."""
+    some, count = random.Random(3), 0
+    for bits, channels, every in [(bits, channels, every) for bits in (8, 16, 24, 32) for channels in (1, 2, 3) for every in (1, 7, 30000)]:
+        spec = model.Spec(channels, 44100, bits, bits // 8, False)
+        frame, frames = channels * bits // 8, [some.randrange(3 * min(every, 20000) + 2) for _ in range(2)]
+        data = some.randbytes(sum(frames) * frame)
+        pieces = [data[: frames[0] * frame], data[frames[0] * frame :]]
+        with tempfile.TemporaryDirectory() as folder:
+            path, held = os.path.join(folder, "a.wav"), 0
+            for piece, words in zip(pieces, ([], ["--append", "--durable"])):
+                run = subprocess.run([program, path, "44100", str(channels), str(bits), str(every), *words], input=piece + bytes(frame - 1), stdout=subprocess.PIPE)
+                said = [held + n for n in range(every, len(piece) // frame + 1, every)]
+                held += len(piece) // frame
+                lines = [b"%d" % (n * channels) for n in said] + [b"recorded %d samples" % (held * channels), b""]
+                with open(path, "r+b") as file:
+                    if file.read() != file_by_model(spec, data[: held * frame]) or run.returncode or run.stdout.split(b"\n") != lines:
+                        sys.exit(f"rows: {program} records another file of {held} frames: {spec}, a checkpoint each {every}, {run}"[:600])
+                    file.truncate(len(spec.header(0, 0)) + held * frame)  # no pad byte is there
+                    file.seek(0)
+                    file.write(spec.header(0, 0))
+                count += 1
+    return count
+
+
 STATES = ["whole", "cut_off", "followed"]
 
 
@@ -189,6 +223,12 @@ def other_codes():
     with hound._address(file) as (address, capacity), hound._samples(array.array("h", [1])) as (_, one, _, _):
         assert hound._append["i16"](address, capacity, capacity, one, 1) == -Cause.NO_ROOM
         met.add(Cause.NO_ROOM)
+    recorder, effect = streams._Recorder(44, 0, 0, 2, 0), streams._Effect()
+    with hound._address(recorder) as (address, _):
+        assert streams._recorder_wrote(address, 1, 0) == 0 and streams._recorder_place(address, 1) == -Cause.NEEDS_CHECKPOINT
+        assert streams._checkpoint_next(address, 1, ctypes.byref(effect)) == 1 and effect.length == 0
+        assert streams._checkpoint_next(address, 0, ctypes.byref(effect)) == -Cause.SYNC_FAILED
+    met.update((Cause.NEEDS_CHECKPOINT, Cause.SYNC_FAILED))
 
 
 def main():
@@ -200,12 +240,13 @@ def main():
         if len(sys.argv) > 1:
             check_cat(sys.argv[1], data)
         count += 1
+    recorded = check_record(sys.argv[2]) if len(sys.argv) > 2 else 0
     repairs = check_repairs()
     other_codes()
     missing = [cause.name for cause in CODES if cause not in met]
     if missing:
         sys.exit(f"rows: these codes weren't met: {' '.join(missing)}")
-    print(f"rows: {count} files read and {repairs} repaired as the model says, and each of {len(CODES)} codes met")
+    print(f"rows: {count} files read, {repairs} repaired and {recorded} recorded as the model says, and each of {len(CODES)} codes met")
 
 
 if __name__ == "__main__":

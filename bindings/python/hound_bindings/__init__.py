@@ -17,7 +17,7 @@ import shutil
 import sys
 from typing import Any, BinaryIO, Iterator, List, NamedTuple, Optional, Tuple, Union
 
-__all__ = ["Cause", "HoundError", "Info", "Reader", "Repair", "State", "append", "info", "open", "read", "read_into", "repair", "to_bytes", "write"]
+__all__ = ["Cause", "HoundError", "Info", "Reader", "Repair", "State", "Writer", "append", "append_to", "create", "info", "open", "read", "read_into", "repair", "to_bytes", "write"]
 
 Path = Union[str, "os.PathLike[str]"]
 File = Union[Path, bytes, bytearray, memoryview, mmap.mmap]
@@ -584,7 +584,7 @@ def repair(path: Path, durable: bool = False) -> Repair:
     return report
 
 
-from .streams import Reader  # noqa: E402
+from .streams import Reader, Writer, append_to, create  # noqa: E402
 
 
 def open(file: "Union[Path, BinaryIO]") -> Reader:  # noqa: A001

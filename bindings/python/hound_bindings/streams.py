@@ -1,4 +1,4 @@
-"""Files that are read block by block: from a disk, a pipe, or whatever reads bytes."""
+"""Files that are read or written block by block: those that are read may come from a pipe."""
 import array
 import ctypes
 import io
@@ -6,9 +6,12 @@ import os
 import sys
 from typing import Any, BinaryIO, Iterator, Optional, Union
 
-from . import _CODES, _TYPES, Cause, HoundError, Info, _address, _checked, _function, _Info, _info_from, _integer, _POINTER, _shaped, _SIZE, _SPARE, _Spec, _type_of
+from . import (
+    _CODES, _I64, _POINTER, _SIZE, _SPARE, _TYPES, _U64, Cause, HoundError, Info, Path, _address, _check_columns, _checked, _end_of_data, _function,
+    _Info, _info_from, _integer, _mapped, _put, _samples, _shaped, _Spec, _type_of,
+)  # fmt: skip
 
-__all__ = ["Reader"]
+__all__ = ["Reader", "Writer", "append_to", "create"]
 
 
 class _Walk(ctypes.Structure):
@@ -135,3 +138,144 @@ class Reader:
         self._source.seek(self._begin + self.info.data_start + frame * size)
         self._held.clear()
         self._at = frame
+
+
+class _Recorder(ctypes.Structure):
+    _fields_ = [
+        ("data_start", ctypes.c_uint64),
+        ("data_length", ctypes.c_uint32),
+        ("number", ctypes.c_uint32),
+        ("bytes_per_sample", ctypes.c_uint16),
+        ("condition", ctypes.c_uint16),
+    ]
+
+
+class _Effect(ctypes.Structure):
+    _fields_ = [("place", ctypes.c_uint64), ("length", ctypes.c_uint32), ("bytes", ctypes.c_uint8 * 4)]
+
+
+_INT = ctypes.c_int32
+_header = _function("header", _POINTER, _U64, _POINTER, _SIZE)
+_encode = {t: _function("encode_" + t, _POINTER, _POINTER, _SIZE, _POINTER, _SIZE) for t in _CODES}
+_recorder_begin = _function("recorder_begin", _POINTER, _POINTER, result=_INT)
+_recorder_append = _function("recorder_append", _POINTER, _POINTER, result=_INT)
+_recorder_place = _function("recorder_place", _POINTER, _U64)
+_recorder_wrote = _function("recorder_wrote", _POINTER, _U64, _INT, result=_INT)
+_checkpoint_next = _function("checkpoint_next", _POINTER, _INT, _POINTER, result=_INT)
+
+
+class Writer:
+    """A file that is written block by block. It is a context manager, which closes it.
+
+    A block is with the system once `write` has returned, and the header counts it after the next
+    `flush` or `close`: if the program is killed before, `repair` finds it. A file that is durable has all
+    blocks of a `flush` after a loss of power, too. After an OSError of `write` the block isn't in the
+    file, and the next call continues; after one of a sync the file is as at the last `flush`, and each
+    call is an error.
+    """
+
+    def __init__(self, file: BinaryIO, spec: _Spec, recorder: _Recorder, durable: bool) -> None:
+        self._file, self._spec, self._recorder, self._durable = file, spec, recorder, durable
+        self._places = ctypes.addressof(spec), ctypes.addressof(recorder)
+        self._out = ctypes.create_string_buffer(0)
+
+    def __enter__(self) -> "Writer":
+        return self
+
+    def __exit__(self, *_: Any) -> None:
+        self.close()
+
+    def write(self, block: Any) -> None:
+        """Writes whole frames: an `array.array`, or anything with a buffer of int8, int16, int32 or float32."""
+        descriptor, (spec, recorder) = self._file.fileno(), self._places
+        with _samples(block) as given:
+            _check_columns("block", given.columns, self._spec.channels)
+            if given.count % self._spec.channels:
+                raise HoundError(Cause.UNFINISHED_FRAME)
+            length = given.count * self._recorder.bytes_per_sample
+            if length > len(self._out):
+                self._out = ctypes.create_string_buffer(length)
+            _checked(_encode[given.form.kind](spec, given.start, given.count, self._out, length))
+        place = _recorder_place(recorder, given.count)
+        if place == -Cause.NEEDS_CHECKPOINT:
+            self.flush()
+            place = _recorder_place(recorder, given.count)
+        _checked(place)
+        is_written = False
+        try:
+            _put(descriptor, memoryview(self._out)[:length], place)
+            is_written = True
+        finally:
+            _recorder_wrote(recorder, given.count, is_written)
+
+    def flush(self) -> None:
+        """Makes the header count all frames, and if the file is durable, stores them."""
+        descriptor, effect, fault = self._file.fileno(), _Effect(), None
+        while (code := _checkpoint_next(self._places[1], fault is None, ctypes.byref(effect))) == 1:
+            try:
+                if effect.length:
+                    _put(descriptor, bytes(effect.bytes)[: effect.length], effect.place)
+                elif self._durable:
+                    os.fsync(descriptor)
+            except BaseException as error:
+                fault = error
+        if fault is not None:
+            raise fault
+        _checked(code)
+
+    def close(self) -> None:
+        """Flushes and closes the file."""
+        if not self._file.closed:
+            try:
+                self.flush()
+            finally:
+                self._file.close()
+
+
+def _opened(path: Path, mode: str, durable: bool) -> BinaryIO:
+    """An open file; if it is to be durable, it and its folder, which has its name, are synced."""
+    file = io.open(path, mode, buffering=0)
+    if durable:
+        try:
+            os.fsync(file.fileno())
+            folder = os.open(os.path.dirname(os.path.realpath(path)), os.O_RDONLY)
+            try:
+                os.fsync(folder)
+            finally:
+                os.close(folder)
+        except BaseException:
+            file.close()
+            raise
+    return file
+
+
+def create(
+    path: Path, rate: int, channels: int, bits: int, durable: bool = False, is_float: bool = False, bytes_per_sample: int = 0
+) -> Writer:
+    """A new file, in the place of one that is there: it has a header, and no frames yet."""
+    channels, bits = _integer("channels", channels, 1, 0xFFFF), _integer("bits", bits, 1, 0xFFFF)
+    spec = _Spec(_integer("rate", rate, 1, 0xFFFFFFFF), channels, bits, _integer("bytes_per_sample", bytes_per_sample, 0, 0xFFFF), is_float)
+    recorder, header = _Recorder(), ctypes.create_string_buffer(68)
+    length = _checked(_header(ctypes.byref(spec), 0, header, len(header)))
+    _checked(_recorder_begin(ctypes.byref(spec), ctypes.byref(recorder)))
+    file = _opened(path, "wb", durable)
+    try:
+        _put(file.fileno(), header[:length], 0)
+    except BaseException:
+        file.close()
+        raise
+    return Writer(file, spec, recorder, durable)
+
+
+def append_to(path: Path, durable: bool = False) -> Writer:
+    """A file that is there, after whose frames more are written. A recording that was cut off is an error,
+    and so are chunks or a tag after its data."""
+    file, recorder = _opened(path, "r+b", durable), _Recorder()
+    try:
+        with _mapped(file.fileno()) as (start, used):
+            found, _, _ = _end_of_data(start, used, False)
+        _checked(_recorder_append(ctypes.byref(found), ctypes.byref(recorder)))
+    except BaseException:
+        file.close()
+        raise
+    return Writer(file, found.spec, recorder, durable)

@@ -1,4 +1,4 @@
-"""Files that are read block by block, beside the module `wave` of Python and files made by hand."""
+"""Files that are read or written block by block, beside the module `wave` of Python and files made by hand."""
 import array
 import io
 import os
@@ -7,6 +7,7 @@ import tempfile
 import threading
 import tracemalloc
 import unittest
+import unittest.mock
 import wave
 
 import hound_bindings as hound
@@ -50,12 +51,14 @@ class Slow(io.RawIOBase):
         return len(piece)
 
 
-class Streams(unittest.TestCase):
+class Case(unittest.TestCase):
     def fails(self, cause, call):
         with self.assertRaises(HoundError) as caught:
             call()
         self.assertEqual(caught.exception.cause, cause)
 
+
+class Streams(Case):
     def test_blocks_are_those_of_the_file(self):
         with tempfile.TemporaryDirectory() as folder:
             path = os.path.join(folder, "a.wav")
@@ -170,6 +173,168 @@ class Streams(unittest.TestCase):
             peak = tracemalloc.get_traced_memory()[1]
             tracemalloc.stop()
         self.assertEqual(frames, 64 << 20)
+        self.assertLess(peak, 8 << 20)
+
+
+def content_of(path):
+    with open(path, "rb") as file:
+        return file.read()
+
+
+class Calls:
+    """The writes and syncs of a file, in order: the place of each write, or "sync". The nth of them fails."""
+
+    def __init__(self, fails=0):
+        self.made, self.fails, self.put, self.sync = [], fails, os.pwrite, os.fsync
+
+    def make(self, call, does):
+        self.made.append(call)
+        if len(self.made) == self.fails:
+            raise OSError("a fault")
+        return does()
+
+    def __enter__(self):
+        put = lambda file, content, place: self.make(place, lambda: self.put(file, content, place))
+        sync = lambda file: self.make("sync", lambda: self.sync(file))
+        self.patches = [unittest.mock.patch("os.pwrite", put), unittest.mock.patch("os.fsync", sync)]
+        for patch in self.patches:
+            patch.start()
+        return self
+
+    def __exit__(self, *_):
+        for patch in self.patches:
+            patch.stop()
+
+
+class Recordings(Case):
+    def setUp(self):
+        folder = tempfile.TemporaryDirectory()
+        self.addCleanup(folder.cleanup)
+        self.path = os.path.join(folder.name, "a.wav")
+
+    def leave(self, content):
+        with open(self.path, "wb") as file:
+            file.write(content)
+
+    def test_blocks_make_the_file_of_wave(self):
+        for size in (2, 4, 10):
+            with hound.create(self.path, 8000, 2, 16) as writer:
+                for first in range(0, 10, size):
+                    writer.write(SAMPLES[first : first + size])
+            self.assertEqual(content_of(self.path), made_by_wave(SAMPLES))
+
+    def test_a_flush_counts_what_was_written(self):
+        writer = hound.create(self.path, 8000, 2, 16)
+        for counted in range(5):
+            writer.write(SAMPLES[2 * counted : 2 * counted + 2])
+            with wave.open(self.path) as other:
+                self.assertEqual(other.getnframes(), counted)
+            writer.flush()
+        writer.close()
+        writer.close()
+        self.assertEqual(content_of(self.path), made_by_wave(SAMPLES))
+        for call in (writer.flush, lambda: writer.write(SAMPLES)):
+            self.assertRaises(ValueError, call)
+
+    def test_types(self):
+        eight = memoryview(array.array("b", [-128, -1, 0])).cast("B").cast("b", [3, 1])
+        for bits, is_float, block, tag, data in (
+            (8, False, eight, 1, bytes([0, 127, 128])),
+            (16, False, array.array("b", [-1, 2]), 1, struct.pack("<2h", -1, 2)),
+            (16, False, array.array("i", [-32768, 5]), 1, struct.pack("<2h", -32768, 5)),
+        ):
+            with hound.create(self.path, 8000, 1, bits, is_float=is_float) as writer:
+                writer.write(block)
+            wanted = bytearray(by_hand(data, channels=1, bits=bits, tag=tag))
+            wanted += bytes(len(data) % 2)  # a pad byte, which the RIFF size counts
+            wanted[4:8] = struct.pack("<I", len(wanted) - 8)
+            self.assertEqual(content_of(self.path), bytes(wanted))
+        with hound.create(self.path, 8000, 1, 32, is_float=True) as writer:
+            writer.write(array.array("f", [0.5, -0.25]))
+        self.assertEqual(content_of(self.path)[-12:], struct.pack("<I2f", 8, 0.5, -0.25))
+
+    def test_append_to(self):
+        chunk = b"LIST" + struct.pack("<I", 3) + b"abc\0"
+        for first in (0, 4, 10):
+            self.leave(by_hand(SAMPLES[:first].tobytes(), chunk))
+            with hound.append_to(self.path) as writer:
+                writer.write(SAMPLES[first:])
+            self.assertEqual(content_of(self.path), by_hand(SAMPLES.tobytes(), chunk))
+        for content, cause in (
+            (by_hand(SAMPLES.tobytes(), counted=8), Cause.CUT_OFF),
+            (by_hand(SAMPLES.tobytes()) + chunk, Cause.CHUNKS_AFTER_DATA),
+            (by_hand(SAMPLES.tobytes(), counted=7), Cause.CUT_OFF),
+            (b"RIFX" + bytes(60), Cause.NO_RIFF_TAG),
+        ):
+            self.leave(content)
+            self.fails(cause, lambda: hound.append_to(self.path))
+            self.assertEqual(content_of(self.path), content)
+
+    def test_errors_write_nothing(self):
+        with hound.create(self.path, 8000, 2, 16) as writer:
+            writer.write(SAMPLES)
+            self.fails(Cause.UNFINISHED_FRAME, lambda: writer.write(SAMPLES[:3]))
+            self.fails(Cause.TOO_WIDE, lambda: writer.write(array.array("i", [1, 32768])))
+            self.fails(Cause.OTHER_FORMAT, lambda: writer.write(array.array("f", [1, 2])))
+            self.assertRaises(TypeError, lambda: writer.write(array.array("d", [1, 2])))
+            self.assertRaises(ValueError, lambda: writer.write(memoryview(array.array("i", [1, 2, 3])).cast("B").cast("i", [1, 3])))
+        self.assertEqual(content_of(self.path), made_by_wave(SAMPLES))
+        for arguments in ((0, 2, 16), (8000, 0, 16), (8000, 2, 12), (8000, 65535, 16)):
+            self.assertRaises(ValueError, lambda: hound.create(self.path, *arguments))
+        self.assertEqual(content_of(self.path), made_by_wave(SAMPLES))  # which these have not emptied
+
+    def test_the_order_of_a_durable_recording(self):
+        with Calls() as calls, hound.create(self.path, 8000, 1, 8, durable=True) as writer:
+            writer.write(array.array("b", [1]))
+        self.assertEqual(calls.made, ["sync", "sync", 0, 44, 45, "sync", 4, 40, "sync"])
+        with Calls() as calls, hound.append_to(self.path) as writer:
+            writer.write(array.array("b", [2]))
+        self.assertEqual(calls.made, [45, 4, 40])
+
+    def test_calls_that_fail(self):
+        """A write that fails loses only its block, a checkpoint is made again, and a sync that failed ends all."""
+        for nth in range(4, 40):  # the first three calls begin the file
+            written, has_ended = [], False
+            with Calls(nth) as calls:
+                writer = hound.create(self.path, 8000, 1, 16, durable=True)
+
+                def attempt(call):
+                    """Whether a call succeeds; none does after a sync that failed."""
+                    nonlocal has_ended
+                    try:
+                        call()
+                        self.assertFalse(has_ended)
+                        return True
+                    except OSError:
+                        has_ended = calls.made[-1] == "sync"
+                    except HoundError as error:
+                        self.assertTrue(has_ended and error.cause == Cause.SYNC_FAILED)
+                    return False
+
+                for number in range(3):
+                    if attempt(lambda: writer.write(array.array("h", [number]))):
+                        written.append(number)
+                    attempt(writer.flush)
+                attempt(writer.close)
+            with wave.open(self.path) as other:
+                found = list(array.array("h", other.readframes(9)))
+            self.assertEqual(found, written[: len(found)] if has_ended else written)
+            if len(calls.made) < nth:
+                break
+        self.assertGreater(nth, 20)
+        self.assertEqual(written, [0, 1, 2])
+
+    def test_memory_stays_small(self):
+        block = array.array("h", bytes(2 << 16))
+        tracemalloc.start()
+        with hound.create(self.path, 8000, 2, 16) as writer:
+            for _ in range(1 << 9):
+                writer.write(block)
+        with hound.append_to(self.path) as writer:
+            writer.write(block)
+        peak = tracemalloc.get_traced_memory()[1]
+        tracemalloc.stop()
+        self.assertEqual(os.path.getsize(self.path), 44 + 513 * (2 << 16))
         self.assertLess(peak, 8 << 20)
 
 
