@@ -74,6 +74,8 @@ def requests(file, some):
             yield f"size @{SPEC} {some.choice((few, used, 2**31, 2**64 - 1))}"
             yield f"header @{SPEC} {some.choice((few, used, 2**31))} @{OUT} {some.choice((68, 67, 44, 43))}"
             yield f"sizes @{SPEC} {some.choice((44, 68, 20, 19, used, 2**33))} {some.choice((few, used, 2**31))} @{OUT} {some.choice((8, 8, 7))}"
+            for width in (8, 16, 24, 32):
+                yield f"value_{width} #{some.choice((0, 2 ** (width - 1), some.randrange(2**32)))}"
             for room in (used, used + 1, used - (used > 0)):
                 yield f"repair @{FILE} {room} {used} @{FOUND}"
         yield f"decode_{suffix} @{SPEC} @{FILE} {used} @{OUT} {ROOM // 4}"

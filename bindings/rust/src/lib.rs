@@ -19,11 +19,12 @@ macro_rules! errors {
         /// All errors, by their code without its sign, from 1 on.
         pub const ERRORS: [Error; [$(Error::$name),*].len()] = [$(Error::$name),*];
 
-        impl fmt::Display for Error {
-            fn fmt(&self, f: &mut fmt::Formatter<'_>) -> fmt::Result {
-                f.write_str(match self {
+        impl Error {
+            /// The sentence of hound.h, without its full stop.
+            pub fn text(self) -> &'static str {
+                match self {
                     $(Error::$name => $sentence,)*
-                })
+                }
             }
         }
     };
@@ -55,6 +56,12 @@ errors! {
     ExtensibleSize = -24, "unexpected WAVEFORMATEXTENSIBLE size";
     DataLength = -25, "data chunk length is not a multiple of sample size";
     FrameLength = -26, "invalid data chunk length";
+}
+
+impl fmt::Display for Error {
+    fn fmt(&self, f: &mut fmt::Formatter<'_>) -> fmt::Result {
+        f.write_str(self.text())
+    }
 }
 
 impl error::Error for Error {}
@@ -174,6 +181,10 @@ mod c {
         pub fn hound_to_f32(samples: *const i32, count: usize, bits: u16, out: *mut f32, capacity: usize) -> i64;
         pub fn hound_from_f32(samples: *const f32, count: usize, bits: u16, out: *mut i32, capacity: usize, clipped: *mut u64) -> i64;
         pub fn hound_repair(file: *mut u8, capacity: usize, used: usize, found: *mut Repair) -> i64;
+        pub fn hound_value_8(container: u32) -> i32;
+        pub fn hound_value_16(container: u32) -> i32;
+        pub fn hound_value_24(container: u32) -> i32;
+        pub fn hound_value_32(container: u32) -> i32;
     }
 
     macro_rules! coding {
@@ -457,6 +468,32 @@ pub fn decode<S: Coded>(spec: &Spec, bytes: &[u8], out: &mut [S]) -> Result<usiz
 /// Encodes samples without a file around them, and returns how many bytes they take.
 pub fn encode<S: Coded>(spec: &Spec, samples: &[S], out: &mut [u8]) -> Result<usize> {
     checked(S::encode(&spec.to_c(), samples, out))
+}
+
+/// The integer of one container of 8 bits. Its bytes are the low ones of a number, the first byte the
+/// lowest; the others have no effect.
+#[inline(always)]
+pub fn value_8(container: u32) -> i32 {
+    // SAFETY: no pointer is passed; so below.
+    unsafe { c::hound_value_8(container) }
+}
+
+/// The same of 16 bits.
+#[inline(always)]
+pub fn value_16(container: u32) -> i32 {
+    unsafe { c::hound_value_16(container) }
+}
+
+/// The same of 24 bits, in three bytes or four.
+#[inline(always)]
+pub fn value_24(container: u32) -> i32 {
+    unsafe { c::hound_value_24(container) }
+}
+
+/// The same of 32 bits.
+#[inline(always)]
+pub fn value_32(container: u32) -> i32 {
+    unsafe { c::hound_value_32(container) }
 }
 
 /// Scales integers of so many bits, from 1 to 32, to floats whose full scale is 1, and returns how many.
