@@ -20,8 +20,11 @@ pub use Rattle.hound_reader.specs.declared.cause.Cause.{Cause}
 pub use Rattle.hound_reader.specs.declared.cause.HeadError.{HeadError}
 pub use Rattle.hound_reader.specs.declared.cause.Reason.{Reason}
 pub use Rattle.hound_reader.specs.declared.chunks.FileHead.{FileHead}
-pub use Rattle.hound_writer.specs.{AcceptAnswer, Accepts, AcceptsBytes, AcceptsEach, Adds, AddsAtEach, AddsToFile, AreShort, FitAnswer, IsIoError, IsPublishing, IsStored, KeepsStored, OnPublished, OnRefused, StaysTrue, UnlessFailed, containers_in, faults_told, if_marked, mark_of, one, outcome_of, sample_bytes, short_bytes, whole_containers, AnswersAppend, AppendAnswer, AppendFault, Appends, FailsCheck, FollowsData, HasOneAppendAnswer, IsAppendFault, IsNotAppended, NamesFault, PutsNothing, appendable, by_bytes, faulty, too_long, IsSameFile, WritesToBatch, batch_bytes, batch_lender, batch_writer, remaining, Begins, BeginsFile, HasBegun, IsNotBegun, PutsHeader, GoesAtEach, GoesOut, GoesToFile, HasSize, IsConsistent, IsLimit, IsPatched, IsPublishResult, IsStanding, Patches, PatchesAtEach, PutsAt, StaysAround, after_out, all_out, bytes_kept, of_fields, or_fault, result_of, AreKnown, Asked, Begun, Call, Does, Ends, Extends, HadData, IsKnown, KeepsCalls, Known, Lead, LeftBy, Opens, RecordedBy, appended, asked_by_all, found_in, handed_in, made, marked, new_file, publish, start_of, with_memory, write, AreFrames, ChangesSizesOnly, Counts, HasHeader, HasRoom, IsBegun, IsCounted, IsPadded, IsSixteen, IsSound, IsValid, IsWhole, KeepsSamples, ReadsFirst, SameButSizes, WriterState, accepted_bytes, accepted_samples, block_length, data_end, data_length, field, padded_end, sample_count, Checkpoints, Finishes, IsHalfPublished, IsOldOrNew, IsOutside, LeavesWriter, OncePutBefore, Publishes, PublishesAtEach, PublishesTo, PutsFrom, PutsLast, ReadsAs, place_after}
+pub use Rattle.hound_writer.specs.{AcceptAnswer, Accepts, AcceptsBytes, AcceptsEach, Adds, AddsAtEach, AddsToFile, AreShort, FitAnswer, IsIoError, IsPublishing, IsStored, KeepsStored, OnPublished, OnRefused, StaysTrue, UnlessFailed, containers_in, faults_told, if_marked, mark_of, one, outcome_of, sample_bytes, short_bytes, whole_containers, AnswersAppend, AppendAnswer, AppendFault, Appends, FailsCheck, FollowsData, HasOneAppendAnswer, IsAppendFault, IsNotAppended, NamesFault, PutsNothing, appendable, by_bytes, faulty, too_long, IsSameFile, WritesToBatch, batch_bytes, batch_lender, batch_writer, remaining, Begins, BeginsFile, HasBegun, IsNotBegun, PutsHeader, GoesAtEach, GoesOut, GoesToFile, HasSize, IsConsistent, IsLimit, IsPatched, IsPublishResult, IsStanding, Patches, PatchesAtEach, PutsAt, StaysAround, after_out, all_out, bytes_kept, of_fields, or_fault, result_of, AreKnown, Asked, Begun, Call, Does, Ends, Extends, HadData, IsKnown, KeepsCalls, Known, Lead, LeftBy, Opens, RecordedBy, appended, asked_by_all, found_in, handed_in, made, marked, new_file, publish, start_of, with_memory, write, AreFrames, ChangesSizesOnly, Counts, HasHeader, HasRoom, IsBegun, IsCounted, IsPadded, IsSixteen, IsSound, IsValid, IsWhole, KeepsSamples, ReadsFirst, SameButSizes, WriterState, accepted_bytes, accepted_samples, block_length, data_end, data_length, field, padded_end, sample_count, Checkpoints, Finishes, IsHalfPublished, IsOldOrNew, IsOutside, LeavesWriter, OncePutBefore, Publishes, PublishesAtEach, PublishesTo, PutsFrom, PutsLast, ReadsAs, place_after, Log, Performed, Performs, checkpoint, log_state, nth, pad_effects, size_effects, AppendsRecorder, BeginsRecorder, HasData, HasFailed, HasNoData, NextEffect, Places, Reports, advanced, effects_of, length_with, recorder_of}
 unfoldable pub use Rattle.hound_writer.specs.{head_fault, Left, Recorded, with_sizes}
+pub use Rattle.hound_writer.specs.declared.effects.Effect.{Effect}
+pub use Rattle.hound_writer.specs.declared.recorder.Recorder.{Recorder}
+pub use Rattle.hound_writer.specs.declared.recorder.RecorderError.{RecorderError}
 pub use Rattle.hound_repair.specs.{are_right, begins_chunk, broadcast_tags, frame_length, frames_held, has_tag, held, if_some, is_printable, known_tags, mended, metadata_tags, missing_pad, program_tags, riff_tags, right_length, said_length, torn_bytes, update_tags, Finds, FlushesBeforePad, HalfMended, HalfMendedAtEach, HasRightSizes, IsFoundAt, IsNoPad, IsNotFound, IsNotRepaired, IsRepairFault, LeavesFor, LeavesHalf, Looks, MendsAtEach, MendsMedium, ReadsFrames, Repairs, RepairsMedium, UnlessFollowed, found_length, frames_found, state_of, torn_found, whole_frames, AreRightSizes, FindsDamage, IsNotMeasured, IsSame, IsSoundDamage, IsUnmeasured, IsUnrepaired, LacksRoom, PutsPad, PutsSizes, RepairsBytes, as_medium, bytes_fault, may_be_chunks, repair_of}
 unfoldable pub use Rattle.hound_repair.specs.{are_at_most, are_chunks, chunk_content, data_held, ends_with_id3, ends_with_pad, has_known_tag, is_followed, repair_fault, size_fault}
 pub use Rattle.hound_repair.specs.declared.bytes.Unrepaired.{Unrepaired}

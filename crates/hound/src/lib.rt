@@ -98,7 +98,10 @@ pub use hound_sample::{
 pub use hound_spec::{
     Error, Result, SampleFormat, WavSpec, WavSpecEx, extensions_come_back, fields_come_back,
 };
-pub use hound_writer::{SampleWriter16, WavWriter, a_block_is_its_samples, one_append_answer};
+pub use hound_writer::{
+    Effect, Recorder, RecorderError, SampleWriter16, WavWriter, a_block_is_its_samples,
+    one_append_answer,
+};
 pub use laws::{
     a_batch_is_its_values, a_repair_loses_no_published_sample, a_run_leaves_its_calls,
     a_write_is_marked_by_its_ok, an_append_keeps_the_front, calls_are_a_run,

@@ -4,3 +4,4 @@ pub mod Writing
 pub mod Repairing
 pub mod Walks
 pub mod Scaling
+pub mod Recording

@@ -3,6 +3,7 @@ ghost use Rattle.std.specs.Prelude.{◌≡◌, ◌<◌, ◌^◌, IfOk};
 ghost use Rattle.hound_c.specs.Codes.{fault_code, code_for};
 
 use hound_reader::Cause;
+use hound_writer::RecorderError;
 
 /// Why a call doesn't do its work.
 #[derive(Clone, Copy, Debug, PartialEq, Eq)]
@@ -23,6 +24,8 @@ pub enum Fault {
     UnfinishedFrame,
     /// The file doesn't fit into the caller's memory.
     NoRoom,
+    /// A recorder refuses the call.
+    Recorder(RecorderError),
 }
 
 /// The number that C gets for a fault.
@@ -41,6 +44,11 @@ pub(crate) fn code_of_fault(fault: Fault) -> i32
         Fault::TooLong => -7,
         Fault::UnfinishedFrame => -8,
         Fault::NoRoom => -9,
+        Fault::Recorder(RecorderError::NotWritable) => -5,
+        Fault::Recorder(RecorderError::TooLong) => -7,
+        Fault::Recorder(RecorderError::UnfinishedFrame) => -8,
+        Fault::Recorder(RecorderError::NeedsCheckpoint) => -27,
+        Fault::Recorder(RecorderError::SyncFailed) => -28,
     }
 }
 

@@ -8,6 +8,7 @@ mod appending;
 mod fault;
 mod head;
 mod reading;
+mod recording;
 mod repairing;
 mod scaling;
 mod spec;
@@ -15,14 +16,19 @@ mod value;
 mod walking;
 mod writing;
 
-ghost use Rattle.std.specs.Prelude.{◌≡◌, ◌*◌, ℕ, ℤ, List, length, pos, take};
+ghost use Rattle.std.specs.Prelude.{◌≡◌, ◌*◌, ℕ, ℤ, List, None, length, not, pos, take};
+ghost use Rattle.std.specs.Option.{option_len, option_map_or};
+ghost use Rattle.std.specs.Result.{result_unwrap_or};
+ghost use Rattle.std.specs.Ordering.{int_eq};
 ghost use Rattle.hound_number.specs.{bytes_of};
 ghost use Rattle.hound_reader.specs.{IsAt, Readable, Unreadable};
 ghost use Rattle.hound_sample.specs.{int_container, pattern_container, float_refusal, int_meaning, int_refusal, pattern};
 ghost use Rattle.hound_spec.specs.declared.spec.SampleFormat.TheVariants.{Float, Int};
 ghost use Rattle.hound_reader.specs.declared.cause.Cause.{Cause};
-ghost use Rattle.hound_c.specs.Codes.{Returns, fault_code};
+ghost use Rattle.hound_writer.specs.Recorder.{AppendsRecorder, BeginsRecorder, NextEffect, Places, Reports};
+ghost use Rattle.hound_c.specs.Codes.{Records, Returns, fault_code};
 ghost use Rattle.hound_c.specs.Reading.{Decodes, Reads};
+ghost use Rattle.hound_c.specs.Recording.{effect_of};
 ghost use Rattle.hound_c.specs.Repairing.{FindsInFile, IsDamageFault, RepairsFile};
 ghost use Rattle.hound_c.specs.Scaling.{ScalesToFloats, ScalesToIntegers};
 ghost use Rattle.hound_c.specs.Walks.{AreAsked, AsksOn, FindsHead, Steps, walk_of};
@@ -36,11 +42,13 @@ use head::find_samples;
 use hound_reader::{Step, count_samples, take_part};
 use hound_sample::FloatBits;
 use hound_spec::SampleFormat;
+use hound_writer::Recorder;
 use reading::{decode_block, read_block};
+use recording::effect_for_c;
 use repairing::{find_file_damage, repair_file, repair_for_c};
 use scaling::{scale_to_floats, scale_to_integers};
-use spec::info_for_c;
-pub use spec::{HoundInfo, HoundRepair, HoundSpec, HoundWalk};
+pub use spec::{HoundEffect, HoundInfo, HoundRepair, HoundSpec, HoundWalk};
+use spec::{info_for_c, spec_of};
 use value::{value_of_8, value_of_16, value_of_24, value_of_32};
 use walking::{part_of, walk_for_c, walk_of};
 use writing::{encode_block, file_size, write_file, write_header, write_sizes};
@@ -332,4 +340,77 @@ pub extern "C" fn hound_from_f32(
     ensures { Returns result (ScalesToIntegers bits samples.now out.old out.new clipped.old clipped.new) }
 {
     code_of(scale_to_integers(samples, bits, out, clipped))
+}
+
+/// Begins to record a new file, whose header the caller writes.
+#[unsafe(no_mangle)]
+pub extern "C" fn hound_recorder_begin(spec: &HoundSpec, recorder: &mut Recorder) -> i32
+    ensures { Records result (λ _. 0) (λ begun. BeginsRecorder (spec_of spec.now) begun
+        × (recorder.new ≡ result_unwrap_or begun recorder.old)) }
+{
+    match Recorder::begin(spec_of(*spec)) {
+        Ok(begun) => {
+            *recorder = begun;
+            0
+        }
+        Err(error) => code_of_fault(Fault::Recorder(error)),
+    }
+}
+
+/// Begins to append to a file that was walked.
+#[unsafe(no_mangle)]
+pub extern "C" fn hound_recorder_append(info: &HoundInfo, recorder: &mut Recorder) -> i32
+    ensures { Records result (λ _. 0)
+        (λ begun. AppendsRecorder (spec_of info.now.spec) info.now.data_start info.now.samples begun
+        × (recorder.new ≡ result_unwrap_or begun recorder.old)) }
+{
+    match Recorder::append(spec_of(info.spec), info.data_start, info.samples) {
+        Ok(begun) => {
+            *recorder = begun;
+            0
+        }
+        Err(error) => code_of_fault(Fault::Recorder(error)),
+    }
+}
+
+/// Where the next so many samples go.
+#[unsafe(no_mangle)]
+pub extern "C" fn hound_recorder_place(recorder: &Recorder, samples: u64) -> i64
+    ensures { Records result (λ place. place) (Places recorder.now samples) }
+{
+    match recorder.place(samples) {
+        Ok(place) => place as i64,
+        Err(error) => code_of_fault(Fault::Recorder(error)) as i64,
+    }
+}
+
+/// Reports how the write of so many samples at their place ended.
+#[unsafe(no_mangle)]
+pub extern "C" fn hound_recorder_wrote(recorder: &mut Recorder, samples: u64, ok: i32) -> i32
+    ensures { Records result (λ _. 0) (Reports samples (not (int_eq ok (pos 0))) recorder.old recorder.new) }
+{
+    match recorder.wrote(samples, ok != 0) {
+        Ok(()) => 0,
+        Err(error) => code_of_fault(Fault::Recorder(error)),
+    }
+}
+
+/// The next effect of a checkpoint: 1, or 0 if it is done.
+#[unsafe(no_mangle)]
+pub extern "C" fn hound_checkpoint_next(
+    recorder: &mut Recorder,
+    ok: i32,
+    effect: &mut HoundEffect,
+) -> i32
+    ensures { Records result option_len (λ next. NextEffect (not (int_eq ok (pos 0))) recorder.old recorder.new next
+        × (effect.new ≡ option_map_or effect_of (result_unwrap_or next None) effect.old)) }
+{
+    match recorder.next(ok != 0) {
+        Ok(Some(next)) => {
+            *effect = effect_for_c(next);
+            1
+        }
+        Ok(None) => 0,
+        Err(error) => code_of_fault(Fault::Recorder(error)),
+    }
 }

@@ -47,6 +47,15 @@ pub struct HoundRepair {
     pub state: u32,
 }
 
+/// What a caller does to its file: it syncs it, or writes so many of these bytes at a place.
+#[repr(C)]
+#[derive(Clone, Copy)]
+pub struct HoundEffect {
+    pub place: u64,
+    pub length: u32,
+    pub bytes: [u8; 4],
+}
+
 /// The spec that C's is.
 pub(crate) fn spec_of(spec: HoundSpec) -> WavSpecEx
     ensures { result ≡ spec_of spec }

@@ -10,6 +10,8 @@ unfoldable pub use Rattle.hound_writer.specs.Calls.{Left, Recorded}
 pub use Rattle.hound_writer.specs.Writer.{AreFrames, ChangesSizesOnly, Counts, HasHeader, HasRoom, IsBegun, IsCounted, IsPadded, IsSixteen, IsSound, IsValid, IsWhole, KeepsSamples, ReadsFirst, SameButSizes, WriterState, accepted_bytes, accepted_samples, block_length, data_end, data_length, field, padded_end, sample_count}
 unfoldable pub use Rattle.hound_writer.specs.Writer.{with_sizes}
 pub use Rattle.hound_writer.specs.Publishing.{Checkpoints, Finishes, IsHalfPublished, IsOldOrNew, IsOutside, LeavesWriter, OncePutBefore, Publishes, PublishesAtEach, PublishesTo, PutsFrom, PutsLast, ReadsAs, place_after}
+pub use Rattle.hound_writer.specs.Effects.{Log, Performed, Performs, checkpoint, log_state, nth, pad_effects, size_effects}
+pub use Rattle.hound_writer.specs.Recorder.{AppendsRecorder, BeginsRecorder, HasData, HasFailed, HasNoData, NextEffect, Places, Reports, advanced, effects_of, length_with, recorder_of}
 pub mod Accepting
 pub mod Appending
 pub mod Batch
@@ -18,3 +20,5 @@ pub mod Parts
 pub mod Calls
 pub mod Writer
 pub mod Publishing
+pub mod Effects
+pub mod Recorder

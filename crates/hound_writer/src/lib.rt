@@ -5,6 +5,7 @@
 mod append;
 mod batch;
 mod block;
+mod effects;
 mod file;
 mod laws;
 mod many;
@@ -12,10 +13,13 @@ mod memory;
 mod outcome;
 mod output;
 mod patch;
+mod recorder;
 mod write;
 
 pub use batch::SampleWriter16;
+pub use effects::{Effect, checkpoint_effect};
 pub use laws::{a_block_is_its_samples, one_append_answer};
 pub use output::riff_size;
 pub use patch::patch as patch_sizes;
+pub use recorder::{Recorder, RecorderError};
 pub use write::WavWriter;

@@ -1,0 +1,195 @@
+// A recorder, whose caller writes the file.
+ghost use Rattle.std.specs.Prelude.{◌≡◌, ◌+◌, ◌≤◌, Err, IfErr, IfOk, IfSome, Ok};
+ghost use Rattle.hound_writer.specs.Effects.{nth};
+ghost use Rattle.hound_writer.specs.Recorder.{AppendsRecorder, BeginsRecorder, HasData, HasNoData, NextEffect, Places, Reports, effects_of, length_with, recorder_of};
+
+use crate::effects::{Effect, checkpoint_effect};
+use crate::output::riff_size;
+use hound_spec::{WavSpecEx, header_of, is_pair};
+
+/// Why a recorder doesn't do what a call is for.
+#[derive(Clone, Copy, Debug, PartialEq, Eq)]
+pub enum RecorderError {
+    /// No such samples are written, or none there.
+    NotWritable,
+
+    /// The samples of the file are no whole frames.
+    UnfinishedFrame,
+
+    /// The sizes of the file would pass 32 bits.
+    TooLong,
+
+    /// A write failed, or a checkpoint isn't done: one has to be, before samples are written.
+    NeedsCheckpoint,
+
+    /// A sync failed, after which it is unknown what is stored.
+    SyncFailed,
+}
+
+/// What a recorder keeps of a file that its caller writes.
+#[repr(C)]
+#[derive(Clone, Copy)]
+pub struct Recorder {
+    /// The place of the first data byte.
+    pub data_start: u64,
+
+    /// How many bytes of data are written.
+    pub data_length: u32,
+
+    /// How many effects of a checkpoint were returned; 0 if none is under way.
+    pub number: u32,
+
+    /// How many bytes a sample has.
+    pub bytes_per_sample: u16,
+
+    /// 1 since a write failed, until a checkpoint is done, and 2 since a sync failed.
+    pub condition: u16,
+}
+
+impl Recorder {
+    // A recorder of a file without data.
+    fn empty(data_start: u64, bytes_per_sample: u16) -> Recorder
+        ensures { result ≡ recorder_of data_start 0 bytes_per_sample }
+    {
+        Recorder {
+            data_start,
+            data_length: 0,
+            number: 0,
+            bytes_per_sample,
+            condition: 0,
+        }
+    }
+
+    /// A recorder of a new file, whose header the caller writes.
+    pub fn begin(spec_ex: WavSpecEx) -> Result<Recorder, RecorderError>
+        ensures { BeginsRecorder spec_ex result }
+    {
+        if !spec_ex.is_writable() {
+            return Err(RecorderError::NotWritable);
+        }
+        let data_start = header_of(spec_ex, 0, 0).as_slice().len();
+        Ok(Recorder::empty(data_start as u64, spec_ex.bytes_per_sample))
+    }
+
+    /// A recorder that appends to a file whose data begin at this place and have so many samples.
+    pub fn append(
+        spec_ex: WavSpecEx,
+        data_start: u64,
+        samples: u32,
+    ) -> Result<Recorder, RecorderError>
+        ensures { AppendsRecorder spec_ex data_start samples result }
+    {
+        let spec = spec_ex.spec;
+        let width = spec_ex.bytes_per_sample;
+        if !is_pair(spec.sample_format, spec.bits_per_sample, width) || spec.channels == 0 {
+            return Err(RecorderError::NotWritable);
+        }
+        if samples % spec.channels as u32 != 0 {
+            return Err(RecorderError::UnfinishedFrame);
+        }
+        let mut recorder = Recorder::empty(data_start, width);
+        recorder.data_length = recorder.check_length(samples as u64 * width as u64)?;
+        Ok(recorder)
+    }
+
+    // The data length, where a file can have it.
+    fn check_length(&self, length: u64) -> Result<u32, RecorderError>
+        ensures is { IfOk result (λ n. (n ≡ length) × HasData self.now length) }
+        ensures refused { IfErr result (HasNoData self.now length) }
+    {
+        if self.data_start < 20 || self.bytes_per_sample == 0 {
+            return Err(RecorderError::NotWritable);
+        }
+        let greatest = u32::MAX as u64;
+        if self.data_start > greatest + 8
+            || length > greatest
+            || riff_size(self.data_start, length) > greatest
+        {
+            return Err(RecorderError::TooLong);
+        }
+        Ok(length as u32)
+    }
+
+    // The data length after so many samples more.
+    fn length_with(&self, samples: u64) -> Result<u32, RecorderError>
+        ensures is { IfOk result (λ n. (n ≡ length_with self.now samples)
+            × Places self.now samples (Ok (self.now.data_start + self.now.data_length))) }
+        ensures refused { IfErr result (λ error. Places self.now samples (Err error)) }
+    {
+        if self.condition > 1 {
+            return Err(RecorderError::SyncFailed);
+        }
+        if self.condition > 0 || self.number > 0 {
+            return Err(RecorderError::NeedsCheckpoint);
+        }
+        // More are too many in any width.
+        let few = samples.min(1 << 32);
+        self.check_length(self.data_length as u64 + few * self.bytes_per_sample as u64)
+    }
+
+    /// The place where the next so many samples are written.
+    pub fn place(&self, samples: u64) -> Result<u64, RecorderError>
+        ensures { Places self.now samples result }
+    {
+        self.length_with(samples)?;
+        Ok(self.data_start + self.data_length as u64)
+    }
+
+    /// Reports whether the write of so many samples succeeded, at their place.
+    pub fn wrote(&mut self, samples: u64, ok: bool) -> Result<(), RecorderError>
+        ensures { Reports samples ok self.old self.new result }
+    {
+        let data_length = self.length_with(samples)?;
+        if ok {
+            self.data_length = data_length;
+        } else {
+            self.condition = 1;
+        }
+        Ok(())
+    }
+
+    // The effect with this number of a checkpoint.
+    fn effect(&self, number: u32) -> Option<Effect>
+        requires sound { HasData self.now self.now.data_length }
+        ensures is { result ≡ nth (effects_of self.now) number }
+        ensures few { IfSome result (λ _. number ≤ 5) }
+    {
+        if self.condition == 0 {
+            return checkpoint_effect(self.data_start, self.data_length, number);
+        }
+        if number == 0 {
+            return Some(Effect::Sync);
+        }
+        checkpoint_effect(self.data_start, self.data_length, number - 1)
+    }
+
+    /// The next effect of a checkpoint of all that is written, or none if it is done; `ok` is whether
+    /// the last one succeeded, and is ignored at the first.
+    pub fn next(&mut self, ok: bool) -> Result<Option<Effect>, RecorderError>
+        ensures { NextEffect ok self.old self.new result }
+    {
+        if self.condition > 1 {
+            self.condition = 2;
+            return Err(RecorderError::SyncFailed);
+        }
+        self.check_length(self.data_length as u64)?;
+        if self.number > 0 && !ok {
+            if let Some(Effect::Sync) = self.effect(self.number - 1) {
+                self.condition = 2;
+                return Err(RecorderError::SyncFailed);
+            }
+            self.number = 0;
+            self.condition = 1;
+            return Err(RecorderError::NeedsCheckpoint);
+        }
+        let next = self.effect(self.number);
+        match next {
+            Some(_) => self.number += 1,
+            None => {
+                self.number = 0;
+                self.condition = 0;
+            }
+        }
+        Ok(next)
+    }
+}
