@@ -20,9 +20,11 @@
      the call. Memory that is passed with const isn't written during the call, so a mapped file must
      not change or get shorter.
    - What is read is initialized: specs, samples, and a file up to its `length` or its `used` bytes.
-     What is only written needn't be: `out`, `info`, `found`, and a file from `used` on.
+     What is only written needn't be: `out`, `info`, `found`, `effect`, a recorder that is begun, and a
+     file from `used` on.
 
-   After an error the caller's memory is as it was before the call. */
+   After an error the caller's memory is as it was before the call; but hound_checkpoint_next notes in
+   the recorder that an effect failed. */
 #ifndef HOUND_H
 #define HOUND_H
 #include <stddef.h>
@@ -55,8 +57,8 @@ enum {
                                     samples with these bits and bytes; hound_write_.., hound_size and
                                     hound_header also return it where the channels or the rate are 0, or
                                     where the bytes of a frame don't fit in 16 bits or those of a second in
-                                    32, and hound_sizes where the channels are 0 or the data begin before
-                                    byte 20 */
+                                    32, and hound_sizes and a recorder where the channels are 0 or the data
+                                    begin before byte 20 */
     HOUND_TRUNCATED = -6,        /* the header counts a sample that isn't among the bytes of the file */
     HOUND_TOO_LONG = -7,         /* the sizes of the file would not fit in 32 bits */
     HOUND_UNFINISHED_FRAME = -8, /* the samples are no whole frames */
@@ -79,7 +81,12 @@ enum {
     HOUND_BITS_NOT_32 = -23,
     HOUND_EXTENSIBLE_SIZE = -24,
     HOUND_DATA_LENGTH = -25,
-    HOUND_FRAME_LENGTH = -26
+    HOUND_FRAME_LENGTH = -26,
+    /* What happened to the file of a recorder. */
+    HOUND_NEEDS_CHECKPOINT = -27, /* a write failed, or a checkpoint isn't done: one has to be, before samples
+                                     are written */
+    HOUND_SYNC_FAILED = -28       /* a sync failed, after which it is unknown what is stored: the recorder has
+                                     ended, and the file has the samples of the last checkpoint */
 };
 
 /* The formats of samples. */
@@ -210,6 +217,46 @@ int64_t hound_to_f32(const int32_t *samples, size_t count, uint16_t bits, float 
    that; a NaN is 0. Returns how many samples there are in all. */
 int64_t hound_from_f32(const float *samples, size_t count, uint16_t bits, int32_t *out, size_t capacity, uint64_t *clipped) HOUND_NONNULL;
 
+/* A recorder: what a program remembers of a file that it writes itself, block by block. It says where the
+   samples are written, and by which effects a checkpoint makes the header count them. Between checkpoints
+   the header counts those of the last one, and hound_repair finds the others that are there.
+   A program begins one, and then, as often as it likes, writes a block and makes a checkpoint; see record.c. */
+typedef struct {
+    uint64_t data_start;  /* how many bytes are before the first sample */
+    uint32_t data_length; /* how many bytes of samples are written */
+    uint32_t number;      /* the rest is for the calls */
+    uint16_t bytes_per_sample, condition;
+} hound_recorder;
+
+/* What a program does to its file: it writes `length` of `bytes` at `place`, or, if `length` is 0, syncs it.
+   A sync has to end before the next effect. If it only passes the bytes on to the system, the file has all of
+   a checkpoint after a kill; only if it stores them, as fsync does, also after a loss of power. */
+typedef struct {
+    uint64_t place;
+    uint32_t length;
+    uint8_t bytes[4];
+} hound_effect;
+
+/* Begin a recorder: of a new file, after its header, which hound_header gives for 0 samples; or of a file
+   whose `info` was found. That one continues after the samples that the header counts, which the file must
+   hold, and over what follows them, as hound_append_.. does. Return 0 or an error. */
+int32_t hound_recorder_begin(const hound_spec *spec, hound_recorder *recorder) HOUND_NONNULL;
+int32_t hound_recorder_append(const hound_info_t *info, hound_recorder *recorder) HOUND_NONNULL;
+
+/* Returns the place where the next so many samples are written, as hound_encode_.. gives them; blocks are whole
+   frames. A write that ends early is continued with its rest. */
+int64_t hound_recorder_place(const hound_recorder *recorder, uint64_t samples) HOUND_NONNULL;
+
+/* Reports how the write of so many samples at that place ended: `ok` is 0 if it failed, and then they don't
+   count, and a checkpoint has to come next. Returns 0, or the error that hound_recorder_place returns. */
+int32_t hound_recorder_wrote(hound_recorder *recorder, uint64_t samples, int32_t ok) HOUND_NONNULL;
+
+/* Returns 1 for the next effect of a checkpoint, and 0 if it is done: then the header counts all samples. `ok`
+   is 0 if the last effect failed, and ignored for the first one. After a write that failed this returns
+   HOUND_NEEDS_CHECKPOINT, and the next call begins another checkpoint; after a sync that failed it returns
+   HOUND_SYNC_FAILED, as each later call of the recorder does. */
+int32_t hound_checkpoint_next(hound_recorder *recorder, int32_t ok, hound_effect *effect) HOUND_NONNULL;
+
 /* A sentence for an error, without its full stop. */
 static inline const char *hound_error_text(int64_t code) {
     switch (code) {
@@ -239,6 +286,8 @@ static inline const char *hound_error_text(int64_t code) {
     case HOUND_EXTENSIBLE_SIZE: return "unexpected WAVEFORMATEXTENSIBLE size";
     case HOUND_DATA_LENGTH: return "data chunk length is not a multiple of sample size";
     case HOUND_FRAME_LENGTH: return "invalid data chunk length";
+    case HOUND_NEEDS_CHECKPOINT: return "a write failed or a checkpoint is not done, and no samples are written before one is";
+    case HOUND_SYNC_FAILED: return "a sync failed, and it is unknown what is stored";
     default: return code < 0 ? "unknown error" : "no error";
     }
 }
@@ -261,6 +310,10 @@ HOUND_ASSERT(sizeof(hound_walk) == 40 && offsetof(hound_walk, spec) == 8 && offs
              && offsetof(hound_walk, fmt_length) == 32);
 HOUND_ASSERT(sizeof(hound_repair_t) == 24 && offsetof(hound_repair_t, frames) == 12
              && offsetof(hound_repair_t, left_over) == 16 && offsetof(hound_repair_t, state) == 20);
+HOUND_ASSERT(sizeof(hound_recorder) == 24 && offsetof(hound_recorder, data_length) == 8
+             && offsetof(hound_recorder, number) == 12 && offsetof(hound_recorder, bytes_per_sample) == 16
+             && offsetof(hound_recorder, condition) == 18);
+HOUND_ASSERT(sizeof(hound_effect) == 16 && offsetof(hound_effect, length) == 8 && offsetof(hound_effect, bytes) == 12);
 #endif
 #undef HOUND_ASSERT
 #endif

@@ -344,6 +344,101 @@ static void sizes_of_none(void) {
     must(hound_sizes(&spec, 4294967303, 0, out, 44) == 4294967303 && le32(out) == 4294967295 && le32(out + 4) == 0, "the last place of data");
 }
 
+/* The effects of a checkpoint of so much data: a sync after a write that failed, a pad byte after an odd length, a sync,
+   the RIFF size, the data length, and a sync; returns how many they are. */
+static int effects_of(uint64_t start, uint32_t data, int has_failed, hound_effect *out) {
+    hound_effect sync = {0, 0, {0}}, pad = {start + data, 1, {0}}, riff = {4, 4, {0}}, length = {start - 4, 4, {0}};
+    int count = 0;
+    put32(riff.bytes, (uint32_t)(start - 8 + data + data % 2));
+    put32(length.bytes, data);
+    if (has_failed) out[count++] = sync;
+    if (data % 2) out[count++] = pad;
+    out[count++] = sync, out[count++] = riff, out[count++] = length, out[count++] = sync;
+    return count;
+}
+
+static int same_effect(const hound_effect *a, const hound_effect *b) {
+    return a->place == b->place && a->length == b->length && !memcmp(a->bytes, b->bytes, 4);
+}
+
+/* Makes a checkpoint of a file, one of whose effects may fail; it is compared with what it has to do. */
+static void checkpoint(hound_recorder *recorder, uint8_t *file, int has_failed, int fails) {
+    hound_effect wanted[6], effect;
+    int count = effects_of(recorder->data_start, recorder->data_length, has_failed, wanted);
+    for (int i = 0; i < count; i++) { /* `ok` is ignored at the first one */
+        must(hound_checkpoint_next(recorder, i > 0, &effect) == 1 && same_effect(&effect, &wanted[i]), "the effects of a checkpoint");
+        must(hound_recorder_place(recorder, 0) == HOUND_NEEDS_CHECKPOINT && hound_recorder_wrote(recorder, 0, 1) == HOUND_NEEDS_CHECKPOINT, "samples within a checkpoint");
+        if (i == fails) {
+            int32_t code = hound_checkpoint_next(recorder, 0, &effect);
+            must(code == (effect.length ? HOUND_NEEDS_CHECKPOINT : HOUND_SYNC_FAILED) && same_effect(&effect, &wanted[i]), "an effect that failed");
+            must(hound_recorder_place(recorder, 0) == code && hound_recorder_wrote(recorder, 1, 1) == code, "samples after an effect that failed");
+            return;
+        }
+        memcpy(file + effect.place, effect.bytes, effect.length);
+    }
+    must(hound_checkpoint_next(recorder, 1, &effect) == 0 && recorder->number == 0 && recorder->condition == 0, "the end of a checkpoint");
+}
+
+static void recorders(void) {
+    for (int kind = 0; kind < KINDS; kind++) for (int fails = -1; fails < 6; fails++) {
+        hound_spec spec = spec_of(kind, 1);
+        size_t start = kinds[kind].start, width = kinds[kind].bytes;
+        char type = kinds[kind].format == HOUND_FLOAT ? 'f' : 'i';
+        hound_recorder recorder, before;
+        uint8_t file[100], whole_file[100];
+        memset(&recorder, 9, sizeof recorder);
+        memset(file, 0, sizeof file);
+        must(hound_recorder_begin(&spec, &recorder) == 0 && recorder.data_start == start && recorder.data_length == 0, "a recorder of a new file");
+        must(hound_header(&spec, 0, file, sizeof file) == (int64_t)start, "its header");
+        for (size_t n = 0, held = 0; held + n <= 4; held += n++) {
+            must(hound_recorder_place(&recorder, n) == (int64_t)(start + held * width), "the place of a block");
+            must(hound_recorder_wrote(&recorder, n, 0) == 0 && recorder.data_length == held * width, "a write that failed counts nothing");
+            must(hound_recorder_place(&recorder, n) == HOUND_NEEDS_CHECKPOINT && hound_recorder_wrote(&recorder, n, 1) == HOUND_NEEDS_CHECKPOINT, "samples after a write that failed");
+            checkpoint(&recorder, file, 1, -1);
+            int64_t length = type == 'f' ? hound_encode_f32(&spec, reals + held, n, file + start + held * width, 16)
+                                         : hound_encode_i32(&spec, ints + held, n, file + start + held * width, 16);
+            must(length == (int64_t)(n * width) && hound_recorder_wrote(&recorder, n, 77) == 0 && recorder.data_length == (held + n) * width, "a block that was written");
+            checkpoint(&recorder, file, 0, -1);
+            length = written(type, &spec, held + n, whole_file, sizeof whole_file);
+            must(length > 0 && !memcmp(file, whole_file, (size_t)length), "the file after a checkpoint");
+        }
+        hound_effect wanted[6];
+        int count = effects_of(start, recorder.data_length, 0, wanted);
+        if (fails < 0 || fails >= count) continue;
+        checkpoint(&recorder, file, 0, fails);
+        before = recorder;
+        hound_effect effect = wanted[0];
+        if (wanted[fails].length) checkpoint(&recorder, file, 1, -1);
+        else for (int ok = 0; ok < 2; ok++)
+            must(hound_checkpoint_next(&recorder, ok, &effect) == HOUND_SYNC_FAILED && !memcmp(&before, &recorder, sizeof before), "after a sync that failed");
+    }
+}
+
+/* What no recorder is begun for, and what has no room. */
+static void no_recorders(void) {
+    hound_spec spec = {44100, 2, 16, 0, HOUND_INT}, none = {44100, 2, 12, 0, HOUND_INT};
+    hound_info_t info = {{44100, 2, 16, 2, HOUND_INT}, 4, 58};
+    hound_recorder recorder, before;
+    hound_effect effect;
+    memset(&recorder, 9, sizeof recorder);
+    before = recorder;
+    must(hound_recorder_begin(&none, &recorder) == HOUND_NOT_WRITABLE, "a recorder of 12 bits");
+    info.samples = 3;
+    must(hound_recorder_append(&info, &recorder) == HOUND_UNFINISHED_FRAME, "a recorder after half a frame");
+    info.samples = 2147483630;
+    must(hound_recorder_append(&info, &recorder) == HOUND_TOO_LONG, "a recorder past 32 bits");
+    info.samples = 4, info.data_start = 19;
+    must(hound_recorder_append(&info, &recorder) == HOUND_NOT_WRITABLE, "no file has its data there");
+    must(!memcmp(&recorder, &before, sizeof before), "an error begins no recorder");
+    info.data_start = 58;
+    must(hound_recorder_append(&info, &recorder) == 0 && hound_recorder_place(&recorder, 2) == 66, "a recorder that appends");
+    must(hound_recorder_begin(&spec, &recorder) == 0 && hound_recorder_place(&recorder, 2147483629) == 44, "as many samples as 32 bits count");
+    must(hound_recorder_place(&recorder, 2147483630) == HOUND_TOO_LONG && hound_recorder_wrote(&recorder, UINT64_MAX, 0) == HOUND_TOO_LONG, "samples past 32 bits");
+    must(recorder.condition == 0, "an error notes nothing");
+    recorder.data_start = 19;
+    must(hound_recorder_place(&recorder, 0) == HOUND_NOT_WRITABLE && hound_checkpoint_next(&recorder, 1, &effect) == HOUND_NOT_WRITABLE, "a recorder that no call made");
+}
+
 static void floats(void) {
     hound_spec spec = {48000, 1, 32, 0, HOUND_FLOAT};
     uint32_t patterns[3] = {0x7fc12345, 0x80000000, 1}, back[3];
@@ -425,12 +520,12 @@ static void texts(void) {
     char version[40];
     sprintf(version, "%d.%d.%d", HOUND_VERSION_MAJOR, HOUND_VERSION_MINOR, HOUND_VERSION_PATCH);
     must(!strcmp(version, HOUND_VERSION), "the version");
-    for (int code = 0; code >= HOUND_FRAME_LENGTH; code--) {
+    for (int code = 0; code >= HOUND_SYNC_FAILED; code--) {
         must(strcmp(hound_error_text(code), "unknown error") != 0, "a text for each error");
         for (int other = 0; other > code; other--)
             must(strcmp(hound_error_text(code), hound_error_text(other)) != 0, "a text of its own for each error");
     }
-    must(!strcmp(hound_error_text(HOUND_FRAME_LENGTH - 1), "unknown error"), "no further error");
+    must(!strcmp(hound_error_text(HOUND_SYNC_FAILED - 1), "unknown error"), "no further error");
 }
 
 int main(void) {
@@ -444,6 +539,8 @@ int main(void) {
     values();
     scales();
     sizes_of_none();
+    recorders();
+    no_recorders();
     floats();
     repairs();
     long_files();

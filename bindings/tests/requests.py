@@ -13,8 +13,9 @@ TOP = os.path.dirname(os.path.dirname(os.path.dirname(os.path.abspath(__file__))
 sys.path.insert(0, os.path.join(TOP, "crates", "hound_rows"))
 import expected as model  # noqa: E402
 
-# Where things are in memory: a spec, what is found, samples, what is decoded or written, and the file with room after it.
-SPEC, FOUND, SAMPLES, OUT, FILE = 0, 16, 64, 192, 832
+# Where things are in memory: a spec, what is found (before that a recorder, and what one is begun by), samples, what is
+# decoded or written, and the file with room after it.
+SPEC, FOUND, INFO, SAMPLES, OUT, FILE = 0, 16, 40, 64, 192, 832
 COUNT, ROOM, MORE = 32, FILE - OUT, 160
 # Bits and bytes that are written, and some that aren't.
 PAIRS = [(8, 0, 0), (16, 0, 0), (24, 3, 0), (24, 4, 0), (32, 0, 0), (32, 0, 1), (12, 0, 0), (16, 4, 0), (64, 0, 1)]
@@ -54,6 +55,18 @@ def files(some):
     return found
 
 
+def recorder(some):
+    """A recorder as C has it, also one that no call makes."""
+    start = some.choice((44, 44, 44, 68, 20, 19, 2**32 + 7, 2**33, 2**64 - 1))
+    length = some.choice((0, 1, 6, 300, 2**31, 2**32 - 37, 2**32 - 1))
+    return struct.pack("<QIIHHI", start, length, some.choice((0, 0, 0, *range(1, 8), 2**32 - 1)), some.choice((0, 1, 2, 3, 4)), some.choice((0, 0, 0, 1, 2, 3)), 0)
+
+
+def recorded(some, spec):
+    """What says that a file of this spec has samples."""
+    return spec + struct.pack("<IQ", some.choice((0, 1, 6, 2**31, 2**32 - 1)), some.choice((44, 44, 68, 20, 19, 2**33)))
+
+
 def requests(file, some):
     """The calls over a file, with samples that mostly fit in the bits of a spec."""
     bits, width, is_float = some.choice(PAIRS)
@@ -65,7 +78,7 @@ def requests(file, some):
         low = 0 if suffix == "f32" else -(2 ** min(kept, most))
         high = 2**32 if suffix == "f32" else 2 ** min(kept, most)
         samples = struct.pack(f"<{COUNT}{code}", *(some.randrange(low, high) for _ in range(COUNT)))
-        memory = spec.ljust(SAMPLES, b"\x5a") + samples
+        memory = spec.ljust(FOUND, b"\x5a") + recorder(some) + recorded(some, spec) + samples
         yield f"memory {size} {(memory.ljust(FILE, bytes([0x5A])) + file).hex()}"
         if suffix == "i16":
             yield f"info @{FILE} {used} @{FOUND}"
@@ -76,6 +89,11 @@ def requests(file, some):
             yield f"sizes @{SPEC} {some.choice((44, 68, 20, 19, used, 2**33))} {some.choice((few, used, 2**31))} @{OUT} {some.choice((8, 8, 7))}"
             for width in (8, 16, 24, 32):
                 yield f"value_{width} #{some.choice((0, 2 ** (width - 1), some.randrange(2**32)))}"
+            yield f"recorder_begin @{SPEC} @{FOUND}"
+            yield f"recorder_append @{INFO} @{FOUND}"
+            yield f"recorder_place @{FOUND} {some.choice((few, 2**31, 2**64 - 1))}"
+            yield f"recorder_wrote @{FOUND} {some.choice((few, few, 2**31))} #{some.choice((0, 1, 77))}"
+            yield f"checkpoint_next @{FOUND} #{some.choice((0, 1, 77))} @{OUT}"
             for room in (used, used + 1, used - (used > 0)):
                 yield f"repair @{FILE} {room} {used} @{FOUND}"
         yield f"decode_{suffix} @{SPEC} @{FILE} {used} @{OUT} {ROOM // 4}"

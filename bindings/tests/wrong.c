@@ -94,6 +94,30 @@ REAL(int64_t, size, (const hound_spec *spec, uint64_t samples)) {
     return n == HOUND_TOO_LONG && has("size past 32 bits") ? (int64_t)(44 + 2 * samples) : n;
 }
 
+REAL(int64_t, recorder_place, (const hound_recorder *recorder, uint64_t samples)) {
+    int64_t place = __real_hound_recorder_place(recorder, samples);
+    return place >= 0 && has("place of the header") ? (int64_t)recorder->data_start : place;
+}
+
+REAL(int32_t, recorder_append, (const hound_info_t *info, hound_recorder *recorder)) {
+    int32_t code = __real_hound_recorder_append(info, recorder);
+    if (code == 0 && has("appending from the first sample")) recorder->data_length = 0;
+    return code;
+}
+
+REAL(int32_t, recorder_wrote, (hound_recorder *recorder, uint64_t samples, int32_t ok)) {
+    return __real_hound_recorder_wrote(recorder, samples, ok || has("a failed write counts"));
+}
+
+REAL(int32_t, checkpoint_next, (hound_recorder *recorder, int32_t ok, hound_effect *effect)) {
+    if (recorder->condition == 2 && has("a failed sync is forgotten")) recorder->condition = 0;
+    if (recorder->number == 0 && has("no sync after a failed write")) recorder->condition = 0;
+    int32_t code = __real_hound_checkpoint_next(recorder, ok, effect);
+    if (code == 1 && effect->length == 1 && has("no pad byte in a checkpoint")) return __real_hound_checkpoint_next(recorder, 1, effect);
+    if (code == 1 && effect->length == 0 && recorder->number < 3 && has("sizes before a sync")) return __real_hound_checkpoint_next(recorder, 1, effect);
+    return code;
+}
+
 static int is_odd(const uint8_t *file, size_t length) {
     hound_info_t info;
     return __real_hound_info(file, length, &info) == 0 && info.samples * info.spec.bytes_per_sample % 2 == 1;

@@ -60,6 +60,8 @@ class Cause(enum.IntEnum):
     EXTENSIBLE_SIZE = 24, "unexpected WAVEFORMATEXTENSIBLE size"
     DATA_LENGTH = 25, "data chunk length is not a multiple of sample size"
     FRAME_LENGTH = 26, "invalid data chunk length"
+    NEEDS_CHECKPOINT = 27, "a write failed or a checkpoint is not done, and no samples are written before one is"
+    SYNC_FAILED = 28, "a sync failed, and it is unknown what is stored"
     CUT_OFF = 101, "the recording was cut off: call repair before append"
     CHUNKS_AFTER_DATA = 102, "chunks or a tag follow the data, and append overwrites them only with overwrite=True"
 

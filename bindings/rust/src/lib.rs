@@ -56,6 +56,8 @@ errors! {
     ExtensibleSize = -24, "unexpected WAVEFORMATEXTENSIBLE size";
     DataLength = -25, "data chunk length is not a multiple of sample size";
     FrameLength = -26, "invalid data chunk length";
+    NeedsCheckpoint = -27, "a write failed or a checkpoint is not done, and no samples are written before one is";
+    SyncFailed = -28, "a sync failed, and it is unknown what is stored";
 }
 
 impl fmt::Display for Error {
