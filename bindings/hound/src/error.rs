@@ -72,7 +72,7 @@ impl From<proved::Error> for Error {
             proved::Error::OtherFormat => Error::InvalidSampleFormat,
             proved::Error::TooWide => Error::TooWide,
             proved::Error::UnfinishedFrame => Error::UnfinishedSample,
-            proved::Error::TooLong | proved::Error::NoRoom => Error::IoError(io::Error::new(io::ErrorKind::Other, error)),
+            proved::Error::TooLong | proved::Error::NoRoom | proved::Error::NeedsCheckpoint | proved::Error::SyncFailed => Error::IoError(io::Error::new(io::ErrorKind::Other, error)),
             proved::Error::BitsNot8Or16 => Error::FormatError("bits per sample is not 8 or 16"),
             _ => Error::FormatError(error.text()),
         }

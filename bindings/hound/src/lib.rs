@@ -34,7 +34,6 @@
 extern crate hound_bindings as proved;
 
 mod error;
-mod order;
 mod reader;
 mod repair;
 mod sample;

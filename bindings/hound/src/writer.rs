@@ -1,8 +1,7 @@
-use crate::order::{Effect, Recorder};
 use crate::reader::walk_to_data;
 use crate::sample::{Coding, Encode};
 use crate::{Error, Result, Sample, SampleFormat, WavSpec, WavSpecEx, BLOCK};
-use crate::proved;
+use crate::proved::{self, Recorder};
 use std::io::{self, Read, Seek, SeekFrom, Write};
 use std::{fs, mem, path};
 
@@ -54,19 +53,18 @@ impl<W: Write + Seek> Medium<W> {
 
     // Where so many samples go, after what has to be written first.
     fn next_place(&mut self, samples: usize) -> Result<u64> {
-        if self.recorder.needs_checkpoint() {
+        if let Err(proved::Error::NeedsCheckpoint) = self.recorder.place(0) {
             self.checkpoint()?;
         }
-        self.recorder.place(samples as u64)
+        Ok(self.recorder.place(samples as u64)?)
     }
 
     // Writes the containers of so many samples: all of them count, or none.
     fn write_containers(&mut self, samples: usize, containers: &[u8]) -> Result<()> {
         let place = self.next_place(samples)?;
         let result = self.write_at(place, containers);
-        let wrote = self.recorder.wrote(samples as u64, result.is_ok());
-        result?;
-        wrote
+        self.recorder.wrote(samples as u64, result.is_ok())?;
+        Ok(result?)
     }
 
     fn encode<S>(&mut self, spec: &proved::Spec, encode: Encode<S>, samples: &[S]) -> Result<()> {
@@ -87,11 +85,11 @@ impl<W: Write + Seek> Medium<W> {
         let mut result = Ok(());
         loop {
             match self.recorder.next_effect(result.is_ok()) {
-                Ok(Some(Effect::Write { place, bytes })) => result = self.write_at(place, &bytes),
-                Ok(Some(Effect::Sync)) if self.is_durable => result = self.writer.flush(),
-                Ok(Some(Effect::Sync)) => {}
+                Ok(Some(effect)) if !effect.is_sync() => result = self.write_at(effect.place(), effect.bytes()),
+                Ok(Some(_)) if self.is_durable => result = self.writer.flush(),
+                Ok(Some(_)) => {}
                 Ok(None) => return Ok(()),
-                Err(error) => return Err(result.err().map_or(error, Error::IoError)),
+                Err(error) => return Err(result.err().map_or(error.into(), Error::IoError)),
             }
         }
     }
