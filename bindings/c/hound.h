@@ -199,6 +199,14 @@ int64_t hound_encode_i16(const hound_spec *spec, const int16_t *samples, size_t 
 int64_t hound_encode_i32(const hound_spec *spec, const int32_t *samples, size_t count, uint8_t *out, size_t capacity) HOUND_NONNULL;
 int64_t hound_encode_f32(const hound_spec *spec, const float *samples, size_t count, uint8_t *out, size_t capacity) HOUND_NONNULL;
 
+/* The integer of one container, whose bytes are the low ones of a number: its first byte is the lowest.
+   They are for a reader that takes no byte ahead; the other bytes of the number have no effect.
+   _24 is for containers of three bytes and of four. */
+int32_t hound_value_8(uint32_t container);
+int32_t hound_value_16(uint32_t container);
+int32_t hound_value_24(uint32_t container);
+int32_t hound_value_32(uint32_t container);
+
 /* Integers of so many bits, from 1 to 32, as floats whose full scale is 1: each is divided by
    2^(bits - 1). Returns how many. So any file of integers is read as floats, after hound_decode_i32 or
    hound_read_i32; integers of up to 24 bits come back by hound_from_f32 as they were. */

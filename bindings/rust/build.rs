@@ -9,10 +9,10 @@ fn main() {
         variable("CARGO_CFG_TARGET_OS")
     ));
     let archive = env::var_os("HOUND_C_LIB").filter(|folder| !folder.is_empty()).map_or(carried, PathBuf::from).join("libhound_c.a");
-    let Ok(archive) = fs::canonicalize(&archive) else {
+    let archive = fs::canonicalize(&archive).unwrap_or_else(|_| {
         eprintln!("{} isn't there: bindings/lib has the library for Linux on x86_64 and aarch64", archive.display());
-        process::exit(1);
-    };
+        process::exit(1)
+    });
     println!("cargo:rerun-if-env-changed=HOUND_C_LIB");
     println!("cargo:rerun-if-changed={}", archive.display());
     println!("cargo:rustc-link-search=native={}", archive.parent().unwrap().display());

@@ -25,6 +25,10 @@ static int64_t call(const char *name, const uint64_t *a) {
     if (!strcmp(name, "sizes")) return hound_sizes(AT(hound_spec, 0), a[1], a[2], AT(uint8_t, 3), a[4]);
     if (!strcmp(name, "to_f32")) return hound_to_f32(AT(int32_t, 0), a[1], (uint16_t)a[2], AT(float, 3), a[4]);
     if (!strcmp(name, "from_f32")) return hound_from_f32(AT(float, 0), a[1], (uint16_t)a[2], AT(int32_t, 3), a[4], AT(uint64_t, 5));
+    if (!strcmp(name, "value_8")) return hound_value_8((uint32_t)a[0]);
+    if (!strcmp(name, "value_16")) return hound_value_16((uint32_t)a[0]);
+    if (!strcmp(name, "value_24")) return hound_value_24((uint32_t)a[0]);
+    if (!strcmp(name, "value_32")) return hound_value_32((uint32_t)a[0]);
     if (!strcmp(name, "recorder_begin")) return hound_recorder_begin(AT(hound_spec, 0), AT(hound_recorder, 1));
     if (!strcmp(name, "recorder_append")) return hound_recorder_append(AT(hound_info_t, 0), AT(hound_recorder, 1));
     if (!strcmp(name, "recorder_place")) return hound_recorder_place(AT(hound_recorder, 0), a[1]);

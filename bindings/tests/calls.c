@@ -291,6 +291,14 @@ static void eight_bits(void) {
     must(hound_decode_i8(&wide, wider, 8, back, 5) == HOUND_TOO_WIDE && hound_decode_i8(&real, wider, 8, back, 5) == HOUND_OTHER_FORMAT && back[0] == -128, "what 8 bits don't hold");
 }
 
+/* One container at a time: the lowest value, the highest, some between, and bytes that have no effect. */
+static void values(void) {
+    must(hound_value_8(0) == -128 && hound_value_8(0x80) == 0 && hound_value_8(0xffffffff) == 127 && hound_value_8(0x100) == -128, "8 bits");
+    must(hound_value_16(0x8000) == -32768 && hound_value_16(0xffff7fff) == 32767 && hound_value_16(0x1fffd) == -3, "16 bits");
+    must(hound_value_24(0x800000) == -8388608 && hound_value_24(0xff7fffff) == 8388607 && hound_value_24(0x1fffffd) == -3, "24 bits");
+    must(hound_value_32(0x80000000) == INT32_MIN && hound_value_32(0x7fffffff) == INT32_MAX && hound_value_32(0xfffffffd) == -3, "32 bits");
+}
+
 /* Scales of 16 bits, 8 and 32: halves go to the even integer, and what is past full scale is clipped and counted. */
 static void scales(void) {
     const int32_t values[5] = {16384, -32768, 32767, 0, 1};
@@ -528,6 +536,7 @@ int main(void) {
     errors_of_files();
     walks();
     eight_bits();
+    values();
     scales();
     sizes_of_none();
     recorders();

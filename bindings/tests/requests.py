@@ -87,6 +87,8 @@ def requests(file, some):
             yield f"size @{SPEC} {some.choice((few, used, 2**31, 2**64 - 1))}"
             yield f"header @{SPEC} {some.choice((few, used, 2**31))} @{OUT} {some.choice((68, 67, 44, 43))}"
             yield f"sizes @{SPEC} {some.choice((44, 68, 20, 19, used, 2**33))} {some.choice((few, used, 2**31))} @{OUT} {some.choice((8, 8, 7))}"
+            for width in (8, 16, 24, 32):
+                yield f"value_{width} #{some.choice((0, 2 ** (width - 1), some.randrange(2**32)))}"
             yield f"recorder_begin @{SPEC} @{FOUND}"
             yield f"recorder_append @{INFO} @{FOUND}"
             yield f"recorder_place @{FOUND} {some.choice((few, 2**31, 2**64 - 1))}"

@@ -72,6 +72,22 @@ REAL(int64_t, from_f32, (const float *samples, size_t count, uint16_t bits, int3
     return n;
 }
 
+REAL(int32_t, value_8, (uint32_t container)) {
+    return has("8 bits signed") ? (int8_t)container : __real_hound_value_8(container);
+}
+
+REAL(int32_t, value_16, (uint32_t container)) {
+    return has("16 bits unsigned") ? (uint16_t)container : __real_hound_value_16(container);
+}
+
+REAL(int32_t, value_24, (uint32_t container)) {
+    return has("24 bits of the fourth byte") ? (int32_t)container : __real_hound_value_24(container);
+}
+
+REAL(int32_t, value_32, (uint32_t container)) {
+    return has("32 bits shifted") ? (int32_t)(container & 0xffffff00) : __real_hound_value_32(container);
+}
+
 REAL(int64_t, size, (const hound_spec *spec, uint64_t samples)) {
     int64_t n = __real_hound_size(spec, samples);
     if (n == HOUND_UNFINISHED_FRAME && has("size of torn frames")) return __real_hound_size(spec, samples - 1);

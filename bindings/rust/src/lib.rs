@@ -19,11 +19,12 @@ macro_rules! errors {
         /// All errors, by their code without its sign, from 1 on.
         pub const ERRORS: [Error; [$(Error::$name),*].len()] = [$(Error::$name),*];
 
-        impl fmt::Display for Error {
-            fn fmt(&self, f: &mut fmt::Formatter<'_>) -> fmt::Result {
-                f.write_str(match self {
+        impl Error {
+            /// The sentence of hound.h, without its full stop.
+            pub fn text(self) -> &'static str {
+                match self {
                     $(Error::$name => $sentence,)*
-                })
+                }
             }
         }
     };
@@ -57,6 +58,12 @@ errors! {
     FrameLength = -26, "invalid data chunk length";
     NeedsCheckpoint = -27, "a write failed or a checkpoint is not done, and no samples are written before one is";
     SyncFailed = -28, "a sync failed, and it is unknown what is stored";
+}
+
+impl fmt::Display for Error {
+    fn fmt(&self, f: &mut fmt::Formatter<'_>) -> fmt::Result {
+        f.write_str(self.text())
+    }
 }
 
 impl error::Error for Error {}
@@ -166,6 +173,24 @@ mod c {
         pub fmt_length: u32,
     }
 
+    #[repr(C)]
+    #[derive(Clone, Copy, Default)]
+    pub struct Recorder {
+        pub data_start: u64,
+        pub data_length: u32,
+        pub number: u32,
+        pub bytes_per_sample: u16,
+        pub condition: u16,
+    }
+
+    #[repr(C)]
+    #[derive(Clone, Copy, Default)]
+    pub struct Effect {
+        pub place: u64,
+        pub length: u32,
+        pub bytes: [u8; 4],
+    }
+
     extern "C" {
         pub fn hound_info(file: *const u8, length: usize, info: *mut Info) -> i32;
         pub fn hound_walk_next(walk: *mut Walk, bytes: *const u8, length: usize, info: *mut Info) -> i32;
@@ -176,6 +201,15 @@ mod c {
         pub fn hound_to_f32(samples: *const i32, count: usize, bits: u16, out: *mut f32, capacity: usize) -> i64;
         pub fn hound_from_f32(samples: *const f32, count: usize, bits: u16, out: *mut i32, capacity: usize, clipped: *mut u64) -> i64;
         pub fn hound_repair(file: *mut u8, capacity: usize, used: usize, found: *mut Repair) -> i64;
+        pub fn hound_recorder_begin(spec: *const Spec, recorder: *mut Recorder) -> i32;
+        pub fn hound_recorder_append(info: *const Info, recorder: *mut Recorder) -> i32;
+        pub fn hound_recorder_place(recorder: *const Recorder, samples: u64) -> i64;
+        pub fn hound_recorder_wrote(recorder: *mut Recorder, samples: u64, ok: i32) -> i32;
+        pub fn hound_checkpoint_next(recorder: *mut Recorder, ok: i32, effect: *mut Effect) -> i32;
+        pub fn hound_value_8(container: u32) -> i32;
+        pub fn hound_value_16(container: u32) -> i32;
+        pub fn hound_value_24(container: u32) -> i32;
+        pub fn hound_value_32(container: u32) -> i32;
     }
 
     macro_rules! coding {
@@ -228,6 +262,10 @@ impl Spec {
 }
 
 impl Info {
+    fn to_c(self) -> c::Info {
+        c::Info { spec: self.spec.to_c(), samples: self.samples, data_start: self.data_start }
+    }
+
     fn from_c(found: c::Info) -> Info {
         Info {
             spec: Spec::from_c(found.spec),
@@ -378,6 +416,97 @@ impl Default for Walk {
     }
 }
 
+/// What a program remembers of a file that it writes itself: where the samples go, and which effects make
+/// the header count them. Between checkpoints the header counts those of the last one.
+///
+/// ```
+/// use hound_bindings::{encode, header, Format, Recorder, Spec};
+/// # fn main() -> Result<(), hound_bindings::Error> {
+/// let spec = Spec { sample_rate: 8000, channels: 1, bits_per_sample: 8, bytes_per_sample: 1, format: Format::Int };
+/// let mut file = header(&spec, 0)?;
+/// let mut recorder = Recorder::begin(&spec)?;
+///
+/// assert_eq!(recorder.place(1)?, file.len() as u64);
+/// file.extend([128, 9]);
+/// recorder.wrote(1, true)?;
+///
+/// while let Some(effect) = recorder.next_effect(true)? {
+///     if effect.is_sync() {
+///         continue; // What is in memory needs none.
+///     }
+///     let place = effect.place() as usize;
+///     file[place..place + effect.bytes().len()].copy_from_slice(effect.bytes());
+/// }
+/// assert_eq!(file, hound_bindings::write(&spec, &[0i16])?);
+/// # Ok(())
+/// # }
+/// ```
+#[derive(Clone, Copy)]
+pub struct Recorder(c::Recorder);
+
+impl Recorder {
+    /// A recorder of a new file, of which the header for 0 samples is written.
+    pub fn begin(spec: &Spec) -> Result<Recorder> {
+        let mut recorder = c::Recorder::default();
+        // SAFETY: as above; and so below.
+        checked(unsafe { c::hound_recorder_begin(&spec.to_c(), &mut recorder) } as i64)?;
+        Ok(Recorder(recorder))
+    }
+
+    /// A recorder that appends to a file, of which a walk or `info` found this.
+    pub fn append(info: &Info) -> Result<Recorder> {
+        let mut recorder = c::Recorder::default();
+        checked(unsafe { c::hound_recorder_append(&info.to_c(), &mut recorder) } as i64)?;
+        Ok(Recorder(recorder))
+    }
+
+    /// How many samples are written.
+    pub fn samples(&self) -> u64 {
+        u64::from(self.0.data_length) / u64::from(self.0.bytes_per_sample)
+    }
+
+    /// Where the next so many samples are written.
+    pub fn place(&self, samples: u64) -> Result<u64> {
+        checked(unsafe { c::hound_recorder_place(&self.0, samples) }).map(|place| place as u64)
+    }
+
+    /// Reports whether the write of so many samples at their place succeeded: then they count. If it
+    /// failed a checkpoint has to come next.
+    pub fn wrote(&mut self, samples: u64, ok: bool) -> Result<()> {
+        checked(unsafe { c::hound_recorder_wrote(&mut self.0, samples, ok.into()) } as i64).map(drop)
+    }
+
+    /// The next effect of a checkpoint, or none if it is done; `ok` is whether the last effect succeeded,
+    /// and is ignored for the first. After a write that failed the error is `NeedsCheckpoint`, and the next
+    /// call begins another one; after a sync that failed each call is `SyncFailed`.
+    pub fn next_effect(&mut self, ok: bool) -> Result<Option<Effect>> {
+        let mut effect = c::Effect::default();
+        let code = unsafe { c::hound_checkpoint_next(&mut self.0, ok.into(), &mut effect) };
+        Ok(if checked(code as i64)? == 0 { None } else { Some(Effect(effect)) })
+    }
+}
+
+/// What a checkpoint needs: bytes at a place of the file, or a sync of it.
+#[derive(Clone, Copy)]
+pub struct Effect(c::Effect);
+
+impl Effect {
+    /// Whether the file is synced: what was written is stored before the next effect.
+    pub fn is_sync(&self) -> bool {
+        self.0.length == 0
+    }
+
+    /// Where the bytes are written.
+    pub fn place(&self) -> u64 {
+        self.0.place
+    }
+
+    /// The bytes; none of a sync.
+    pub fn bytes(&self) -> &[u8] {
+        &self.0.bytes[..self.0.length as usize]
+    }
+}
+
 /// Reads samples from number `first` on into the front of `out`, and returns how many: as many as
 /// fit, as the header counts and as the bytes hold.
 pub fn read_into<S: Sample>(file: &[u8], first: u64, out: &mut [S]) -> Result<usize> {
@@ -459,6 +588,32 @@ pub fn decode<S: Coded>(spec: &Spec, bytes: &[u8], out: &mut [S]) -> Result<usiz
 /// Encodes samples without a file around them, and returns how many bytes they take.
 pub fn encode<S: Coded>(spec: &Spec, samples: &[S], out: &mut [u8]) -> Result<usize> {
     checked(S::encode(&spec.to_c(), samples, out))
+}
+
+/// The integer of one container of 8 bits. Its bytes are the low ones of a number, the first byte the
+/// lowest; the others have no effect.
+#[inline(always)]
+pub fn value_8(container: u32) -> i32 {
+    // SAFETY: no pointer is passed; so below.
+    unsafe { c::hound_value_8(container) }
+}
+
+/// The same of 16 bits.
+#[inline(always)]
+pub fn value_16(container: u32) -> i32 {
+    unsafe { c::hound_value_16(container) }
+}
+
+/// The same of 24 bits, in three bytes or four.
+#[inline(always)]
+pub fn value_24(container: u32) -> i32 {
+    unsafe { c::hound_value_24(container) }
+}
+
+/// The same of 32 bits.
+#[inline(always)]
+pub fn value_32(container: u32) -> i32 {
+    unsafe { c::hound_value_32(container) }
 }
 
 /// Scales integers of so many bits, from 1 to 32, to floats whose full scale is 1, and returns how many.

@@ -1,7 +1,7 @@
 //! The calls over small files.
 use hound_bindings::{
-    append_to, decode, encode, find_damage, from_f32, header, info, read, read_into, repair, size, sizes, to_f32, write, write_to, Error,
-    Format, Spec, State, Walk, ERRORS,
+    append_to, decode, encode, find_damage, from_f32, header, info, read, read_into, repair, size, sizes, to_f32, value_16, value_24, value_32, value_8, write,
+    write_to, Error, Format, Spec, State, Walk, ERRORS,
 };
 
 const SPEC: Spec = Spec {
@@ -127,4 +127,12 @@ fn eight_bits_and_scales() {
     let mut integers = [9; 3];
     assert_eq!((from_f32(&[1.0, -1.0, 0.25], 16, &mut integers), integers), (Ok(1), [32767, -32768, 8192]));
     assert_eq!(from_f32(&[1.0], 0, &mut integers), Err(Error::NotWritable));
+}
+
+#[test]
+fn single_containers() {
+    assert_eq!((value_8(0), value_8(255), value_8(0x180)), (-128, 127, 0));
+    assert_eq!((value_16(0x8000), value_16(0x17fff)), (-32768, 32767));
+    assert_eq!((value_24(0x80_0000), value_24(0x17f_ffff)), (-8_388_608, 8_388_607));
+    assert_eq!((value_32(0x8000_0000), value_32(u32::MAX)), (i32::MIN, -1));
 }

@@ -12,13 +12,15 @@ mod recording;
 mod repairing;
 mod scaling;
 mod spec;
+mod value;
 mod walking;
 mod writing;
 
-ghost use Rattle.std.specs.Prelude.{◌≡◌, ◌*◌, ℕ, ℤ, List, None, length, not, pos};
+ghost use Rattle.std.specs.Prelude.{◌≡◌, ◌*◌, ℕ, ℤ, List, None, length, not, pos, take};
 ghost use Rattle.std.specs.Option.{option_len, option_map_or};
 ghost use Rattle.std.specs.Result.{result_unwrap_or};
 ghost use Rattle.std.specs.Ordering.{int_eq};
+ghost use Rattle.hound_number.specs.{bytes_of};
 ghost use Rattle.hound_reader.specs.{IsAt, Readable, Unreadable};
 ghost use Rattle.hound_sample.specs.{int_container, pattern_container, float_refusal, int_meaning, int_refusal, pattern};
 ghost use Rattle.hound_spec.specs.declared.spec.SampleFormat.TheVariants.{Float, Int};
@@ -47,6 +49,7 @@ use repairing::{find_file_damage, repair_file, repair_for_c};
 use scaling::{scale_to_floats, scale_to_integers};
 pub use spec::{HoundEffect, HoundInfo, HoundRepair, HoundSpec, HoundWalk};
 use spec::{info_for_c, spec_of};
+use value::{value_of_8, value_of_16, value_of_24, value_of_32};
 use walking::{part_of, walk_for_c, walk_of};
 use writing::{encode_block, file_size, write_file, write_header, write_sizes};
 
@@ -283,6 +286,39 @@ pub extern "C" fn hound_encode_f32(spec: &HoundSpec, samples: &[FloatBits], out:
     ensures { Returns result (Encodes Float (λ v. pattern_container v.0) (spec_of spec.now) samples.now out.old out.new) }
 {
     code_of(encode_block::<FloatBits>(*spec, SampleFormat::Float, samples, out))
+}
+
+/// The integer of one container of 8 bits, which is the low byte of a number.
+#[unsafe(no_mangle)]
+pub extern "C" fn hound_value_8(container: u32) -> i32
+    ensures { result ≡ int_meaning 1 8 (take 1 (bytes_of 4 container)) }
+{
+    value_of_8(container)
+}
+
+/// The same of 16 bits.
+#[unsafe(no_mangle)]
+pub extern "C" fn hound_value_16(container: u32) -> i32
+    ensures { result ≡ int_meaning 2 16 (take 2 (bytes_of 4 container)) }
+{
+    value_of_16(container)
+}
+
+/// The same of 24 bits, in three bytes or four.
+#[unsafe(no_mangle)]
+pub extern "C" fn hound_value_24(container: u32) -> i32
+    ensures three { result ≡ int_meaning 3 24 (take 3 (bytes_of 4 container)) }
+    ensures four { result ≡ int_meaning 4 24 (bytes_of 4 container) }
+{
+    value_of_24(container)
+}
+
+/// The same of 32 bits.
+#[unsafe(no_mangle)]
+pub extern "C" fn hound_value_32(container: u32) -> i32
+    ensures { result ≡ int_meaning 4 32 (bytes_of 4 container) }
+{
+    value_of_32(container)
 }
 
 /// Scales integers of so many bits to floats whose full scale is 1.
