@@ -143,6 +143,9 @@ impl Ahead {
     }
 }
 
+// How many bytes the reader of `open` takes from the file at once.
+const CAPACITY: usize = 1 << 15;
+
 // How the buffer of the reader of `open` is looked at, and bytes of it are taken.
 struct Buffered<R> {
     look: fn(&mut R) -> io::Result<&[u8]>,
@@ -271,21 +274,28 @@ impl<R: Read> WavReader<R> {
 
     #[inline(always)]
     fn next_sample<S: Sample>(&mut self) -> Option<Result<S>> {
+        if let Some(sample) = self.next_quickly() {
+            return Some(Ok(sample));
+        }
+        let item = self.next_slowly()?; // by a way of its own, so that the other keeps its items in registers
+        Some(item)
+    }
+
+    #[inline(always)]
+    fn next_quickly<S: Sample>(&mut self) -> Option<S> {
         if self.next == Next::Ahead {
-            return match self.next_ahead() {
-                Some(sample) => Some(Ok(sample)),
-                None => self.next_slowly(),
-            };
+            return self.next_ahead();
         }
         if self.samples_read >= self.num_samples {
             return None;
         }
+        let sample = match S::CODING {
+            Coding::Int { from, .. } => from(self.next_int(mem::size_of::<S>())?),
+            Coding::Float { from, .. } if self.next == Next::Float => from(f32::from_le_bytes(self.container()?)),
+            _ => return None,
+        };
         self.samples_read += 1;
-        Some(match S::CODING {
-            Coding::Int { from, .. } => self.next_int::<S>().map(from),
-            Coding::Float { from, .. } => self.next_float::<S>().map(from),
-            Coding::Own => self.next_own(),
-        })
+        Some(sample)
     }
 
     // The next sample that is ahead, if there is one of this type.
@@ -303,9 +313,10 @@ impl<R: Read> WavReader<R> {
         sample
     }
 
+    // Of a type of so many bytes.
     #[inline(always)]
-    fn next_int<S: Sample>(&mut self) -> Result<i32> {
-        Ok(match (self.next, mem::size_of::<S>()) {
+    fn next_int(&mut self, size: usize) -> Option<i32> {
+        Some(match (self.next, size) {
             (Next::Int16, 2 | 4) => proved::value_16(u16::from_le_bytes(self.container()?).into()),
             (Next::Int24, 4) => {
                 let [low, middle, high] = self.container()?;
@@ -314,16 +325,29 @@ impl<R: Read> WavReader<R> {
             (Next::Int32, 4) => proved::value_32(u32::from_le_bytes(self.container()?)),
             (Next::Int8, _) => proved::value_8(u8::from_le_bytes(self.container()?).into()),
             (Next::Int24In4, 4) => proved::value_24(u32::from_le_bytes(self.container()?)),
-            _ => return Err(self.refuse::<S>()),
+            _ => return None,
         })
     }
 
     #[inline(always)]
-    fn next_float<S: Sample>(&mut self) -> Result<f32> {
-        match self.next {
-            Next::Float => Ok(f32::from_le_bytes(self.container()?)),
-            _ => Err(self.refuse::<S>()),
+    fn container<const WIDTH: usize>(&mut self) -> Option<[u8; WIDTH]> {
+        let mut container = [0; WIDTH];
+        match self.reader.read(&mut container) {
+            Ok(count) if count == WIDTH => Some(container),
+            first => self.read_rest(&mut container, first).then_some(container),
         }
+    }
+
+    // After a first read of a container; if it can't be read the next item is the fault.
+    #[cold]
+    #[inline(never)]
+    fn read_rest(&mut self, container: &mut [u8], first: io::Result<usize>) -> bool {
+        let width = container.len();
+        let (count, fault) = finish_container(&mut self.reader, container, width, first);
+        self.not_taken += (width - count) as i64;
+        self.samples_read += u64::from(fault.is_some());
+        self.ahead.fault = fault;
+        count == width
     }
 
     fn next_own<S: Sample>(&mut self) -> Result<S> {
@@ -333,49 +357,31 @@ impl<R: Read> WavReader<R> {
         sample
     }
 
-    #[inline(always)]
-    fn container<const WIDTH: usize>(&mut self) -> Result<[u8; WIDTH]> {
-        let mut container = [0; WIDTH];
-        match self.reader.read(&mut container) {
-            Ok(count) if count == WIDTH => {}
-            first => self.read_rest(&mut container, first)?,
-        }
-        Ok(container)
-    }
-
-    #[cold]
-    #[inline(never)]
-    fn read_rest(&mut self, container: &mut [u8], first: io::Result<usize>) -> Result<()> {
-        let width = container.len();
-        let (count, fault) = finish_container(&mut self.reader, container, width, first);
-        self.not_taken += (width - count) as i64;
-        fault.map_or(Ok(()), |fault| Err(Error::IoError(fault)))
-    }
-
-    // The error of a type that doesn't read these samples: it counts one as read and takes no byte.
-    #[cold]
-    #[inline(never)]
-    fn refuse<S: Sample>(&mut self) -> Error {
-        self.not_taken += self.width();
-        S::CODING.check(&self.containers()).err().unwrap_or(Error::Unsupported)
-    }
-
-    // Where no sample of this type is ahead.
+    // The end, an error, or a sample that has to be fetched first.
     #[cold]
     #[inline(never)]
     fn next_slowly<S: Sample>(&mut self) -> Option<Result<S>> {
         if let Err(error) = S::CODING.check(&self.containers()) {
-            return self.refuse_ahead(error);
+            return self.refuse(error);
         }
-        self.read_ahead::<S>(BLOCK);
-        if let Some(sample) = self.next_ahead() {
-            return Some(Ok(sample));
+        if self.buffered.is_some() {
+            self.read_ahead::<S>(BLOCK);
+            if let Some(sample) = self.next_ahead() {
+                return Some(Ok(sample));
+            }
         }
         if let Some(fault) = self.ahead.fault.take() {
             return Some(Err(Error::IoError(fault)));
         }
         self.put_back();
         self.ahead.clear();
+        if self.left() == 0 {
+            return None;
+        }
+        if let Coding::Own = S::CODING {
+            self.samples_read += 1;
+            return Some(self.next_own());
+        }
         self.next = self.next_container();
         let item = self.next_sample();
         if self.buffered.is_some() {
@@ -384,7 +390,8 @@ impl<R: Read> WavReader<R> {
         item
     }
 
-    fn refuse_ahead<S>(&mut self, error: Error) -> Option<Result<S>> {
+    // The error of a type that doesn't read these samples: it counts as one, and takes no byte.
+    fn refuse<S>(&mut self, error: Error) -> Option<Result<S>> {
         self.put_back();
         if self.left() == 0 {
             return None;
@@ -456,7 +463,7 @@ impl WavReader<io::BufReader<fs::File>> {
     /// Opens a file, and reads its header.
     pub fn open<P: AsRef<path::Path>>(filename: P) -> Result<WavReader<io::BufReader<fs::File>>> {
         let buffered = Buffered { look: BufRead::fill_buf, take: BufRead::consume };
-        WavReader::new_with_buffer(io::BufReader::new(fs::File::open(filename)?), Some(buffered))
+        WavReader::new_with_buffer(io::BufReader::with_capacity(CAPACITY, fs::File::open(filename)?), Some(buffered))
     }
 }
 

@@ -270,15 +270,21 @@ where
     /// # Panics
     ///
     /// If the samples of the file aren't integers of 16 bits.
+    #[inline]
     pub fn get_i16_writer<'s>(&'s mut self, num_samples: u32) -> SampleWriter16<'s, W> {
+        let count = num_samples as usize;
+        if self.batch.len() < count || self.batch.is_empty() {
+            self.make_batch(count);
+        }
+        SampleWriter16 { core: &mut self.core, batch: &mut self.batch[..count], index: 0 }
+    }
+
+    #[cold]
+    fn make_batch(&mut self, count: usize) {
         let spec = self.spec();
         assert_eq!(spec.sample_format, SampleFormat::Int, "a batch is of integers");
         assert_eq!(spec.bits_per_sample, 16, "a batch is of 16 bits");
-        let count = num_samples as usize;
-        if self.batch.len() < count {
-            self.batch.resize(count, 0);
-        }
-        SampleWriter16 { core: &mut self.core, batch: &mut self.batch[..count], index: 0 }
+        self.batch.resize(count.max(1), 0);
     }
 
     /// Writes the buffered samples and the sizes, and flushes the writer. If the program ends after that,

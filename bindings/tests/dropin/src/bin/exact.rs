@@ -32,20 +32,53 @@ impl Read for Unsteady {
     }
 }
 
+/// A block of samples: as the package reads one, and by an iterator.
+trait Blocks {
+    type Error;
+    fn block<S: original::Sample + package::Sample>(&mut self, samples: &mut [S]) -> (usize, Result<(), Self::Error>);
+}
+
+impl<R: Read> Blocks for original::WavReader<R> {
+    type Error = original::Error;
+    fn block<S: original::Sample + package::Sample>(&mut self, samples: &mut [S]) -> (usize, Result<(), original::Error>) {
+        let wanted = samples.len();
+        for (count, slot) in samples.iter_mut().enumerate() {
+            match self.samples().next() {
+                Some(Ok(sample)) => *slot = sample,
+                Some(Err(error)) => return (count, Err(error)),
+                None => return (count, Ok(())),
+            }
+        }
+        (wanted, Ok(()))
+    }
+}
+
+impl<R: Read> Blocks for package::WavReader<R> {
+    type Error = package::Error;
+    fn block<S: original::Sample + package::Sample>(&mut self, samples: &mut [S]) -> (usize, Result<(), package::Error>) {
+        self.read_samples(samples)
+    }
+}
+
 const READERS: [&str; 9] = [
     "few bytes", "faults", "Cursor<Vec>", "&mut Cursor", "BufReader of few bytes", "BufReader of faults", "BufReader<File>", "open", "&mut &[u8]",
 ];
 
 both! {
-    use hound::{Error, Sample, SampleFormat, WavReader};
+    use hound::{Error, SampleFormat, WavReader};
 
     fn show<T: ToString>(sample: Result<T, Error>) -> String {
         sample.map_or_else(|error| format!("[{error}] "), |sample| sample.to_string() + " ")
     }
 
-    // One call of many: of an iterator's next, nth, take with a fold or a loop, a whole fold, collect.
-    fn call<R: Read, S: Sample + ToString>(reader: &mut WavReader<R>, chooser: &mut Chooser) -> String {
+    // One call of many: a block, an iterator's next, nth, take with a fold or a loop, a whole fold, collect.
+    fn call<R: Read, S: original::Sample + package::Sample + Copy + Default + ToString>(reader: &mut WavReader<R>, chooser: &mut Chooser) -> String {
         let some = chooser.below(9) as usize;
+        if chooser.below(7) == 0 {
+            let mut block = [S::default(); 9];
+            let (count, result) = reader.block(&mut block[..some]);
+            return block[..count].iter().map(S::to_string).collect::<String>() + &result.map_or_else(|error| error.to_string(), |()| " ".into());
+        }
         let mut samples = reader.samples::<S>();
         match chooser.below(9) {
             0..=2 => samples.next().map_or("None ".into(), show),
