@@ -8,7 +8,7 @@ use crate::fault::Fault;
 use crate::spec::{HoundSpec, spec_of};
 use hound_number::le_u32;
 use hound_sample::{Sample, check_containers, have_containers, store_containers};
-use hound_spec::{Error, SampleFormat, WavSpecEx, header_of, is_pair};
+use hound_spec::{Error, SampleFormat, WavSpecEx, header_length, header_of, is_pair};
 
 /// Checks that all samples have containers.
 pub(crate) fn check_samples<S: Sample + Copy>(
@@ -51,17 +51,6 @@ pub(crate) fn write_data_at<S: Sample + Copy>(
     }
 }
 
-// How many bytes the header has.
-fn data_start_of(spec_ex: WavSpecEx) -> usize
-    ensures { result ≡ data_start spec_ex }
-{
-    if spec_ex.spec.channels <= 2 && spec_ex.spec.bits_per_sample <= 16 {
-        44
-    } else {
-        68
-    }
-}
-
 // Writes the header to the front of `out`.
 fn put_header(spec_ex: WavSpecEx, riff_size: u32, data_length: u32, out: &mut [u8])
     requires writable { IsWritable spec_ex }
@@ -69,7 +58,7 @@ fn put_header(spec_ex: WavSpecEx, riff_size: u32, data_length: u32, out: &mut [u
     ensures { out.new ≡ header spec_ex riff_size data_length ++ drop (data_start spec_ex) out.old }
 {
     let header = header_of(spec_ex, riff_size, data_length);
-    out[..data_start_of(spec_ex)].copy_from_slice(header.as_slice());
+    out[..header_length(spec_ex)].copy_from_slice(header.as_slice());
 }
 
 /// How many bytes so many samples take, and how many the file that has them after a header of
@@ -113,7 +102,7 @@ pub(crate) fn file_size(spec: HoundSpec, samples: u64) -> Result<usize, Fault>
     if !spec_ex.is_writable() {
         return Err(Fault::OtherPair);
     }
-    Ok(sizes_of(spec_ex, data_start_of(spec_ex), samples)?.1)
+    Ok(sizes_of(spec_ex, header_length(spec_ex), samples)?.1)
 }
 
 /// Writes the header of a file of so many samples to the front of `out`, and returns its length.
@@ -125,7 +114,7 @@ pub(crate) fn write_header(spec: HoundSpec, samples: u64, out: &mut [u8]) -> Res
     if !spec_ex.is_writable() {
         return Err(Fault::OtherPair);
     }
-    let data_start = data_start_of(spec_ex);
+    let data_start = header_length(spec_ex);
     let (data_length, size) = sizes_of(spec_ex, data_start, samples)?;
     if data_start > out.len() {
         return Err(Fault::NoRoom);
@@ -189,7 +178,7 @@ pub(crate) fn write_file<S: Sample + Copy>(
     let bits = spec_ex.spec.bits_per_sample;
     let width = spec_ex.bytes_per_sample;
     check_samples(samples, bits, width)?;
-    let data_start = data_start_of(spec_ex);
+    let data_start = header_length(spec_ex);
     let (data_length, size) = sizes_of(spec_ex, data_start, samples.len() as u64)?;
     if size > out.len() {
         return Err(Fault::NoRoom);

@@ -7,8 +7,7 @@ ghost use Rattle.hound_repair.specs.Damages.{AreRightSizes};
 ghost use Rattle.hound_repair.specs.Repairing.{size_fault};
 
 use hound_reader::FileHead;
-use hound_spec::{Error, Result, WavSpecEx};
-use hound_writer::riff_size;
+use hound_spec::{Error, Result, WavSpecEx, riff_size};
 use std::fmt;
 
 /// What a file was found as.

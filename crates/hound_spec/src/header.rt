@@ -1,6 +1,6 @@
 // The bytes before the data.
 ghost use Rattle.std.specs.Prelude.{◌≡◌, ◌+◌, ◌-◌, ◌*◌, ◌^◌, ◌≤◌, ◌++◌, [], List, ℕ, length, take, min};
-ghost use Rattle.hound_spec.specs.Header.{IsWritable, is_short, fields, header, mask, short_fmt, long_fmt, sized_fmt};
+ghost use Rattle.hound_spec.specs.Header.{IsWritable, is_short, data_start, fields, header, riff_size, mask, short_fmt, long_fmt, sized_fmt};
 ghost use Rattle.hound_number.specs.{bytes_of};
 ghost use Rattle.hound_spec.specs.FmtChunk.{fmt_bytes, subformat};
 
@@ -112,6 +112,24 @@ fn is_short(spec_ex: WavSpecEx) -> bool
     ensures { result ≡ is_short spec_ex }
 {
     spec_ex.spec.channels <= 2 && spec_ex.spec.bits_per_sample <= 16
+}
+
+/// How many bytes a header of this spec has; the data follow it.
+pub fn header_length(spec_ex: WavSpecEx) -> usize
+    ensures { result ≡ data_start spec_ex }
+{
+    if is_short(spec_ex) { 44 } else { 68 }
+}
+
+/// The RIFF size of a file whose data begin at this place and have this length, pad byte included.
+#[inline(always)]
+pub fn riff_size(data_start: u64, data_length: u64) -> u64
+    requires after_front { 8 ≤ data_start }
+    requires small { data_start ≤ 2 ^ 33 }
+    requires few { data_length ≤ 2 ^ 35 }
+    ensures { result ≡ riff_size data_start data_length }
+{
+    data_start - 8 + data_length + data_length % 2
 }
 
 // The fields of a WAVEFORMAT, and the bits after them.

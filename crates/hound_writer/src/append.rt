@@ -5,10 +5,10 @@ ghost use Rattle.hound_reader.specs.{IsSoundSpec, Head, IsDataPlace};
 ghost use Rattle.hound_writer.specs.{Recorded, appended, IsWhole, accepted_samples, Appends, IsNotAppended, FailsCheck, head_fault};
 
 use crate::WavWriter;
-use crate::output::{Output, riff_size};
+use crate::output::Output;
 use hound_medium::{Medium, Source};
 use hound_reader::{Cause, FileHead, HeadError, Reason, error_of, find_data};
-use hound_spec::{Error, Result, is_pair};
+use hound_spec::{Error, Result, is_pair, riff_size};
 use std::result;
 
 // Checks whether a file with this head can be appended to.

@@ -3,7 +3,7 @@ ghost use Rattle.std.specs.Prelude.{◌≡◌, ◌≤◌, Option};
 ghost use Rattle.hound_spec.specs.{riff_size, greatest_u32};
 ghost use Rattle.hound_writer.specs.Effects.{checkpoint, nth, size_effects};
 
-use crate::output::riff_size;
+use hound_spec::riff_size;
 
 /// What the caller does to its file.
 #[derive(Clone, Copy)]

@@ -19,7 +19,6 @@ mod write;
 pub use batch::SampleWriter16;
 pub use effects::{Effect, checkpoint_effect};
 pub use laws::{a_block_is_its_samples, one_append_answer};
-pub use output::riff_size;
 pub use patch::patch as patch_sizes;
 pub use recorder::{Recorder, RecorderError};
 pub use write::WavWriter;

@@ -9,7 +9,7 @@ use crate::outcome::Outcome;
 use crate::patch::{patch, put_at_end};
 use hound_medium::Medium;
 use hound_sample::{Sample, have_containers};
-use hound_spec::{Error, Result, WavSpecEx};
+use hound_spec::{Error, Result, WavSpecEx, riff_size};
 use std::io;
 use std::marker::Model;
 
@@ -52,17 +52,6 @@ impl<W: Medium> Model for Output<W> {
 
     ghost invariant = { λ w. IsConsistent W.tells W.state (of_fields w.writer w.spec_ex w.data_start w.data_bytes_written w.block
         (bytes_kept (λ buffer. buffer.items) w.buffer)) w.may_have_moved w.fast_path_limit };
-}
-
-/// The RIFF size of a file whose data begin at this place and have this length, pad byte included.
-#[inline(always)]
-pub fn riff_size(data_start: u64, data_length: u64) -> u64
-    requires behind { 8 ≤ data_start }
-    requires small { data_start ≤ 2 ^ 33 }
-    requires few { data_length ≤ 2 ^ 35 }
-    ensures { result ≡ riff_size data_start data_length }
-{
-    data_start - 8 + data_length + data_length % 2
 }
 
 // Below how many buffered bytes a block has room for a sample of any width, if this many bytes are

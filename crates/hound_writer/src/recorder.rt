@@ -4,8 +4,7 @@ ghost use Rattle.hound_writer.specs.Effects.{nth};
 ghost use Rattle.hound_writer.specs.Recorder.{AppendsRecorder, BeginsRecorder, HasData, HasNoData, NextEffect, Places, Reports, effects_of, length_with, recorder_of};
 
 use crate::effects::{Effect, checkpoint_effect};
-use crate::output::riff_size;
-use hound_spec::{WavSpecEx, header_of, is_pair};
+use hound_spec::{WavSpecEx, header_length, is_pair, riff_size};
 
 /// Why a recorder doesn't do what a call is for.
 #[derive(Clone, Copy, Debug, PartialEq, Eq)]
@@ -67,7 +66,7 @@ impl Recorder {
         if !spec_ex.is_writable() {
             return Err(RecorderError::NotWritable);
         }
-        let data_start = header_of(spec_ex, 0, 0).as_slice().len();
+        let data_start = header_length(spec_ex);
         Ok(Recorder::empty(data_start as u64, spec_ex.bytes_per_sample))
     }
 

@@ -33,16 +33,16 @@ returns-clause-writes g c =
     let values = c.args.samples.now in
     let old = c.args.out.now in
     let container = λ (v : g.row.S.Denot). g.S.Sample.container v s.spec.bits_per_sample w in
-    let start = c.data_start_of-data_start.result in
+    let start = c.header_length-data_start.result in
     let len = c.in_ok-data_length.data_length in
     let end = c.in_ok-data_length.size in
     let (list, list_is) = passed (containers_in g.S.Sample.container s values) (search rules) in
     let j = joined container w (λ _ b e. (g.met.S.Sample.in_width _ _ _ b e).0) values list list_is in
     let head = header s (end - 8) len in
     let head_long : length head ≡ start = length-header s (end - 8) len
-    ∙ sym c.data_start_of-data_start.ensures in
+    ∙ sym c.header_length-data_start.ensures in
     let begun : c.put_header.new.out ≡ head ++ drop start old =
-    c.put_header.ensures ∙ ap (λ m. head ++ drop m old) (sym c.data_start_of-data_start.ensures) in
+    c.put_header.ensures ∙ ap (λ m. head ++ drop m old) (sym c.header_length-data_start.ensures) in
     let k = w * length values + len % 2 in
     let body = joined_containers container values ++ padding len in
     let size : length body ≡ k =
@@ -53,7 +53,7 @@ returns-clause-writes g c =
     let long : len ≡ length (concat list) =
     omega (arith, c.in_ok-data_length.ensures.data, j.size, ap length j.bytes) in
     let riff : end - 8 ≡ riff_size (data_start s) (length (concat list)) =
-    omega (arith, long, c.in_ok-data_length.ensures.end, c.in_ok-data_length.ensures.data, c.data_start_of-data_start.ensures, data_start_least s) in
+    omega (arith, long, c.in_ok-data_length.ensures.end, c.in_ok-data_length.ensures.data, c.header_length-data_start.ensures, data_start_least s) in
     let file_is : take end c.write_data_at.new.out ≡ canonical s list =
     ap (take end) c.write_data_at.ensures ∙ ap (λ out. take end (put start k out body)) begun
     ∙ take_put start k (head ++ drop start old) body size within end end_is
@@ -69,10 +69,10 @@ returns-clause-writes g c =
       ap (drop end) c.write_data_at.ensures ∙ ap (λ out. drop end (put start k out body)) begun
           ∙ drop_put start k (head ++ drop start old) body size within end (omega (arith, end_is))
           ∙ drop-append-drop start old head end (omega (arith, end_is)) head_long,
-      omega (arith, c.in_ok-data_length.ensures.end, c.data_start_of-data_start.ensures),
+      omega (arith, c.in_ok-data_length.ensures.end, c.header_length-data_start.ensures),
       (
         c.in_ok-data_length.ensures.frames,
-        subst (λ k. riff_size k (length values * w) ≤ greatest_u32) c.data_start_of-data_start.ensures
+        subst (λ k. riff_size k (length values * w) ≤ greatest_u32) c.header_length-data_start.ensures
             c.in_ok-data_length.ensures.fits,
       ),
     )
