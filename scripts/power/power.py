@@ -2,7 +2,7 @@
 moments, and looks at what its files are then: each time a second machine mounts what the disk may have, with some
 of the writes that no flush has covered, and reads and repairs the files.
 
-usage: ./faults power [STATES] [SEED] [--fs NAME,..] [--control NAME,..] [--log FOLDER] [--turn N]
+usage: doubt/faults power [STATES] [SEED] [--fs NAME,..] [--control NAME,..] [--log FOLDER] [--turn N]
 
 STATES states (500) are divided among the file systems, and a fifth as many more among the controls: recorders that
 leave out a sync, or a disk that does, for which the test has to find wrong states. `--fs` and `--control` choose
@@ -386,7 +386,7 @@ class Trial:
                 for part in ("image", "log"):
                     shutil.copy(os.path.join(self.folder, part), kept)
             for turn, words in self.wrong[:20]:
-                print(f"power: wrong: {words}\n    again: ./faults power 1 {seed} --fs {self.name} --control none --log {kept} --turn {turn}", flush=True)
+                print(f"power: wrong: {words}\n    again: doubt/faults power 1 {seed} --fs {self.name} --control none --log {kept} --turn {turn}", flush=True)
         return len(turns)
 
 
@@ -407,7 +407,7 @@ def missing():
 
 
 def main():
-    parser = argparse.ArgumentParser(prog="./faults power", usage=__doc__.split("usage: ")[1].split("\n")[0])
+    parser = argparse.ArgumentParser(prog="doubt/faults power", usage=__doc__.split("usage: ")[1].split("\n")[0])
     parser.add_argument("states", nargs="?", type=int, default=500)
     parser.add_argument("seed", nargs="?", type=int, default=1)
     parser.add_argument("--fs", default=",".join(USUAL))
