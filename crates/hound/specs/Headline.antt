@@ -231,8 +231,9 @@ abbrev pub NoFault : MediumState → MediumState → Type 0
 NoFault old new = (new.faults ≡ old.faults) × (old.faults < 18446744073709551615)
 
 -- What calls leave in a medium whose bytes are known: it counts what they accepted, each sample as
--- wide as its spec says, and all that the last flush published if no other follows; and a file that was begun with its header is the canonical one at an end that
--- published, and of no more bytes than that or than were handed in if no call of the medium failed.
+-- wide as its spec says, and all that the last flush published if no other follows; and a file that
+-- was begun with its header is the canonical one at an end that published, and of no more bytes than
+-- that or than were handed in if no call of the medium failed.
 pub record HoldsAtEnd (s : WavSpecEx) (file : Begun) (calls : List Call)
     (medium : MediumState) : Type 0 where
   pub sound : IsSoundSpec s

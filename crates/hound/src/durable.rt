@@ -54,7 +54,8 @@ pub fn run_durable_session<M: Source + Medium>(
     // A new file that was finalized is the canonical one of what was accepted.
     ensures canonical { WhereTells M.tells ((spec_ex : WavSpecEx) → begin ≡ New spec_ex
         → end ≡ Finalize →
-        OnOk result.1 (StartsWith (M.state result.0).contents (canonical spec_ex (accepted_by_steps spec_ex steps.now marks.new)))) }
+        OnOk result.1 (StartsWith (M.state result.0).contents
+        (canonical spec_ex (accepted_by_steps spec_ex steps.now marks.new)))) }
 
     // For a new file whose header was flushed, whatever a loss of power leaves counts.
     ensures after_loss { WhereKeeps M.tells M.keeps ((spec_ex : WavSpecEx) → begin ≡ New spec_ex

@@ -33,7 +33,9 @@ pub fn a_batch_is_its_values<M: Medium>(values: &[i16])
     ensures { WhereTells M.tells ((first a b c : WriterState M) → IsWhole M.state first →
         first.spec_ex.spec.bits_per_sample ≡ 16 → first.spec_ex.bytes_per_sample ≡ 2 →
         IsSameFile first a →
-        Accepts M.tells M.keeps M.state (Ok (containers a.spec_ex.bytes_per_sample (length (short_bytes values.now) / a.spec_ex.bytes_per_sample) (short_bytes values.now))) (Ok tt) a b → AcceptsEach M.tells M.keeps M.state int_container values.now first c →
+        Accepts M.tells M.keeps M.state (Ok (containers a.spec_ex.bytes_per_sample
+        (length (short_bytes values.now) / a.spec_ex.bytes_per_sample) (short_bytes values.now))) (Ok tt) a b
+        → AcceptsEach M.tells M.keeps M.state int_container values.now first c →
         (accepted_samples M.state b ≡ accepted_samples M.state c) × (data_length b ≡ data_length c)) }
 {}
 
@@ -49,7 +51,8 @@ pub fn calls_are_a_run<M: Medium>(steps: &[Step])
         → Lead M.tells M.keeps M.state calls first last
         → asked_by_all calls ≡ map (asked_by first.spec_ex) steps.now
         → Finishes M.tells M.keeps M.state last finished medium → EndsAs end answer finished →
-        Ran M.tells M.keeps M.state begin steps.now (map (λ (call : Call). mark_of call.answer) calls) end old answer medium }
+        Ran M.tells M.keeps M.state begin steps.now
+        (map (λ (call : Call). mark_of call.answer) calls) end old answer medium }
 {}
 
 /// A run over a new file leaves what its calls leave, so what [`what_is_kept`] says of every
@@ -58,7 +61,8 @@ pub fn a_run_leaves_its_calls<M: Medium>(steps: &[Step])
     ensures { (spec_ex : WavSpecEx) (marks : List Bool) (end : End) (old medium : M)
         (answer : Result Unit Error)
         → Ran M.tells M.keeps M.state (New spec_ex) steps.now marks end old answer medium →
-        Left M.tells M.keeps M.state spec_ex (new_file (M.state old)) (map (λ step. made (asked_by spec_ex step)) steps.now ++ made publish ∷ []) medium }
+        Left M.tells M.keeps M.state spec_ex (new_file (M.state old))
+        (map (λ step. made (asked_by spec_ex step)) steps.now ++ made publish ∷ []) medium }
 {}
 
 /// Sessions that were all Ok leave the file of one session of all their steps.
@@ -141,7 +145,8 @@ pub fn what_a_loss_leaves<M: Medium>(durable: &Durable<M>)
     ensures { WhereKeeps M.tells M.keeps ((s : WavSpecEx) (file : Begun) (known : List Known)
         (end : Known) → end.asked ≡ publish
         → Left M.tells M.keeps (⟦<Durable<M> as Placed>⟧.state) s file (known ++ end ∷ []) durable.now
-        → KeptWithin M.tells M.keeps (⟦<Durable<M> as Placed>⟧.state) s file (known ++ end ∷ []) durable.now (within durable.now)) }
+        → KeptWithin M.tells M.keeps (⟦<Durable<M> as Placed>⟧.state) s file (known ++ end ∷ []) durable.now
+        (within durable.now)) }
 {}
 
 /// The effects of a checkpoint, all of them or up to one that failed, publish as `flush` does: at an Ok
@@ -179,7 +184,8 @@ pub fn a_recording_survives_a_loss()
     ensures resumed { (s : WavSpecEx) (samples start : ℕ) (log : Log) (actions : List Acted)
         (last : WriterState Log) → Resumed s samples start log → IsFresh log.state → IsCareful actions
         → ActsAll actions (recording s start (samples * s.bytes_per_sample) log) last
-        → KeptWithin true true log_state s (resumed_file s samples start log) (map (known_of s) actions) last.medium last.medium.state }
+        → KeptWithin true true log_state s (resumed_file s samples start log)
+        (map (known_of s) actions) last.medium last.medium.state }
 {}
 
 /// Wherever it ends, such a recording has written at ascending places only since it was synced.

@@ -103,7 +103,8 @@ pub fn run_session<M: Source + Medium>(
     // A new file that was finalized is the canonical one of what was accepted.
     ensures canonical { WhereTells M.tells ((spec_ex : WavSpecEx) → begin ≡ New spec_ex
         → end ≡ Finalize →
-        OnOk result.1 (StartsWith (M.state result.0).contents (canonical spec_ex (accepted_by_steps spec_ex steps.now marks.new)))) }
+        OnOk result.1 (StartsWith (M.state result.0).contents
+        (canonical spec_ex (accepted_by_steps spec_ex steps.now marks.new)))) }
 
     // If the medium was empty and no call of it failed, it is exactly that, also at a drop.
     ensures exact { WhereTells M.tells ((spec_ex : WavSpecEx) → begin ≡ New spec_ex

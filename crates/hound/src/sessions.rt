@@ -105,9 +105,11 @@ pub fn run_sessions<'a, M: Source + Medium>(
 
     // The bytes of one session over all containers.
     ensures canonical { WhereTells M.tells (0 < length sessions.now →
-        OnOk result.1 (StartsWith (M.state result.0).contents (canonical spec_ex (containers_of spec_ex (all_steps sessions.now))))) }
+        OnOk result.1 (StartsWith (M.state result.0).contents
+        (canonical spec_ex (containers_of spec_ex (all_steps sessions.now))))) }
     ensures exact { WhereTells M.tells (0 < length sessions.now → (M.state medium).contents ≡ [] →
-        OnOk result.1 ((M.state result.0).contents ≡ canonical spec_ex (containers_of spec_ex (all_steps sessions.now)))) }
+        OnOk result.1 ((M.state result.0).contents ≡ canonical spec_ex
+        (containers_of spec_ex (all_steps sessions.now)))) }
 
     // If no call of the medium failed, an error is that of a step or an end, and those before it
     // are there.

@@ -117,7 +117,8 @@ pub extern "C" fn hound_read_i32(file: &[u8], first: u64, out: &mut [i32]) -> i6
 /// Reads floats, as their bits.
 #[unsafe(no_mangle)]
 pub extern "C" fn hound_read_f32(file: &[u8], first: u64, out: &mut [FloatBits]) -> i64
-    ensures { Returns result (Reads float_refusal (λ _ _ _ c. record { 0 = pattern c }) file.now first out.old out.new) }
+    ensures { Returns result
+        (Reads float_refusal (λ _ _ _ c. record { 0 = pattern c }) file.now first out.old out.new) }
 {
     code_of(read_block::<FloatBits>(file, first, out))
 }
@@ -171,7 +172,8 @@ pub extern "C" fn hound_write_i32(spec: &HoundSpec, samples: &[i32], out: &mut [
 /// Writes the whole file of these floats, given as their bits.
 #[unsafe(no_mangle)]
 pub extern "C" fn hound_write_f32(spec: &HoundSpec, samples: &[FloatBits], out: &mut [u8]) -> i64
-    ensures { Returns result (Writes Float (λ v. pattern_container v.0) (spec_of spec.now) samples.now out.old out.new) }
+    ensures { Returns result (Writes Float (λ v. pattern_container v.0)
+        (spec_of spec.now) samples.now out.old out.new) }
 {
     code_of(write_file::<FloatBits>(*spec, SampleFormat::Float, samples, out))
 }
@@ -275,7 +277,8 @@ pub extern "C" fn hound_encode_i32(spec: &HoundSpec, samples: &[i32], out: &mut 
 /// Decodes samples of a spec.
 #[unsafe(no_mangle)]
 pub extern "C" fn hound_decode_f32(spec: &HoundSpec, bytes: &[u8], out: &mut [FloatBits]) -> i64
-    ensures { Returns result (Decodes float_refusal (λ _ _ _ c. record { 0 = pattern c }) (spec_of spec.now) bytes.now out.old out.new) }
+    ensures { Returns result (Decodes float_refusal (λ _ _ _ c. record { 0 = pattern c })
+        (spec_of spec.now) bytes.now out.old out.new) }
 {
     code_of(decode_block::<FloatBits>(*spec, bytes, out))
 }
@@ -283,7 +286,8 @@ pub extern "C" fn hound_decode_f32(spec: &HoundSpec, bytes: &[u8], out: &mut [Fl
 /// Encodes samples of a spec.
 #[unsafe(no_mangle)]
 pub extern "C" fn hound_encode_f32(spec: &HoundSpec, samples: &[FloatBits], out: &mut [u8]) -> i64
-    ensures { Returns result (Encodes Float (λ v. pattern_container v.0) (spec_of spec.now) samples.now out.old out.new) }
+    ensures { Returns result (Encodes Float (λ v. pattern_container v.0)
+        (spec_of spec.now) samples.now out.old out.new) }
 {
     code_of(encode_block::<FloatBits>(*spec, SampleFormat::Float, samples, out))
 }

@@ -102,7 +102,8 @@ pub fn samples_of<S: Sample, R: io::Read + Drop>(
 
 /// Opens a file that was written: what is left in the reader are the containers.
 pub fn open_written(bytes: &[u8]) -> hound::Result<WavReader<&[u8]>>
-    ensures { (s : WavSpecEx) (list : List (List ℕ)) → IsWritable s → AreContainers s list → bytes.now ≡ canonical s list →
+    ensures { (s : WavSpecEx) (list : List (List ℕ)) → IsWritable s → AreContainers s list → bytes.now
+        ≡ canonical s list →
         OpensAs result (λ r. (r.spec_ex ≡ s) × (r.num_samples ≡ length list)
         × (containers s.bytes_per_sample (length list) r.reader.now ≡ list)) }
 {

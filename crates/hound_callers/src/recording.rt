@@ -56,7 +56,8 @@ pub fn record<S: Sample + Copy, M: Source + Medium>(
 ) -> result::Result<WavWriter<M>, (M, Error)>
     requires { WhereTells M.tells ((M.state medium).place ≡ 0) }
     ensures { MatchResult result
-        (Recorded M.tells M.keeps M.state spec_ex (new_file (M.state medium)) (recorder_asks (containers_by S.container spec_ex) 0 blocks.now))
+        (Recorded M.tells M.keeps M.state spec_ex (new_file (M.state medium))
+        (recorder_asks (containers_by S.container spec_ex) 0 blocks.now))
         (λ refused. IsNotBegun M.tells M.keeps M.state spec_ex medium refused.0 refused.1) }
 {
     let mut recorder = WavWriter::try_new(medium, spec_ex)?;
@@ -77,7 +78,8 @@ pub fn record_twelve<M: Source + Medium>(
         (all_asked ⟦<Twelve as Sample>⟧.container spec_ex blocks.now) left)
         (λ refused. IsNotBegun M.tells M.keeps M.state spec_ex medium refused.0 refused.1) }
     ensures kept { IfOk result (λ left. WhereKeeps M.tells M.keeps
-        (Kept M.tells M.keeps M.state spec_ex (new_file (M.state medium)) (all_asked ⟦<Twelve as Sample>⟧.container spec_ex blocks.now) left)) }
+        (Kept M.tells M.keeps M.state spec_ex (new_file (M.state medium))
+        (all_asked ⟦<Twelve as Sample>⟧.container spec_ex blocks.now) left)) }
 {
     what_is_kept::<M>();
     let (medium, _) = record(medium, spec_ex, blocks)?.finalize_into();
@@ -98,7 +100,8 @@ pub fn record_twelve_through_a_loss<M: Source + Medium>(
     requires flushed { WhereKeeps M.tells M.keeps ((M.state medium).flushed ≡ 0) }
     ensures { let state = ⟦<Durable<M> as Placed>⟧.state in
         MatchResult result (λ left. WhereKeeps M.tells M.keeps
-        (Around (M.state medium) (M.state left) (λ first last. KeptWithin M.tells M.keeps state spec_ex (new_file (state first)) (all_asked ⟦<Twelve as Sample>⟧.container spec_ex blocks.now) last (within last))))
+        (Around (M.state medium) (M.state left) (λ first last. KeptWithin M.tells M.keeps state spec_ex
+        (new_file (state first)) (all_asked ⟦<Twelve as Sample>⟧.container spec_ex blocks.now) last (within last))))
         (λ refused. Around (M.state medium) (M.state refused.0) (λ first last.
         IsNotBegun M.tells M.keeps state spec_ex first last refused.1)) }
 {
@@ -170,10 +173,13 @@ pub fn record_checkpoints<M: Source + Medium>(
         × WhereKeeps M.tells M.keeps (
         Around (M.state medium) (M.state done.0) (λ first last. (more : List Known)
         × StopsAt (containers_by ⟦<Twelve as Sample>⟧.container spec_ex) (drop done.1 blocks.now) more
-        × (kept : KeptWithin M.tells M.keeps state spec_ex (new_file (state first)) ((seen (published_calls (containers_by ⟦<Twelve as Sample>⟧.container spec_ex) (take done.1 blocks.now)) ++ more) ++ made publish ∷ []) last (within last))
+        × (kept : KeptWithin M.tells M.keeps state spec_ex (new_file (state first))
+        ((seen (published_calls (containers_by ⟦<Twelve as Sample>⟧.container spec_ex)
+        (take done.1 blocks.now)) ++ more) ++ made publish ∷ []) last (within last))
         × (0 < done.1 → (before after : List Call) × (flush : Call)
         × (kept.left.recorded.calls ≡ before ++ (flush ∷ after)) × HasPublished flush
-        × HaveContainers (containers_by ⟦<Twelve as Sample>⟧.container spec_ex) (take done.1 blocks.now) (accepted_by_all before)))))
+        × HaveContainers (containers_by ⟦<Twelve as Sample>⟧.container spec_ex) (take done.1 blocks.now)
+        (accepted_by_all before)))))
         (λ refused. Around (M.state medium) (M.state refused.0) (λ first last.
         IsNotBegun M.tells M.keeps state spec_ex first last refused.1)) }
 {
@@ -225,14 +231,16 @@ pub fn record_twelve_and_repair<M: Source + Medium>(
 ) -> result::Result<(M, Repair), (M, Error)>
     requires { WhereTells M.tells ((M.state medium).place ≡ 0) }
     ensures none_lost { IfOk result (λ done. WhereKeeps M.tells M.keeps ((left : M)
-        × (kept : Kept M.tells M.keeps M.state spec_ex (new_file (M.state medium)) (all_asked ⟦<Twelve as Sample>⟧.container spec_ex blocks.now) left)
+        × (kept : Kept M.tells M.keeps M.state spec_ex (new_file (M.state medium))
+        (all_asked ⟦<Twelve as Sample>⟧.container spec_ex blocks.now) left)
         × ((before after : List Call) (flush : Call) → kept.left.recorded.calls ≡ before ++ (flush ∷ after)
         → HasPublished flush →
         (done.1.spec_ex ≡ spec_ex)
         × ReadsFrames done.1 (data_start spec_ex) (accepted_by_all before) (M.state done.0).contents))) }
     ensures err { IfErr result (λ refused.
         IsNotBegun M.tells M.keeps M.state spec_ex medium refused.0 refused.1
-        ⊎ ((left cut : M) × Left M.tells M.keeps M.state spec_ex (new_file (M.state medium)) (all_asked ⟦<Twelve as Sample>⟧.container spec_ex blocks.now) left
+        ⊎ ((left cut : M) × Left M.tells M.keeps M.state spec_ex (new_file (M.state medium))
+        (all_asked ⟦<Twelve as Sample>⟧.container spec_ex blocks.now) left
         × WhereTells M.tells ((IsIoError refused.1 × Stays (M.state left) (M.state refused.0))
         ⊎ (Stays (M.state left) (M.state cut)
         × IsNotRepaired false (M.state cut) (M.state refused.0) refused.1)))) }
@@ -263,7 +271,8 @@ pub fn record_steps<M: Source + Medium>(
         (λ refused. IsNotBegun M.tells M.keeps M.state spec_ex medium refused.0 refused.1
         × (marks.new ≡ replicate (length steps.now) false)) }
     ensures kept { IfOk result (λ left. WhereKeeps M.tells M.keeps
-        (Kept M.tells M.keeps M.state spec_ex (new_file (M.state medium)) (map (λ step. made (asked_by spec_ex step)) steps.now ++ made publish ∷ []) left)) }
+        (Kept M.tells M.keeps M.state spec_ex (new_file (M.state medium))
+        (map (λ step. made (asked_by spec_ex step)) steps.now ++ made publish ∷ []) left)) }
 {
     what_is_kept::<M>();
     a_run_leaves_its_calls::<M>(steps);
@@ -283,8 +292,10 @@ pub fn pack_one<M: Source + Medium>(
 ) -> result::Result<M, (M, Error)>
     requires place { WhereTells M.tells ((M.state medium).place ≡ 0) }
     requires empty { (M.state medium).contents ≡ [] }
-    ensures run { IfOk result (Ran M.tells M.keeps M.state (New spec_ex) (Whole value ∷ []) (true ∷ []) Finalize medium (Ok tt)) }
-    ensures exact { IfOk result (λ left. WhereTells M.tells ((M.state left).contents ≡ canonical spec_ex (containers_of spec_ex (Whole value ∷ [])))) }
+    ensures run { IfOk result (Ran M.tells M.keeps M.state (New spec_ex) (Whole value ∷ [])
+        (true ∷ []) Finalize medium (Ok tt)) }
+    ensures exact { IfOk result (λ left. WhereTells M.tells ((M.state left).contents
+        ≡ canonical spec_ex (containers_of spec_ex (Whole value ∷ [])))) }
     ensures err { IfErr result (λ refused.
         IsNotBegun M.tells M.keeps M.state spec_ex medium refused.0 refused.1
         ⊎ Left M.tells M.keeps M.state spec_ex (new_file (M.state medium))
@@ -368,7 +379,8 @@ pub fn record_mixed<M: Source + Medium>(
         × Recorded M.tells M.keeps M.state spec_ex file asked w
         × Kept M.tells M.keeps M.state spec_ex file (asked ++ made publish ∷ []) done.0)
         ⊎ Kept M.tells M.keeps M.state spec_ex file
-        ((asked ++ marked (write (whole_containers spec_ex (short_bytes batch.now))) (is_ok done.1) ∷ []) ++ made publish ∷ []) done.0))
+        ((asked ++ marked (write (whole_containers spec_ex (short_bytes batch.now)))
+        (is_ok done.1) ∷ []) ++ made publish ∷ []) done.0))
         (λ refused. IsNotBegun M.tells M.keeps M.state spec_ex medium refused.0 refused.1) }
 {
     what_is_kept::<M>();

@@ -209,11 +209,15 @@ fn definitions_at_files()
     ensures odd_limit { Refused odd_at_the_limit (Format NoDataChunk) }
     ensures even_limit { Refused even_at_the_limit Ended }
     ensures fmt_limit { Refused fmt_at_the_limit (Format NoDataChunk) }
-    ensures one_byte { AreRead 1 8 (0x93 ∷ 0x4b ∷ 0xd9 ∷ 0x01 ∷ 0x00 ∷ []) (pos 19 ∷ negsuc 52 ∷ pos 89 ∷ negsuc 126 ∷ negsuc 127 ∷ []) }
+    ensures one_byte { AreRead 1 8 (0x93 ∷ 0x4b ∷ 0xd9 ∷ 0x01 ∷ 0x00 ∷ [])
+        (pos 19 ∷ negsuc 52 ∷ pos 89 ∷ negsuc 126 ∷ negsuc 127 ∷ []) }
     ensures two_bytes { AreRead 2 16 four_containers (pos 2 ∷ negsuc 2 ∷ pos 5 ∷ negsuc 6 ∷ []) }
-    ensures three_bytes { AreRead 3 24 (0xef ∷ 0xff ∷ 0xff ∷ 0x0f ∷ 0x00 ∷ 0x40 ∷ 0x13 ∷ 0x00 ∷ 0xa0 ∷ 0xe9 ∷ 0x7f ∷ 0x7f ∷ []) (negsuc 16 ∷ pos 4194319 ∷ negsuc 6291436 ∷ pos 8355817 ∷ []) }
+    ensures three_bytes { AreRead 3 24
+        (0xef ∷ 0xff ∷ 0xff ∷ 0x0f ∷ 0x00 ∷ 0x40 ∷ 0x13 ∷ 0x00 ∷ 0xa0 ∷ 0xe9 ∷ 0x7f ∷ 0x7f ∷ [])
+        (negsuc 16 ∷ pos 4194319 ∷ negsuc 6291436 ∷ pos 8355817 ∷ []) }
     ensures three_of_four { AreRead 4 24 padded_containers (negsuc 95 ∷ pos 23052 ∷ pos 8388607 ∷ negsuc 8360671 ∷ []) }
-    ensures four_bytes { AreRead 4 32 (0x13 ∷ 0x00 ∷ 0x00 ∷ 0x00 ∷ 0x03 ∷ 0x80 ∷ 0xfc ∷ 0xff ∷ 0xd9 ∷ 0x7f ∷ 0x00 ∷ 0x02 ∷ 0x97 ∷ 0x00 ∷ 0x00 ∷ 0x80 ∷ []) (pos 19 ∷ negsuc 229372 ∷ pos 33587161 ∷ negsuc 2147483496 ∷ []) }
+    ensures four_bytes { AreRead 4 32
+        (0x13 ∷ 0x00 ∷ 0x00 ∷ 0x00 ∷ 0x03 ∷ 0x80 ∷ 0xfc ∷ 0xff ∷ 0xd9 ∷ 0x7f ∷ 0x00 ∷ 0x02 ∷ 0x97 ∷ 0x00 ∷ 0x00 ∷ 0x80 ∷ []) (pos 19 ∷ negsuc 229372 ∷ pos 33587161 ∷ negsuc 2147483496 ∷ []) }
     ensures after_a_refusal { way_to 1 (counted stereo_24 1 0) ≡ pos 8 }
     ensures after_a_sample { way_to 1 (counted stereo_24 1 4) ≡ pos 4 }
     ensures after_a_torn_one { way_to 0 (counted mono_16 2 3) ≡ negsuc 2 }

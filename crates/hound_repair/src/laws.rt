@@ -23,7 +23,8 @@ pub fn a_repair_keeps_stored_samples()
         (len start : ℕ) (list : List (List ℕ)) → Repairs looks old found new
         → (IsTrue looks → found.was ≡ HasChunksAfterData → ⊥) → Head old.contents s len start → IsSoundSpec s
         → AllByRecursion (λ c. length c ≡ s.bytes_per_sample) list
-        → IsStored start (concat list) 0 (length (concat list)) old.contents → IsNoPad s len (held start old.contents) list →
+        → IsStored start (concat list) 0 (length (concat list)) old.contents
+        → IsNoPad s len (held start old.contents) list →
         (found.spec_ex ≡ s) × ReadsFrames found start list new.contents }
     ensures error { (looks : Bool) (old new : MediumState) (e : Error) (s : WavSpecEx)
         (len start : ℕ) → Head old.contents s len start

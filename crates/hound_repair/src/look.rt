@@ -141,7 +141,8 @@ fn state_of<R: ReadAt>(
         (head.data_start + held ≡ length (R.state source.old).contents) }
     ensures looks { WhereTells R.tells (Looks result (R.state source.old) (R.state source.new)) }
     ensures state { WhereTells R.tells (IfOk result (λ state. state
-        ≡ state_of ((field 4 (R.state source.old).contents == sizes.riff_size) && (head.data_length == sizes.data_length))
+        ≡ state_of ((field 4 (R.state source.old).contents == sizes.riff_size) &&
+        (head.data_length == sizes.data_length))
         (may_be_chunks rest && is_followed head.data_length (drop head.data_start (R.state source.old).contents)))) }
 {
     let mut says = [0; 4];

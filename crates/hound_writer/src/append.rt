@@ -72,7 +72,8 @@ impl<W: Source + Medium> WavWriter<W> {
         ensures appends { MatchResult result (Appends W.tells W.state (W.state writer))
             (λ e. (back : W) × WhereTells W.tells (IsNotAppended (W.state writer) (W.state back) e)) }
         ensures recorded { MatchResult result (λ w. WhereTells W.tells (IsWhole W.state w) →
-            Recorded W.tells W.keeps W.state w.spec_ex (appended (W.state writer) w.data_start (accepted_samples W.state w)) [] w) (λ _. ⊤) }
+            Recorded W.tells W.keeps W.state w.spec_ex (appended (W.state writer) w.data_start
+            (accepted_samples W.state w)) [] w) (λ _. ⊤) }
     {
         WavWriter::try_append(writer).map_err(|(_, error)| error)
     }
@@ -94,7 +95,8 @@ impl<W: Source + Medium> WavWriter<W> {
         ensures appends { MatchResult result (Appends W.tells W.state (W.state writer))
             (λ refused. WhereTells W.tells (IsNotAppended (W.state writer) (W.state refused.0) refused.1)) }
         ensures recorded { MatchResult result (λ w. WhereTells W.tells (IsWhole W.state w) →
-            Recorded W.tells W.keeps W.state w.spec_ex (appended (W.state writer) w.data_start (accepted_samples W.state w)) [] w) (λ _. ⊤) }
+            Recorded W.tells W.keeps W.state w.spec_ex (appended (W.state writer) w.data_start
+            (accepted_samples W.state w)) [] w) (λ _. ⊤) }
     {
         let (writer, head) = find_data(writer);
         match head {

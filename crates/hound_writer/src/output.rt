@@ -50,7 +50,8 @@ impl<W: Medium> Model for Output<W> {
     ghost view = { λ w. of_fields w.writer w.spec_ex w.data_start w.data_bytes_written w.block
         (bytes_kept (λ buffer. buffer.items) w.buffer) };
 
-    ghost invariant = { λ w. IsConsistent W.tells W.state (of_fields w.writer w.spec_ex w.data_start w.data_bytes_written w.block
+    ghost invariant = { λ w. IsConsistent W.tells W.state
+        (of_fields w.writer w.spec_ex w.data_start w.data_bytes_written w.block
         (bytes_kept (λ buffer. buffer.items) w.buffer)) w.may_have_moved w.fast_path_limit };
 }
 

@@ -53,7 +53,8 @@ impl<W: Medium> Model for WavWriter<W> {
 fn begin<W: Medium>(writer: &mut W, spec_ex: WavSpecEx) -> Result<u64>
     requires { WhereTells W.tells ((W.state writer.old).place ≡ 0) }
     ensures begins { MatchResult result
-        (λ start. Begins W.tells W.keeps W.state spec_ex (W.state writer.old) (of_fields writer.new spec_ex start 0 [] []))
+        (λ start. Begins W.tells W.keeps W.state spec_ex (W.state writer.old)
+        (of_fields writer.new spec_ex start 0 [] []))
         (λ e. IsNotBegun W.tells W.keeps W.state spec_ex writer.old writer.new e) }
     ensures recorded { IfOk result (λ start. Recorded W.tells W.keeps W.state spec_ex
         (new_file (W.state writer.old)) [] (of_fields writer.new spec_ex start 0 [] [])) }
