@@ -411,12 +411,12 @@ pub fn record_at_once<S: Sample + Copy, M: Medium>(
     writer.flush()
 }
 
-/// Publishes what was accepted, and continues with a block, whatever becomes of that: until the next
+/// Publishes what was accepted, and continues with samples, whatever becomes of them: until the next
 /// flush the file counts exactly the samples that were accepted before this one, over a medium without
 /// a past too (`lasts`). An error is that of the flush, and then nothing is written after it (`calls`).
 pub fn publish_and_continue<S: Sample + Copy, M: Medium>(
     writer: &mut WavWriter<M>,
-    block: &[S],
+    samples: &[S],
 ) -> hound::Result<()>
     ensures lasts { WhereTells M.tells (OnOk result ((s : WavSpecEx) (file : Begun) (before : List (Asked × Bool))
         → Recorded M.tells M.keeps M.state s file (seen before) writer.old →
@@ -424,13 +424,13 @@ pub fn publish_and_continue<S: Sample + Copy, M: Medium>(
         ≡ length (concat (found_in file ++ accepted_as_seen before)))) }
     ensures calls { MatchResult result (λ _. (mid : WriterState M) × (answer : Result Unit Error)
         × Checkpoints M.tells M.keeps M.state (Ok tt) writer.old mid
-        × Accepts M.tells M.keeps M.state (containers_in S.container mid.spec_ex block.now) answer mid writer.new)
+        × Accepts M.tells M.keeps M.state (containers_in S.container mid.spec_ex samples.now) answer mid writer.new)
         (λ e. Checkpoints M.tells M.keeps M.state (Err e) writer.old writer.new) }
 {
     what_is_kept::<M>();
     what_is_known();
     writer.flush()?;
-    let _ = writer.write_samples(block);
+    let _ = writer.write_samples(samples);
     Ok(())
 }
 

@@ -26,7 +26,7 @@ pub returns-clause-lasts : goal.returns-clause-lasts
 returns-clause-lasts g c told s file before recorded =
     let M = g.M.Placed in
     let w = c.write_samples.new.self in
-    let call = made (write (containers_in g.S.Sample.container s c.args.block.now)) in
+    let call = made (write (containers_in g.S.Sample.container s c.args.samples.now)) in
     let known = seen before ++ (marked publish true ∷ (call ∷ [])) in
     let all : Recorded M.tells M.keeps M.state s file known w =
     subst (λ l. Recorded M.tells M.keeps M.state s file l w)
