@@ -1,15 +1,15 @@
 -- Effects that are performed one after the other, as a recorder says.
 use Rattle.std.proofs.lemmas.Bool.{false≢true}
 use Rattle.std.proofs.lemmas.Grind.{common_steps}
-use Rattle.std.proofs.Common.{◌≡◌, ◌<◌, ◌≤◌, ◌+◌, ◌/◌, ◌%◌, ℕ, zero, suc, Bool, true, false, List, [], ◌∷◌, ◌++◌, drop, drop-cons, get_or, length, map, take, inl, inr, Option, Some, None, Result, Ok, Err, MatchResult, OnOk, IsErr, is_ok, refl, sym, ◌∙◌, ap, subst, arith}
+use Rattle.std.proofs.Common.{◌≡◌, ◌<◌, ◌≤◌, ◌+◌, ◌/◌, ◌%◌, ℕ, zero, suc, Bool, true, false, List, [], ◌∷◌, ◌++◌, drop, drop-cons, get_or, length, map, take, inl, inr, Option, Some, None, Result, Ok, Err, MatchResult, OnOk, IsErr, is_ok, refl, sym, ◌∙◌, ap, subst, arith, length-append}
 use Rattle.std.specs.declared.io.Error.{Error as IoFault}
 use Rattle.std.proofs.Math.Nat.{div-add-mod'}
 use Rattle.std.proofs.lemmas.List.{append-nil}
 use Rattle.std.specs.Borrow.{Bor}
 use Rattle.std.specs.Io.{StartsWith}
 use Rattle.std.specs.List.{flat_map}
-use Rattle.hound.specs.{Acted, Action, Acts, ActsAll, AreKnown, Call, Effect, HasData, HasNoData, HasPublished, IsCareful, KeptWithin, Log, MediumState, NextEffect, Performed, Performs, Places, PutsAt, Recorder, RecorderError, WavSpecEx, WriterState, accepted_by_all, accepted_of, advanced, block, canonical, checkpoint, effects_of, known_of, length_with, log_state, new_file, nth, save}
-use Rattle.hound_callers.specs.Recorder.{ActsTo, IsRecorderOf, RecordsTo, StopsAmong, StopsIn, containers_of_block, done, failed, saved}
+use Rattle.hound.specs.{Acted, Action, Acts, ActsAll, AreKnown, Call, Effect, HasData, HasNoData, HasPublished, IsCareful, KeptWithin, Log, MediumState, NextEffect, Performed, Performs, Places, PutsAt, Recorder, RecorderError, WavSpecEx, WriterState, accepted_by_all, accepted_of, advanced, block, canonical, checkpoint, effects_of, known_of, length_with, log_state, new_file, nth, recorder_of, save}
+use Rattle.hound_callers.specs.Recorder.{ActsTo, IsRecorderOf, IsRefused, RecordsTo, StopsAmong, StopsIn, containers_of_block, done, failed, joined_blocks, longer, saved}
 use Rattle.hound.specs.declared.RecorderError.TheVariants.{NotWritable, UnfinishedFrame, TooLong, NeedsCheckpoint, SyncFailed}
 
 -- effects were performed up to this number, or up to one that failed
@@ -108,52 +108,79 @@ last_failed ok old new error fn same clean has next =
     go UnfinishedFrame clean has (is, low, none) = absurd none
 
 -- a block of which nothing was written
-pub none_done : (bytes : List ℕ) (w : WriterState Log) (state : MediumState) → w.medium.state ≡ state
-    → (actions : List Acted) × StopsIn bytes actions × ActsTo actions w state
-none_done bytes w state is = ([], inl refl, (w, refl, is))
+pub none_done : (r : Recorder) (bytes : List ℕ) (w : WriterState Log) (state : MediumState)
+    → IsRefused r bytes → w.medium.state ≡ state
+    → (actions : List Acted) × StopsIn r bytes actions × ActsTo actions w state
+none_done r bytes w state refused is = ([], inl (refused, refl), (w, refl, is))
 
 pub at_err : {T E : Type 0} (A B : Type 0) (result : Result T E) → IsErr result → B
     → MatchResult result (λ _. A) (λ _. B)
 at_err A B (Ok x) err b = absurd (false≢true err)
 at_err A B (Err e) err b = b
 
--- a block that is written where a recorder says
-module _ (w : WriterState Log) (r : Recorder) (state : MediumState) (is : IsRecorderOf r w state)
-    (bytes : List ℕ) (whole : length bytes % r.bytes_per_sample ≡ 0) (place : ℕ)
-    (places : Places r (length bytes / r.bytes_per_sample) (Ok place)) (log : Log) where
-  longer : length_with r (length bytes / r.bytes_per_sample) ≡ r.data_length + length bytes
-  longer = omega (arith, div-add-mod' (length bytes) r.bytes_per_sample, whole)
+-- whole samples of a block
+module _ (r : Recorder) (bytes : List ℕ) (whole : length bytes % r.bytes_per_sample ≡ 0) where
+  counted : length_with r (length bytes / r.bytes_per_sample) ≡ r.data_length + length bytes
+  counted = omega (arith, div-add-mod' (length bytes) r.bytes_per_sample, whole)
 
-  writes : (result : Result (Unit {0}) IoFault) → PutsAt true place bytes result state log.state
-      → Acts (block bytes) result w log
-  writes result puts =
-      let e = is.is in
-      let m = is.medium in
-      grind (arith, common_steps, longer)
-
-  pub write_failed : (result : Result (Unit {0}) IoFault) → is_ok result ≡ false
-      → PutsAt true place bytes result state log.state
-      → (actions : List Acted) × StopsIn bytes actions × ActsTo actions w log.state
-  write_failed (Ok x) err puts = absurd (false≢true (sym err))
-  write_failed (Err e) err puts =
-      (failed (block bytes) e ∷ [], inr (inl (e, refl)), (record w { medium = log }, (log, writes (Err e) puts, refl), refl))
-
-  pub written : (result : Result (Unit {0}) IoFault) → is_ok result ≡ true
-      → PutsAt true place bytes result state log.state → (new : Recorder)
+  pub counts : (new : Recorder)
       → new ≡ record r { data_length = length_with r (length bytes / r.bytes_per_sample) }
-      → RecordsTo (done (block bytes) ∷ []) w new log.state
-  written (Ok x) ok puts new now = (
-    record w { medium = log; out = w.out + length bytes },
-    (log, writes (Ok tt) puts, refl),
-    record {
-      none = is.none;
-      width = is.width;
-      after_head = is.after_head;
-      is = let e = is.is in grind (arith, common_steps, longer);
-      medium = refl;
-    },
-  )
-  written (Err e) ok puts new now = absurd (false≢true ok)
+      → new ≡ longer r (length bytes)
+  counts new is = is ∙ ap (λ n. record r { data_length = n }) counted
+
+  -- a recorder that met no failure has no place for them
+  pub no_place : (w : WriterState Log) (state : MediumState) (error : RecorderError)
+      → IsRecorderOf r w state → Places r (length bytes / r.bytes_per_sample) (Err error)
+      → IsRefused r bytes
+  no_place w state SyncFailed is high = absurd (omega (arith, high, ap (λ (x : Recorder). x.condition) is.is))
+  no_place w state NeedsCheckpoint is high = absurd (omega (
+    arith,
+    high.1,
+    ap (λ (x : Recorder). x.condition) is.is,
+    ap (λ (x : Recorder). x.number) is.is,
+  ))
+  no_place w state NotWritable is (clean, none, inl before) =
+      absurd (omega (arith, before, is.after_head, ap (λ (x : Recorder). x.data_start) is.is))
+  no_place w state NotWritable is (clean, none, inr empty) =
+      absurd (omega (arith, empty, is.width, ap (λ (x : Recorder). x.bytes_per_sample) is.is))
+  no_place w state TooLong is (clean, none, long) = inr (rw counted at long)
+  no_place w state UnfinishedFrame is (clean, none, never) = absurd never
+
+  -- they are written where the recorder says
+  module _ (w : WriterState Log) (state : MediumState) (is : IsRecorderOf r w state) (place : ℕ)
+      (places : Places r (length bytes / r.bytes_per_sample) (Ok place)) (log : Log) where
+    writes : (result : Result (Unit {0}) IoFault) → PutsAt true place bytes result state log.state
+        → Acts (block bytes) result w log
+    writes result puts =
+        let e = is.is in
+        let m = is.medium in
+        grind (arith, common_steps, counted)
+
+    pub write_failed : (result : Result (Unit {0}) IoFault) → is_ok result ≡ false
+        → PutsAt true place bytes result state log.state
+        → (actions : List Acted) × StopsIn r bytes actions × ActsTo actions w log.state
+    write_failed (Ok x) err puts = absurd (false≢true (sym err))
+    write_failed (Err e) err puts = (
+      failed (block bytes) e ∷ [],
+      inr (inl (e, refl)),
+      (record w { medium = log }, (log, writes (Err e) puts, refl), refl),
+    )
+
+    pub written : (result : Result (Unit {0}) IoFault) → is_ok result ≡ true
+        → PutsAt true place bytes result state log.state → (new : Recorder)
+        → new ≡ longer r (length bytes) → RecordsTo (done (block bytes) ∷ []) w new log.state
+    written (Ok x) ok puts new now = (
+      record w { medium = log; out = w.out + length bytes },
+      (log, writes (Ok tt) puts, refl),
+      record {
+        none = is.none;
+        width = is.width;
+        after_head = is.after_head;
+        is = now ∙ ap (λ (x : Recorder). longer x (length bytes)) is.is;
+        medium = refl;
+      },
+    )
+    written (Err e) ok puts new now = absurd (false≢true ok)
 
 -- actions after others
 pub acts_then : (a b : List Acted) (w mid last : WriterState Log) → ActsAll a w mid → ActsAll b mid last
@@ -162,7 +189,7 @@ acts_then [] b w mid last is rest = subst (λ v. ActsAll b v last) is rest
 acts_then (one ∷ a) b w mid last (log, acts, then) rest = (log, acts, acts_then a b _ mid last then rest)
 
 -- a block that was written, and its checkpoint
-pub block_saved : {E : Type 0} (bytes : List ℕ) (w : WriterState Log) (r new : Recorder)
+pub block_saved : {E : Type 0} (start : Recorder) (bytes : List ℕ) (w : WriterState Log) (r new : Recorder)
     (mid state : MediumState) (result : Result (Unit {0}) E)
     → RecordsTo (done (block bytes) ∷ []) w r mid → OnOk result (new ≡ r)
     → ((first : Log) → first.state ≡ mid → (performed : Result (Unit {0}) IoFault) × (last : Log)
@@ -170,8 +197,8 @@ pub block_saved : {E : Type 0} (bytes : List ℕ) (w : WriterState Log) (r new :
     × Performed (checkpoint r.data_start r.data_length) performed first last)
     → MatchResult result
     (λ _. RecordsTo (done (block bytes) ∷ done save ∷ []) w new state)
-    (λ _. (actions : List Acted) × StopsIn bytes actions × ActsTo actions w state)
-block_saved bytes w r new mid state result (last, acts, is) same did =
+    (λ _. (actions : List Acted) × StopsIn start bytes actions × ActsTo actions w state)
+block_saved start bytes w r new mid state result (last, acts, is) same did =
     let (performed, log, ok, there, all) = did last.medium is.medium in
     go result performed same ok log there (rw is.is at all)
   where
@@ -180,7 +207,7 @@ block_saved bytes w r new mid state result (last, acts, is) same did =
         → Performed (checkpoint last.data_start last.out) performed last.medium log
         → MatchResult result
         (λ _. RecordsTo (done (block bytes) ∷ done save ∷ []) w new state)
-        (λ _. (actions : List Acted) × StopsIn bytes actions × ActsTo actions w state)
+        (λ _. (actions : List Acted) × StopsIn start bytes actions × ActsTo actions w state)
     go (Ok x) (Ok y) same ok log there all =
         let end = record last { medium = log } in (
           end,
@@ -203,21 +230,46 @@ block_saved bytes w r new mid state result (last, acts, is) same did =
     go (Err e) (Ok y) same ok log there all = absurd (false≢true (sym ok))
 
 -- one block more was saved
+pub longer_none : (r : Recorder) → r ≡ longer r 0
+longer_none r =
+    let same : r.data_length ≡ r.data_length + 0 = omega arith in
+    ap (λ n. record r { data_length = n }) same
+
+pub longer_new : (r : Recorder) (start width total : ℕ) → r ≡ recorder_of start 0 width
+    → longer r total ≡ recorder_of start total width
+longer_new r start width total is =
+    let same : 0 + total ≡ total = omega arith in
+    ap (λ (x : Recorder). longer x total) is ∙ ap (λ n. recorder_of start n width) same
+
+pub longer_more : (r fn new : Recorder) (blocks : List (Bor (List ℕ))) (i : ℕ) (d : Bor (List ℕ))
+    → i < length blocks → r ≡ longer fn (length (joined_blocks (take i blocks)))
+    → new ≡ longer r (length (get_or blocks i d).now)
+    → new ≡ longer fn (length (joined_blocks (take (i + 1) blocks)))
+longer_more r fn new blocks i d inside is then =
+    let more : length (joined_blocks (take (i + 1) blocks))
+    ≡ length (joined_blocks (take i blocks)) + length (get_or blocks i d).now =
+    grind (arith, common_steps, length-append) in
+    let sum : fn.data_length + length (joined_blocks (take i blocks)) + length (get_or blocks i d).now
+    ≡ fn.data_length + length (joined_blocks (take (i + 1) blocks)) = omega (arith, more) in
+    then ∙ ap (λ (x : Recorder). longer x (length (get_or blocks i d).now)) is
+    ∙ ap (λ n. record fn { data_length = n }) sum
+
 pub saved_more : (blocks : List (Bor (List ℕ))) (i : ℕ) (d : Bor (List ℕ)) → i < length blocks
     → saved (take (i + 1) blocks)
     ≡ saved (take i blocks) ++ (done (block (get_or blocks i d).now) ∷ done save ∷ [])
 saved_more blocks i d inside = grind (arith, common_steps)
 
-pub block_stopped : (blocks : List (Bor (List ℕ))) (i : ℕ) (d : Bor (List ℕ)) (actions : List Acted)
-    → i < length blocks → StopsIn (get_or blocks i d).now actions → StopsAmong (drop i blocks) actions
-block_stopped blocks i d actions inside stops =
-    rw (drop-cons blocks i d inside) stops
+pub block_stopped : (r fn : Recorder) (blocks : List (Bor (List ℕ))) (i : ℕ) (d : Bor (List ℕ))
+    (actions : List Acted) → i < length blocks → r ≡ fn → StopsIn r (get_or blocks i d).now actions
+    → StopsAmong fn (drop i blocks) actions
+block_stopped r fn blocks i d actions inside is stops =
+    rw (drop-cons blocks i d inside) (subst (λ x. StopsIn x (get_or blocks i d).now actions) is stops)
 
-pub all_saved : (blocks : List (Bor (List ℕ))) (i : ℕ) (w last : WriterState Log) (state : MediumState)
+pub all_saved : (r : Recorder) (blocks : List (Bor (List ℕ))) (i : ℕ) (w last : WriterState Log) (state : MediumState)
     → i ≤ length blocks → length blocks ≤ i → ActsAll (saved (take i blocks)) w last
-    → last.medium.state ≡ state → (more : List Acted) × StopsAmong (drop (length blocks) blocks) more
+    → last.medium.state ≡ state → (more : List Acted) × StopsAmong r (drop (length blocks) blocks) more
     × ActsTo (saved (take (length blocks) blocks) ++ more) w state
-all_saved blocks i w last state within all acts there =
+all_saved r blocks i w last state within all acts there =
     let none : drop (length blocks) blocks ≡ [] = grind (arith, common_steps) in
     let end : length blocks ≡ i = omega (arith, within, all) in
     ([], rw none refl, (last, rw (end, append-nil) acts, there))
@@ -238,19 +290,20 @@ careful_done : (action : Action) (rest : List Acted) → IsCareful rest → IsCa
 careful_done action [] careful = tt
 careful_done action (next ∷ rest) careful = ((λ e. absurd (false≢true (sym e))), careful)
 
-careful_more : (blocks : List (Bor (List ℕ))) (more : List Acted) → StopsAmong blocks more → IsCareful more
-careful_more [] more is = rw is tt
-careful_more (bytes ∷ blocks) more (inl is) = rw is tt
-careful_more (bytes ∷ blocks) more (inr (inl (e, is))) = rw is tt
-careful_more (bytes ∷ blocks) more (inr (inr (e, is))) = rw is (careful_done (block bytes.now) (failed save e ∷ []) tt)
+careful_more : (r : Recorder) (blocks : List (Bor (List ℕ))) (more : List Acted) → StopsAmong r blocks more
+    → IsCareful more
+careful_more r [] more is = rw is tt
+careful_more r (bytes ∷ blocks) more (inl (refused, is)) = rw is tt
+careful_more r (bytes ∷ blocks) more (inr (inl (e, is))) = rw is tt
+careful_more r (bytes ∷ blocks) more (inr (inr (e, is))) = rw is (careful_done (block bytes.now) (failed save e ∷ []) tt)
 
-pub careful_saved : (blocks left : List (Bor (List ℕ))) (more : List Acted) → StopsAmong left more
-    → IsCareful (saved blocks ++ more)
-careful_saved [] left more stops = careful_more left more stops
-careful_saved (bytes ∷ blocks) left more stops =
+pub careful_saved : (r : Recorder) (blocks left : List (Bor (List ℕ))) (more : List Acted)
+    → StopsAmong r left more → IsCareful (saved blocks ++ more)
+careful_saved r [] left more stops = careful_more r left more stops
+careful_saved r (bytes ∷ blocks) left more stops =
     let rest = saved blocks ++ more in
     careful_done (block bytes.now) (done save ∷ rest)
-    (careful_done save rest (careful_saved blocks left more stops))
+    (careful_done save rest (careful_saved r blocks left more stops))
 
 -- the last call of blocks that were saved published them
 pub all_published : (s : WavSpecEx) (blocks : List (Bor (List ℕ))) (calls : List Call) → 0 < length blocks
@@ -273,11 +326,11 @@ all_published s (bytes ∷ next ∷ blocks) (one ∷ two ∷ calls) some ((asked
     )
 
 -- so the file is the canonical one of all blocks
-pub canonical_saved : (s : WavSpecEx) (old : MediumState) (blocks : List (Bor (List ℕ))) (n : ℕ)
-    (more : List Acted) (log : Log) → n ≡ length blocks → 0 < n → StopsAmong (drop n blocks) more
+pub canonical_saved : (r : Recorder) (s : WavSpecEx) (old : MediumState) (blocks : List (Bor (List ℕ))) (n : ℕ)
+    (more : List Acted) (log : Log) → n ≡ length blocks → 0 < n → StopsAmong r (drop n blocks) more
     → KeptWithin true true log_state s (new_file old) (map (known_of s) (saved (take n blocks) ++ more)) log log.state
     → StartsWith log.state.contents (canonical s (flat_map (containers_of_block s) blocks))
-canonical_saved s old blocks n more log all some stops kept =
+canonical_saved r s old blocks n more log all some stops kept =
     let left : drop n blocks ≡ [] = grind (arith, common_steps) in
     let whole : take n blocks ≡ blocks = grind (arith, common_steps) in
     let none : more ≡ [] = rw left at stops in

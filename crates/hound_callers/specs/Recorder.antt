@@ -1,9 +1,9 @@
 -- What a caller does that performs a recorder's effects itself.
-use Rattle.std.specs.Prelude.{◌≡◌, ◌⊎◌, ℕ, ◌/◌, ◌≤◌, List, [], ◌∷◌, length, Ok, Err}
+use Rattle.std.specs.Prelude.{◌≡◌, ◌⊎◌, ℕ, ◌+◌, ◌/◌, ◌%◌, ◌<◌, ◌≤◌, List, [], ◌∷◌, length, Ok, Err}
 use Rattle.std.specs.Borrow.{Bor}
 use Rattle.std.specs.List.{flat_map}
 use Rattle.std.specs.declared.io.Error.{Error as IoFault}
-use Rattle.hound.specs.{Acted, Action, ActsAll, Log, MediumState, Recorder, WavSpecEx, WriterState, block, containers, recorder_of, save}
+use Rattle.hound.specs.{Acted, Action, ActsAll, Log, MediumState, Recorder, WavSpecEx, WriterState, block, containers, greatest_u32, recorder_of, riff_size, save}
 
 -- an action that was done, or failed
 abbrev pub done : Action → Acted
@@ -16,16 +16,29 @@ failed action e = record { action = action; result = Err e }
 abbrev pub saved : List (Bor (List ℕ)) → List Acted
 saved blocks = flat_map (λ bytes. done (block bytes.now) ∷ done save ∷ []) blocks
 
+-- the recorder once so many bytes more were written
+abbrev pub longer : Recorder → ℕ → Recorder
+longer r more = record r { data_length = r.data_length + more }
+
+-- a recorder can't take this block: its samples aren't whole, or the sizes would pass 32 bits
+abbrev pub IsRefused : Recorder → List ℕ → Type 0
+IsRefused r bytes = (length bytes % r.bytes_per_sample ≡ 0 → ⊥)
+    ⊎ (greatest_u32 < riff_size r.data_start (r.data_length + length bytes))
+
 -- where the saving of a block stopped: before it, in its write, or in its checkpoint
-abbrev pub StopsIn : List ℕ → List Acted → Type 0
-StopsIn bytes actions = (actions ≡ [])
+abbrev pub StopsIn : Recorder → List ℕ → List Acted → Type 0
+StopsIn r bytes actions = (IsRefused r bytes × (actions ≡ []))
     ⊎ ((e : IoFault) × (actions ≡ failed (block bytes) e ∷ []))
     ⊎ ((e : IoFault) × (actions ≡ done (block bytes) ∷ failed save e ∷ []))
 
--- and where that of blocks did
-abbrev pub StopsAmong : List (Bor (List ℕ)) → List Acted → Type 0
-StopsAmong [] actions = actions ≡ []
-StopsAmong (bytes ∷ blocks) actions = StopsIn bytes.now actions
+-- and where that of blocks did, of which these are left
+abbrev pub StopsAmong : Recorder → List (Bor (List ℕ)) → List Acted → Type 0
+StopsAmong r [] actions = actions ≡ []
+StopsAmong r (bytes ∷ blocks) actions = StopsIn r bytes.now actions
+
+-- the bytes of blocks
+abbrev pub joined_blocks : List (Bor (List ℕ)) → List ℕ
+joined_blocks blocks = flat_map (λ bytes. bytes.now) blocks
 
 -- the samples of a block
 abbrev pub containers_of_block : WavSpecEx → Bor (List ℕ) → List (List ℕ)

@@ -1,10 +1,10 @@
 // A recorder whose caller performs the effects, on a medium.
-ghost use Rattle.std.specs.Prelude.{◌≡◌, ◌<◌, ◌≤◌, List, [], ◌++◌, IfOk, Ok, MatchResult, OnErr, OnOk, Result, ◌∷◌, drop, is_ok, length, map, take, true};
+ghost use Rattle.std.specs.Prelude.{◌≡◌, ◌<◌, ◌≤◌, List, [], ◌++◌, IfErr, IfOk, Ok, MatchResult, OnErr, OnOk, Result, ◌∷◌, drop, is_ok, length, map, take, true};
 ghost use Rattle.std.specs.Io.{StartsWith};
 ghost use Rattle.std.specs.List.{flat_map};
 ghost use Rattle.std.specs.declared.io.Error.{Error as IoFault};
-ghost use Rattle.hound.specs.{Acted, HasData, KeptWithin, Log, Performed, Performs, PutsAt, WhereKeeps, WhereTells, WriterState, block, canonical, checkpoint, known_of, log_state, new_file, save};
-ghost use Rattle.hound_callers.specs.Recorder.{ActsTo, IsRecorderOf, RecordsTo, StopsAmong, StopsIn, containers_of_block, done, saved};
+ghost use Rattle.hound.specs.{Acted, HasData, IsNotBegun, KeptWithin, Log, Performed, Performs, PutsAt, WhereKeeps, WhereTells, WriterState, block, canonical, checkpoint, data_start, known_of, log_state, new_file, recorder_of, save};
+ghost use Rattle.hound_callers.specs.Recorder.{ActsTo, IsRecorderOf, RecordsTo, StopsAmong, StopsIn, containers_of_block, done, joined_blocks, longer, saved};
 
 use hound::{
     Effect, Error, Medium, Recorder, RecorderError, WavSpecEx, a_recording_survives_a_loss,
@@ -62,10 +62,11 @@ fn write_block<M: Medium>(
     requires width { 1 ≤ recorder.old.bytes_per_sample }
     ensures ready { OnOk result ((recorder.new.number ≡ 0) × (recorder.new.condition ≡ 0)) }
     ensures data { OnOk result (HasData recorder.new recorder.new.data_length) }
+    ensures counted { OnOk result (recorder.new ≡ longer recorder.old (length containers.now)) }
     ensures written { WhereKeeps M.tells M.keeps ((w : WriterState Log)
         → IsRecorderOf recorder.old w (M.state medium.old) → MatchResult result
         (λ _. RecordsTo (done (block containers.now) ∷ []) w recorder.new (M.state medium.new))
-        (λ _. (actions : List Acted) × StopsIn containers.now actions
+        (λ _. (actions : List Acted) × StopsIn recorder.old containers.now actions
         × ActsTo actions w (M.state medium.new))) }
 {
     let width = recorder.bytes_per_sample as usize;
@@ -89,11 +90,11 @@ fn save_block<M: Medium>(
     containers: &[u8],
 ) -> result::Result<(), RecorderError>
     requires width { 1 ≤ recorder.old.bytes_per_sample }
-    ensures width { OnOk result (1 ≤ recorder.new.bytes_per_sample) }
+    ensures counted { OnOk result (recorder.new ≡ longer recorder.old (length containers.now)) }
     ensures saved { WhereKeeps M.tells M.keeps ((w : WriterState Log)
         → IsRecorderOf recorder.old w (M.state medium.old) → MatchResult result
         (λ _. RecordsTo (done (block containers.now) ∷ done save ∷ []) w recorder.new (M.state medium.new))
-        (λ _. (actions : List Acted) × StopsIn containers.now actions
+        (λ _. (actions : List Acted) × StopsIn recorder.old containers.now actions
         × ActsTo actions w (M.state medium.new))) }
 {
     write_block(medium, recorder, containers)?;
@@ -106,7 +107,7 @@ fn save_blocks<M: Medium>(medium: &mut M, recorder: &mut Recorder, blocks: &[&[u
     ensures within { result ≤ length blocks.now }
     ensures saved { WhereKeeps M.tells M.keeps ((w : WriterState Log)
         → IsRecorderOf recorder.old w (M.state medium.old) → (more : List Acted)
-        × StopsAmong (drop result blocks.now) more
+        × StopsAmong (longer recorder.old (length (joined_blocks (take result blocks.now)))) (drop result blocks.now) more
         × ActsTo (saved (take result blocks.now) ++ more) w (M.state medium.new)) }
 {
     for i in 0..blocks.len() {
@@ -133,9 +134,11 @@ pub fn record_by_effects<M: Medium>(
     requires place { WhereTells M.tells ((M.state medium.old).place ≡ 0) }
     requires past { WhereKeeps M.tells M.keeps ((M.state medium.old).past ≡ []) }
     requires flushed { WhereKeeps M.tells M.keeps ((M.state medium.old).flushed ≡ 0) }
+    ensures refused { IfErr result (λ e. IsNotBegun M.tells M.keeps M.state spec_ex medium.old medium.new e) }
     ensures within { IfOk result (λ n. n ≤ length blocks.now) }
     ensures kept { IfOk result (λ n. WhereKeeps M.tells M.keeps ((more : List Acted)
-        × StopsAmong (drop n blocks.now) more × (log : Log) × (log.state ≡ M.state medium.new)
+        × StopsAmong (recorder_of (data_start spec_ex) (length (joined_blocks (take n blocks.now))) spec_ex.bytes_per_sample) (drop n blocks.now) more
+        × (log : Log) × (log.state ≡ M.state medium.new)
         × KeptWithin true true log_state spec_ex (new_file (M.state medium.old)) (map (known_of spec_ex) (saved (take n blocks.now) ++ more)) log log.state)) }
     ensures file { IfOk result (λ n. WhereKeeps M.tells M.keeps (0 < n → n ≡ length blocks.now
         → StartsWith (M.state medium.new).contents (canonical spec_ex (flat_map (containers_of_block spec_ex) blocks.now)))) }
