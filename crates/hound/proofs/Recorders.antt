@@ -1,6 +1,5 @@
 -- What a recording keeps whose caller performs the effects.
-use Rattle.std.proofs.lemmas.Bool.{false≢true}
-use Rattle.std.proofs.Common.{◌≡◌, ◌⊎◌, ℕ, ◌+◌, ◌-◌, ◌*◌, ◌<◌, ◌≤◌, true, List, [], ◌∷◌, ◌++◌, length, take, map, inl, inr, Result, Ok, Err, refl, sym, ◌∙◌, ap, subst, arith, length-take}
+use Rattle.std.proofs.Common.{◌≡◌, ℕ, ◌+◌, ◌-◌, ◌*◌, ◌<◌, ◌≤◌, true, List, [], ◌∷◌, ◌++◌, length, take, map, inr, Result, Ok, Err, refl, sym, ◌∙◌, ap, subst, arith, length-take}
 use Rattle.hound_number.specs.{bytes_of}
 use Rattle.hound_spec.specs.declared.error.Error.TheVariants.{TooWide}
 use Rattle.hound_spec.specs.declared.spec.WavSpecEx.{WavSpecEx}
@@ -9,7 +8,7 @@ use Rattle.hound_medium.specs.{placed, MediumState}
 use Rattle.hound_durable.specs.{Ascends, place_of}
 use Rattle.hound_durable.proofs.Ascending.{length_put, place_after, place_before}
 use Rattle.hound_sample.specs.{too_wide}
-use Rattle.hound_writer.specs.{Acted, ActsAll, Begun, Call, IsCareful, IsFresh, IsSound, IsStanding, LeavesWriter, Left, Log, Opened, Opens, Performed, PutsAt, Resumed, WriterState, field, found_in, known_of, log_state, new_file, recording, resumed_file, start_of, write}
+use Rattle.hound_writer.specs.{Acted, ActsAll, Begun, Call, IsCareful, IsFresh, IsSound, IsStanding, LeavesWriter, Left, Log, Opened, Opens, Performed, PutsAt, Resumed, WriterState, field, found_in, known_of, log_state, recording, start_of, write}
 use Rattle.hound_writer.specs.declared.effects.Effect.TheVariants.{Size, Sync}
 use Rattle.hound_writer.proofs.Accepting.{type_refuses}
 use Rattle.hound_writer.proofs.Acting.{acts_lead, opened, resumed}

@@ -80,7 +80,7 @@ mod steps;
 
 pub use durable::run_durable_session;
 pub use hound_durable::{Durable, SyncedFile, a_durable_medium_ascends};
-pub use hound_medium::{Journal, Medium, Placed, Source, Tape};
+pub use hound_medium::{Journal, Medium, Placed, Source, Tape, put_all};
 pub use hound_reader::{
     WavIntoSamples, WavReader, WavSamples, a_block_is_its_items, a_reader_stands_as_counted,
     a_seek_leads_to_its_frame, an_iterator_gives_what_it_hints, items_are_of_the_file, one_answer,
@@ -97,6 +97,7 @@ pub use hound_sample::{
 };
 pub use hound_spec::{
     Error, Result, SampleFormat, WavSpec, WavSpecEx, extensions_come_back, fields_come_back,
+    header_of,
 };
 pub use hound_writer::{
     Effect, Recorder, RecorderError, SampleWriter16, WavWriter, a_block_is_its_samples,

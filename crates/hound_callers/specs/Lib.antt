@@ -1,3 +1,4 @@
 pub mod Twelve
 pub mod Either
 pub mod Recording
+pub mod Recorder

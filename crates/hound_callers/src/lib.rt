@@ -7,6 +7,7 @@ mod editing;
 mod either;
 mod example;
 mod reading;
+mod recorder;
 mod recording;
 mod twelve;
 
@@ -18,6 +19,7 @@ pub use editing::append_blocks;
 pub use either::EitherSample;
 pub use example::record_and_read;
 pub use reading::{opened_meanwhile, read_block, read_from, reopen};
+pub use recorder::record_by_effects;
 pub use recording::{
     finish_durable, pack_one, publish_and_continue, record, record_at_once, record_batch,
     record_checkpoints, record_mixed, record_safely, record_steps, record_twelve,

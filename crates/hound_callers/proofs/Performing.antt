@@ -1,0 +1,341 @@
+-- Effects that are performed one after the other, as a recorder says.
+use Rattle.std.proofs.lemmas.Bool.{false≢true}
+use Rattle.std.proofs.lemmas.Grind.{common_steps}
+use Rattle.std.proofs.Common.{◌≡◌, ◌<◌, ◌≤◌, ◌+◌, ◌/◌, ◌%◌, ℕ, zero, suc, Bool, true, false, List, [], ◌∷◌, ◌++◌, drop, drop-cons, get_or, length, map, take, inl, inr, Option, Some, None, Result, Ok, Err, MatchResult, OnOk, IsErr, is_ok, refl, sym, ◌∙◌, ap, subst, arith, length-append}
+use Rattle.std.specs.declared.io.Error.{Error as IoFault}
+use Rattle.std.proofs.Math.Nat.{div-add-mod'}
+use Rattle.std.proofs.lemmas.List.{append-nil}
+use Rattle.std.specs.Borrow.{Bor}
+use Rattle.std.specs.Io.{StartsWith}
+use Rattle.std.specs.List.{flat_map}
+use Rattle.hound.specs.{Acted, Action, Acts, ActsAll, AreKnown, Call, Effect, HasData, HasNoData, HasPublished, IsCareful, KeptWithin, Log, MediumState, NextEffect, Performed, Performs, Places, PutsAt, Recorder, RecorderError, WavSpecEx, WriterState, accepted_by_all, accepted_of, advanced, block, canonical, checkpoint, effects_of, known_of, length_with, log_state, new_file, nth, recorder_of, save}
+use Rattle.hound_callers.specs.Recorder.{ActsTo, IsRecorderOf, IsRefused, RecordsTo, StopsAmong, StopsIn, containers_of_block, done, failed, joined_blocks, longer, saved}
+use Rattle.hound.specs.declared.RecorderError.TheVariants.{NotWritable, UnfinishedFrame, TooLong, NeedsCheckpoint, SyncFailed}
+
+-- effects were performed up to this number, or up to one that failed
+abbrev pub SoFar : List Effect → ℕ → Bool → Log → MediumState → Type 0
+SoFar effects n true first state = (mid : Log) × (mid.state ≡ state)
+    × ((r : Result (Unit {0}) IoFault) (last : Log) → Performed (drop n effects) r mid last
+    → Performed effects r first last)
+SoFar effects n false first state =
+    (mid : Log) × (mid.state ≡ state) × (e : IoFault) × Performed effects (Err e) first mid
+
+-- the effect with a number is the first of those left
+at_some : (effects : List Effect) (n : ℕ) (effect : Effect) → Some effect ≡ nth effects n
+    → drop n effects ≡ effect ∷ drop (n + 1) effects
+at_some [] n effect is = cc
+at_some (one ∷ effects) zero effect is = let same : effect ≡ one = cc in grind (arith, common_steps)
+at_some (one ∷ effects) (suc n) effect is =
+    let rest = at_some effects n effect is in
+    grind (arith, common_steps)
+
+at_none : (effects : List Effect) (n : ℕ) → None ≡ nth effects n → drop n effects ≡ []
+at_none [] n is = grind (arith, common_steps)
+at_none (one ∷ effects) zero is = cc
+at_none (one ∷ effects) (suc n) is = at_none effects n is
+
+-- those of a recorder that met no failure
+pub clean_effects : (r fn : Recorder) (n : ℕ) → r ≡ record fn { number = n } → fn.condition ≡ 0
+    → effects_of r ≡ checkpoint fn.data_start fn.data_length
+clean_effects r fn n same clean = rw (same, clean) refl
+
+-- the recorder once it returned an effect
+pub next_number : (r fn new : Recorder) (effect : Effect) (next : Option Effect) → next ≡ Some effect
+    → r ≡ record fn { number = r.number } → new ≡ advanced r next
+    → (new ≡ record fn { number = new.number }) × (new.number ≡ r.number + 1)
+next_number r fn new effect next is same then =
+    let one : new ≡ record r { number = r.number + 1 } = then ∙ ap (advanced r) is in
+    let two : new ≡ record fn { number = r.number + 1 } =
+    one ∙ ap (λ (x : Recorder). record x { number = r.number + 1 }) same in
+    let number = ap (λ (x : Recorder). x.number) two in
+    (two ∙ ap (λ n. record fn { number = n }) (sym number), number)
+
+-- there are no more than five
+pub at_most_five : (start n k : ℕ) (effect : Effect) → Some effect ≡ nth (checkpoint start n) k → k + 1 ≤ 5
+at_most_five start n k effect is = grind (arith, common_steps)
+
+pub one_more : (effects : List Effect) (n : ℕ) (effect : Effect) (r : Result (Unit {0}) IoFault)
+    (first last : Log) (mid new : MediumState) → Some effect ≡ nth effects n → last.state ≡ new
+    → SoFar effects n true first mid → Performs effect r mid new
+    → SoFar effects (n + 1) (is_ok r) first new
+one_more effects n effect (Ok x) first last mid new at is (log, same, go) did =
+    (last, is, λ r end rest. go r end (rw (at_some effects n effect at) (last, Ok x, rw (same, is) did, rest)))
+one_more effects n effect (Err e) first last mid new at is (log, same, go) did =
+    (last, is, e, go (Err e) last (rw (at_some effects n effect at) (last, Err e, rw (same, is) did, (refl, refl))))
+
+-- none is left
+pub all_done : (effects : List Effect) (n : ℕ) (first : Log) (state : MediumState)
+    → None ≡ nth effects n → SoFar effects n true first state
+    → (r : Result (Unit {0}) IoFault) × (last : Log) × (is_ok r ≡ true) × (last.state ≡ state)
+    × Performed effects r first last
+all_done effects n first state at (log, same, go) =
+    (Ok tt, log, refl, same, go (Ok tt) log (rw (at_none effects n at) (refl, refl)))
+
+-- one has failed
+pub stopped : {T E : Type 0} (effects : List Effect) (n : ℕ) (result : Result T E) (first : Log)
+    (state : MediumState) → IsErr result → SoFar effects n false first state
+    → (r : Result (Unit {0}) IoFault) × (last : Log) × (is_ok r ≡ is_ok result) × (last.state ≡ state)
+    × Performed effects r first last
+stopped effects n (Ok x) first state err so_far = absurd (false≢true err)
+stopped effects n (Err e) first state err (log, same, fault, did) = (Err fault, log, refl, same, did)
+
+-- the last effect was Ok, if there is a next one, and else it failed
+pub last_ok : (ok : Bool) (n : ℕ) → (ok ≡ false → 0 < n) → (0 < n → ok ≡ true) → ok ≡ true
+last_ok true n begun is = refl
+last_ok false n begun is = is (begun refl)
+
+-- a file has data of a length, or not
+no_error : (r : Recorder) (len : ℕ) (error : RecorderError) → HasData r len → HasNoData r len error → ⊥
+no_error r len NotWritable has (inl before) = absurd (omega (arith, before, has.0))
+no_error r len NotWritable has (inr none) = absurd (omega (arith, none, has.1))
+no_error r len TooLong has long = absurd (omega (arith, long, has.2))
+no_error r len _ has none = none
+
+pub last_failed : (ok : Bool) (old new : Recorder) (error : RecorderError) (fn : Recorder)
+    → old ≡ record fn { number = old.number } → fn.condition ≡ 0 → HasData fn fn.data_length
+    → NextEffect ok old new (Err error) → ok ≡ false
+last_failed ok old new error fn same clean has next =
+    go error (ap (λ (r : Recorder). r.condition) same ∙ clean)
+    (subst (λ (r : Recorder). HasData r r.data_length) (sym same) has) next
+  where
+    go : (error : RecorderError) → old.condition ≡ 0 → HasData old old.data_length
+        → NextEffect ok old new (Err error) → ok ≡ false
+    go SyncFailed clean has (is, inl high) = absurd (omega (arith, clean, high))
+    go SyncFailed clean has (is, inr (failed, at)) = failed.2
+    go NeedsCheckpoint clean has (is, failed, at) = failed.2
+    go NotWritable clean has (is, low, none) = absurd (no_error old old.data_length NotWritable has none)
+    go TooLong clean has (is, low, none) = absurd (no_error old old.data_length TooLong has none)
+    go UnfinishedFrame clean has (is, low, none) = absurd none
+
+-- a block of which nothing was written
+pub none_done : (r : Recorder) (bytes : List ℕ) (w : WriterState Log) (state : MediumState)
+    → IsRefused r bytes → w.medium.state ≡ state
+    → (actions : List Acted) × StopsIn r bytes actions × ActsTo actions w state
+none_done r bytes w state refused is = ([], inl (refused, refl), (w, refl, is))
+
+pub at_err : {T E : Type 0} (A B : Type 0) (result : Result T E) → IsErr result → B
+    → MatchResult result (λ _. A) (λ _. B)
+at_err A B (Ok x) err b = absurd (false≢true err)
+at_err A B (Err e) err b = b
+
+-- whole samples of a block
+module _ (r : Recorder) (bytes : List ℕ) (whole : length bytes % r.bytes_per_sample ≡ 0) where
+  counted : length_with r (length bytes / r.bytes_per_sample) ≡ r.data_length + length bytes
+  counted = omega (arith, div-add-mod' (length bytes) r.bytes_per_sample, whole)
+
+  pub counts : (new : Recorder)
+      → new ≡ record r { data_length = length_with r (length bytes / r.bytes_per_sample) }
+      → new ≡ longer r (length bytes)
+  counts new is = is ∙ ap (λ n. record r { data_length = n }) counted
+
+  -- a recorder that met no failure has no place for them
+  pub no_place : (w : WriterState Log) (state : MediumState) (error : RecorderError)
+      → IsRecorderOf r w state → Places r (length bytes / r.bytes_per_sample) (Err error)
+      → IsRefused r bytes
+  no_place w state SyncFailed is high = absurd (omega (arith, high, ap (λ (x : Recorder). x.condition) is.is))
+  no_place w state NeedsCheckpoint is high = absurd (omega (
+    arith,
+    high.1,
+    ap (λ (x : Recorder). x.condition) is.is,
+    ap (λ (x : Recorder). x.number) is.is,
+  ))
+  no_place w state NotWritable is (clean, none, inl before) =
+      absurd (omega (arith, before, is.after_head, ap (λ (x : Recorder). x.data_start) is.is))
+  no_place w state NotWritable is (clean, none, inr empty) =
+      absurd (omega (arith, empty, is.width, ap (λ (x : Recorder). x.bytes_per_sample) is.is))
+  no_place w state TooLong is (clean, none, long) = inr (rw counted at long)
+  no_place w state UnfinishedFrame is (clean, none, never) = absurd never
+
+  -- they are written where the recorder says
+  module _ (w : WriterState Log) (state : MediumState) (is : IsRecorderOf r w state) (place : ℕ)
+      (places : Places r (length bytes / r.bytes_per_sample) (Ok place)) (log : Log) where
+    writes : (result : Result (Unit {0}) IoFault) → PutsAt true place bytes result state log.state
+        → Acts (block bytes) result w log
+    writes result puts =
+        let e = is.is in
+        let m = is.medium in
+        grind (arith, common_steps, counted)
+
+    pub write_failed : (result : Result (Unit {0}) IoFault) → is_ok result ≡ false
+        → PutsAt true place bytes result state log.state
+        → (actions : List Acted) × StopsIn r bytes actions × ActsTo actions w log.state
+    write_failed (Ok x) err puts = absurd (false≢true (sym err))
+    write_failed (Err e) err puts = (
+      failed (block bytes) e ∷ [],
+      inr (inl (e, refl)),
+      (record w { medium = log }, (log, writes (Err e) puts, refl), refl),
+    )
+
+    pub written : (result : Result (Unit {0}) IoFault) → is_ok result ≡ true
+        → PutsAt true place bytes result state log.state → (new : Recorder)
+        → new ≡ longer r (length bytes) → RecordsTo (done (block bytes) ∷ []) w new log.state
+    written (Ok x) ok puts new now = (
+      record w { medium = log; out = w.out + length bytes },
+      (log, writes (Ok tt) puts, refl),
+      record {
+        none = is.none;
+        width = is.width;
+        after_head = is.after_head;
+        is = now ∙ ap (λ (x : Recorder). longer x (length bytes)) is.is;
+        medium = refl;
+      },
+    )
+    written (Err e) ok puts new now = absurd (false≢true ok)
+
+-- actions after others
+pub acts_then : (a b : List Acted) (w mid last : WriterState Log) → ActsAll a w mid → ActsAll b mid last
+    → ActsAll (a ++ b) w last
+acts_then [] b w mid last is rest = subst (λ v. ActsAll b v last) is rest
+acts_then (one ∷ a) b w mid last (log, acts, then) rest = (log, acts, acts_then a b _ mid last then rest)
+
+-- a block that was written, and its checkpoint
+pub block_saved : {E : Type 0} (start : Recorder) (bytes : List ℕ) (w : WriterState Log) (r new : Recorder)
+    (mid state : MediumState) (result : Result (Unit {0}) E)
+    → RecordsTo (done (block bytes) ∷ []) w r mid → OnOk result (new ≡ r)
+    → ((first : Log) → first.state ≡ mid → (performed : Result (Unit {0}) IoFault) × (last : Log)
+    × (is_ok performed ≡ is_ok result) × (last.state ≡ state)
+    × Performed (checkpoint r.data_start r.data_length) performed first last)
+    → MatchResult result
+    (λ _. RecordsTo (done (block bytes) ∷ done save ∷ []) w new state)
+    (λ _. (actions : List Acted) × StopsIn start bytes actions × ActsTo actions w state)
+block_saved start bytes w r new mid state result (last, acts, is) same did =
+    let (performed, log, ok, there, all) = did last.medium is.medium in
+    go result performed same ok log there (rw is.is at all)
+  where
+    go : {E : Type 0} (result : Result (Unit {0}) E) (performed : Result (Unit {0}) IoFault)
+        → OnOk result (new ≡ r) → is_ok performed ≡ is_ok result → (log : Log) → log.state ≡ state
+        → Performed (checkpoint last.data_start last.out) performed last.medium log
+        → MatchResult result
+        (λ _. RecordsTo (done (block bytes) ∷ done save ∷ []) w new state)
+        (λ _. (actions : List Acted) × StopsIn start bytes actions × ActsTo actions w state)
+    go (Ok x) (Ok y) same ok log there all =
+        let end = record last { medium = log } in (
+          end,
+          acts_then (done (block bytes) ∷ []) (done save ∷ []) w last end acts (log, all, refl),
+          record {
+            none = is.none;
+            width = is.width;
+            after_head = is.after_head;
+            is = same ∙ is.is;
+            medium = there;
+          },
+        )
+    go (Err e) (Err f) same ok log there all =
+        let end = record last { medium = log } in (
+          done (block bytes) ∷ failed save f ∷ [],
+          inr (inr (f, refl)),
+          (end, acts_then (done (block bytes) ∷ []) (failed save f ∷ []) w last end acts (log, all, refl), there),
+        )
+    go (Ok x) (Err f) same ok log there all = absurd (false≢true ok)
+    go (Err e) (Ok y) same ok log there all = absurd (false≢true (sym ok))
+
+-- one block more was saved
+pub longer_none : (r : Recorder) → r ≡ longer r 0
+longer_none r =
+    let same : r.data_length ≡ r.data_length + 0 = omega arith in
+    ap (λ n. record r { data_length = n }) same
+
+pub longer_new : (r : Recorder) (start width total : ℕ) → r ≡ recorder_of start 0 width
+    → longer r total ≡ recorder_of start total width
+longer_new r start width total is =
+    let same : 0 + total ≡ total = omega arith in
+    ap (λ (x : Recorder). longer x total) is ∙ ap (λ n. recorder_of start n width) same
+
+pub longer_more : (r fn new : Recorder) (blocks : List (Bor (List ℕ))) (i : ℕ) (d : Bor (List ℕ))
+    → i < length blocks → r ≡ longer fn (length (joined_blocks (take i blocks)))
+    → new ≡ longer r (length (get_or blocks i d).now)
+    → new ≡ longer fn (length (joined_blocks (take (i + 1) blocks)))
+longer_more r fn new blocks i d inside is then =
+    let more : length (joined_blocks (take (i + 1) blocks))
+    ≡ length (joined_blocks (take i blocks)) + length (get_or blocks i d).now =
+    grind (arith, common_steps, length-append) in
+    let sum : fn.data_length + length (joined_blocks (take i blocks)) + length (get_or blocks i d).now
+    ≡ fn.data_length + length (joined_blocks (take (i + 1) blocks)) = omega (arith, more) in
+    then ∙ ap (λ (x : Recorder). longer x (length (get_or blocks i d).now)) is
+    ∙ ap (λ n. record fn { data_length = n }) sum
+
+pub saved_more : (blocks : List (Bor (List ℕ))) (i : ℕ) (d : Bor (List ℕ)) → i < length blocks
+    → saved (take (i + 1) blocks)
+    ≡ saved (take i blocks) ++ (done (block (get_or blocks i d).now) ∷ done save ∷ [])
+saved_more blocks i d inside = grind (arith, common_steps)
+
+pub block_stopped : (r fn : Recorder) (blocks : List (Bor (List ℕ))) (i : ℕ) (d : Bor (List ℕ))
+    (actions : List Acted) → i < length blocks → r ≡ fn → StopsIn r (get_or blocks i d).now actions
+    → StopsAmong fn (drop i blocks) actions
+block_stopped r fn blocks i d actions inside is stops =
+    rw (drop-cons blocks i d inside) (subst (λ x. StopsIn x (get_or blocks i d).now actions) is stops)
+
+pub all_saved : (r : Recorder) (blocks : List (Bor (List ℕ))) (i : ℕ) (w last : WriterState Log) (state : MediumState)
+    → i ≤ length blocks → length blocks ≤ i → ActsAll (saved (take i blocks)) w last
+    → last.medium.state ≡ state → (more : List Acted) × StopsAmong r (drop (length blocks) blocks) more
+    × ActsTo (saved (take (length blocks) blocks) ++ more) w state
+all_saved r blocks i w last state within all acts there =
+    let none : drop (length blocks) blocks ≡ [] = grind (arith, common_steps) in
+    let end : length blocks ≡ i = omega (arith, within, all) in
+    ([], rw none refl, (last, rw (end, append-nil) acts, there))
+
+-- by whether a result is Ok
+pub by_ok : {T E : Type 0} (A B : Type 0) (result : Result T E) → is_ok result ≡ true
+    → MatchResult result (λ _. A) (λ _. B) → A
+by_ok A B (Ok x) ok here = here
+by_ok A B (Err e) ok here = absurd (false≢true ok)
+
+pub by_err : {T E : Type 0} (A B : Type 0) (result : Result T E) → is_ok result ≡ false
+    → MatchResult result (λ _. A) (λ _. B) → B
+by_err A B (Ok x) err here = absurd (false≢true (sym err))
+by_err A B (Err e) err here = here
+
+-- an action that was done asks for nothing of the next one
+careful_done : (action : Action) (rest : List Acted) → IsCareful rest → IsCareful (done action ∷ rest)
+careful_done action [] careful = tt
+careful_done action (next ∷ rest) careful = ((λ e. absurd (false≢true (sym e))), careful)
+
+careful_more : (r : Recorder) (blocks : List (Bor (List ℕ))) (more : List Acted) → StopsAmong r blocks more
+    → IsCareful more
+careful_more r [] more is = rw is tt
+careful_more r (bytes ∷ blocks) more (inl (refused, is)) = rw is tt
+careful_more r (bytes ∷ blocks) more (inr (inl (e, is))) = rw is tt
+careful_more r (bytes ∷ blocks) more (inr (inr (e, is))) = rw is (careful_done (block bytes.now) (failed save e ∷ []) tt)
+
+pub careful_saved : (r : Recorder) (blocks left : List (Bor (List ℕ))) (more : List Acted)
+    → StopsAmong r left more → IsCareful (saved blocks ++ more)
+careful_saved r [] left more stops = careful_more r left more stops
+careful_saved r (bytes ∷ blocks) left more stops =
+    let rest = saved blocks ++ more in
+    careful_done (block bytes.now) (done save ∷ rest)
+    (careful_done save rest (careful_saved r blocks left more stops))
+
+-- the last call of blocks that were saved published them
+pub all_published : (s : WavSpecEx) (blocks : List (Bor (List ℕ))) (calls : List Call) → 0 < length blocks
+    → AreKnown (map (known_of s) (saved blocks)) calls
+    → (before : List Call) × (end : Call) × (calls ≡ before ++ (end ∷ [])) × HasPublished end
+    × (accepted_by_all before ≡ flat_map (containers_of_block s) blocks)
+all_published s [] calls some are = absurd (omega (arith, some))
+all_published s (bytes ∷ blocks) [] some are = absurd are
+all_published s (bytes ∷ blocks) (one ∷ []) some are = absurd are.1
+all_published s (bytes ∷ []) (one ∷ end ∷ []) some ((asked, mark), (has_all, none)) =
+    (one ∷ [], end, refl, has_all, λ i. accepted_of (asked i) (mark i) ++ [])
+all_published s (bytes ∷ []) (one ∷ end ∷ other ∷ calls) some are = absurd are.1.1
+all_published s (bytes ∷ next ∷ blocks) (one ∷ two ∷ calls) some ((asked, mark), ((publish, done), are)) =
+    let (before, end, parts, has_all, is) = all_published s (next ∷ blocks) calls (omega arith) are in (
+      one ∷ two ∷ before,
+      end,
+      ap (λ l. one ∷ two ∷ l) parts,
+      has_all,
+      λ i. accepted_of (asked i) (mark i) ++ (accepted_of (publish i) (done i) ++ is i),
+    )
+
+-- so the file is the canonical one of all blocks
+pub canonical_saved : (r : Recorder) (s : WavSpecEx) (old : MediumState) (blocks : List (Bor (List ℕ))) (n : ℕ)
+    (more : List Acted) (log : Log) → n ≡ length blocks → 0 < n → StopsAmong r (drop n blocks) more
+    → KeptWithin true true log_state s (new_file old) (map (known_of s) (saved (take n blocks) ++ more)) log log.state
+    → StartsWith log.state.contents (canonical s (flat_map (containers_of_block s) blocks))
+canonical_saved r s old blocks n more log all some stops kept =
+    let left : drop n blocks ≡ [] = grind (arith, common_steps) in
+    let whole : take n blocks ≡ blocks = grind (arith, common_steps) in
+    let none : more ≡ [] = rw left at stops in
+    let (before, end, parts, has_all, is) =
+    all_published s blocks kept.left.recorded.calls (omega (arith, all, some))
+    (rw (whole, none, append-nil) at kept.left.recorded.are_known) in
+    subst (λ l. StartsWith log.state.contents (canonical s l)) is
+    (kept.promised.at_end.canonical before end parts has_all)

@@ -1,0 +1,63 @@
+-- What a caller does that performs a recorder's effects itself.
+use Rattle.std.specs.Prelude.{◌≡◌, ◌⊎◌, ℕ, ◌+◌, ◌/◌, ◌%◌, ◌<◌, ◌≤◌, List, [], ◌∷◌, length, Ok, Err}
+use Rattle.std.specs.Borrow.{Bor}
+use Rattle.std.specs.List.{flat_map}
+use Rattle.std.specs.declared.io.Error.{Error as IoFault}
+use Rattle.hound.specs.{Acted, Action, ActsAll, Log, MediumState, Recorder, WavSpecEx, WriterState, block, containers, greatest_u32, recorder_of, riff_size, save}
+
+-- an action that was done, or failed
+abbrev pub done : Action → Acted
+done action = record { action = action; result = Ok tt }
+
+abbrev pub failed : Action → IoFault → Acted
+failed action e = record { action = action; result = Err e }
+
+-- blocks that were saved: each was written, and a checkpoint made
+abbrev pub saved : List (Bor (List ℕ)) → List Acted
+saved blocks = flat_map (λ bytes. done (block bytes.now) ∷ done save ∷ []) blocks
+
+-- the recorder once so many bytes more were written
+abbrev pub longer : Recorder → ℕ → Recorder
+longer r more = record r { data_length = r.data_length + more }
+
+-- a recorder can't take this block: its samples aren't whole, or the sizes would pass 32 bits
+abbrev pub IsRefused : Recorder → List ℕ → Type 0
+IsRefused r bytes = (length bytes % r.bytes_per_sample ≡ 0 → ⊥)
+    ⊎ (greatest_u32 < riff_size r.data_start (r.data_length + length bytes))
+
+-- where the saving of a block stopped: before it, in its write, or in its checkpoint
+abbrev pub StopsIn : Recorder → List ℕ → List Acted → Type 0
+StopsIn r bytes actions = (IsRefused r bytes × (actions ≡ []))
+    ⊎ ((e : IoFault) × (actions ≡ failed (block bytes) e ∷ []))
+    ⊎ ((e : IoFault) × (actions ≡ done (block bytes) ∷ failed save e ∷ []))
+
+-- and where that of blocks did, of which these are left
+abbrev pub StopsAmong : Recorder → List (Bor (List ℕ)) → List Acted → Type 0
+StopsAmong r [] actions = actions ≡ []
+StopsAmong r (bytes ∷ blocks) actions = StopsIn r bytes.now actions
+
+-- the bytes of blocks
+abbrev pub joined_blocks : List (Bor (List ℕ)) → List ℕ
+joined_blocks blocks = flat_map (λ bytes. bytes.now) blocks
+
+-- the samples of a block
+abbrev pub containers_of_block : WavSpecEx → Bor (List ℕ) → List (List ℕ)
+containers_of_block s bytes = containers s.bytes_per_sample (length bytes.now / s.bytes_per_sample) bytes.now
+
+-- the recorder of this recording, in a file of this state
+pub record IsRecorderOf (r : Recorder) (w : WriterState Log) (state : MediumState) : Type 0 where
+  pub none : w.waiting ≡ []
+  pub width : 1 ≤ w.spec_ex.bytes_per_sample
+  pub after_head : 20 ≤ w.data_start
+  pub is : r ≡ recorder_of w.data_start w.out w.spec_ex.bytes_per_sample
+  pub medium : w.medium.state ≡ state
+
+-- actions led from a recording to a file of this state
+abbrev pub ActsTo : List Acted → WriterState Log → MediumState → Type 0
+ActsTo actions w state =
+    (last : WriterState Log) × ActsAll actions w last × (last.medium.state ≡ state)
+
+-- and to the recording of this recorder
+abbrev pub RecordsTo : List Acted → WriterState Log → Recorder → MediumState → Type 0
+RecordsTo actions w r state =
+    (last : WriterState Log) × ActsAll actions w last × IsRecorderOf r last state
