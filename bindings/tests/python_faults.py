@@ -1,8 +1,8 @@
 #!/usr/bin/env python3
-"""Kills programs that append to, repair and write files by the Python package, and lets their calls of the
-system fail. After each the file is read by hand, repaired, and read again: it counts only samples that it
+"""Kills programs that append to, repair, write and record files by the Python package, and lets their calls of
+the system fail. After each the file is read by hand, repaired, and read again: it counts only samples that it
 holds, those from before and each that was reported are there, and none was invented. Where one call failed,
-the file is the one from before, byte for byte. Wrong versions of `append` have to be found.
+the file is the one from before, byte for byte, but for a recording. Wrong versions have to be found.
 
 usage: python_faults.py [KILLS [short]]    (200 kills where no number is given; short: fewer of the other runs)
 
@@ -138,12 +138,27 @@ def mapped():
     hound.append = append
 
 
+def counted_early():
+    """A recorder that counts a block before it writes it."""
+    write = hound.Writer.write
+
+    def count(self, block):
+        length = len(block) * self._recorder.bytes_per_sample
+        self._recorder.data_length += length
+        self.flush()
+        self._recorder.data_length -= length
+        write(self, block)
+
+    hound.Writer.write = count
+
+
 CONTROLS = {
     "right": lambda: None,
     "sizes first": lambda: in_order("sizes", "data", "pad"),
     "pad byte before the sizes": lambda: in_order("data", "pad", "sizes"),
     "nothing undone": lambda: in_order("data", "sizes", "pad"),
     "in a mapped file": mapped,
+    "counted early": counted_early,
 }
 
 
@@ -174,13 +189,25 @@ def task(work, case, first, count):
     return Task(work, case, first, count, cut_off, head(case, total) + STREAM[:total] + (torn or bytes(total % 2)))
 
 
+def record(work, path, case, first, count, times):
+    """Records so many blocks, and prints how many frames each checkpoint has."""
+    durable = "durable" in work
+    with hound.create(path, 44100, case.channels, 8 * case.width, durable) if "create" in work else hound.append_to(path, durable) as writer:
+        for end in range(first + count, first + count * times + 1, count):
+            writer.write(samples_of(case, end - count, count))
+            writer.flush()
+            print(end, flush=True)
+
+
 def program(control, work, path, number, first, count, times):
     """The program that is killed, or whose calls fail: it prints how many frames it has reported."""
     CONTROLS[control]()
     case, end = CASES[int(number)], int(first)
     hound.secrets.token_hex = lambda count: "part"
     try:
-        for turn in range(int(times)):
+        if "record" in work:
+            record(work, path, case, end, int(count), int(times))
+        for turn in range(0 if "record" in work else int(times)):
             first, end = end, end + int(count)
             if work == "repair":
                 hound.repair(path, durable=True)
@@ -189,7 +216,7 @@ def program(control, work, path, number, first, count, times):
             else:
                 hound.append(path, samples_of(case, first, end - first), "overwrite" in work, "durable" in work)
             print(end, flush=True)
-    except OSError:
+    except (OSError, hound.HoundError):
         sys.exit(3)
     if int(times) > 1:
         time.sleep(10)  # It is killed here at the latest.
@@ -232,6 +259,9 @@ def is_as_promised(path, task, status, what, is_exact):
         contents = file.read()
     if status == 0 and contents != task.done:
         raise Wrong(f"{what}: a success leaves another file")
+    if "create" in task.work and len(contents) < len(head(task.case, 0)):
+        return
+    is_exact = is_exact and "record" not in task.work
     if status == 3 and is_exact and contents != task.before:
         raise Wrong(f"{what}: the file isn't the one from before")
     if task.work == "write" and contents not in (task.before, task.done):
@@ -295,12 +325,15 @@ def kill(folder, count):
     inside, path = 0, os.path.join(folder, "killed.wav")
     for turn in range(count):
         case = CASES[turn % len(CASES)]
-        appended = task(("append", "append", "durable")[turn % 3], case, 100, (4096, 333, 200000)[turn // 2 % 3] // case.frame | 1)
+        work = ("append", "record", "durable", "append", "durable record")[turn % 5]
+        # Of 8 bits and one channel a repair takes a pad byte that isn't counted yet for a sample.
+        work = "append" if "record" in work and case.frame == 1 else work
+        appended = task(work, case, 100, (4096, 333, 200000)[turn // 2 % 3] // case.frame | 1)
         leave(path, appended.before)
         times = (len(STREAM) // case.frame - 100) // appended.count
         running = subprocess.Popen(words(path, appended, times), stdout=subprocess.PIPE)
         first = running.stdout.readline()
-        time.sleep(random.random() * (0.004 if appended.work == "append" else 0.02))
+        time.sleep(random.random() * (0.02 if "durable" in work else 0.004))
         running.send_signal(signal.SIGKILL)
         rest, _ = running.communicate()
         reported = int((first + rest).rsplit(b"\n", 2)[-2])
@@ -319,7 +352,7 @@ def limit(folder, cases):
     """Appends where a file may not become so long."""
     runs, path = 0, os.path.join(folder, "long.wav")
     for case in cases:
-        for work in "append", "overwrite", "durable":
+        for work in ("append", "overwrite", "durable") + ("record",) * (case.frame > 1):
             long = task(work, case, 999, 7001)
             used = len(long.before)
             for length in [10, len(file_of(case, 999)) + 2, used, used + 1, used + 4096, len(long.done) - 1]:
@@ -346,7 +379,7 @@ def fill(folder, cases):
     try:
         path = os.path.join(disk, "full.wav")
         for case in cases:
-            for work in "append", "durable", "overwrite", "write":
+            for work in ("append", "durable", "overwrite", "write") + ("record",) * (case.frame > 1):
                 for first in 12000 // case.frame, 12001 // case.frame:
                     full = task(work, case, first, 30000 // case.frame)
                     if work == "write" and case.chunks:
@@ -373,10 +406,12 @@ def tasks(is_short):
     """The tasks whose calls are killed or fail."""
     works = [(work, case) for case in CASES for work in ("append", "durable", "overwrite", "repair")]
     works += [("write", CASES[0]), ("write", CASES[1])]
+    works += [(work, case) for case in CASES[2:5] for work in ("record", "durable record")]
     if is_short:
-        works = [("durable", CASES[1]), ("overwrite", CASES[0]), ("repair", CASES[1]), ("write", CASES[0])]
+        works = [("durable", CASES[1]), ("overwrite", CASES[0]), ("repair", CASES[1]), ("write", CASES[0]), ("durable record", CASES[2])]
+    works += [("create record", CASES[0]), ("create durable record", CASES[3])]
     for work, case in works:
-        yield task(work, case, 100, 4999)
+        yield task(work, case, 0 if "create" in work else 100, 4999)
         if case.frame % 2 and not is_short:
             yield task(work, case, 101, 4999)
 
@@ -388,8 +423,10 @@ def find_controls(folder):
         ("pad byte before the sizes", CASES[1], "KILL"),
         ("in a mapped file", CASES[0], "KILL"),
         ("nothing undone", CASES[0], "ENOSPC"),
+        ("counted early", CASES[0], "KILL"),
     ]:
-        runs, wrong = each_call(folder, task("append", case, 100, 4999), [fault], (*CHANGES, "mmap"), control)
+        work = "record" if control == "counted early" else "append"
+        runs, wrong = each_call(folder, task(work, case, 100, 4999), [fault], (*CHANGES, "mmap"), control)
         print(f"control, {control}: {len(wrong)} of {runs} runs wrong", flush=True)
         if not wrong:
             raise Wrong(f"the wrong version '{control}' isn't found")
