@@ -19,12 +19,7 @@ pub(crate) fn read_on<R: Read>(reader: &mut R, bytes: &mut [u8], count: &mut usi
 
 // Reads the rest of a container that a first read has torn. Returns how many bytes there are then, and why no
 // container follows them.
-fn finish_container<R: Read>(
-    reader: &mut R,
-    bytes: &mut [u8],
-    width: usize,
-    first: io::Result<usize>,
-) -> (usize, Option<io::Error>) {
+fn finish_container<R: Read>(reader: &mut R, bytes: &mut [u8], width: usize, first: io::Result<usize>) -> (usize, Option<io::Error>) {
     let mut count = 0;
     let result = first.and_then(|first| {
         count = first;

@@ -36,7 +36,7 @@ struct Core<W> {
 
 impl<W: Write + Seek> Core<W> {
     #[inline(always)]
-    fn buffer(&mut self, sample: i32, format: SampleFormat) -> Result<()> {
+    fn buffer<S: Sample>(&mut self, sample: i32, format: SampleFormat) -> Result<()> {
         let fits = format == SampleFormat::Float || self.least <= sample && sample <= self.most;
         match self.buffer.get_mut(self.count) {
             Some(slot) if fits && self.format == format => {
@@ -44,23 +44,22 @@ impl<W: Write + Seek> Core<W> {
                 self.count += 1;
                 Ok(())
             }
-            _ => self.buffer_first(sample, format),
+            _ => self.buffer_first::<S>(sample),
         }
     }
 
+    // A sample for which there is no room, or whose type needs a look.
     #[cold]
     #[inline(never)]
-    fn buffer_first(&mut self, sample: i32, format: SampleFormat) -> Result<()> {
-        let spec = self.containers(format);
-        match format {
-            SampleFormat::Int => proved::encode(&spec, &[sample], &mut [0; 4])?,
-            SampleFormat::Float => proved::encode(&spec, &[f32::from_bits(sample as u32)], &mut [0; 4])?,
-        };
-        self.spill()?;
-        let room = if self.next_place(BLOCK).is_ok() { BLOCK } else { self.next_place(1).map(|_| 1)? };
-        self.buffer.resize(room, 0);
-        self.format = format;
-        self.buffer(sample, format)
+    fn buffer_first<S: Sample>(&mut self, sample: i32) -> Result<()> {
+        S::CODING.map_or(Ok(()), |coding| {
+            (coding.encode)(&self.containers(coding.format), &[(coding.from)(sample)], &mut [0; 4])?;
+            self.spill()?;
+            let room = if self.next_place(BLOCK).is_ok() { BLOCK } else { self.next_place(1).map(|_| 1)? };
+            self.buffer.resize(room, 0);
+            self.format = coding.format;
+            self.buffer::<S>(sample, coding.format)
+        })
     }
 
     fn containers(&self, format: SampleFormat) -> proved::Spec {
@@ -208,7 +207,7 @@ impl<W: Write + Seek> WavWriter<W> {
     #[inline]
     pub fn write_sample<S: Sample>(&mut self, sample: S) -> Result<()> {
         match S::CODING {
-            Some(coding) => self.core.buffer((coding.to)(sample), coding.format),
+            Some(coding) => self.core.buffer::<S>((coding.to)(sample), coding.format),
             None => self.core.write_own(iter::once(sample)),
         }
     }
