@@ -24,33 +24,19 @@ pub type Result<T> = result::Result<T, Error>;
 
 impl fmt::Display for Error {
     fn fmt(&self, formatter: &mut fmt::Formatter<'_>) -> fmt::Result {
-        match self {
-            Error::IoError(error) => error.fmt(formatter),
-            Error::FormatError(reason) => write!(formatter, "Ill-formed WAVE file: {reason}"),
-            Error::TooWide => formatter.write_str("The sample has more bits than the destination type."),
-            Error::UnfinishedSample => {
-                formatter.write_str("The number of samples written is not a multiple of the number of channels.")
-            }
-            Error::Unsupported => formatter.write_str("The wave format of the file is not supported."),
-            Error::InvalidSampleFormat => formatter.write_str("The sample format differs from the destination format."),
-        }
+        formatter.write_str(match self {
+            Error::IoError(error) => return error.fmt(formatter),
+            Error::FormatError(reason) => return write!(formatter, "Ill-formed WAVE file: {reason}"),
+            Error::TooWide => "The sample has more bits than the destination type.",
+            Error::UnfinishedSample => "The number of samples written is not a multiple of the number of channels.",
+            Error::Unsupported => "The wave format of the file is not supported.",
+            Error::InvalidSampleFormat => "The sample format differs from the destination format.",
+        })
     }
 }
 
 impl error::Error for Error {
-    #[allow(deprecated)]
-    fn description(&self) -> &str {
-        match self {
-            Error::IoError(error) => error.description(),
-            Error::FormatError(reason) => reason,
-            Error::TooWide => "the sample has more bits than the destination type",
-            Error::UnfinishedSample => "the number of samples written is not a multiple of the number of channels",
-            Error::Unsupported => "the wave format of the file is not supported",
-            Error::InvalidSampleFormat => "the sample format differs from the destination format",
-        }
-    }
-
-    fn cause(&self) -> Option<&dyn error::Error> {
+    fn source(&self) -> Option<&(dyn error::Error + 'static)> {
         match self {
             Error::IoError(error) => Some(error),
             _ => None,
@@ -66,14 +52,15 @@ impl From<io::Error> for Error {
 
 impl From<proved::Error> for Error {
     fn from(error: proved::Error) -> Error {
+        use proved::Error::*;
         match error {
-            proved::Error::Ended | proved::Error::Truncated => Error::IoError(early_end()),
-            proved::Error::Unsupported | proved::Error::NotWritable => Error::Unsupported,
-            proved::Error::OtherFormat => Error::InvalidSampleFormat,
-            proved::Error::TooWide => Error::TooWide,
-            proved::Error::UnfinishedFrame => Error::UnfinishedSample,
-            proved::Error::TooLong | proved::Error::NoRoom | proved::Error::NeedsCheckpoint | proved::Error::SyncFailed => Error::IoError(io::Error::new(io::ErrorKind::Other, error)),
-            proved::Error::BitsNot8Or16 => Error::FormatError("bits per sample is not 8 or 16"),
+            Ended | Truncated => early_end().into(),
+            Unsupported | NotWritable => Error::Unsupported,
+            OtherFormat => Error::InvalidSampleFormat,
+            TooWide => Error::TooWide,
+            UnfinishedFrame => Error::UnfinishedSample,
+            TooLong | NoRoom | NeedsCheckpoint | SyncFailed => io::Error::new(io::ErrorKind::Other, error).into(),
+            BitsNot8Or16 => Error::FormatError("bits per sample is not 8 or 16"),
             _ => Error::FormatError(error.text()),
         }
     }

@@ -45,7 +45,7 @@ pub use reader::{read_wave_header, WavIntoSamples, WavReader, WavSamples};
 pub use repair::{repair_file, Repair, RepairState};
 pub use sample::Sample;
 pub use spec::{SampleFormat, WavSpec, WavSpecEx};
-pub use writer::{DurableFile, SampleWriter16, WavWriter};
+pub use writer::{SampleWriter16, WavWriter};
 
 // How many samples are decoded or encoded at once.
 const BLOCK: usize = 4096;

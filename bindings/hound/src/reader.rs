@@ -1,59 +1,46 @@
 use crate::error::early_end;
-use crate::sample::Coding;
-use crate::spec::containers;
-use crate::{Error, Result, Sample, WavSpec, WavSpecEx, BLOCK};
 use crate::proved;
+use crate::sample::check;
+use crate::spec::{as_ints, containers};
+use crate::{Result, Sample, SampleFormat, WavSpec, WavSpecEx, BLOCK};
 use std::io::{self, BufRead, Read};
 use std::{fs, marker, mem, path};
 
-/// Reads these bytes. Returns how many came, and the fault if there was one; fewer without a fault are the
-/// last.
-pub(crate) fn read_part<R: Read>(reader: &mut R, bytes: &mut [u8]) -> (usize, Option<io::Error>) {
-    let mut count = 0;
-    while count < bytes.len() {
-        match reader.read(&mut bytes[count..]) {
-            Ok(0) => break,
-            Ok(more) => count += more,
-            Err(fault) => return (count, Some(fault)),
+/// Reads on from byte `count` of these, until they or the reader end.
+pub(crate) fn read_on<R: Read>(reader: &mut R, bytes: &mut [u8], count: &mut usize) -> io::Result<()> {
+    while *count < bytes.len() {
+        match reader.read(&mut bytes[*count..])? {
+            0 => break,
+            more => *count += more,
         }
     }
-    (count, None)
+    Ok(())
 }
 
-// After a first read of containers: reads the rest of a torn one. Returns how many bytes there are, and why
-// no container follows them.
-fn finish_container<R: Read>(
-    reader: &mut R,
-    bytes: &mut [u8],
-    width: usize,
-    first: io::Result<usize>,
-) -> (usize, Option<io::Error>) {
-    let count = match first {
-        Ok(count) if count > 0 => count,
-        ended => return (0, Some(ended.err().unwrap_or_else(early_end))),
-    };
-    let end = (count + width - 1) / width * width;
-    let (more, fault) = read_part(reader, &mut bytes[count..end]);
-    let count = count + more;
-    (count, if count < end { Some(fault.unwrap_or_else(early_end)) } else { None })
+// Reads the rest of a container that a first read has torn. Returns how many bytes there are then, and why no
+// container follows them.
+fn finish_container<R: Read>(reader: &mut R, bytes: &mut [u8], width: usize, first: io::Result<usize>) -> (usize, Option<io::Error>) {
+    let mut count = 0;
+    let result = first.and_then(|first| {
+        count = first;
+        read_on(reader, &mut bytes[..(first + width - 1) / width * width], &mut count)
+    });
+    let is_whole = count > 0 && count % width == 0;
+    (count, result.err().or_else(|| if is_whole { None } else { Some(early_end()) }))
 }
 
 /// Reads up to the data, and not a byte of them.
 pub(crate) fn walk_to_data<R: Read>(reader: &mut R) -> Result<proved::Info> {
-    let mut walk = proved::Walk::new();
-    let mut bytes = [0; 1024];
-    let mut place = 0;
+    let (mut walk, mut place, mut bytes) = (proved::Walk::new(), 0, [0; 1024]);
     loop {
         let skipped = (walk.place() - place).min(bytes.len() as u64) as usize;
         let wanted = if skipped > 0 { skipped } else { walk.length() };
-        let (count, fault) = read_part(reader, &mut bytes[..wanted]);
-        if let Some(fault) = fault {
-            return Err(Error::IoError(fault));
-        }
+        let mut count = 0;
+        read_on(reader, &mut bytes[..wanted], &mut count)?;
         place += count as u64;
         if skipped == 0 || count < wanted {
-            let part = if skipped == 0 { &bytes[..count] } else { &[] };
-            if let Some(info) = walk.take(part)? {
+            let part = if skipped == 0 { count } else { 0 };
+            if let Some(info) = walk.take(&bytes[..part])? {
                 return Ok(info);
             }
         }
@@ -62,11 +49,8 @@ pub(crate) fn walk_to_data<R: Read>(reader: &mut R) -> Result<proved::Info> {
 
 /// Reads the first 12 bytes of a file, and returns the length that they say the file has.
 pub fn read_wave_header<R: Read>(reader: &mut R) -> Result<u64> {
-    let mut header = [0; 12];
-    let (count, fault) = read_part(reader, &mut header);
-    if let Some(fault) = fault {
-        return Err(Error::IoError(fault));
-    }
+    let (mut header, mut count) = ([0; 12], 0);
+    read_on(reader, &mut header, &mut count)?;
     proved::Walk::new().take(&header[..count])?;
     let [_, _, _, _, a, b, c, d, ..] = header;
     Ok(u64::from(u32::from_le_bytes([a, b, c, d])) + 8)
@@ -83,8 +67,13 @@ pub struct WavReader<R> {
     samples_read: u64,
     not_taken: i64,
     next: Next,
-    ahead: Ahead,
-    buffered: Option<Buffered<R>>,
+    // Samples that are decoded and weren't asked for, from `given` on, and the fault after them: of `open`,
+    // which leaves their bytes in the buffer of its reader, and of a fold whose closure panicked.
+    ahead: Vec<i32>,
+    given: usize,
+    fault: Option<io::Error>,
+    bytes: Vec<u8>,
+    buffer: Option<Buffer<R>>,
 }
 
 // How the next sample comes: from those that are ahead, or from its container.
@@ -100,80 +89,34 @@ enum Next {
     Unreadable,
 }
 
-// What is decoded and wasn't asked for yet: of `open`, which leaves the bytes in the buffer of its reader, and
-// of a fold whose closure panicked.
-#[derive(Default)]
-struct Ahead {
-    ints: Vec<i32>,
-    floats: Vec<f32>,
-    given: usize,
-    bytes: Vec<u8>,
-    fault: Option<io::Error>, // the item after these samples
-}
-
-impl Ahead {
-    fn left(&self) -> usize {
-        self.ints.len() + self.floats.len() - self.given + usize::from(self.fault.is_some())
-    }
-
-    fn clear(&mut self) {
-        self.ints.clear();
-        self.floats.clear();
-        self.given = 0;
-        self.fault = None;
-    }
-
-    // The type was checked, so decoding has no error.
-    fn decode(&mut self, spec: &proved::Spec, bytes: &[u8], count: usize) {
-        let decoded = match spec.format {
-            proved::Format::Int => {
-                self.ints.resize(count, 0);
-                proved::decode(spec, bytes, &mut self.ints)
-            }
-            proved::Format::Float => {
-                self.floats.resize(count, 0.0);
-                proved::decode(spec, bytes, &mut self.floats)
-            }
-        };
-        debug_assert_eq!(decoded, Ok(count));
-    }
-
-    fn drop_last(&mut self) -> bool {
-        self.left() > 0 && (self.fault.take().is_some() || self.ints.pop().is_some() || self.floats.pop().is_some())
-    }
-}
-
-// How many bytes the reader of `open` takes from the file at once.
-const CAPACITY: usize = 1 << 15;
-
 // How the buffer of the reader of `open` is looked at, and bytes of it are taken.
-struct Buffered<R> {
+struct Buffer<R> {
     look: fn(&mut R) -> io::Result<&[u8]>,
     take: fn(&mut R, usize),
 }
 
+// How many bytes that reader takes from the file at once.
+const CAPACITY: usize = 1 << 15;
+
 impl<R: Read> WavReader<R> {
     /// Reads the header, and makes a reader of the samples after it.
-    pub fn new(reader: R) -> Result<WavReader<R>> {
-        WavReader::new_with_buffer(reader, None)
-    }
-
-    fn new_with_buffer(mut reader: R, buffered: Option<Buffered<R>>) -> Result<WavReader<R>> {
+    pub fn new(mut reader: R) -> Result<WavReader<R>> {
         let info = walk_to_data(&mut reader)?;
         let mut reader = WavReader {
             reader,
-            spec: WavSpecEx::from_proved(info.spec).spec,
+            spec: WavSpecEx::from(info.spec).spec,
             bytes_per_sample: info.spec.bytes_per_sample,
             num_samples: u64::from(info.samples),
             samples_read: 0,
             not_taken: 0,
-            next: Next::Ahead,
-            ahead: Ahead::default(),
-            buffered,
+            next: Next::Unreadable,
+            ahead: Vec::new(),
+            given: 0,
+            fault: None,
+            bytes: Vec::new(),
+            buffer: None,
         };
-        if reader.buffered.is_none() {
-            reader.next = reader.next_container();
-        }
+        reader.next = reader.next_container();
         Ok(reader)
     }
 
@@ -213,18 +156,16 @@ impl<R: Read> WavReader<R> {
         self.reader
     }
 
-    /// Goes to a frame, counted from 0. At the last one or after it no sample is left.
+    /// Goes to a frame, counted from 0. After the last one no sample is left.
     pub fn seek(&mut self, time: u32) -> io::Result<()>
     where
         R: io::Seek,
     {
         self.put_back();
-        let samples = u64::from(time) * u64::from(self.spec.channels);
+        let sample = u64::from(time) * u64::from(self.spec.channels);
         let taken = self.samples_read as i64 * self.width() - self.not_taken;
-        self.reader.seek(io::SeekFrom::Current(samples as i64 * self.width() - taken))?;
-        self.ahead.clear();
-        self.samples_read = samples;
-        self.not_taken = 0;
+        self.reader.seek(io::SeekFrom::Current(sample as i64 * self.width() - taken))?;
+        (self.samples_read, self.not_taken) = (sample, 0);
         Ok(())
     }
 
@@ -244,30 +185,31 @@ impl<R: Read> WavReader<R> {
     }
 
     fn width(&self) -> i64 {
-        i64::from(self.bytes_per_sample)
+        self.bytes_per_sample.into()
     }
 
     fn containers(&self) -> proved::Spec {
         containers(self.spec.sample_format, self.spec.bits_per_sample, self.bytes_per_sample)
     }
 
+    fn left_ahead(&self) -> u64 {
+        (self.ahead.len() - self.given) as u64 + u64::from(self.fault.is_some())
+    }
+
     fn left(&self) -> usize {
-        (self.num_samples + self.ahead.left() as u64).saturating_sub(self.samples_read) as usize
+        (self.num_samples + self.left_ahead()).saturating_sub(self.samples_read) as usize
     }
 
     fn next_container(&self) -> Next {
         let spec = self.containers();
-        let check = match spec.format {
-            proved::Format::Int => i32::CODING.check(&spec),
-            proved::Format::Float => f32::CODING.check(&spec),
-        };
-        match (check, spec.format, spec.bits_per_sample, spec.bytes_per_sample) {
-            (Err(_), ..) => Next::Unreadable,
-            (_, proved::Format::Float, ..) => Next::Float,
-            (.., 8, _) => Next::Int8,
-            (.., 16, _) => Next::Int16,
-            (.., 24, 3) => Next::Int24,
-            (.., 24, _) => Next::Int24In4,
+        match (self.spec.sample_format, spec.bits_per_sample, spec.bytes_per_sample) {
+            _ if self.buffer.is_some() => Next::Ahead,
+            _ if check::<i32>(&spec).is_err() && check::<f32>(&spec).is_err() => Next::Unreadable,
+            (SampleFormat::Float, ..) => Next::Float,
+            (_, 8, _) => Next::Int8,
+            (_, 16, _) => Next::Int16,
+            (_, 24, 3) => Next::Int24,
+            (_, 24, _) => Next::Int24In4,
             _ => Next::Int32,
         }
     }
@@ -281,52 +223,37 @@ impl<R: Read> WavReader<R> {
         Some(item)
     }
 
-    #[inline(always)]
-    fn next_quickly<S: Sample>(&mut self) -> Option<S> {
-        if self.next == Next::Ahead {
-            return self.next_ahead();
-        }
-        if self.samples_read >= self.num_samples {
-            return None;
-        }
-        let sample = match S::CODING {
-            Coding::Int { from, .. } => from(self.next_int(mem::size_of::<S>())?),
-            Coding::Float { from, .. } if self.next == Next::Float => from(f32::from_le_bytes(self.container()?)),
-            _ => return None,
-        };
-        self.samples_read += 1;
-        Some(sample)
-    }
-
-    // The next sample that is ahead, if there is one of this type.
+    // The next sample that is ahead, if this type reads it.
     #[inline(always)]
     fn next_ahead<S: Sample>(&mut self) -> Option<S> {
-        let given = self.ahead.given;
-        let sample = match S::CODING {
-            Coding::Int { from, .. } if usize::from(self.bytes_per_sample) <= mem::size_of::<S>() => {
-                self.ahead.ints.get(given).copied().map(from)
-            }
-            Coding::Float { from, .. } => self.ahead.floats.get(given).copied().map(from),
-            _ => None,
-        };
-        self.ahead.given += usize::from(sample.is_some());
-        sample
+        let (coding, sample) = (S::CODING?, *self.ahead.get(self.given)?);
+        let is_read = coding.format == self.spec.sample_format && usize::from(self.bytes_per_sample) <= mem::size_of::<S>();
+        self.given += usize::from(is_read);
+        is_read.then(|| (coding.from)(sample))
     }
 
-    // Of a type of so many bytes.
+    // The next sample, if it is ahead or its container is read at once.
     #[inline(always)]
-    fn next_int(&mut self, size: usize) -> Option<i32> {
-        Some(match (self.next, size) {
-            (Next::Int16, 2 | 4) => proved::value_16(u16::from_le_bytes(self.container()?).into()),
-            (Next::Int24, 4) => {
+    fn next_quickly<S: Sample>(&mut self) -> Option<S> {
+        let (coding, size) = (S::CODING?, mem::size_of::<S>());
+        let is_int = coding.format == SampleFormat::Int;
+        if self.next == Next::Ahead || self.samples_read >= self.num_samples {
+            return self.next_ahead();
+        }
+        let sample = match self.next {
+            Next::Int16 if is_int && size >= 2 => proved::value_16(u16::from_le_bytes(self.container()?).into()),
+            Next::Int24 if is_int && size >= 4 => {
                 let [low, middle, high] = self.container()?;
                 proved::value_24(u32::from(u16::from_le_bytes([low, middle])) | u32::from(high) << 16)
             }
-            (Next::Int32, 4) => proved::value_32(u32::from_le_bytes(self.container()?)),
-            (Next::Int8, _) => proved::value_8(u8::from_le_bytes(self.container()?).into()),
-            (Next::Int24In4, 4) => proved::value_24(u32::from_le_bytes(self.container()?)),
+            Next::Int32 if is_int && size >= 4 => proved::value_32(u32::from_le_bytes(self.container()?)),
+            Next::Int8 if is_int => proved::value_8(u8::from_le_bytes(self.container()?).into()),
+            Next::Int24In4 if is_int && size >= 4 => proved::value_24(u32::from_le_bytes(self.container()?)),
+            Next::Float if !is_int => i32::from_le_bytes(self.container()?),
             _ => return None,
-        })
+        };
+        self.samples_read += 1;
+        Some((coding.from)(sample))
     }
 
     #[inline(always)]
@@ -346,103 +273,91 @@ impl<R: Read> WavReader<R> {
         let (count, fault) = finish_container(&mut self.reader, container, width, first);
         self.not_taken += (width - count) as i64;
         self.samples_read += u64::from(fault.is_some());
-        self.ahead.fault = fault;
-        count == width
-    }
-
-    fn next_own<S: Sample>(&mut self) -> Result<S> {
-        let mut reader = Counted { reader: &mut self.reader, count: 0 };
-        let sample = S::read(&mut reader, self.spec.sample_format, self.bytes_per_sample, self.spec.bits_per_sample);
-        self.not_taken += i64::from(self.bytes_per_sample) - reader.count;
-        sample
+        self.fault = fault;
+        self.fault.is_none()
     }
 
     // The end, an error, or a sample that has to be fetched first.
     #[cold]
     #[inline(never)]
     fn next_slowly<S: Sample>(&mut self) -> Option<Result<S>> {
-        if let Err(error) = S::CODING.check(&self.containers()) {
-            return self.refuse(error);
-        }
-        if self.buffered.is_some() {
+        let checked = check::<S>(&self.containers());
+        if checked.is_ok() && self.buffer.is_some() {
             self.read_ahead::<S>(BLOCK);
             if let Some(sample) = self.next_ahead() {
                 return Some(Ok(sample));
             }
         }
-        if let Some(fault) = self.ahead.fault.take() {
-            return Some(Err(Error::IoError(fault)));
+        if let (Ok(_), Some(fault)) = (checked, self.fault.take()) {
+            return Some(Err(fault.into()));
         }
-        self.put_back();
-        self.ahead.clear();
-        if self.left() == 0 {
-            return None;
-        }
-        if let Coding::Own = S::CODING {
-            self.samples_read += 1;
-            return Some(self.next_own());
-        }
-        self.next = self.next_container();
-        let item = self.next_sample();
-        if self.buffered.is_some() {
-            self.next = Next::Ahead;
-        }
-        item
-    }
-
-    // The error of a type that doesn't read these samples: it counts as one, and takes no byte.
-    fn refuse<S>(&mut self, error: Error) -> Option<Result<S>> {
         self.put_back();
         if self.left() == 0 {
             return None;
         }
-        if !self.ahead.drop_last() {
-            self.samples_read += 1;
-            self.not_taken += self.width();
+        if checked.is_ok() && S::CODING.is_some() {
+            let buffer = self.buffer.take(); // A container at the end of the buffer is read as without it.
+            self.next = self.next_container();
+            let item = self.next_sample();
+            self.buffer = buffer;
+            self.next = self.next_container();
+            return item;
         }
-        Some(Err(error))
+        // A type that doesn't read these samples takes no byte, and one of the user's own takes what it takes.
+        let WavSpec { sample_format, bits_per_sample, .. } = self.spec;
+        let mut reader = self.reader.by_ref().take(u64::MAX);
+        let sample = match checked {
+            Ok(_) => S::read(&mut reader, sample_format, self.bytes_per_sample, bits_per_sample),
+            Err(error) => Err(error.into()),
+        };
+        let taken = (u64::MAX - reader.limit()) as i64;
+        self.samples_read += 1;
+        self.not_taken += self.width() - taken;
+        Some(sample)
     }
 
-    // The reader of `open` takes the samples that were given, and keeps those that are ahead.
+    // The reader of `open` takes the samples that were given, and keeps those that are ahead. What a closure
+    // that panicked left of other readers is lost, and counts as read.
     fn put_back(&mut self) {
-        if let Some(buffered) = &self.buffered {
-            (buffered.take)(&mut self.reader, self.ahead.given * usize::from(self.bytes_per_sample));
-            self.samples_read -= self.ahead.left() as u64;
-            self.ahead.clear();
+        if let Some(buffer) = &self.buffer {
+            (buffer.take)(&mut self.reader, self.given * usize::from(self.bytes_per_sample));
+            self.samples_read -= self.left_ahead();
         }
+        self.ahead.clear();
+        (self.given, self.fault) = (0, None);
+        self.next = self.next_container();
     }
 
     // Decodes the next samples, at most so many, if none is ahead and the type is read in blocks: those that
     // the buffer of `open` holds, or those that one read gives.
     fn read_ahead<S: Sample>(&mut self, most: usize) {
-        let spec = self.containers();
-        if self.ahead.left() > 0 || matches!(S::CODING, Coding::Own) || S::CODING.check(&spec).is_err() {
+        let (spec, width) = (self.containers(), usize::from(self.bytes_per_sample));
+        if self.left_ahead() > 0 || S::CODING.is_none() || check::<S>(&spec).is_err() {
             return;
         }
         self.put_back();
-        self.ahead.clear();
         let most = most.min(BLOCK).min(self.left());
-        let width = usize::from(self.bytes_per_sample);
-        match &self.buffered {
-            _ if most == 0 => return,
-            Some(buffered) => match (buffered.look)(&mut self.reader) {
-                Ok(bytes) => self.ahead.decode(&spec, bytes, most.min(bytes.len() / width)),
-                Err(fault) => self.ahead.fault = Some(fault),
-            },
-            None => {
-                let mut bytes = mem::take(&mut self.ahead.bytes);
-                bytes.resize(most * width, 0);
-                let first = self.reader.read(&mut bytes);
-                let (count, fault) = finish_container(&mut self.reader, &mut bytes, width, first);
-                self.ahead.decode(&spec, &bytes, count / width);
-                self.ahead.fault = fault;
-                self.ahead.bytes = bytes;
-                self.not_taken -= (count % width) as i64;
-            }
+        if most == 0 {
+            return;
         }
+        let mut scratch = mem::take(&mut self.bytes);
+        let (bytes, fault) = match &self.buffer {
+            Some(buffer) => (buffer.look)(&mut self.reader).map_or_else(|fault| (&[][..], Some(fault)), |bytes| (bytes, None)),
+            None => {
+                scratch.resize(most * width, 0);
+                let first = self.reader.read(&mut scratch);
+                let (count, fault) = finish_container(&mut self.reader, &mut scratch, width, first);
+                (&scratch[..count], fault)
+            }
+        };
+        let count = most.min(bytes.len() / width);
+        self.ahead.resize(count, 0);
+        let decoded = proved::decode(&as_ints(spec), bytes, &mut self.ahead);
+        debug_assert_eq!(decoded, Ok(count));
+        self.samples_read += count as u64 + u64::from(fault.is_some());
+        self.not_taken += if fault.is_some() { (width - bytes.len() % width) as i64 } else { 0 };
+        (self.fault, self.bytes) = (fault, scratch);
         self.next = Next::Ahead;
-        self.samples_read += self.ahead.left() as u64;
-        self.not_taken += if self.ahead.fault.is_some() { width as i64 } else { 0 };
     }
 
     fn fold_samples<S: Sample, B, F: FnMut(B, Result<S>) -> B>(&mut self, mut value: B, mut f: F) -> B {
@@ -462,35 +377,20 @@ impl<R: Read> WavReader<R> {
 impl WavReader<io::BufReader<fs::File>> {
     /// Opens a file, and reads its header.
     pub fn open<P: AsRef<path::Path>>(filename: P) -> Result<WavReader<io::BufReader<fs::File>>> {
-        let buffered = Buffered { look: BufRead::fill_buf, take: BufRead::consume };
-        WavReader::new_with_buffer(io::BufReader::with_capacity(CAPACITY, fs::File::open(filename)?), Some(buffered))
+        let mut reader = WavReader::new(io::BufReader::with_capacity(CAPACITY, fs::File::open(filename)?))?;
+        reader.buffer = Some(Buffer { look: BufRead::fill_buf, take: BufRead::consume });
+        reader.next = Next::Ahead;
+        Ok(reader)
     }
 }
 
-// Counts what is read.
-struct Counted<R> {
-    reader: R,
-    count: i64,
-}
-
-impl<R: Read> Read for Counted<R> {
-    fn read(&mut self, bytes: &mut [u8]) -> io::Result<usize> {
-        let count = self.reader.read(bytes)?;
-        self.count += count as i64;
-        Ok(count)
-    }
-}
-
-/// The samples of a file, of type `S`, read by a borrowed `WavReader`.
-pub struct WavSamples<'wr, R, S>
-where
-    R: 'wr,
-{
+/// The samples of a file, as type `S`, of a `WavReader` that is borrowed.
+pub struct WavSamples<'wr, R: 'wr, S> {
     reader: &'wr mut WavReader<R>,
     phantom_sample: marker::PhantomData<S>,
 }
 
-/// The samples of a file, of type `S`, read by a `WavReader` of their own.
+/// The samples of a file, as type `S`, of a `WavReader` that is owned.
 pub struct WavIntoSamples<R, S> {
     reader: WavReader<R>,
     phantom_sample: marker::PhantomData<S>,

@@ -1,18 +1,8 @@
-use crate::{Result, WavSpecEx};
 use crate::proved;
+pub use crate::proved::State as RepairState;
+use crate::{Result, WavSpecEx};
 use std::io::{Seek, SeekFrom, Write};
 use std::{fs, path};
-
-/// How a file was found (own).
-#[derive(Clone, Copy, Debug, PartialEq, Eq)]
-pub enum RepairState {
-    /// Both sizes were right.
-    Whole,
-    /// A size was wrong, as after a recording that was cut off.
-    CutOff,
-    /// Chunks or a tag follow the data, and nothing was written.
-    HasChunksAfterData,
-}
 
 /// What a file holds (own).
 #[derive(Clone, Copy)]
@@ -37,22 +27,13 @@ pub fn repair_file<P: AsRef<path::Path>>(filename: P) -> Result<Repair> {
     let length = bytes.len();
     bytes.push(0);
     let found = proved::repair(&mut bytes, length)?;
-    if found.state == proved::State::CutOff {
-        let data_length = proved::info(&bytes)?.data_start as usize - 4;
-        for part in [length..found.length, 4..8, data_length..data_length + 4] {
+    if found.state == RepairState::CutOff {
+        let data_start = proved::info(&bytes)?.data_start as usize;
+        for part in [length..found.length, 4..8, data_start - 4..data_start] {
             file.seek(SeekFrom::Start(part.start as u64))?;
             file.write_all(&bytes[part])?;
             file.sync_all()?;
         }
     }
-    Ok(Repair {
-        spec_ex: WavSpecEx::from_proved(found.spec),
-        frames: found.frames,
-        left_over: found.left_over,
-        was: match found.state {
-            proved::State::Whole => RepairState::Whole,
-            proved::State::CutOff => RepairState::CutOff,
-            proved::State::HasChunksAfterData => RepairState::HasChunksAfterData,
-        },
-    })
+    Ok(Repair { spec_ex: found.spec.into(), frames: found.frames, left_over: found.left_over, was: found.state })
 }

@@ -1,8 +1,8 @@
 use crate::error::early_end;
-use crate::reader::read_part;
-use crate::spec::containers;
-use crate::{Error, Result, SampleFormat};
 use crate::proved;
+use crate::reader::read_on;
+use crate::spec::containers;
+use crate::{Result, SampleFormat};
 use std::io;
 
 /// A type of samples: `i8`, `i16`, `i32`, `f32`, or one of your own.
@@ -19,61 +19,54 @@ pub trait Sample: Sized {
     /// The lowest 16 bits of an integer.
     fn as_i16(self) -> i16;
 
-    // How blocks of samples are converted. Those of a type of your own are read and written one by one.
+    // How blocks of samples are decoded and encoded. A type of your own reads and writes one by one.
     #[doc(hidden)]
-    const CODING: Coding<Self> = Coding::Own;
+    const CODING: Option<Coding<Self>> = None;
 }
 
-/// How the samples of a type are decoded and encoded in blocks.
-pub enum Coding<S> {
-    /// Integers, from and to those of 32 bits.
-    Int { from: fn(i32) -> S, to: fn(S) -> i32, decode: Decode<S>, encode: Encode<S> },
-    /// Floats.
-    Float { from: fn(f32) -> S, to: fn(S) -> f32, decode: Decode<S>, encode: Encode<S> },
-    /// As the type itself reads and writes each.
-    Own,
+/// How a type is decoded and encoded. In blocks samples are integers of 32 bits: a float is the integer that
+/// has its container.
+pub struct Coding<S> {
+    pub format: SampleFormat,
+    pub from: fn(i32) -> S,
+    pub to: fn(S) -> i32,
+    pub decode: fn(&proved::Spec, &[u8], &mut [S]) -> proved::Result<usize>,
+    pub encode: Encode<S>,
 }
-pub(crate) type Decode<S> = fn(&proved::Spec, &[u8], &mut [S]) -> proved::Result<usize>;
 pub(crate) type Encode<S> = fn(&proved::Spec, &[S], &mut [u8]) -> proved::Result<usize>;
 
-impl<S> Coding<S> {
-    /// The error of reading these containers as this type, if it is no type of the user's own.
-    pub(crate) fn check(&self, spec: &proved::Spec) -> Result<()> {
-        match self {
-            Coding::Int { decode, .. } | Coding::Float { decode, .. } => Ok(decode(spec, &[], &mut []).map(drop)?),
-            Coding::Own => Ok(()),
-        }
-    }
+/// The error of reading these containers as this type.
+pub(crate) fn check<S: Sample>(spec: &proved::Spec) -> proved::Result<usize> {
+    S::CODING.map_or(Ok(0), |coding| (coding.decode)(spec, &[], &mut []))
 }
 
 fn write_container<S: proved::Coded, W: io::Write>(sample: S, spec: proved::Spec, writer: &mut W) -> Result<()> {
     let mut container = [0; 4];
-    let count = proved::encode(&spec, &[sample], &mut container)?;
-    Ok(writer.write_all(&container[..count])?)
+    let width = proved::encode(&spec, &[sample], &mut container)?;
+    Ok(writer.write_all(&container[..width])?)
 }
 
-fn read_container<S: proved::Coded + Copy + Default, R: io::Read>(reader: &mut R, spec: proved::Spec) -> Result<S> {
-    let mut sample = [S::default()];
-    proved::decode(&spec, &[], &mut sample)?; // An error of the type takes no byte.
-    let mut container = [0; 4];
+fn read_container<S: Sample + proved::Coded + Copy + Default, R: io::Read>(reader: &mut R, spec: proved::Spec) -> Result<S> {
+    check::<S>(&spec)?; // An error of the type takes no byte.
+    let (mut container, mut count, mut sample) = ([0; 4], 0, [S::default()]);
     let container = &mut container[..usize::from(spec.bytes_per_sample)];
-    let (count, fault) = read_part(reader, container);
+    read_on(reader, container, &mut count)?;
     if count < container.len() {
-        return Err(Error::IoError(fault.unwrap_or_else(early_end)));
+        return Err(early_end().into());
     }
     proved::decode(&spec, container, &mut sample)?;
     Ok(sample[0])
 }
 
 macro_rules! sample {
-    ($type:ident, $coding:ident, $whole:ident, $as_i16:expr) => {
+    ($type:ident, $format:ident, $from:expr, $to:expr, $as_i16:expr) => {
         impl Sample for $type {
             fn write<W: io::Write>(self, writer: &mut W, bits: u16) -> Result<()> {
                 self.write_padded(writer, bits, bits / 8)
             }
 
             fn write_padded<W: io::Write>(self, writer: &mut W, bits: u16, byte_width: u16) -> Result<()> {
-                write_container(self, containers(SampleFormat::$coding, bits, byte_width), writer)
+                write_container(self, containers(SampleFormat::$format, bits, byte_width), writer)
             }
 
             fn read<R: io::Read>(reader: &mut R, format: SampleFormat, bytes: u16, bits: u16) -> Result<$type> {
@@ -85,16 +78,12 @@ macro_rules! sample {
                 $as_i16(self)
             }
 
-            const CODING: Coding<$type> = Coding::$coding {
-                from: |whole| whole as $type,
-                to: |sample| sample as $whole,
-                decode: proved::decode::<$type>,
-                encode: proved::encode::<$type>,
-            };
+            const CODING: Option<Coding<$type>> =
+                Some(Coding { format: SampleFormat::$format, from: $from, to: $to, decode: proved::decode, encode: proved::encode });
         }
     };
 }
-sample!(i8, Int, i32, |sample: i8| sample.into());
-sample!(i16, Int, i32, |sample: i16| sample);
-sample!(i32, Int, i32, |sample: i32| sample as i16);
-sample!(f32, Float, f32, |_| panic!("as_i16 was called with a float"));
+sample!(i8, Int, |int| int as i8, i32::from, i16::from);
+sample!(i16, Int, |int| int as i16, i32::from, |sample| sample);
+sample!(i32, Int, |int| int, |sample| sample, |sample| sample as i16);
+sample!(f32, Float, |int| f32::from_bits(int as u32), |float| float.to_bits() as i32, |_| panic!("a float has no 16 bits"));

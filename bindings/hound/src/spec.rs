@@ -1,5 +1,5 @@
-use crate::Result;
 use crate::proved;
+use crate::Result;
 
 /// Whether samples are integers or floats.
 #[derive(Clone, Copy, Debug, PartialEq, Eq)]
@@ -33,8 +33,8 @@ pub struct WavSpecEx {
 }
 
 impl WavSpec {
-    /// The header of a stream of unknown length, whose two sizes are the highest there are: for what
-    /// can't be sought, as a pipe. [`Sample::write`](crate::Sample::write) writes the samples after it.
+    /// The header of a stream of unknown length, with the greatest sizes: for what has no place to go back
+    /// to, as a pipe. [`Sample::write`](crate::Sample::write) writes the samples after it.
     ///
     /// # Panics
     ///
@@ -54,50 +54,41 @@ impl WavSpec {
 }
 
 impl WavSpecEx {
-    pub(crate) fn to_proved(self) -> proved::Spec {
-        proved::Spec {
-            sample_rate: self.spec.sample_rate,
-            channels: self.spec.channels,
-            ..containers(self.spec.sample_format, self.spec.bits_per_sample, self.bytes_per_sample)
-        }
-    }
-
-    pub(crate) fn from_proved(spec: proved::Spec) -> WavSpecEx {
-        WavSpecEx {
-            spec: WavSpec {
-                channels: spec.channels,
-                sample_rate: spec.sample_rate,
-                bits_per_sample: spec.bits_per_sample,
-                sample_format: match spec.format {
-                    proved::Format::Int => SampleFormat::Int,
-                    proved::Format::Float => SampleFormat::Float,
-                },
-            },
-            bytes_per_sample: spec.bytes_per_sample,
-        }
-    }
-
-    // The containers of samples of this format, whatever that of the file is.
-    pub(crate) fn containers(self, format: SampleFormat) -> proved::Spec {
-        containers(format, self.spec.bits_per_sample, self.bytes_per_sample)
-    }
-
     // The header of a file of no samples.
     pub(crate) fn header(self) -> Result<Vec<u8>> {
-        Ok(proved::header(&self.to_proved(), 0)?)
+        Ok(proved::header(&self.into(), 0)?)
     }
 }
 
-/// What encoding and decoding look at: no width and no bits stand for none that there is.
-pub(crate) fn containers(format: SampleFormat, bits: u16, width: u16) -> proved::Spec {
-    proved::Spec {
-        sample_rate: 1,
-        channels: 1,
-        bits_per_sample: if width == 0 { 0 } else { bits },
-        bytes_per_sample: width,
-        format: match format {
-            SampleFormat::Int => proved::Format::Int,
-            SampleFormat::Float => proved::Format::Float,
-        },
+impl From<WavSpecEx> for proved::Spec {
+    fn from(WavSpecEx { spec, bytes_per_sample }: WavSpecEx) -> proved::Spec {
+        let containers = containers(spec.sample_format, spec.bits_per_sample, bytes_per_sample);
+        proved::Spec { sample_rate: spec.sample_rate, channels: spec.channels, ..containers }
     }
+}
+
+impl From<proved::Spec> for WavSpecEx {
+    fn from(spec: proved::Spec) -> WavSpecEx {
+        let sample_format = match spec.format {
+            proved::Format::Int => SampleFormat::Int,
+            proved::Format::Float => SampleFormat::Float,
+        };
+        let proved::Spec { channels, sample_rate, bits_per_sample, bytes_per_sample, .. } = spec;
+        WavSpecEx { spec: WavSpec { channels, sample_rate, bits_per_sample, sample_format }, bytes_per_sample }
+    }
+}
+
+/// What encoding and decoding look at. No bytes are those of no container, and not the default.
+pub(crate) fn containers(format: SampleFormat, bits: u16, width: u16) -> proved::Spec {
+    let format = match format {
+        SampleFormat::Int => proved::Format::Int,
+        SampleFormat::Float => proved::Format::Float,
+    };
+    let bits_per_sample = if width == 0 { 0 } else { bits };
+    proved::Spec { sample_rate: 1, channels: 1, bits_per_sample, bytes_per_sample: width, format }
+}
+
+/// The integers of 32 bits that have these containers.
+pub(crate) fn as_ints(spec: proved::Spec) -> proved::Spec {
+    proved::Spec { format: proved::Format::Int, ..spec }
 }
