@@ -107,7 +107,8 @@ fn save_blocks<M: Medium>(medium: &mut M, recorder: &mut Recorder, blocks: &[&[u
     ensures within { result ≤ length blocks.now }
     ensures saved { WhereKeeps M.tells M.keeps ((w : WriterState Log)
         → IsRecorderOf recorder.old w (M.state medium.old) → (more : List Acted)
-        × StopsAmong (longer recorder.old (length (joined_blocks (take result blocks.now)))) (drop result blocks.now) more
+        × StopsAmong (longer recorder.old (length (joined_blocks (take result blocks.now))))
+        (drop result blocks.now) more
         × ActsTo (saved (take result blocks.now) ++ more) w (M.state medium.new)) }
 {
     for i in 0..blocks.len() {
@@ -137,11 +138,14 @@ pub fn record_by_effects<M: Medium>(
     ensures refused { IfErr result (λ e. IsNotBegun M.tells M.keeps M.state spec_ex medium.old medium.new e) }
     ensures within { IfOk result (λ n. n ≤ length blocks.now) }
     ensures kept { IfOk result (λ n. WhereKeeps M.tells M.keeps ((more : List Acted)
-        × StopsAmong (recorder_of (data_start spec_ex) (length (joined_blocks (take n blocks.now))) spec_ex.bytes_per_sample) (drop n blocks.now) more
+        × StopsAmong (recorder_of (data_start spec_ex) (length
+        (joined_blocks (take n blocks.now))) spec_ex.bytes_per_sample) (drop n blocks.now) more
         × (log : Log) × (log.state ≡ M.state medium.new)
-        × KeptWithin true true log_state spec_ex (new_file (M.state medium.old)) (map (known_of spec_ex) (saved (take n blocks.now) ++ more)) log log.state)) }
+        × KeptWithin true true log_state spec_ex (new_file (M.state medium.old))
+        (map (known_of spec_ex) (saved (take n blocks.now) ++ more)) log log.state)) }
     ensures file { IfOk result (λ n. WhereKeeps M.tells M.keeps (0 < n → n ≡ length blocks.now
-        → StartsWith (M.state medium.new).contents (canonical spec_ex (flat_map (containers_of_block spec_ex) blocks.now)))) }
+        → StartsWith (M.state medium.new).contents (canonical spec_ex
+        (flat_map (containers_of_block spec_ex) blocks.now)))) }
 {
     a_recording_survives_a_loss();
     let Ok(mut recorder) = Recorder::begin(spec_ex) else {
