@@ -1,16 +1,20 @@
 -- Effects that are performed one after the other, as a recorder says.
 use Rattle.std.proofs.lemmas.Bool.{false≢true}
 use Rattle.std.proofs.lemmas.Grind.{common_steps}
-use Rattle.std.proofs.Common.{◌≡◌, ◌<◌, ◌≤◌, ◌+◌, ◌/◌, ◌%◌, ℕ, zero, suc, Bool, true, false, List, [], ◌∷◌, ◌++◌, drop, drop-cons, get_or, length, map, take, inl, inr, Option, Some, None, Result, Ok, Err, MatchResult, OnOk, IsErr, is_ok, refl, sym, ◌∙◌, ap, subst, arith, length-append}
+use Rattle.std.proofs.Common.{◌≡◌, ◌<◌, ◌≤◌, ◌+◌, ◌/◌, ◌%◌, ℕ, zero, suc, Bool, true, false, List, [], ◌∷◌, ◌++◌, drop, drop-cons, get_or, length, map, take, inl, inr, Option, Some, None, Result, Ok, Err, MatchResult, OnOk, IsErr, is_ok, refl, rules, sym, ◌∙◌, ap, subst, arith, length-append}
 use Rattle.std.specs.declared.io.Error.{Error as IoFault}
 use Rattle.std.proofs.Math.Nat.{div-add-mod'}
 use Rattle.std.proofs.lemmas.List.{append-nil}
 use Rattle.std.specs.Borrow.{Bor}
 use Rattle.std.specs.Io.{StartsWith}
 use Rattle.std.specs.List.{flat_map}
-use Rattle.hound.specs.{Acted, Action, Acts, ActsAll, AreKnown, Call, Effect, HasData, HasNoData, HasPublished, IsCareful, KeptWithin, Log, MediumState, NextEffect, Performed, Performs, Places, PutsAt, Recorder, RecorderError, WavSpecEx, WriterState, accepted_by_all, accepted_of, advanced, block, canonical, checkpoint, effects_of, known_of, length_with, log_state, new_file, nth, recorder_of, save}
+use Rattle.hound.specs.{Acted, Action, Acts, ActsAll, AreBytes, AreKnown, Call, Effect, HasData, HasNoData, HasPublished, IsCareful, KeptWithin, Log, MediumState, NextEffect, Performed, Performs, Places, PutsAt, Recorder, RecorderError, WavSpecEx, WriterState, accepted_by_all, accepted_of, advanced, block, canonical, checkpoint, effects_of, known_of, length_with, log_state, new_file, nth, overlay, recorder_of, save}
 use Rattle.hound_callers.specs.Recorder.{ActsTo, IsRecorderOf, IsRefused, RecordsTo, StopsAmong, StopsIn, containers_of_block, done, failed, joined_blocks, longer, saved}
 use Rattle.hound.specs.declared.RecorderError.TheVariants.{NotWritable, UnfinishedFrame, TooLong, NeedsCheckpoint, SyncFailed}
+
+-- a file in this state
+abbrev pub log_of : (m : MediumState) → m.contents ≡ overlay m.start m.past → AreBytes m.contents → Log
+log_of m replays small = record { state = m; replays = replays; small = small }
 
 -- effects were performed up to this number, or up to one that failed
 abbrev pub SoFar : List Effect → ℕ → Bool → Log → MediumState → Type 0
@@ -43,12 +47,7 @@ clean_effects r fn n same clean = rw (same, clean) refl
 pub next_number : (r fn new : Recorder) (effect : Effect) (next : Option Effect) → next ≡ Some effect
     → r ≡ record fn { number = r.number } → new ≡ advanced r next
     → (new ≡ record fn { number = new.number }) × (new.number ≡ r.number + 1)
-next_number r fn new effect next is same then =
-    let one : new ≡ record r { number = r.number + 1 } = then ∙ ap (advanced r) is in
-    let two : new ≡ record fn { number = r.number + 1 } =
-    one ∙ ap (λ (x : Recorder). record x { number = r.number + 1 }) same in
-    let number = ap (λ (x : Recorder). x.number) two in
-    (two ∙ ap (λ n. record fn { number = n }) (sym number), number)
+next_number r fn new effect next is same then = grind (arith, common_steps)
 
 -- there are no more than five
 pub at_most_five : (start n k : ℕ) (effect : Effect) → Some effect ≡ nth (checkpoint start n) k → k + 1 ≤ 5
@@ -84,28 +83,14 @@ pub last_ok : (ok : Bool) (n : ℕ) → (ok ≡ false → 0 < n) → (0 < n → 
 last_ok true n begun is = refl
 last_ok false n begun is = is (begun refl)
 
--- a file has data of a length, or not
-no_error : (r : Recorder) (len : ℕ) (error : RecorderError) → HasData r len → HasNoData r len error → ⊥
-no_error r len NotWritable has (inl before) = absurd (omega (arith, before, has.0))
-no_error r len NotWritable has (inr none) = absurd (omega (arith, none, has.1))
-no_error r len TooLong has long = absurd (omega (arith, long, has.2))
-no_error r len _ has none = none
-
 pub last_failed : (ok : Bool) (old new : Recorder) (error : RecorderError) (fn : Recorder)
     → old ≡ record fn { number = old.number } → fn.condition ≡ 0 → HasData fn fn.data_length
     → NextEffect ok old new (Err error) → ok ≡ false
-last_failed ok old new error fn same clean has next =
-    go error (ap (λ (r : Recorder). r.condition) same ∙ clean)
-    (subst (λ (r : Recorder). HasData r r.data_length) (sym same) has) next
-  where
-    go : (error : RecorderError) → old.condition ≡ 0 → HasData old old.data_length
-        → NextEffect ok old new (Err error) → ok ≡ false
-    go SyncFailed clean has (is, inl high) = absurd (omega (arith, clean, high))
-    go SyncFailed clean has (is, inr (failed, at)) = failed.2
-    go NeedsCheckpoint clean has (is, failed, at) = failed.2
-    go NotWritable clean has (is, low, none) = absurd (no_error old old.data_length NotWritable has none)
-    go TooLong clean has (is, low, none) = absurd (no_error old old.data_length TooLong has none)
-    go UnfinishedFrame clean has (is, low, none) = absurd none
+last_failed ok old new SyncFailed fn same clean has next = grind (arith, common_steps)
+last_failed ok old new NeedsCheckpoint fn same clean has next = grind (arith, common_steps)
+last_failed ok old new NotWritable fn same clean has next = grind (arith, common_steps)
+last_failed ok old new TooLong fn same clean has next = grind (arith, common_steps)
+last_failed ok old new UnfinishedFrame fn same clean has next = grind (arith, common_steps)
 
 -- a block of which nothing was written
 pub none_done : (r : Recorder) (bytes : List ℕ) (w : WriterState Log) (state : MediumState)
@@ -132,19 +117,11 @@ module _ (r : Recorder) (bytes : List ℕ) (whole : length bytes % r.bytes_per_s
   pub no_place : (w : WriterState Log) (state : MediumState) (error : RecorderError)
       → IsRecorderOf r w state → Places r (length bytes / r.bytes_per_sample) (Err error)
       → IsRefused r bytes
-  no_place w state SyncFailed is high = absurd (omega (arith, high, ap (λ (x : Recorder). x.condition) is.is))
-  no_place w state NeedsCheckpoint is high = absurd (omega (
-    arith,
-    high.1,
-    ap (λ (x : Recorder). x.condition) is.is,
-    ap (λ (x : Recorder). x.number) is.is,
-  ))
-  no_place w state NotWritable is (clean, none, inl before) =
-      absurd (omega (arith, before, is.after_head, ap (λ (x : Recorder). x.data_start) is.is))
-  no_place w state NotWritable is (clean, none, inr empty) =
-      absurd (omega (arith, empty, is.width, ap (λ (x : Recorder). x.bytes_per_sample) is.is))
+  no_place w state SyncFailed is high = let r_is = is.is in grind (arith, common_steps)
+  no_place w state NeedsCheckpoint is high = let r_is = is.is in grind (arith, common_steps)
+  no_place w state NotWritable is small = let r_is = is.is in grind (arith, common_steps)
   no_place w state TooLong is (clean, none, long) = inr (rw counted at long)
-  no_place w state UnfinishedFrame is (clean, none, never) = absurd never
+  no_place w state UnfinishedFrame is never = absurd never.2
 
   -- they are written where the recorder says
   module _ (w : WriterState Log) (state : MediumState) (is : IsRecorderOf r w state) (place : ℕ)
@@ -189,45 +166,29 @@ acts_then [] b w mid last is rest = subst (λ v. ActsAll b v last) is rest
 acts_then (one ∷ a) b w mid last (log, acts, then) rest = (log, acts, acts_then a b _ mid last then rest)
 
 -- a block that was written, and its checkpoint
-pub block_saved : {E : Type 0} (start : Recorder) (bytes : List ℕ) (w : WriterState Log) (r new : Recorder)
-    (mid state : MediumState) (result : Result (Unit {0}) E)
-    → RecordsTo (done (block bytes) ∷ []) w r mid → OnOk result (new ≡ r)
-    → ((first : Log) → first.state ≡ mid → (performed : Result (Unit {0}) IoFault) × (last : Log)
-    × (is_ok performed ≡ is_ok result) × (last.state ≡ state)
-    × Performed (checkpoint r.data_start r.data_length) performed first last)
+pub block_saved : {E : Type 0} (start : Recorder) (bytes : List ℕ) (w last : WriterState Log)
+    (r new : Recorder) (mid state : MediumState) (log : Log) (result : Result (Unit {0}) E)
+    (performed : Result (Unit {0}) IoFault) → ActsAll (done (block bytes) ∷ []) w last
+    → IsRecorderOf r last mid → OnOk result (new ≡ r) → is_ok performed ≡ is_ok result → log.state ≡ state
+    → Performed (checkpoint r.data_start r.data_length) performed last.medium log
     → MatchResult result
     (λ _. RecordsTo (done (block bytes) ∷ done save ∷ []) w new state)
     (λ _. (actions : List Acted) × StopsIn start bytes actions × ActsTo actions w state)
-block_saved start bytes w r new mid state result (last, acts, is) same did =
-    let (performed, log, ok, there, all) = did last.medium is.medium in
-    go result performed same ok log there (rw is.is at all)
-  where
-    go : {E : Type 0} (result : Result (Unit {0}) E) (performed : Result (Unit {0}) IoFault)
-        → OnOk result (new ≡ r) → is_ok performed ≡ is_ok result → (log : Log) → log.state ≡ state
-        → Performed (checkpoint last.data_start last.out) performed last.medium log
-        → MatchResult result
-        (λ _. RecordsTo (done (block bytes) ∷ done save ∷ []) w new state)
-        (λ _. (actions : List Acted) × StopsIn start bytes actions × ActsTo actions w state)
-    go (Ok x) (Ok y) same ok log there all =
-        let end = record last { medium = log } in (
-          end,
-          acts_then (done (block bytes) ∷ []) (done save ∷ []) w last end acts (log, all, refl),
-          record {
-            none = is.none;
-            width = is.width;
-            after_head = is.after_head;
-            is = same ∙ is.is;
-            medium = there;
-          },
-        )
-    go (Err e) (Err f) same ok log there all =
-        let end = record last { medium = log } in (
-          done (block bytes) ∷ failed save f ∷ [],
-          inr (inr (f, refl)),
-          (end, acts_then (done (block bytes) ∷ []) (failed save f ∷ []) w last end acts (log, all, refl), there),
-        )
-    go (Ok x) (Err f) same ok log there all = absurd (false≢true ok)
-    go (Err e) (Ok y) same ok log there all = absurd (false≢true (sym ok))
+block_saved start bytes w last r new mid state log (Ok x) (Ok y) acts is same ok there did =
+    let end = record last { medium = log } in
+    let none = is.none in
+    let width = is.width in
+    let head = is.after_head in
+    let new_is : new ≡ recorder_of last.data_start last.out last.spec_ex.bytes_per_sample = same ∙ is.is in
+    let all : Performed (checkpoint last.data_start last.out) (Ok tt) last.medium log = rw is.is at did in
+    (end, acts_then (done (block bytes) ∷ []) (done save ∷ []) w last end acts (log, all, refl), search rules)
+block_saved start bytes w last r new mid state log (Err e) (Err f) acts is same ok there did =
+    let end = record last { medium = log } in
+    let all : Performed (checkpoint last.data_start last.out) (Err f) last.medium log = rw is.is at did in
+    let acts = acts_then (done (block bytes) ∷ []) (failed save f ∷ []) w last end acts (log, all, refl) in
+    (done (block bytes) ∷ failed save f ∷ [], inr (inr (f, refl)), (end, acts, there))
+block_saved start bytes w last r new mid state log (Ok x) (Err f) acts is same ok there did = absurd (false≢true ok)
+block_saved start bytes w last r new mid state log (Err e) (Ok y) acts is same ok there did = absurd (false≢true (sym ok))
 
 -- one block more was saved
 pub longer_none : (r : Recorder) → r ≡ longer r 0

@@ -3,7 +3,7 @@ use Rattle.std.proofs.Common.{◌++◌, arith, ap, drop, length, refl, subst, ta
 use Rattle.hound.specs.{Log, Opened, data_start, recorder_of, recording}
 use Rattle.hound.proofs.Knowing.{length-header}
 use Rattle.hound_callers.specs.Recorder.{IsRecorderOf, StopsAmong, joined_blocks, longer, saved}
-use Rattle.hound_callers.proofs.Performing.{canonical_saved, careful_saved, longer_new}
+use Rattle.hound_callers.proofs.Performing.{log_of, canonical_saved, careful_saved, longer_new}
 use Rattle.hound_callers.proofs.recorder.record_by_effects.Goals as goal
 
 pub returns-clause-kept : goal.returns-clause-kept
@@ -12,11 +12,7 @@ returns-clause-kept g c tells keeps =
     let s = c.args.spec_ex in
     let old = M.state c.args.medium.now in
     let mid = c.put_all.new.medium in
-    let log : Log = record {
-      state = M.state mid;
-      replays = g.met.M.Medium.replays mid tells keeps;
-      small = g.met.M.Placed.bytes mid tells;
-    } in
+    let log = log_of _ (g.met.M.Medium.replays mid tells keeps) (g.met.M.Placed.bytes mid tells) in
     let opens : Opened s old log = record {
       writable = c.in-Ok.ensures.0;
       begins = c.requires.place tells;
