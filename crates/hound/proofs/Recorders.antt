@@ -54,7 +54,7 @@ module _ (s : WavSpecEx) (file : Begun) (first : WriterState Log)
   abbrev calls : List Call
   calls = acts_kept.left.recorded.calls
 
-  -- one call more, which is refused and so leaves all as it is, began at the end
+  -- one call more, which is rejected and so leaves all as it is, began at the end
   abbrev refused : Call
   refused = call_at true true log_state (write (Err too_wide)) (Err TooWide) acts_kept.left.last
 

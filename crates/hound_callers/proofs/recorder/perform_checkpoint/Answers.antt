@@ -1,5 +1,5 @@
 use Rattle.std.proofs.Common.{◌≡◌, ◌∙◌, Some, None, arith, refl, sym, ap}
-use Rattle.hound.specs.{Log, checkpoint, nth}
+use Rattle.hound.specs.{checkpoint, nth}
 use Rattle.hound_callers.proofs.Performing.{log_of, all_done, at_most_five, clean_effects, last_failed, last_ok, next_number, one_more, stopped}
 use Rattle.hound_callers.proofs.recorder.perform_checkpoint.Goals as goal
 

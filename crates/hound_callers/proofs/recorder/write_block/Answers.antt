@@ -1,5 +1,4 @@
 use Rattle.std.proofs.Common.{inl, sym}
-use Rattle.hound.specs.{Log}
 use Rattle.hound_callers.proofs.Performing.{log_of, at_err, counts, no_place, none_done, write_failed, written}
 use Rattle.hound_callers.proofs.recorder.write_block.Goals as goal
 
