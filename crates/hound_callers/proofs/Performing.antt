@@ -1,16 +1,19 @@
 -- Effects that are performed one after the other, as a recorder says.
 use Rattle.std.proofs.lemmas.Bool.{false≢true}
 use Rattle.std.proofs.lemmas.Grind.{common_steps}
-use Rattle.std.proofs.Common.{◌≡◌, ◌<◌, ◌≤◌, ◌+◌, ◌/◌, ◌%◌, ℕ, zero, suc, Bool, true, false, List, [], ◌∷◌, ◌++◌, drop, drop-cons, get_or, length, map, take, inl, inr, Option, Some, None, Result, Ok, Err, MatchResult, OnOk, IsErr, is_ok, refl, sym, ◌∙◌, ap, subst, arith, length-append}
+use Rattle.std.proofs.Common.{◌≡◌, ◌<◌, ◌≤◌, ◌+◌, ◌/◌, ◌%◌, ℕ, zero, suc, Bool, true, false, List, [], ◌∷◌, ◌++◌, drop, drop-cons, get_or, length, map, inl, inr, Option, Some, None, Result, Ok, Err, MatchResult, OnOk, IsErr, is_ok, refl, rules, sym, ◌∙◌, ap, subst, append_assoc, arith}
 use Rattle.std.specs.declared.io.Error.{Error as IoFault}
 use Rattle.std.proofs.Math.Nat.{div-add-mod'}
-use Rattle.std.proofs.lemmas.List.{append-nil}
 use Rattle.std.specs.Borrow.{Bor}
 use Rattle.std.specs.Io.{StartsWith}
 use Rattle.std.specs.List.{flat_map}
-use Rattle.hound.specs.{Acted, Action, Acts, ActsAll, AreKnown, Call, Effect, HasData, HasNoData, HasPublished, IsCareful, KeptWithin, Log, MediumState, NextEffect, Performed, Performs, Places, PutsAt, Recorder, RecorderError, WavSpecEx, WriterState, accepted_by_all, accepted_of, advanced, block, canonical, checkpoint, effects_of, known_of, length_with, log_state, new_file, nth, recorder_of, save}
-use Rattle.hound_callers.specs.Recorder.{ActsTo, IsRecorderOf, IsRefused, RecordsTo, StopsAmong, StopsIn, containers_of_block, done, failed, joined_blocks, longer, saved}
+use Rattle.hound.specs.{Acted, Action, Acts, ActsAll, AreBytes, AreKnown, Call, Effect, HasData, HasPublished, IsCareful, KeptWithin, Log, MediumState, NextEffect, Performed, Performs, Places, PutsAt, Recorder, RecorderError, WavSpecEx, WriterState, accepted_by_all, accepted_of, advanced, block, canonical, checkpoint, effects_of, known_of, length_with, log_state, new_file, nth, overlay, recorder_of, save}
+use Rattle.hound_callers.specs.Recorder.{ActsTo, IsRecorderOf, IsRefused, RecordsTo, Saves, StopsIn, containers_of_block, done, failed, longer}
 use Rattle.hound.specs.declared.RecorderError.TheVariants.{NotWritable, UnfinishedFrame, TooLong, NeedsCheckpoint, SyncFailed}
+
+-- a file in this state
+abbrev pub log_of : (m : MediumState) → m.contents ≡ overlay m.start m.past → AreBytes m.contents → Log
+log_of m replays small = record { state = m; replays = replays; small = small }
 
 -- effects were performed up to this number, or up to one that failed
 abbrev pub SoFar : List Effect → ℕ → Bool → Log → MediumState → Type 0
@@ -43,12 +46,7 @@ clean_effects r fn n same clean = rw (same, clean) refl
 pub next_number : (r fn new : Recorder) (effect : Effect) (next : Option Effect) → next ≡ Some effect
     → r ≡ record fn { number = r.number } → new ≡ advanced r next
     → (new ≡ record fn { number = new.number }) × (new.number ≡ r.number + 1)
-next_number r fn new effect next is same then =
-    let one : new ≡ record r { number = r.number + 1 } = then ∙ ap (advanced r) is in
-    let two : new ≡ record fn { number = r.number + 1 } =
-    one ∙ ap (λ (x : Recorder). record x { number = r.number + 1 }) same in
-    let number = ap (λ (x : Recorder). x.number) two in
-    (two ∙ ap (λ n. record fn { number = n }) (sym number), number)
+next_number r fn new effect next is same then = grind (arith, common_steps)
 
 -- there are no more than five
 pub at_most_five : (start n k : ℕ) (effect : Effect) → Some effect ≡ nth (checkpoint start n) k → k + 1 ≤ 5
@@ -84,28 +82,14 @@ pub last_ok : (ok : Bool) (n : ℕ) → (ok ≡ false → 0 < n) → (0 < n → 
 last_ok true n begun is = refl
 last_ok false n begun is = is (begun refl)
 
--- a file has data of a length, or not
-no_error : (r : Recorder) (len : ℕ) (error : RecorderError) → HasData r len → HasNoData r len error → ⊥
-no_error r len NotWritable has (inl before) = absurd (omega (arith, before, has.0))
-no_error r len NotWritable has (inr none) = absurd (omega (arith, none, has.1))
-no_error r len TooLong has long = absurd (omega (arith, long, has.2))
-no_error r len _ has none = none
-
 pub last_failed : (ok : Bool) (old new : Recorder) (error : RecorderError) (fn : Recorder)
     → old ≡ record fn { number = old.number } → fn.condition ≡ 0 → HasData fn fn.data_length
     → NextEffect ok old new (Err error) → ok ≡ false
-last_failed ok old new error fn same clean has next =
-    go error (ap (λ (r : Recorder). r.condition) same ∙ clean)
-    (subst (λ (r : Recorder). HasData r r.data_length) (sym same) has) next
-  where
-    go : (error : RecorderError) → old.condition ≡ 0 → HasData old old.data_length
-        → NextEffect ok old new (Err error) → ok ≡ false
-    go SyncFailed clean has (is, inl high) = absurd (omega (arith, clean, high))
-    go SyncFailed clean has (is, inr (failed, at)) = failed.2
-    go NeedsCheckpoint clean has (is, failed, at) = failed.2
-    go NotWritable clean has (is, low, none) = absurd (no_error old old.data_length NotWritable has none)
-    go TooLong clean has (is, low, none) = absurd (no_error old old.data_length TooLong has none)
-    go UnfinishedFrame clean has (is, low, none) = absurd none
+last_failed ok old new SyncFailed fn same clean has next = grind (arith, common_steps)
+last_failed ok old new NeedsCheckpoint fn same clean has next = grind (arith, common_steps)
+last_failed ok old new NotWritable fn same clean has next = grind (arith, common_steps)
+last_failed ok old new TooLong fn same clean has next = grind (arith, common_steps)
+last_failed ok old new UnfinishedFrame fn same clean has next = grind (arith, common_steps)
 
 -- a block of which nothing was written
 pub none_done : (r : Recorder) (bytes : List ℕ) (w : WriterState Log) (state : MediumState)
@@ -132,19 +116,11 @@ module _ (r : Recorder) (bytes : List ℕ) (whole : length bytes % r.bytes_per_s
   pub no_place : (w : WriterState Log) (state : MediumState) (error : RecorderError)
       → IsRecorderOf r w state → Places r (length bytes / r.bytes_per_sample) (Err error)
       → IsRefused r bytes
-  no_place w state SyncFailed is high = absurd (omega (arith, high, ap (λ (x : Recorder). x.condition) is.is))
-  no_place w state NeedsCheckpoint is high = absurd (omega (
-    arith,
-    high.1,
-    ap (λ (x : Recorder). x.condition) is.is,
-    ap (λ (x : Recorder). x.number) is.is,
-  ))
-  no_place w state NotWritable is (clean, none, inl before) =
-      absurd (omega (arith, before, is.after_head, ap (λ (x : Recorder). x.data_start) is.is))
-  no_place w state NotWritable is (clean, none, inr empty) =
-      absurd (omega (arith, empty, is.width, ap (λ (x : Recorder). x.bytes_per_sample) is.is))
+  no_place w state SyncFailed is high = let r_is = is.is in grind (arith, common_steps)
+  no_place w state NeedsCheckpoint is high = let r_is = is.is in grind (arith, common_steps)
+  no_place w state NotWritable is small = let r_is = is.is in grind (arith, common_steps)
   no_place w state TooLong is (clean, none, long) = inr (rw counted at long)
-  no_place w state UnfinishedFrame is (clean, none, never) = absurd never
+  no_place w state UnfinishedFrame is never = absurd never.2
 
   -- they are written where the recorder says
   module _ (w : WriterState Log) (state : MediumState) (is : IsRecorderOf r w state) (place : ℕ)
@@ -189,90 +165,54 @@ acts_then [] b w mid last is rest = subst (λ v. ActsAll b v last) is rest
 acts_then (one ∷ a) b w mid last (log, acts, then) rest = (log, acts, acts_then a b _ mid last then rest)
 
 -- a block that was written, and its checkpoint
-pub block_saved : {E : Type 0} (start : Recorder) (bytes : List ℕ) (w : WriterState Log) (r new : Recorder)
-    (mid state : MediumState) (result : Result (Unit {0}) E)
-    → RecordsTo (done (block bytes) ∷ []) w r mid → OnOk result (new ≡ r)
-    → ((first : Log) → first.state ≡ mid → (performed : Result (Unit {0}) IoFault) × (last : Log)
-    × (is_ok performed ≡ is_ok result) × (last.state ≡ state)
-    × Performed (checkpoint r.data_start r.data_length) performed first last)
+pub block_saved : {E : Type 0} (start : Recorder) (bytes : List ℕ) (w last : WriterState Log)
+    (r new : Recorder) (mid state : MediumState) (log : Log) (result : Result (Unit {0}) E)
+    (performed : Result (Unit {0}) IoFault) → ActsAll (done (block bytes) ∷ []) w last
+    → IsRecorderOf r last mid → OnOk result (new ≡ r) → is_ok performed ≡ is_ok result → log.state ≡ state
+    → Performed (checkpoint r.data_start r.data_length) performed last.medium log
     → MatchResult result
     (λ _. RecordsTo (done (block bytes) ∷ done save ∷ []) w new state)
     (λ _. (actions : List Acted) × StopsIn start bytes actions × ActsTo actions w state)
-block_saved start bytes w r new mid state result (last, acts, is) same did =
-    let (performed, log, ok, there, all) = did last.medium is.medium in
-    go result performed same ok log there (rw is.is at all)
-  where
-    go : {E : Type 0} (result : Result (Unit {0}) E) (performed : Result (Unit {0}) IoFault)
-        → OnOk result (new ≡ r) → is_ok performed ≡ is_ok result → (log : Log) → log.state ≡ state
-        → Performed (checkpoint last.data_start last.out) performed last.medium log
-        → MatchResult result
-        (λ _. RecordsTo (done (block bytes) ∷ done save ∷ []) w new state)
-        (λ _. (actions : List Acted) × StopsIn start bytes actions × ActsTo actions w state)
-    go (Ok x) (Ok y) same ok log there all =
-        let end = record last { medium = log } in (
-          end,
-          acts_then (done (block bytes) ∷ []) (done save ∷ []) w last end acts (log, all, refl),
-          record {
-            none = is.none;
-            width = is.width;
-            after_head = is.after_head;
-            is = same ∙ is.is;
-            medium = there;
-          },
-        )
-    go (Err e) (Err f) same ok log there all =
-        let end = record last { medium = log } in (
-          done (block bytes) ∷ failed save f ∷ [],
-          inr (inr (f, refl)),
-          (end, acts_then (done (block bytes) ∷ []) (failed save f ∷ []) w last end acts (log, all, refl), there),
-        )
-    go (Ok x) (Err f) same ok log there all = absurd (false≢true ok)
-    go (Err e) (Ok y) same ok log there all = absurd (false≢true (sym ok))
+block_saved start bytes w last r new mid state log (Ok x) (Ok y) acts is same ok there did =
+    let end = record last { medium = log } in
+    let none = is.none in
+    let width = is.width in
+    let head = is.after_head in
+    let new_is : new ≡ recorder_of last.data_start last.out last.spec_ex.bytes_per_sample = same ∙ is.is in
+    let all : Performed (checkpoint last.data_start last.out) (Ok tt) last.medium log = rw is.is at did in
+    (end, acts_then (done (block bytes) ∷ []) (done save ∷ []) w last end acts (log, all, refl), search rules)
+block_saved start bytes w last r new mid state log (Err e) (Err f) acts is same ok there did =
+    let end = record last { medium = log } in
+    let all : Performed (checkpoint last.data_start last.out) (Err f) last.medium log = rw is.is at did in
+    let acts = acts_then (done (block bytes) ∷ []) (failed save f ∷ []) w last end acts (log, all, refl) in
+    (done (block bytes) ∷ failed save f ∷ [], inr (inr (f, refl)), (end, acts, there))
+block_saved start bytes w last r new mid state log (Ok x) (Err f) acts is same ok there did = absurd (false≢true ok)
+block_saved start bytes w last r new mid state log (Err e) (Ok y) acts is same ok there did = absurd (false≢true (sym ok))
 
--- one block more was saved
-pub longer_none : (r : Recorder) → r ≡ longer r 0
-longer_none r =
-    let same : r.data_length ≡ r.data_length + 0 = omega arith in
-    ap (λ n. record r { data_length = n }) same
+-- one block more was saved, with those that follow
+pub one_saved : (fn r new : Recorder) (blocks : List (Bor (List ℕ))) (i : ℕ) (d : Bor (List ℕ))
+    (before : List Acted) → i < length blocks → new ≡ longer r (length (get_or blocks i d).now)
+    → ((n : ℕ) (rest : List Acted) → Saves r (drop i blocks) n rest → Saves fn blocks (i + n) (before ++ rest))
+    → (n : ℕ) (rest : List Acted) → Saves new (drop (i + 1) blocks) n rest
+    → Saves fn blocks (i + 1 + n) ((before ++ (done (block (get_or blocks i d).now) ∷ done save ∷ [])) ++ rest)
+one_saved fn r new blocks i d before inside is go n rest saves =
+    let one : i + 1 ≡ suc i = omega arith in
+    let more : i + 1 + n ≡ i + suc n = omega arith in
+    let next = done (block (get_or blocks i d).now) ∷ done save ∷ rest in
+    let here : Saves r (drop i blocks) (suc n) next =
+    rw (drop-cons blocks i d inside)
+    (rest, refl, subst (λ x. Saves x (drop (suc i) blocks) n rest) is (rw one at saves)) in
+    rw (more, append_assoc) (go (suc n) next here)
 
-pub longer_new : (r : Recorder) (start width total : ℕ) → r ≡ recorder_of start 0 width
-    → longer r total ≡ recorder_of start total width
-longer_new r start width total is =
-    let same : 0 + total ≡ total = omega arith in
-    ap (λ (x : Recorder). longer x total) is ∙ ap (λ n. recorder_of start n width) same
+pub none_saved : (r : Recorder) (blocks : List (Bor (List ℕ))) (i : ℕ) (d : Bor (List ℕ))
+    (actions : List Acted) → i < length blocks → StopsIn r (get_or blocks i d).now actions
+    → Saves r (drop i blocks) 0 actions
+none_saved r blocks i d actions inside stops = rw (drop-cons blocks i d inside) stops
 
-pub longer_more : (r fn new : Recorder) (blocks : List (Bor (List ℕ))) (i : ℕ) (d : Bor (List ℕ))
-    → i < length blocks → r ≡ longer fn (length (joined_blocks (take i blocks)))
-    → new ≡ longer r (length (get_or blocks i d).now)
-    → new ≡ longer fn (length (joined_blocks (take (i + 1) blocks)))
-longer_more r fn new blocks i d inside is then =
-    let more : length (joined_blocks (take (i + 1) blocks))
-    ≡ length (joined_blocks (take i blocks)) + length (get_or blocks i d).now =
-    grind (arith, common_steps, length-append) in
-    let sum : fn.data_length + length (joined_blocks (take i blocks)) + length (get_or blocks i d).now
-    ≡ fn.data_length + length (joined_blocks (take (i + 1) blocks)) = omega (arith, more) in
-    then ∙ ap (λ (x : Recorder). longer x (length (get_or blocks i d).now)) is
-    ∙ ap (λ n. record fn { data_length = n }) sum
-
-pub saved_more : (blocks : List (Bor (List ℕ))) (i : ℕ) (d : Bor (List ℕ)) → i < length blocks
-    → saved (take (i + 1) blocks)
-    ≡ saved (take i blocks) ++ (done (block (get_or blocks i d).now) ∷ done save ∷ [])
-saved_more blocks i d inside = grind (arith, common_steps)
-
-pub block_stopped : (r fn : Recorder) (blocks : List (Bor (List ℕ))) (i : ℕ) (d : Bor (List ℕ))
-    (actions : List Acted) → i < length blocks → r ≡ fn → StopsIn r (get_or blocks i d).now actions
-    → StopsAmong fn (drop i blocks) actions
-block_stopped r fn blocks i d actions inside is stops =
-    rw (drop-cons blocks i d inside) (subst (λ x. StopsIn x (get_or blocks i d).now actions) is stops)
-
-pub all_saved : (r : Recorder) (blocks : List (Bor (List ℕ))) (i : ℕ) (w last : WriterState Log) (state : MediumState)
-    → i ≤ length blocks → length blocks ≤ i → ActsAll (saved (take i blocks)) w last
-    → last.medium.state ≡ state → (more : List Acted) × StopsAmong r (drop (length blocks) blocks) more
-    × ActsTo (saved (take (length blocks) blocks) ++ more) w state
-all_saved r blocks i w last state within all acts there =
-    let none : drop (length blocks) blocks ≡ [] = grind (arith, common_steps) in
-    let end : length blocks ≡ i = omega (arith, within, all) in
-    ([], rw none refl, (last, rw (end, append-nil) acts, there))
+pub none_left : (r : Recorder) (blocks : List (Bor (List ℕ))) (i : ℕ) → length blocks ≤ i
+    → Saves r (drop i blocks) 0 []
+none_left r blocks i all =
+    let none : drop i blocks ≡ [] = grind (arith, common_steps) in rw none (refl, refl)
 
 -- by whether a result is Ok
 pub by_ok : {T E : Type 0} (A B : Type 0) (result : Result T E) → is_ok result ≡ true
@@ -290,20 +230,29 @@ careful_done : (action : Action) (rest : List Acted) → IsCareful rest → IsCa
 careful_done action [] careful = tt
 careful_done action (next ∷ rest) careful = ((λ e. absurd (false≢true (sym e))), careful)
 
-careful_more : (r : Recorder) (blocks : List (Bor (List ℕ))) (more : List Acted) → StopsAmong r blocks more
-    → IsCareful more
-careful_more r [] more is = rw is tt
-careful_more r (bytes ∷ blocks) more (inl (refused, is)) = rw is tt
-careful_more r (bytes ∷ blocks) more (inr (inl (e, is))) = rw is tt
-careful_more r (bytes ∷ blocks) more (inr (inr (e, is))) = rw is (careful_done (block bytes.now) (failed save e ∷ []) tt)
+pub careful_saves : (r : Recorder) (blocks : List (Bor (List ℕ))) (n : ℕ) (actions : List Acted)
+    → Saves r blocks n actions → IsCareful actions
+careful_saves r [] n actions (none, is) = rw is tt
+careful_saves r (bytes ∷ blocks) zero actions (inl (refused, is)) = rw is tt
+careful_saves r (bytes ∷ blocks) zero actions (inr (inl (e, is))) = rw is tt
+careful_saves r (bytes ∷ blocks) zero actions (inr (inr (e, is))) =
+    rw is (careful_done (block bytes.now) (failed save e ∷ []) tt)
+careful_saves r (bytes ∷ blocks) (suc n) actions (rest, is, saves) =
+    rw is (careful_done (block bytes.now) (done save ∷ rest)
+    (careful_done save rest (careful_saves (longer r (length bytes.now)) blocks n rest saves)))
 
-pub careful_saved : (r : Recorder) (blocks left : List (Bor (List ℕ))) (more : List Acted)
-    → StopsAmong r left more → IsCareful (saved blocks ++ more)
-careful_saved r [] left more stops = careful_more r left more stops
-careful_saved r (bytes ∷ blocks) left more stops =
-    let rest = saved blocks ++ more in
-    careful_done (block bytes.now) (done save ∷ rest)
-    (careful_done save rest (careful_saved r blocks left more stops))
+-- the actions of blocks that were all saved
+abbrev saved : List (Bor (List ℕ)) → List Acted
+saved [] = []
+saved (bytes ∷ blocks) = done (block bytes.now) ∷ done save ∷ saved blocks
+
+all_saved : (r : Recorder) (blocks : List (Bor (List ℕ))) (n : ℕ) (actions : List Acted)
+    → n ≡ length blocks → Saves r blocks n actions → actions ≡ saved blocks
+all_saved r [] n actions all (none, is) = is
+all_saved r (bytes ∷ blocks) zero actions all saves = absurd (omega (arith, all))
+all_saved r (bytes ∷ blocks) (suc n) actions all (rest, is, saves) =
+    let same = all_saved (longer r (length bytes.now)) blocks n rest (omega (arith, all)) saves in
+    is ∙ ap (λ l. done (block bytes.now) ∷ done save ∷ l) same
 
 -- the last call of blocks that were saved published them
 pub all_published : (s : WavSpecEx) (blocks : List (Bor (List ℕ))) (calls : List Call) → 0 < length blocks
@@ -326,16 +275,13 @@ all_published s (bytes ∷ next ∷ blocks) (one ∷ two ∷ calls) some ((asked
     )
 
 -- so the file is the canonical one of all blocks
-pub canonical_saved : (r : Recorder) (s : WavSpecEx) (old : MediumState) (blocks : List (Bor (List ℕ))) (n : ℕ)
-    (more : List Acted) (log : Log) → n ≡ length blocks → 0 < n → StopsAmong r (drop n blocks) more
-    → KeptWithin true true log_state s (new_file old) (map (known_of s) (saved (take n blocks) ++ more)) log log.state
+pub canonical_saved : (r : Recorder) (s : WavSpecEx) (old : MediumState) (blocks : List (Bor (List ℕ)))
+    (n : ℕ) (actions : List Acted) (log : Log) → n ≡ length blocks → 0 < n → Saves r blocks n actions
+    → KeptWithin true true log_state s (new_file old) (map (known_of s) actions) log log.state
     → StartsWith log.state.contents (canonical s (flat_map (containers_of_block s) blocks))
-canonical_saved r s old blocks n more log all some stops kept =
-    let left : drop n blocks ≡ [] = grind (arith, common_steps) in
-    let whole : take n blocks ≡ blocks = grind (arith, common_steps) in
-    let none : more ≡ [] = rw left at stops in
+canonical_saved r s old blocks n actions log all some saves kept =
     let (before, end, parts, has_all, is) =
     all_published s blocks kept.left.recorded.calls (omega (arith, all, some))
-    (rw (whole, none, append-nil) at kept.left.recorded.are_known) in
+    (rw (all_saved r blocks n actions all saves) at kept.left.recorded.are_known) in
     subst (λ l. StartsWith log.state.contents (canonical s l)) is
     (kept.promised.at_end.canonical before end parts has_all)

@@ -1,7 +1,6 @@
 -- What a caller does that performs a recorder's effects itself.
-use Rattle.std.specs.Prelude.{◌≡◌, ◌⊎◌, ℕ, ◌+◌, ◌/◌, ◌%◌, ◌<◌, ◌≤◌, List, [], ◌∷◌, length, Ok, Err}
+use Rattle.std.specs.Prelude.{◌≡◌, ◌⊎◌, ℕ, zero, suc, ◌+◌, ◌/◌, ◌%◌, ◌<◌, ◌≤◌, List, [], ◌∷◌, length, Ok, Err}
 use Rattle.std.specs.Borrow.{Bor}
-use Rattle.std.specs.List.{flat_map}
 use Rattle.std.specs.declared.io.Error.{Error as IoFault}
 use Rattle.hound.specs.{Acted, Action, ActsAll, Log, MediumState, Recorder, WavSpecEx, WriterState, block, containers, greatest_u32, recorder_of, riff_size, save}
 
@@ -11,10 +10,6 @@ done action = record { action = action; result = Ok tt }
 
 abbrev pub failed : Action → IoFault → Acted
 failed action e = record { action = action; result = Err e }
-
--- blocks that were saved: each was written, and a checkpoint made
-abbrev pub saved : List (Bor (List ℕ)) → List Acted
-saved blocks = flat_map (λ bytes. done (block bytes.now) ∷ done save ∷ []) blocks
 
 -- the recorder once so many bytes more were written
 abbrev pub longer : Recorder → ℕ → Recorder
@@ -31,14 +26,13 @@ StopsIn r bytes actions = (IsRefused r bytes × (actions ≡ []))
     ⊎ ((e : IoFault) × (actions ≡ failed (block bytes) e ∷ []))
     ⊎ ((e : IoFault) × (actions ≡ done (block bytes) ∷ failed save e ∷ []))
 
--- and where that of blocks did, of which these are left
-abbrev pub StopsAmong : Recorder → List (Bor (List ℕ)) → List Acted → Type 0
-StopsAmong r [] actions = actions ≡ []
-StopsAmong r (bytes ∷ blocks) actions = StopsIn r bytes.now actions
-
--- the bytes of blocks
-abbrev pub joined_blocks : List (Bor (List ℕ)) → List ℕ
-joined_blocks blocks = flat_map (λ bytes. bytes.now) blocks
+-- Of these blocks so many were saved, each by a write and a checkpoint, and the next one was not.
+abbrev pub Saves : Recorder → List (Bor (List ℕ)) → ℕ → List Acted → Type 0
+Saves r [] n actions = (n ≡ 0) × (actions ≡ [])
+Saves r (bytes ∷ blocks) zero actions = StopsIn r bytes.now actions
+Saves r (bytes ∷ blocks) (suc n) actions = (rest : List Acted)
+    × (actions ≡ done (block bytes.now) ∷ done save ∷ rest)
+    × Saves (longer r (length bytes.now)) blocks n rest
 
 -- the samples of a block
 abbrev pub containers_of_block : WavSpecEx → Bor (List ℕ) → List (List ℕ)

@@ -4,7 +4,7 @@ ghost use Rattle.std.specs.Io.{StartsWith};
 ghost use Rattle.std.specs.List.{flat_map};
 ghost use Rattle.std.specs.declared.io.Error.{Error as IoFault};
 ghost use Rattle.hound.specs.{Acted, HasData, IsNotBegun, KeptWithin, Log, Performed, Performs, PutsAt, WhereKeeps, WhereTells, WriterState, block, canonical, checkpoint, data_start, known_of, log_state, new_file, recorder_of, save};
-ghost use Rattle.hound_callers.specs.Recorder.{ActsTo, IsRecorderOf, RecordsTo, StopsAmong, StopsIn, containers_of_block, done, joined_blocks, longer, saved};
+ghost use Rattle.hound_callers.specs.Recorder.{ActsTo, IsRecorderOf, RecordsTo, Saves, StopsIn, containers_of_block, done, longer};
 
 use hound::{
     Effect, Error, Medium, Recorder, RecorderError, WavSpecEx, a_recording_survives_a_loss,
@@ -106,10 +106,8 @@ fn save_blocks<M: Medium>(medium: &mut M, recorder: &mut Recorder, blocks: &[&[u
     requires width { 1 ≤ recorder.old.bytes_per_sample }
     ensures within { result ≤ length blocks.now }
     ensures saved { WhereKeeps M.tells M.keeps ((w : WriterState Log)
-        → IsRecorderOf recorder.old w (M.state medium.old) → (more : List Acted)
-        × StopsAmong (longer recorder.old (length (joined_blocks (take result blocks.now))))
-        (drop result blocks.now) more
-        × ActsTo (saved (take result blocks.now) ++ more) w (M.state medium.new)) }
+        → IsRecorderOf recorder.old w (M.state medium.old) → (actions : List Acted)
+        × Saves recorder.old blocks.now result actions × ActsTo actions w (M.state medium.new)) }
 {
     for i in 0..blocks.len() {
         if save_block(medium, recorder, blocks[i]).is_err() {
@@ -137,15 +135,12 @@ pub fn record_by_effects<M: Medium>(
     requires flushed { WhereKeeps M.tells M.keeps ((M.state medium.old).flushed ≡ 0) }
     ensures refused { IfErr result (λ e. IsNotBegun M.tells M.keeps M.state spec_ex medium.old medium.new e) }
     ensures within { IfOk result (λ n. n ≤ length blocks.now) }
-    ensures kept { IfOk result (λ n. WhereKeeps M.tells M.keeps ((more : List Acted)
-        × StopsAmong (recorder_of (data_start spec_ex) (length
-        (joined_blocks (take n blocks.now))) spec_ex.bytes_per_sample) (drop n blocks.now) more
+    ensures kept { IfOk result (λ n. WhereKeeps M.tells M.keeps ((actions : List Acted)
+        × Saves (recorder_of (data_start spec_ex) 0 spec_ex.bytes_per_sample) blocks.now n actions
         × (log : Log) × (log.state ≡ M.state medium.new)
-        × KeptWithin true true log_state spec_ex (new_file (M.state medium.old))
-        (map (known_of spec_ex) (saved (take n blocks.now) ++ more)) log log.state)) }
+        × KeptWithin true true log_state spec_ex (new_file (M.state medium.old)) (map (known_of spec_ex) actions) log log.state)) }
     ensures file { IfOk result (λ n. WhereKeeps M.tells M.keeps (0 < n → n ≡ length blocks.now
-        → StartsWith (M.state medium.new).contents (canonical spec_ex
-        (flat_map (containers_of_block spec_ex) blocks.now)))) }
+        → StartsWith (M.state medium.new).contents (canonical spec_ex (flat_map (containers_of_block spec_ex) blocks.now)))) }
 {
     a_recording_survives_a_loss();
     let Ok(mut recorder) = Recorder::begin(spec_ex) else {

@@ -3,8 +3,8 @@ use crate::helpers::{FOUR_SAMPLES, empty_tape, integers, read_all, sixteen, tape
 use hound::{Durable, Journal, Step, Tape, WavReader, WavSpecEx, WavWriter};
 use hound_callers::{
     Twelve, append_blocks, finish_durable, opened_meanwhile, pack_one, publish_and_continue,
-    record_at_once, record_batch, record_mixed, record_safely, record_steps, record_twelve,
-    record_twelve_and_repair, record_twelve_through_a_loss, write_if_short,
+    record_at_once, record_batch, record_by_effects, record_mixed, record_safely, record_steps,
+    record_twelve, record_twelve_and_repair, record_twelve_through_a_loss, write_if_short,
 };
 use std::alloc::Global;
 use std::test::Fail;
@@ -109,6 +109,43 @@ fn publishes(alloc: Global, blocks: &[&[Twelve]]) -> hound::Result<bool> {
     Ok(last == 2)
 }
 
+// The samples of `FOUR_SAMPLES`, in blocks of whole containers.
+const CONTAINERS: [&[u8]; 3] = [&[2, 0], &[0xfd, 0xff, 5, 0], &[0xf9, 0xff]];
+
+// Three samples of 8 bits, and the file that sox makes of them.
+const ODD: [&[u8]; 2] = [&[0x80, 0x81], &[0x7f]];
+
+const ODD_FILE: &[u8; 48] = b"RIFF\x28\0\0\0WAVEfmt \x10\0\0\0\x01\0\x01\0\x44\xac\0\0\
+    \x44\xac\0\0\x01\0\x08\0data\x03\0\0\0\x80\x81\x7f\0";
+
+// Whether all blocks are saved, synced, and are this file.
+fn saves(alloc: Global, spec_ex: WavSpecEx, blocks: &[&[u8]], file: &[u8]) -> hound::Result<bool> {
+    let mut journal = Journal::new(alloc, Vec::new(alloc))?;
+    let count = record_by_effects(&mut journal, spec_ex, blocks)?;
+    let taken = journal.taken();
+    let bytes = journal.bytes_after(alloc, taken)?;
+    Ok(count == blocks.len() && journal.flushed() == taken && bytes.as_slice() == file)
+}
+
+// Whether the blocks that were saved are read, and nothing else than samples of the blocks, wherever
+// the medium fails.
+fn keeps(alloc: Global, blocks: &[&[u8]]) -> hound::Result<bool> {
+    let mut last = 0;
+    for fail_from in 2..40u64 {
+        let mut journal = Journal::new(alloc, Vec::new(alloc))?;
+        journal.fail(fail_from, u64::MAX);
+        let count = record_by_effects(&mut journal, integers(1, 44100, 16, 2), blocks)?;
+        let bytes = journal.bytes_after(alloc, journal.taken())?;
+        let found = read_all::<i16, _>(alloc, WavReader::new(&bytes[..])?)?;
+        let least = [0, 1, 3, 4][count.min(3)];
+        if ![2i16, -3, 5, -7].starts_with(found.as_slice()) || found.len() < least || count < last {
+            return Ok(false);
+        }
+        last = count;
+    }
+    Ok(last == 3)
+}
+
 fn takes_a_batch(alloc: Global) -> hound::Result<bool> {
     let mut writer = WavWriter::new(empty_tape(alloc), sixteen(1))?;
     record_batch(alloc, &mut writer, &[300, -301])?;
@@ -211,6 +248,17 @@ fn recorders_leave_what_they_accepted(rt: HostRuntime) -> Result<(), Fail> {
 fn a_recorder_counts_what_it_published(rt: HostRuntime) -> Result<(), Fail> {
     let blocks: &[&[Twelve]] = &BLOCKS;
     assert!(rt; publishes(rt.alloc(), blocks)?);
+    Ok(())
+}
+
+#[test]
+fn effects_leave_what_was_saved(rt: HostRuntime) -> Result<(), Fail> {
+    let alloc = rt.alloc();
+    let blocks: &[&[u8]] = &CONTAINERS;
+    let odd: &[&[u8]] = &ODD;
+    assert!(rt; saves(alloc, integers(1, 44100, 16, 2), blocks, &FOUR_SAMPLES)?);
+    assert!(rt; saves(alloc, integers(1, 44100, 8, 1), odd, ODD_FILE)?);
+    assert!(rt; keeps(alloc, blocks)?);
     Ok(())
 }
 

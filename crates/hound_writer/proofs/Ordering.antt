@@ -46,15 +46,20 @@ puts_in_order high at bytes r old new le order puts =
     let few = length-take puts.count bytes in
     grind arith
 
--- a sync
+-- what is left by the result of a call: bytes in order, or at an Err ascending places alone
+abbrev Leaves : Bool → ℕ → MediumState → Type 0
+Leaves true high m = InOrder high m
+Leaves false high m = Calm m
+
+leaves : {T E : Type 0} (r : Result T E) (high : ℕ) (m : MediumState) → InOrder high m
+    → Leaves (is_ok r) high m
+leaves (Ok x) high m order = order
+leaves (Err e) high m order = order.calm
+
 syncs : {T E : Type 0} (high : ℕ) (r : Result T E) (old new : MediumState) → Calm old
-    → Flushes r old new → Calm new × (is_ok r ≡ true → InOrder high new)
-syncs high (Ok x) old new calm flush =
-    let order = in_order_none high new flush.flushed in (order.calm, λ _. order)
-syncs high (Err e) old new calm flush = (
-  grind (arith, common_steps),
-  λ ok. absurd (false≢true ok),
-)
+    → Flushes r old new → Leaves (is_ok r) high new
+syncs high (Ok x) old new calm flush = in_order_none high new flush.flushed
+syncs high (Err e) old new calm flush = grind (arith, common_steps)
 
 -- an effect may come after bytes before this place: it writes none before it
 abbrev Follows : ℕ → Effect → Type 0
@@ -70,12 +75,12 @@ high_after (Size at size) = at + 4
 
 effect_ordered : (effect : Effect) (high : ℕ) (r : Result (Unit {0}) IoFault) (old new : MediumState)
     → Follows high effect → InOrder high old → Performs effect r old new
-    → Calm new × (is_ok r ≡ true → InOrder (high_after effect) new)
+    → Leaves (is_ok r) (high_after effect) new
 effect_ordered Sync high r old new le order did = syncs 0 r old new order.calm did
 effect_ordered (Pad at) high r old new le order did =
-    let next = puts_in_order high at (0 ∷ []) r old new le order did in (next.calm, λ _. next)
+    leaves r (at + 1) new (puts_in_order high at (0 ∷ []) r old new le order did)
 effect_ordered (Size at size) high r old new le order did =
-    let next = puts_in_order high at _ r old new le order did in (next.calm, λ _. next)
+    leaves r (at + 4) new (puts_in_order high at _ r old new le order did)
 
 -- effects, each after the one before
 abbrev Ordered : ℕ → List Effect → Type 0
@@ -88,14 +93,13 @@ last_high high (effect ∷ effects) = last_high (high_after effect) effects
 
 all_ordered : (effects : List Effect) (high : ℕ) (result : Result (Unit {0}) IoFault) (old new : Log)
     → Ordered high effects → InOrder high old.state → Performed effects result old new
-    → Calm new.state × (is_ok result ≡ true → InOrder (last_high high effects) new.state)
-all_ordered [] high result old new ordered order (is, last) = rw last (order.calm, λ _. order)
+    → Leaves (is_ok result) (last_high high effects) new.state
+all_ordered [] high result old new ordered order (is, last) = rw (is, last) order
 all_ordered (effect ∷ effects) high result old new (le, ordered) order (mid, Ok x, did, rest) =
     all_ordered effects (high_after effect) result mid new ordered
-    ((effect_ordered effect high (Ok x) old.state mid.state le order did).1 refl) rest
+    (effect_ordered effect high (Ok x) old.state mid.state le order did) rest
 all_ordered (effect ∷ effects) high result old new (le, ordered) order (mid, Err e, did, (is, last)) =
-    rw (is, last)
-    ((effect_ordered effect high (Err e) old.state mid.state le order did).0, λ ok. absurd (false≢true ok))
+    rw (is, last) (effect_ordered effect high (Err e) old.state mid.state le order did)
 
 checkpoint_ordered : (start n odd : ℕ) → 20 ≤ start
     → let effects = pad_effects (start + n) odd ++ size_effects start n in
@@ -109,8 +113,9 @@ checkpoint_ordered start n (suc odd) after =
 abbrev end_of : WriterState Log → ℕ
 end_of w = w.data_start + w.out
 
-later : (low high : ℕ) (m : MediumState) → low ≤ high → InOrder low m → InOrder high m
-later low high m le order = grind (arith, common_steps)
+later : (ok : Bool) (low high : ℕ) (m : MediumState) → low ≤ high → Leaves ok low m → Leaves ok high m
+later true low high m le order = grind (arith, common_steps)
+later false low high m le calm = calm
 
 -- what an action needs: a sync needs no order
 abbrev Ready : List Acted → ℕ → MediumState → Type 0
@@ -124,22 +129,17 @@ ready (one ∷ rest) high m order = inl order
 -- what an action leaves
 action_ordered : (action : Action) (r : Result (Unit {0}) IoFault) (w : WriterState Log) (log : Log)
     → 20 ≤ w.data_start → InOrder (end_of w) w.medium.state ⊎ (Calm w.medium.state × (action ≡ resync))
-    → Acts action r w log
-    → Calm log.state × (is_ok r ≡ true → InOrder (end_of (record w { medium = log; out = out_after action r w.out })) log.state)
+    → Acts action r w log → Leaves (is_ok r) (w.data_start + out_after action r w.out) log.state
 action_ordered (block bytes) (Ok x) w log after (inl order) (room, whole, puts) =
-    let next = puts_in_order (end_of w) (end_of w) bytes (fine x) w.medium.state log.state (omega arith) order puts in
-    (next.calm, λ _. later (end_of w + length bytes) (w.data_start + (w.out + length bytes)) log.state (omega arith) next)
-action_ordered (block bytes) (Err e) w log after (inl order) (room, whole, puts) = (
-  (puts_in_order (end_of w) (end_of w) bytes (bad e) w.medium.state log.state (omega arith) order puts).calm,
-  λ ok. absurd (false≢true ok),
-)
+    later true (end_of w + length bytes) (w.data_start + (w.out + length bytes)) log.state (omega arith)
+    (puts_in_order (end_of w) (end_of w) bytes (fine x) w.medium.state log.state (omega arith) order puts)
+action_ordered (block bytes) (Err e) w log after (inl order) (room, whole, puts) =
+    (puts_in_order (end_of w) (end_of w) bytes (bad e) w.medium.state log.state (omega arith) order puts).calm
 action_ordered save r w log after (inl order) did =
     let (ordered, low) = checkpoint_ordered w.data_start w.out (w.out % 2) after in
-    let (calm, then) = all_ordered (checkpoint w.data_start w.out) (end_of w) r w.medium log ordered order did in (
-      calm,
-      λ ok. later 0 (end_of w) log.state (omega arith)
-          (subst (λ n. InOrder n log.state) low (then ok)),
-    )
+    later (is_ok r) 0 (end_of w) log.state (omega arith)
+    (subst (λ n. Leaves (is_ok r) n log.state) low
+    (all_ordered (checkpoint w.data_start w.out) (end_of w) r w.medium log ordered order did))
 action_ordered resync r w log after (inl order) did =
     syncs (end_of w) r w.medium.state log.state order.calm did
 action_ordered resync r w log after (inr (calm, is)) did =
@@ -148,10 +148,11 @@ action_ordered (block bytes) r w log after (inr (calm, is)) did = cc
 action_ordered save r w log after (inr (calm, is)) did = cc
 
 -- after a failure the next action, if there is one, needs only what is left
-next_ready : (one : Acted) (rest : List Acted) (high : ℕ) (m : MediumState) → IsCareful (one ∷ rest)
-    → Calm m → is_ok one.result ≡ false → Ready rest high m
-next_ready one [] high m careful calm failed = calm
-next_ready one (next ∷ rest) high m careful calm failed = inr (calm, careful.0 failed)
+next_ready : (one : Acted) (rest : List Acted) (high : ℕ) (m : MediumState) (ok : Bool)
+    → is_ok one.result ≡ ok → IsCareful (one ∷ rest) → Leaves ok high m → Ready rest high m
+next_ready one rest high m true is careful order = ready rest high m order
+next_ready one [] high m false is careful calm = calm
+next_ready one (next ∷ rest) high m false is careful calm = inr (calm, careful.0 is)
 
 careful_rest : (one : Acted) (rest : List Acted) → IsCareful (one ∷ rest) → IsCareful rest
 careful_rest one [] careful = tt
@@ -163,16 +164,9 @@ ready_ordered : (actions : List Acted) (w last : WriterState Log) → 20 ≤ w.d
 ready_ordered [] w last after order careful is = rw is order
 ready_ordered (one ∷ rest) w last after order careful (log, acts, then) =
     let next = record w { medium = log; out = out_after one.action one.result w.out } in
-    let (calm, ordered) = action_ordered one.action one.result w log after order acts in
-    ready_ordered rest next last after (go (is_ok one.result) refl calm ordered)
-    (careful_rest one rest careful) then
-  where
-    go : (ok : Bool) → is_ok one.result ≡ ok → Calm log.state
-        → (is_ok one.result ≡ true
-        → InOrder (w.data_start + out_after one.action one.result w.out) log.state)
-        → Ready rest (w.data_start + out_after one.action one.result w.out) log.state
-    go true is calm ordered = ready rest _ log.state (ordered is)
-    go false is calm ordered = next_ready one rest _ log.state careful calm is
+    ready_ordered rest next last after
+    (next_ready one rest (end_of next) log.state (is_ok one.result) refl careful
+    (action_ordered one.action one.result w log after order acts)) (careful_rest one rest careful) then
 
 -- careful actions after bytes in order
 pub actions_ordered : (actions : List Acted) (w last : WriterState Log) → 20 ≤ w.data_start

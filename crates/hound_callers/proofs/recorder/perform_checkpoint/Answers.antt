@@ -1,6 +1,6 @@
 use Rattle.std.proofs.Common.{◌≡◌, ◌∙◌, Some, None, arith, refl, sym, ap}
-use Rattle.hound.specs.{Log, checkpoint, nth}
-use Rattle.hound_callers.proofs.Performing.{all_done, at_most_five, clean_effects, last_failed, last_ok, next_number, one_more, stopped}
+use Rattle.hound.specs.{checkpoint, nth}
+use Rattle.hound_callers.proofs.Performing.{log_of, all_done, at_most_five, clean_effects, last_failed, last_ok, next_number, one_more, stopped}
 use Rattle.hound_callers.proofs.recorder.perform_checkpoint.Goals as goal
 
 pub loop-effect-init : goal.loop-effect-init
@@ -29,11 +29,7 @@ loop-effect-preserved g c =
       begun = λ _. omega (arith, number);
       so_far = λ tells keeps first is.
           let new = c.perform.new.medium in
-          let last : Log = record {
-            state = M.state new;
-            replays = g.met.M.Medium.replays new tells keeps;
-            small = g.met.M.Placed.bytes new tells;
-          } in
+          let last = log_of _ (g.met.M.Medium.replays new tells keeps) (g.met.M.Placed.bytes new tells) in
           rw (number, c.is_ok-ok.ensures.value) (one_more all r.number c.in-Some.effect c.perform.result first last (M.state c.loop-effect.medium) (M.state new) at refl
           (rw ok at (inv.so_far tells keeps first is)) (c.perform.ensures tells keeps));
     }

@@ -1,6 +1,5 @@
 use Rattle.std.proofs.Common.{inl, sym}
-use Rattle.hound.specs.{Log}
-use Rattle.hound_callers.proofs.Performing.{at_err, counts, no_place, none_done, write_failed, written}
+use Rattle.hound_callers.proofs.Performing.{log_of, at_err, counts, no_place, none_done, write_failed, written}
 use Rattle.hound_callers.proofs.recorder.write_block.Goals as goal
 
 pub returns-then-containers-width-ne0-clause-written : goal.returns-then-containers-width-ne0-clause-written
@@ -17,11 +16,7 @@ returns-in_err-place-clause-written g c tells keeps w is =
 pub returns-then-not-written-clause-written : goal.returns-then-not-written-clause-written
 returns-then-not-written-clause-written g c tells keeps w is =
     let new = c.write_at.new.medium in
-    let log : Log = record {
-      state = g.M.Placed.state new;
-      replays = g.met.M.Medium.replays new tells keeps;
-      small = g.met.M.Placed.bytes new tells;
-    } in
+    let log = log_of _ (g.met.M.Medium.replays new tells keeps) (g.met.M.Placed.bytes new tells) in
     write_failed c.args.recorder.now c.args.containers.now c.if-containers-width-ne0.false w _ is c.in_ok-place.place
     c.in_ok-place.ensures log c.write_at.result (sym c.if-not-written.ensures.value)
     (rw keeps at (c.write_at.ensures tells))
@@ -34,11 +29,7 @@ returns-clause-counted g c =
 pub returns-clause-written : goal.returns-clause-written
 returns-clause-written g c tells keeps w is =
     let new = c.write_at.new.medium in
-    let log : Log = record {
-      state = g.M.Placed.state new;
-      replays = g.met.M.Medium.replays new tells keeps;
-      small = g.met.M.Placed.bytes new tells;
-    } in
+    let log = log_of _ (g.met.M.Medium.replays new tells keeps) (g.met.M.Placed.bytes new tells) in
     written c.args.recorder.now c.args.containers.now c.if-containers-width-ne0.false w _ is c.in_ok-place.place
     c.in_ok-place.ensures log c.write_at.result (sym c.if-not-written.ensures.value)
     (rw keeps at (c.write_at.ensures tells)) c.wrote.new.self (returns-clause-counted g c)
