@@ -6,6 +6,7 @@
      cc -Ibindings/c bindings/c/record.c bindings/lib/x86_64-linux/libhound_c.a -o record
      arecord -t raw -f S16_LE -r 48000 -c 2 | ./record take.wav 48000 2 16 240000 --durable */
 #define _XOPEN_SOURCE 700
+#define _FILE_OFFSET_BITS 64
 #include "hound.h"
 #include <errno.h>
 #include <fcntl.h>

@@ -52,6 +52,14 @@ int main(int argc, char **argv) {
         for (size_t j = 0; j < sizeof any; j++) ((uint8_t *)&any)[j] = (uint8_t)some(some(2) ? 256 : 4);
         int32_t next = hound_walk_next(&any, file, length, &parted);
         must(next <= 1 && next >= HOUND_FRAME_LENGTH && (next != 1 || any.length <= HOUND_WALK_BYTES), "a step of any walk");
+        hound_recorder recorder;
+        hound_effect effect;
+        for (size_t j = 0; j < sizeof recorder; j++) ((uint8_t *)&recorder)[j] = (uint8_t)some(some(4) ? 3 : 256);
+        int64_t place = hound_recorder_place(&recorder, some(100));
+        must(place < 0 || place == (int64_t)recorder.data_start + recorder.data_length, "the place of any recorder");
+        must((hound_recorder_wrote(&recorder, 0, 1) < 0) == (hound_recorder_place(&recorder, 0) < 0), "a write of any recorder");
+        next = hound_checkpoint_next(&recorder, (int32_t)some(2), &effect);
+        must(next <= 1 && next >= HOUND_SYNC_FAILED && (next != 1 || effect.length == 0 || effect.length == 1 || effect.length == 4), "an effect of any recorder");
         size_t room = some(40);
         int16_t *shorts = (int16_t *)(void *)(out_end - 2 * room);
         int32_t *ints = (int32_t *)(void *)(out_end - 4 * room);

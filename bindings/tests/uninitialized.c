@@ -46,6 +46,18 @@ TRY(i16, int16_t)
 TRY(i32, int32_t)
 TRY(f32, float)
 
+/* The effects of a checkpoint of a byte, after which there is a pad byte. */
+static void try_recorder(void) {
+    hound_spec spec = {44100, 1, 8, 1, HOUND_INT};
+    hound_recorder *recorder = fresh(sizeof *recorder);
+    hound_effect *effect = fresh(sizeof *effect);
+    int count = 0;
+    must(hound_recorder_begin(&spec, recorder) == 0 && hound_recorder_wrote(recorder, 1, 1) == 0, "recording");
+    for (; hound_checkpoint_next(recorder, 1, effect) == 1; count++) must(fwrite(effect, 1, sizeof *effect, stdout) == sizeof *effect, "an effect");
+    must(count == 5, "the effects");
+    free(recorder), free(effect);
+}
+
 int main(int argc, char **argv) {
     int16_t *shorts = fresh(COUNT * sizeof *shorts);
     int32_t *ints = fresh(COUNT * sizeof *ints);
@@ -60,6 +72,7 @@ int main(int argc, char **argv) {
     try_i32(24, 4, HOUND_INT, ints);
     try_i32(32, 4, HOUND_INT, ints);
     try_f32(32, 4, HOUND_FLOAT, floats);
+    try_recorder();
     free(shorts), free(ints), free(floats);
     return 0;
 }

@@ -2,12 +2,14 @@
 moments, and looks at what its files are then: each time a second machine mounts what the disk may have, with some
 of the writes that no flush has covered, and reads and repairs the files.
 
-usage: doubt/faults power [STATES] [SEED] [--fs NAME,..] [--control NAME,..] [--log FOLDER] [--turn N]
+usage: doubt/faults power [STATES] [SEED] [--fs NAME,..] [--control NAME,..] [--log FOLDER] [--turn N] [--c]
 
 STATES states (500) are divided among the file systems, and a fifth as many more among the controls: recorders that
 leave out a sync, or a disk that does, for which the test has to find wrong states. `--fs` and `--control` choose
-some of each, or `none`. `--log` is a folder with a recording that was made, or for one; `--turn` is one of its states."""
+some of each, or `none`. `--log` is a folder with a recording that was made, or for one; `--turn` is one of its states.
+With `--c` the recorder is bindings/c/record.c, and else the example `record`."""
 import argparse
+import atexit
 import collections
 import concurrent.futures
 import os
@@ -68,6 +70,7 @@ SESSIONS = [
     Session("r6", "durable", 10, 20),
 ]
 WORDS = {"plain": [], "durable": ["durable"], "append": ["durable", "append"]}
+RECORD_C = os.path.join(tempfile.gettempdir(), f"record_c_{os.getpid()}")
 
 # A trial that has to find wrong states, since something is left out: syncs of the recorder, as strace is told, or three
 # of four flushes of the disk. The syncs of a new file: itself and its folder by `fsync`, the header by `fsync`,
@@ -80,6 +83,22 @@ CONTROLS = {
     "no-sync-of-folder": Control("vfat", [Session(f"r{number}", "durable", 5, 40) for number in range(20)], ["fsync:retval=0:when=2"]),
     "deaf-disk": Control("ext4", ALONE, []),
 }
+# The same for record.c, which has no sync of the header, and calls `fsync` alone.
+LEFT_OUT_IN_C = {"no-sync": ["fsync:retval=0"], "no-sync-of-samples": ["fsync:retval=0:when=3+2"], "no-sync-of-sizes": ["fsync:retval=0:when=4+2"]}
+
+
+def words_of(session, file):
+    """The recorder's words."""
+    if os.path.exists(RECORD_C):
+        return [os.path.basename(RECORD_C), file, "44100", "1", "16", str(session.length), *("--" + word for word in WORDS[session.kind])]
+    return ["record", file, str(session.length), *WORDS[session.kind]]
+
+
+def compile_record_c():
+    """Compiles record.c, with the library that the packages take."""
+    library = os.environ.get("HOUND_C_LIB") or os.path.join(TOP, "bindings/lib", os.uname().machine + "-linux")
+    source, archive = os.path.join(TOP, "bindings/c/record.c"), os.path.join(library, "libhound_c.a")
+    subprocess.run([os.environ.get("CC", "cc"), "-O1", "-I" + os.path.dirname(source), source, archive, "-o", RECORD_C], check=True)
 
 
 def fresh(path, system):
@@ -104,7 +123,7 @@ mark() {{
 session() {{
     number=$1; last=$2; count=$3; file=$4; shift 4
     first=0
-    [ "$file" = - ] || first=$(($(od -A n -t u4 -j 40 -N 4 $file) / 2))
+    [ "$file" = - ] || first=$(({"$(stat -c %s $file) / 2 - 22" if os.path.exists(RECORD_C) else "$(od -A n -t u4 -j 40 -N 4 $file) / 2"}))
     tail -c +$((2 * first + 1)) /bin/samples | head -c $((2 * count)) > /tmp/given
     mark $number begun
     "$@" < /tmp/given > /tmp/lines &
@@ -132,7 +151,7 @@ while usleep 20000; do dd if=/dev/urandom of=/disk/other bs=4096 count=25 {"" if
         last = session.killed * session.length if session.killed else "-"
         file = "/disk/" + NAME.format(session.file)
         before = file if session.kind == "append" else "-"
-        words = ["record", file, str(session.length), *WORDS[session.kind]]
+        words = words_of(session, file)
         lines.append(" ".join(["session", str(number), str(last), str(session.lots * session.length), before, *tracing, *words]))
     return "\n".join(lines)
 
@@ -145,7 +164,7 @@ def record(folder, system, sessions, left_out):
     samples = os.path.join(folder, "samples")
     with open(samples, "wb") as file:
         file.write(struct.pack("<65536h", *(index & 0x7FFF for index in range(65536))))
-    programs = [EXAMPLES, samples, shutil.which("strace")]
+    programs = [EXAMPLES, samples, shutil.which("strace"), *(path for path in [RECORD_C] if os.path.exists(path))]
     guest.initial_files(initial, system.modules, programs, script_of(sessions, system, size, left_out))
     server = disk.Server(used, address)
     server.start()
@@ -311,6 +330,8 @@ class Trial:
         self.size = self.system.mebibytes << 20
         what = CONTROLS[control] if control else Control(name, SESSIONS, [])
         self.sessions, self.left_out = what.sessions, what.left_out
+        if os.path.exists(RECORD_C):
+            self.left_out = LEFT_OUT_IN_C.get(control, self.left_out)
         self.wrong, self.counts = [], collections.Counter()
 
     def prepare(self):
@@ -414,6 +435,7 @@ def main():
     parser.add_argument("--control")
     parser.add_argument("--log")
     parser.add_argument("--turn", type=int)
+    parser.add_argument("--c", action="store_true")
     options = parser.parse_args()
     lacks = missing()
     if lacks:
@@ -423,6 +445,9 @@ def main():
     controls = list(CONTROLS) if options.control is None else [] if options.control == "none" else options.control.split(",")
     trials = [(name, None, options.states // len(names)) for name in names]
     trials += [(CONTROLS[control].fs, control, options.states // 5 // len(controls)) for control in controls]
+    if options.c:
+        compile_record_c()
+        atexit.register(os.remove, RECORD_C)
     failed, since = False, time.time()
     for name, control, states in trials:
         with tempfile.TemporaryDirectory(prefix="hound_power_") as folder:

@@ -24,7 +24,7 @@ pub enum Fault {
     UnfinishedFrame,
     /// The file doesn't fit into the caller's memory.
     NoRoom,
-    /// A recorder rejects the call.
+    /// A recorder returns this error.
     Recorder(RecorderError),
 }
 

@@ -138,9 +138,11 @@ pub fn record_by_effects<M: Medium>(
     ensures kept { IfOk result (λ n. WhereKeeps M.tells M.keeps ((actions : List Acted)
         × Saves (recorder_of (data_start spec_ex) 0 spec_ex.bytes_per_sample) blocks.now n actions
         × (log : Log) × (log.state ≡ M.state medium.new)
-        × KeptWithin true true log_state spec_ex (new_file (M.state medium.old)) (map (known_of spec_ex) actions) log log.state)) }
+        × KeptWithin true true log_state spec_ex (new_file (M.state medium.old))
+        (map (known_of spec_ex) actions) log log.state)) }
     ensures file { IfOk result (λ n. WhereKeeps M.tells M.keeps (0 < n → n ≡ length blocks.now
-        → StartsWith (M.state medium.new).contents (canonical spec_ex (flat_map (containers_of_block spec_ex) blocks.now)))) }
+        → StartsWith (M.state medium.new).contents (canonical spec_ex
+        (flat_map (containers_of_block spec_ex) blocks.now)))) }
 {
     a_recording_survives_a_loss();
     let Ok(mut recorder) = Recorder::begin(spec_ex) else {
