@@ -1,0 +1,293 @@
+//! Each public item, as programs of hound use it.
+use hound::{Error, Result, Sample, SampleFormat, WavReader, WavSpec, WavSpecEx, WavWriter};
+use std::io::{self, Cursor, Read, Seek, SeekFrom, Write};
+use std::panic::{catch_unwind, AssertUnwindSafe};
+use std::path::PathBuf;
+use std::{env, fs, process};
+
+const MONO: WavSpec = WavSpec { channels: 1, sample_rate: 44100, bits_per_sample: 16, sample_format: SampleFormat::Int };
+const FLOATS: WavSpec = WavSpec { bits_per_sample: 32, sample_format: SampleFormat::Float, ..MONO };
+
+/// A path of this test's own, whose file is removed afterwards.
+struct Path(PathBuf);
+
+impl Path {
+    fn new(name: &str) -> Path {
+        Path(env::temp_dir().join(format!("hound-api-{}-{name}.wav", process::id())))
+    }
+}
+
+impl AsRef<std::path::Path> for Path {
+    fn as_ref(&self) -> &std::path::Path {
+        &self.0
+    }
+}
+
+impl Drop for Path {
+    fn drop(&mut self) {
+        let _ = fs::remove_file(&self.0);
+    }
+}
+
+fn written<S: Sample + Copy>(spec: WavSpec, samples: &[S]) -> Vec<u8> {
+    let mut file = Cursor::new(Vec::new());
+    let mut writer = WavWriter::new(&mut file, spec).unwrap();
+    for &sample in samples {
+        writer.write_sample(sample).unwrap();
+    }
+    writer.finalize().unwrap();
+    file.into_inner()
+}
+
+#[test]
+fn a_tone_is_written_and_measured() {
+    let path = Path::new("tone");
+    let mut writer = WavWriter::create(&path, MONO).unwrap();
+    for time in (0..44100).map(|time| time as f32 / 44100.0) {
+        writer.write_sample(((time * 440.0 * 2.0 * std::f32::consts::PI).sin() * 16384.0) as i16).unwrap();
+    }
+    assert_eq!((writer.spec(), writer.len(), writer.duration()), (MONO, 44100, 44100));
+    writer.finalize().unwrap();
+    assert_eq!(fs::metadata(&path).unwrap().len(), 44 + 2 * 44100);
+
+    let mut reader = WavReader::open(&path).unwrap();
+    assert_eq!((reader.spec(), reader.len(), reader.duration()), (MONO, 44100, 44100));
+    let squares = reader.samples::<i16>().fold(0.0, |squares, sample| squares + f64::from(sample.unwrap()).powi(2));
+    let root_mean_square = (squares / f64::from(reader.len())).sqrt();
+    assert!((root_mean_square - 16384.0 / 2f64.sqrt()).abs() < 1.0);
+}
+
+#[test]
+fn the_bytes_are_those_of_the_format() {
+    let file = written(WavSpec { channels: 2, ..MONO }, &[2i16, -3, 5, -7]);
+    assert_eq!(file, *b"RIFF\x2c\0\0\0WAVEfmt \x10\0\0\0\x01\0\x02\0\x44\xac\0\0\x10\xb1\x02\0\x04\0\x10\0data\x08\0\0\0\x02\0\xfd\xff\x05\0\xf9\xff");
+    let odd = written(WavSpec { bits_per_sample: 8, ..MONO }, &[1i8]);
+    assert_eq!((&odd[4..8], &odd[40..]), (&[38, 0, 0, 0][..], &[1, 0, 0, 0, 129, 0][..]));
+    let header = MONO.into_header_for_infinite_file();
+    assert_eq!((&header[4..8], &header[40..]), (&[255; 4][..], &[255; 4][..]));
+    assert_eq!(hound::read_wave_header(&mut &file[..]).unwrap(), 52);
+}
+
+#[test]
+fn each_type_is_read_and_refused() {
+    let file = written(MONO, &[300i16, -300]);
+    let mut reader = WavReader::new(&file[..]).unwrap();
+    assert!(matches!(reader.samples::<i8>().next(), Some(Err(Error::TooWide))));
+    assert!(matches!(reader.samples::<f32>().next(), Some(Err(Error::InvalidSampleFormat))));
+    assert_eq!(reader.samples::<i32>().len(), 0);
+    assert_eq!(WavReader::new(&file[..]).unwrap().into_samples::<i32>().collect::<Result<Vec<_>>>().unwrap(), [300, -300]);
+    let floats = written(FLOATS, &[0.5f32, -0.0]);
+    let read = WavReader::new(&floats[..]).unwrap().into_samples::<f32>().map(|sample| sample.unwrap().to_bits());
+    assert_eq!(read.collect::<Vec<_>>(), [0.5f32.to_bits(), (-0.0f32).to_bits()]);
+    let mut writer = WavWriter::new(Cursor::new(Vec::new()), MONO).unwrap();
+    assert!(matches!(writer.write_sample(32768), Err(Error::TooWide)));
+    assert!(matches!(writer.write_sample(0.5f32), Err(Error::Unsupported)));
+    assert_eq!(writer.len(), 0);
+    assert!(matches!(WavWriter::new(Cursor::new(Vec::new()), WavSpec { bits_per_sample: 12, ..MONO }), Err(Error::Unsupported)));
+    assert!(matches!(WavReader::new(&b"RIFX"[..]), Err(Error::FormatError("no RIFF tag found"))));
+    assert_eq!(WavReader::new(&file[..43]).err().unwrap().to_string(), "Failed to read enough bytes.");
+}
+
+#[test]
+fn containers_are_written_and_read_by_the_trait() {
+    let mut bytes = Vec::new();
+    Sample::write(-2i16, &mut bytes, 16).unwrap();
+    0x1234_56i32.write_padded(&mut bytes, 24, 4).unwrap();
+    assert_eq!(bytes, [0xfe, 0xff, 0x56, 0x34, 0x12, 0]);
+    let mut rest = &bytes[..];
+    assert_eq!(i16::read(&mut rest, SampleFormat::Int, 2, 16).unwrap(), -2);
+    assert_eq!(i32::read(&mut rest, SampleFormat::Int, 4, 24).unwrap(), 0x12_3456);
+    assert!(rest.is_empty() && 70000i32.as_i16() == 4464);
+}
+
+#[test]
+fn samples_are_appended_in_containers_of_four_bytes() {
+    let spec = WavSpec { bits_per_sample: 24, ..MONO };
+    let mut file = Cursor::new(Vec::new());
+    WavWriter::new_with_spec_ex(&mut file, WavSpecEx { spec, bytes_per_sample: 4 }).unwrap().write_sample(-3).unwrap();
+    file.rewind().unwrap();
+    WavWriter::new_append(&mut file).unwrap().write_sample(5).unwrap();
+    assert_eq!(file.get_ref()[68..], [0xfd, 0xff, 0xff, 0, 5, 0, 0, 0]);
+    file.rewind().unwrap();
+    let mut reader = WavReader::new(file).unwrap();
+    assert_eq!(reader.samples::<i32>().map(|sample| sample.unwrap()).collect::<Vec<_>>(), [-3, 5]);
+    reader.seek(1).unwrap();
+    assert_eq!(reader.samples::<i32>().next().unwrap().unwrap(), 5);
+}
+
+#[test]
+fn a_file_is_appended_to_after_batches_and_flushes() {
+    let path = Path::new("append");
+    let mut writer = WavWriter::create(&path, MONO).unwrap();
+    let mut batch = writer.get_i16_writer(2);
+    batch.write_sample(1i16);
+    #[allow(unused_unsafe)]
+    unsafe {
+        batch.write_sample_unchecked(2i16);
+    }
+    batch.flush().unwrap();
+    writer.flush().unwrap();
+    assert_eq!(WavReader::open(&path).unwrap().len(), 2);
+    writer.write_samples(&[3i16, 4]).unwrap();
+    assert!(matches!(writer.write_samples(&[5, 32768]), Err(Error::TooWide)));
+    drop(writer);
+    let mut appender = WavWriter::append(&path).unwrap();
+    appender.write_sample(5i16).unwrap();
+    appender.finalize().unwrap();
+    let mut reader = WavReader::open(&path).unwrap();
+    let mut block = [9i16; 6];
+    assert!(matches!(reader.read_samples(&mut block[..2]), (2, Ok(()))));
+    assert!(matches!(reader.read_samples(&mut block[2..]), (3, Ok(()))));
+    assert_eq!(block, [1, 2, 3, 4, 5, 9]);
+    assert!(catch_unwind(|| WavWriter::new(Cursor::new(Vec::new()), FLOATS).unwrap().get_i16_writer(1).flush()).is_err());
+}
+
+#[test]
+fn a_frame_that_is_not_finished_is_stored_and_reported() {
+    let mut file = Cursor::new(Vec::new());
+    let mut writer = WavWriter::new(&mut file, WavSpec { channels: 2, ..MONO }).unwrap();
+    writer.write_samples(&[1i16, 2, 3]).unwrap();
+    assert!(matches!(writer.flush(), Err(Error::UnfinishedSample)));
+    writer.write_sample(4i16).unwrap();
+    writer.finalize().unwrap();
+    assert_eq!(file.get_ref()[40..], [8, 0, 0, 0, 1, 0, 2, 0, 3, 0, 4, 0]);
+}
+
+/// A type of a user's own: integers of 16 bits, upside down.
+#[derive(Clone, Copy, Debug, PartialEq)]
+struct Inverse(i16);
+
+impl Sample for Inverse {
+    fn write<W: Write>(self, writer: &mut W, bits: u16) -> Result<()> {
+        (!self.0).write(writer, bits)
+    }
+    fn write_padded<W: Write>(self, writer: &mut W, bits: u16, byte_width: u16) -> Result<()> {
+        (!self.0).write_padded(writer, bits, byte_width)
+    }
+    fn read<R: Read>(reader: &mut R, format: SampleFormat, bytes: u16, bits: u16) -> Result<Inverse> {
+        i16::read(reader, format, bytes, bits).map(|sample| Inverse(!sample))
+    }
+    fn as_i16(self) -> i16 {
+        !self.0
+    }
+}
+
+#[test]
+fn a_type_of_a_users_own_is_written_and_read() {
+    let mut file = Cursor::new(Vec::new());
+    let mut writer = WavWriter::new(&mut file, MONO).unwrap();
+    writer.write_sample(1i16).unwrap();
+    writer.write_sample(Inverse(2)).unwrap();
+    writer.write_samples(&[Inverse(3), Inverse(4)]).unwrap();
+    writer.write_sample(5i16).unwrap();
+    writer.finalize().unwrap();
+    file.rewind().unwrap();
+    let mut reader = WavReader::new(&mut file).unwrap();
+    assert_eq!(reader.samples::<Inverse>().next().unwrap().unwrap(), Inverse(!1));
+    assert_eq!(reader.samples::<i16>().map(|sample| sample.unwrap()).collect::<Vec<_>>(), [!2, !3, !4, 5]);
+}
+
+#[test]
+fn nothing_is_taken_after_the_samples_that_were_asked_for() {
+    let path = Path::new("exact");
+    let mut file = written(MONO, &(0..20000).map(|i| i as i16).collect::<Vec<_>>());
+    file.extend(b"more");
+    fs::write(&path, &file).unwrap();
+    let mut reader = WavReader::new(Cursor::new(&file)).unwrap();
+    reader.samples::<i16>().take(3).for_each(drop);
+    assert_eq!(reader.read_samples(&mut [0i16; 4]).0, 4);
+    reader.samples::<i32>().nth(1);
+    assert_eq!(reader.samples::<i16>().len(), 20000 - 9);
+    assert_eq!(reader.into_inner().position(), 44 + 2 * 9);
+    let mut opened = WavReader::open(&path).unwrap();
+    assert_eq!(opened.samples::<i16>().nth(17000).unwrap().unwrap(), 17000);
+    assert_eq!(opened.into_inner().stream_position().unwrap(), 44 + 2 * 17001);
+    let mut rest = &file[..];
+    assert_eq!(WavReader::new(&mut rest).unwrap().samples::<i16>().count(), 20000);
+    assert_eq!(rest, b"more");
+}
+
+#[test]
+fn reading_goes_on_after_a_closure_that_panicked() {
+    let file = written(MONO, &(0..9000).collect::<Vec<i16>>());
+    let mut reader = WavReader::new(Cursor::new(&file)).unwrap();
+    let fold = AssertUnwindSafe(|| reader.samples::<i16>().for_each(|sample| assert!(sample.unwrap() < 5000)));
+    assert!(catch_unwind(fold).is_err());
+    assert_eq!(reader.samples::<i16>().len(), 3999);
+    assert_eq!(reader.samples::<i16>().next().unwrap().unwrap(), 5001);
+    reader.seek(7).unwrap();
+    assert_eq!(reader.samples::<i32>().next().unwrap().unwrap(), 7);
+    assert_eq!(reader.into_inner().position(), 44 + 2 * 8);
+}
+
+#[test]
+fn a_file_that_was_cut_off_is_repaired() {
+    let path = Path::new("repair");
+    let mut writer = WavWriter::create_durable(&path, WavSpec { bits_per_sample: 8, ..MONO }).unwrap();
+    writer.write_samples(&[1i8, 2, 3]).unwrap();
+    writer.flush().unwrap();
+    writer.write_samples(&[4i8, 5]).unwrap();
+    std::mem::forget(writer);
+    let mut file = fs::read(&path).unwrap();
+    file.truncate(47);
+    file[4..8].fill(0);
+    fs::write(&path, &file).unwrap();
+    let found = hound::repair_file(&path).unwrap();
+    assert_eq!((found.was, found.frames, found.left_over, found.spec_ex.bytes_per_sample), (hound::RepairState::CutOff, 3, 0, 1));
+    let samples = WavReader::open(&path).unwrap().into_samples::<i8>().collect::<Result<Vec<_>>>().unwrap();
+    assert_eq!((samples, fs::metadata(&path).unwrap().len()), (vec![1, 2, 3], 48));
+    assert_eq!(hound::repair_file(&path).unwrap().was, hound::RepairState::Whole);
+}
+
+/// A file of 4 GiB, of which only the header is kept.
+struct Long {
+    header: Cursor<Vec<u8>>,
+    place: u64,
+}
+
+impl Read for Long {
+    fn read(&mut self, bytes: &mut [u8]) -> io::Result<usize> {
+        self.header.set_position(self.place);
+        let count = self.header.read(bytes)?;
+        self.place += count as u64;
+        Ok(count)
+    }
+}
+
+impl Write for Long {
+    fn write(&mut self, bytes: &[u8]) -> io::Result<usize> {
+        self.header.set_position(self.place);
+        if self.place < 44 {
+            self.header.write_all(bytes)?;
+        }
+        self.place += bytes.len() as u64;
+        Ok(bytes.len())
+    }
+    fn flush(&mut self) -> io::Result<()> {
+        Ok(())
+    }
+}
+
+impl Seek for Long {
+    fn seek(&mut self, to: SeekFrom) -> io::Result<u64> {
+        let by = if let SeekFrom::Start(place) = to { place as i64 - self.place as i64 } else { unreachable!() };
+        self.place = self.place.wrapping_add(by as u64);
+        Ok(self.place)
+    }
+}
+
+#[test]
+fn a_file_gets_no_longer_than_its_sizes_count() {
+    let mut header = written::<i16>(MONO, &[]);
+    header[40..44].copy_from_slice(&(4_294_967_258u32 - 6).to_le_bytes());
+    let mut file = Long { header: Cursor::new(header), place: 0 };
+    let mut writer = WavWriter::new_append(&mut file).unwrap();
+    for sample in 0..3i16 {
+        writer.write_sample(sample).unwrap();
+    }
+    assert!(matches!(writer.write_sample(3i16), Err(Error::IoError(_))));
+    assert_eq!(writer.len(), 4_294_967_258 / 2);
+    writer.finalize().unwrap();
+    let header = file.header.into_inner();
+    assert_eq!((&header[4..8], &header[40..]), (&(4_294_967_294u32).to_le_bytes()[..], &(4_294_967_258u32).to_le_bytes()[..]));
+}
