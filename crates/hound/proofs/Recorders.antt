@@ -1,4 +1,5 @@
 -- What a recording keeps whose caller performs the effects.
+use Rattle.std.proofs.lemmas.Grind.{common_steps}
 use Rattle.std.proofs.Common.{◌≡◌, ℕ, ◌+◌, ◌-◌, ◌*◌, ◌<◌, ◌≤◌, true, List, [], ◌∷◌, ◌++◌, length, take, map, inr, Result, Ok, Err, refl, sym, ◌∙◌, ap, subst, arith, length-take}
 use Rattle.hound_number.specs.{bytes_of}
 use Rattle.hound_spec.specs.declared.error.Error.TheVariants.{TooWide}
@@ -132,18 +133,14 @@ pub riff_left_out : (w : WriterState Log) (end : Log) → w.waiting ≡ [] → I
     → LeavesWriter true true log_state (Ok tt) w (record w { medium = end }) → ⊥
 riff_left_out w end none sound stands other (m, Ok x, first, (n, Ok y, second, (o, Ok z, third, (is, last)))) leaves =
     let a = w.medium.state.contents in
-    let p = w.data_start - 4 in
-    let bs = take second.count (bytes_of 4 w.out) in
     let there = inside w.spec_ex w.data_start w.out a a stands in
-    let few : length bs ≤ 4 = omega (arith, length-take second.count (bytes_of 4 w.out)) in
-    let same : field 4 n.state.contents ≡ field 4 m.state.contents =
-    ap (field 4) second.contents
-    ∙ riff_length p m.state.contents (omega (arith, sound.after_head))
-    (omega (arith, there, sound.after_head, ap length first.stays.contents)) bs few in
+    let few = length-take second.count (bytes_of 4 w.out) in
+    let same = riff_length (w.data_start - 4) m.state.contents (omega (arith, sound.after_head))
+    (omega (arith, there, sound.after_head, ap length first.stays.contents))
+    (take second.count (bytes_of 4 w.out)) (omega (arith, few)) in
     let says = (leaves.publishes refl).riff_says in
-    other (sym (ap (field 4) first.stays.contents) ∙ sym same ∙ sym (ap (field 4) third.stays.contents)
-    ∙ sym (ap (λ (l : Log). field 4 l.state.contents) last) ∙ says
-    ∙ ap (riff_size w.data_start) (length_out log_state w none))
+    let size = length_out log_state w none in
+    grind (arith, common_steps)
 riff_left_out w end none sound stands other (m, Ok x, first, (n, Ok y, second, (o, Err e, third, (is, last)))) leaves = cc
 riff_left_out w end none sound stands other (m, Ok x, first, (n, Err e, second, (is, last))) leaves = cc
 riff_left_out w end none sound stands other (m, Err e, first, (is, last)) leaves = cc
@@ -156,12 +153,9 @@ pub not_synced : {T E : Type 0} (at i : ℕ) (bytes : List ℕ) (result : Result
 not_synced at i bytes result old new from to behind puts some ascends =
     let bs = take puts.count bytes in
     let past = puts.past refl in
-    let long : length new.past ≡ length old.past + length bs =
-    ap length past ∙ length_put old.past at bs in
-    let before : place_of new.past i ≡ place_of old.past i =
-    ap (λ l. place_of l i) past ∙ place_before old.past (placed at bs) i to in
-    let after : place_of new.past (length old.past) ≡ at + (length old.past - length old.past) =
-    ap (λ l. place_of l (length old.past)) past
+    let long = ap length past ∙ length_put old.past at bs in
+    let before = ap (λ l. place_of l i) past ∙ place_before old.past (placed at bs) i to in
+    let after = ap (λ l. place_of l (length old.past)) past
     ∙ place_after old.past at bs (length old.past) (omega arith) (omega (arith, some, long)) in
     let up = ascends i (length old.past) (omega (arith, from, puts.flushed)) to some in
     absurd (omega (arith, up, before, after, behind))

@@ -82,40 +82,36 @@ effect_ordered (Pad at) high r old new le order did =
 effect_ordered (Size at size) high r old new le order did =
     leaves r (at + 4) new (puts_in_order high at _ r old new le order did)
 
--- effects, each after the one before
-abbrev Ordered : ℕ → List Effect → Type 0
-Ordered high [] = ⊤
-Ordered high (effect ∷ effects) = Follows high effect × Ordered (high_after effect) effects
+later : (ok : Bool) (low high : ℕ) (m : MediumState) → low ≤ high → Leaves ok low m → Leaves ok high m
+later true low high m le order = grind (arith, common_steps)
+later false low high m le calm = calm
 
-abbrev last_high : ℕ → List Effect → ℕ
-last_high high [] = high
-last_high high (effect ∷ effects) = last_high (high_after effect) effects
+-- effects, each after the one before, and all before this place
+abbrev Ordered : ℕ → List Effect → ℕ → Type 0
+Ordered high [] end = high ≤ end
+Ordered high (effect ∷ effects) end = Follows high effect × Ordered (high_after effect) effects end
 
-all_ordered : (effects : List Effect) (high : ℕ) (result : Result (Unit {0}) IoFault) (old new : Log)
-    → Ordered high effects → InOrder high old.state → Performed effects result old new
-    → Leaves (is_ok result) (last_high high effects) new.state
-all_ordered [] high result old new ordered order (is, last) = rw (is, last) order
-all_ordered (effect ∷ effects) high result old new (le, ordered) order (mid, Ok x, did, rest) =
-    all_ordered effects (high_after effect) result mid new ordered
+all_ordered : (effects : List Effect) (high end : ℕ) (result : Result (Unit {0}) IoFault) (old new : Log)
+    → Ordered high effects end → InOrder high old.state → Performed effects result old new
+    → Leaves (is_ok result) end new.state
+all_ordered [] high end result old new le order (is, last) =
+    rw (is, last) (later true high end old.state le order)
+all_ordered (effect ∷ effects) high end result old new (le, ordered) order (mid, Ok x, did, rest) =
+    all_ordered effects (high_after effect) end result mid new ordered
     (effect_ordered effect high (Ok x) old.state mid.state le order did) rest
-all_ordered (effect ∷ effects) high result old new (le, ordered) order (mid, Err e, did, (is, last)) =
+all_ordered (effect ∷ effects) high end result old new (le, ordered) order (mid, Err e, did, (is, last)) =
     rw (is, last) (effect_ordered effect high (Err e) old.state mid.state le order did)
 
 checkpoint_ordered : (start n odd : ℕ) → 20 ≤ start
-    → let effects = pad_effects (start + n) odd ++ size_effects start n in
-    Ordered (start + n) effects × (last_high (start + n) effects ≡ 0)
+    → Ordered (start + n) (pad_effects (start + n) odd ++ size_effects start n) (start + n)
 checkpoint_ordered start n zero after =
-    ((tt, (omega arith, (omega (arith, after), (tt, tt)))), refl)
+    (tt, (omega arith, (omega (arith, after), (tt, omega arith))))
 checkpoint_ordered start n (suc odd) after =
-    ((omega arith, (tt, (omega arith, (omega (arith, after), (tt, tt))))), refl)
+    (omega arith, (tt, (omega arith, (omega (arith, after), (tt, omega arith)))))
 
 -- the end of the data
 abbrev end_of : WriterState Log → ℕ
 end_of w = w.data_start + w.out
-
-later : (ok : Bool) (low high : ℕ) (m : MediumState) → low ≤ high → Leaves ok low m → Leaves ok high m
-later true low high m le order = grind (arith, common_steps)
-later false low high m le calm = calm
 
 -- what an action needs: a sync needs no order
 abbrev Ready : List Acted → ℕ → MediumState → Type 0
@@ -136,10 +132,8 @@ action_ordered (block bytes) (Ok x) w log after (inl order) (room, whole, puts) 
 action_ordered (block bytes) (Err e) w log after (inl order) (room, whole, puts) =
     (puts_in_order (end_of w) (end_of w) bytes (bad e) w.medium.state log.state (omega arith) order puts).calm
 action_ordered save r w log after (inl order) did =
-    let (ordered, low) = checkpoint_ordered w.data_start w.out (w.out % 2) after in
-    later (is_ok r) 0 (end_of w) log.state (omega arith)
-    (subst (λ n. Leaves (is_ok r) n log.state) low
-    (all_ordered (checkpoint w.data_start w.out) (end_of w) r w.medium log ordered order did))
+    all_ordered (checkpoint w.data_start w.out) (end_of w) (end_of w) r w.medium log
+    (checkpoint_ordered w.data_start w.out (w.out % 2) after) order did
 action_ordered resync r w log after (inl order) did =
     syncs (end_of w) r w.medium.state log.state order.calm did
 action_ordered resync r w log after (inr (calm, is)) did =
