@@ -240,7 +240,8 @@ int32_t hound_recorder_append(const hound_info_t *info, hound_recorder *recorder
 int64_t hound_recorder_place(const hound_recorder *recorder, uint64_t samples) HOUND_NONNULL;
 
 /* Reports how the write of so many samples at that place ended: `ok` is 0 if it failed, and then they don't
-   count, and a checkpoint has to come next. Returns 0, or the error that hound_recorder_place returns. */
+   count, and a checkpoint has to come next. A part of them may be in the file, which hound_repair would take
+   for samples: cut the file off at that place. Returns 0, or the error that hound_recorder_place returns. */
 int32_t hound_recorder_wrote(hound_recorder *recorder, uint64_t samples, int32_t ok) HOUND_NONNULL;
 
 /* Returns 1 for the next effect of a checkpoint, and 0 if it is done: then the header counts all samples. `ok`

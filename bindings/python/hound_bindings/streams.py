@@ -1,5 +1,6 @@
 """Files that are read or written block by block: those that are read may come from a pipe."""
 import array
+import contextlib
 import ctypes
 import io
 import os
@@ -206,6 +207,9 @@ class Writer:
             _put(descriptor, memoryview(self._out)[:length], place)
             is_written = True
         finally:
+            if not is_written:
+                with contextlib.suppress(OSError):
+                    os.ftruncate(descriptor, place)  # No part of it stays, which a repair would take for samples.
             _recorder_wrote(recorder, given.count, is_written)
 
     def flush(self) -> None:
