@@ -211,7 +211,8 @@ int64_t hound_from_f32(const float *samples, size_t count, uint16_t bits, int32_
 
 /* A recorder: what a program remembers of a file that it writes itself, block by block. It says where the
    samples are written, and by which effects a checkpoint makes the header count them. Between checkpoints
-   the header counts those of the last one, and hound_repair finds the others that are there.
+   the header counts those of the last one, and hound_repair finds the others that are there; where frames
+   have one byte it takes a pad byte that isn't counted yet for one.
    A program begins one, and then, as often as it likes, writes a block and makes a checkpoint; see record.c. */
 typedef struct {
     uint64_t data_start;  /* how many bytes are before the first sample */
