@@ -219,7 +219,8 @@ int64_t hound_from_f32(const float *samples, size_t count, uint16_t bits, int32_
 
 /* A recorder: what a program remembers of a file that it writes itself, block by block. It says where the
    samples are written, and by which effects a checkpoint makes the header count them. Between checkpoints
-   the header counts those of the last one, and hound_repair finds the others that are there.
+   the header counts those of the last one, and hound_repair finds the others that are there; where frames
+   have one byte it takes a pad byte that isn't counted yet for one.
    A program begins one, and then, as often as it likes, writes a block and makes a checkpoint; see record.c. */
 typedef struct {
     uint64_t data_start;  /* how many bytes are before the first sample */
@@ -248,7 +249,8 @@ int32_t hound_recorder_append(const hound_info_t *info, hound_recorder *recorder
 int64_t hound_recorder_place(const hound_recorder *recorder, uint64_t samples) HOUND_NONNULL;
 
 /* Reports how the write of so many samples at that place ended: `ok` is 0 if it failed, and then they don't
-   count, and a checkpoint has to come next. Returns 0, or the error that hound_recorder_place returns. */
+   count, and a checkpoint has to come next. A part of them may be in the file, which hound_repair would take
+   for samples: cut the file off at that place. Returns 0, or the error that hound_recorder_place returns. */
 int32_t hound_recorder_wrote(hound_recorder *recorder, uint64_t samples, int32_t ok) HOUND_NONNULL;
 
 /* Returns 1 for the next effect of a checkpoint, and 0 if it is done: then the header counts all samples. `ok`

@@ -51,6 +51,7 @@ static int32_t write_block(const uint8_t *bytes, uint64_t samples) {
     if (place == HOUND_NEEDS_CHECKPOINT && checkpoint() == 0) place = hound_recorder_place(&recorder, samples);
     if (place < 0) return (int32_t)place;
     int ok = has_written(bytes, samples * recorder.bytes_per_sample, place);
+    if (!ok && ftruncate(file, place) < 0) perror("record: a part of a block stays");
     int32_t code = hound_recorder_wrote(&recorder, samples, ok);
     return ok ? code : HOUND_NEEDS_CHECKPOINT;
 }

@@ -1,5 +1,6 @@
 """Files that are read or written block by block: those that are read may come from a pipe."""
 import array
+import contextlib
 import ctypes
 import io
 import os
@@ -168,10 +169,10 @@ class Writer:
     """A file that is written block by block. It is a context manager, which closes it.
 
     A block is with the system once `write` has returned, and the header counts it after the next
-    `flush` or `close`: if the program is killed before, `repair` finds it. A file that is durable has all
-    blocks of a `flush` after a loss of power, too. After an OSError of `write` the block isn't in the
-    file, and the next call continues; after one of a sync the file is as at the last `flush`, and each
-    call is an error.
+    `flush` or `close`: if the program is killed before, `repair` finds it, but where frames have one byte
+    maybe a zero after it. A file that is durable has all blocks of a `flush` after a loss of power, too.
+    After an OSError of `write` the block isn't in the file, and the next call continues; after one of a
+    sync it is unknown what is stored, and each later call is an error.
     """
 
     def __init__(self, file: BinaryIO, spec: _Spec, recorder: _Recorder, durable: bool) -> None:
@@ -206,6 +207,9 @@ class Writer:
             _put(descriptor, memoryview(self._out)[:length], place)
             is_written = True
         finally:
+            if not is_written:
+                with contextlib.suppress(OSError):
+                    os.ftruncate(descriptor, place)  # No part of it stays, which a repair would take for samples.
             _recorder_wrote(recorder, given.count, is_written)
 
     def flush(self) -> None:

@@ -187,15 +187,16 @@ class Calls:
     def __init__(self, fails=0):
         self.made, self.fails, self.put, self.sync = [], fails, os.pwrite, os.fsync
 
-    def make(self, call, does):
+    def make(self, call, does, does_in_part):
         self.made.append(call)
         if len(self.made) == self.fails:
+            does_in_part()
             raise OSError("a fault")
         return does()
 
     def __enter__(self):
-        put = lambda file, content, place: self.make(place, lambda: self.put(file, content, place))
-        sync = lambda file: self.make("sync", lambda: self.sync(file))
+        put = lambda file, content, place: self.make(place, lambda: self.put(file, content, place), lambda: self.put(file, content[:3], place))
+        sync = lambda file: self.make("sync", lambda: self.sync(file), lambda: None)
         self.patches = [unittest.mock.patch("os.pwrite", put), unittest.mock.patch("os.fsync", sync)]
         for patch in self.patches:
             patch.start()
@@ -296,7 +297,7 @@ class Recordings(Case):
         for nth in range(4, 40):  # the first three calls begin the file
             written, has_ended = [], False
             with Calls(nth) as calls:
-                writer = hound.create(self.path, 8000, 1, 16, durable=True)
+                writer = hound.create(self.path, 8000, 1, 24, durable=True)
 
                 def attempt(call):
                     """Whether a call succeeds; none does after a sync that failed."""
@@ -312,13 +313,18 @@ class Recordings(Case):
                     return False
 
                 for number in range(3):
-                    if attempt(lambda: writer.write(array.array("h", [number]))):
+                    if attempt(lambda: writer.write(array.array("h", [number, number, number]))):
                         written.append(number)
                     attempt(writer.flush)
                 attempt(writer.close)
-            with wave.open(self.path) as other:
-                found = list(array.array("h", other.readframes(9)))
-            self.assertEqual(found, written[: len(found)] if has_ended else written)
+            for state in "left", "repaired":
+                content = content_of(self.path)
+                data = content[68 : 68 + struct.unpack("<I", content[64:68])[0]]
+                found = [number for number, zero in struct.iter_unpack("<BH", data)][::3]
+                self.assertEqual(data, b"".join(struct.pack("<BH", number, 0) * 3 for number in found))
+                self.assertEqual(found, written[: len(found)] if has_ended else written)
+                if not has_ended:
+                    hound.repair(self.path)
             if len(calls.made) < nth:
                 break
         self.assertGreater(nth, 20)
