@@ -1,5 +1,5 @@
 use crate::error::early_end;
-use crate::proved;
+use crate::proved::{self, Container};
 use crate::sample::check;
 use crate::spec::{as_ints, containers};
 use crate::{Result, Sample, SampleFormat, WavSpec, WavSpecEx, BLOCK};
@@ -29,24 +29,6 @@ fn finish_container<R: Read>(reader: &mut R, bytes: &mut [u8], width: usize, fir
     (count, result.err().or_else(|| if is_whole { None } else { Some(early_end()) }))
 }
 
-/// Reads up to the data, and not a byte of them.
-pub(crate) fn walk_to_data<R: Read>(reader: &mut R) -> Result<proved::Info> {
-    let (mut walk, mut place, mut bytes) = (proved::Walk::new(), 0, [0; 1024]);
-    loop {
-        let skipped = (walk.place() - place).min(bytes.len() as u64) as usize;
-        let wanted = if skipped > 0 { skipped } else { walk.length() };
-        let mut count = 0;
-        read_on(reader, &mut bytes[..wanted], &mut count)?;
-        place += count as u64;
-        if skipped == 0 || count < wanted {
-            let part = if skipped == 0 { count } else { 0 };
-            if let Some(info) = walk.take(&bytes[..part])? {
-                return Ok(info);
-            }
-        }
-    }
-}
-
 /// Reads the first 12 bytes of a file, and returns the length that they say the file has.
 pub fn read_wave_header<R: Read>(reader: &mut R) -> Result<u64> {
     let (mut header, mut count) = ([0; 12], 0);
@@ -63,10 +45,11 @@ pub struct WavReader<R> {
     bytes_per_sample: u16,
     num_samples: u64,
     // How many count as read, with those that are ahead, and how many of their bytes weren't taken: of
-    // samples that were refused, and of torn ones.
+    // samples that were rejected, and of torn ones.
     samples_read: u64,
     not_taken: i64,
-    next: Next,
+    // Of samples that are read one by one, their containers; none of what is ahead.
+    next: Option<Container>,
     // Samples that are decoded and weren't asked for, from `given` on, and the fault after them: of `open`,
     // which leaves their bytes in the buffer of its reader, and of a fold whose closure panicked.
     ahead: Vec<i32>,
@@ -74,19 +57,6 @@ pub struct WavReader<R> {
     fault: Option<io::Error>,
     bytes: Vec<u8>,
     buffer: Option<Buffer<R>>,
-}
-
-// How the next sample comes: from those that are ahead, or from its container.
-#[derive(Clone, Copy, PartialEq)]
-enum Next {
-    Ahead,
-    Int8,
-    Int16,
-    Int24,
-    Int24In4,
-    Int32,
-    Float,
-    Unreadable,
 }
 
 // How the buffer of the reader of `open` is looked at, and bytes of it are taken.
@@ -101,23 +71,21 @@ const CAPACITY: usize = 1 << 15;
 impl<R: Read> WavReader<R> {
     /// Reads the header, and makes a reader of the samples after it.
     pub fn new(mut reader: R) -> Result<WavReader<R>> {
-        let info = walk_to_data(&mut reader)?;
-        let mut reader = WavReader {
+        let info = proved::Walk::over(&mut reader)??;
+        Ok(WavReader {
             reader,
             spec: WavSpecEx::from(info.spec).spec,
             bytes_per_sample: info.spec.bytes_per_sample,
             num_samples: u64::from(info.samples),
             samples_read: 0,
             not_taken: 0,
-            next: Next::Unreadable,
+            next: Container::of(&info.spec),
             ahead: Vec::new(),
             given: 0,
             fault: None,
             bytes: Vec::new(),
             buffer: None,
-        };
-        reader.next = reader.next_container();
-        Ok(reader)
+        })
     }
 
     /// What the file says of its samples.
@@ -200,20 +168,6 @@ impl<R: Read> WavReader<R> {
         (self.num_samples + self.left_ahead()).saturating_sub(self.samples_read) as usize
     }
 
-    fn next_container(&self) -> Next {
-        let spec = self.containers();
-        match (self.spec.sample_format, spec.bits_per_sample, spec.bytes_per_sample) {
-            _ if self.buffer.is_some() => Next::Ahead,
-            _ if check::<i32>(&spec).is_err() && check::<f32>(&spec).is_err() => Next::Unreadable,
-            (SampleFormat::Float, ..) => Next::Float,
-            (_, 8, _) => Next::Int8,
-            (_, 16, _) => Next::Int16,
-            (_, 24, 3) => Next::Int24,
-            (_, 24, _) => Next::Int24In4,
-            _ => Next::Int32,
-        }
-    }
-
     #[inline(always)]
     fn next_sample<S: Sample>(&mut self) -> Option<Result<S>> {
         if let Some(sample) = self.next_quickly() {
@@ -237,19 +191,17 @@ impl<R: Read> WavReader<R> {
     fn next_quickly<S: Sample>(&mut self) -> Option<S> {
         let (coding, size) = (S::CODING?, mem::size_of::<S>());
         let is_int = coding.format == SampleFormat::Int;
-        if self.next == Next::Ahead || self.samples_read >= self.num_samples {
-            return self.next_ahead();
-        }
-        let sample = match self.next {
-            Next::Int16 if is_int && size >= 2 => proved::value_16(u16::from_le_bytes(self.container()?).into()),
-            Next::Int24 if is_int && size >= 4 => {
+        let sample = match self.next.filter(|_| self.samples_read < self.num_samples) {
+            None => return self.next_ahead(),
+            Some(Container::Int16) if is_int && size >= 2 => proved::value_16(u16::from_le_bytes(self.container()?).into()),
+            Some(Container::Int24) if is_int && size >= 4 => {
                 let [low, middle, high] = self.container()?;
                 proved::value_24(u32::from(u16::from_le_bytes([low, middle])) | u32::from(high) << 16)
             }
-            Next::Int32 if is_int && size >= 4 => proved::value_32(u32::from_le_bytes(self.container()?)),
-            Next::Int8 if is_int => proved::value_8(u8::from_le_bytes(self.container()?).into()),
-            Next::Int24In4 if is_int && size >= 4 => proved::value_24(u32::from_le_bytes(self.container()?)),
-            Next::Float if !is_int => i32::from_le_bytes(self.container()?),
+            Some(Container::Int32) if is_int && size >= 4 => proved::value_32(u32::from_le_bytes(self.container()?)),
+            Some(Container::Int8) if is_int => proved::value_8(u8::from_le_bytes(self.container()?).into()),
+            Some(Container::Int24In4) if is_int && size >= 4 => proved::value_24(u32::from_le_bytes(self.container()?)),
+            Some(Container::Float) if !is_int => i32::from_le_bytes(self.container()?),
             _ => return None,
         };
         self.samples_read += 1;
@@ -297,10 +249,10 @@ impl<R: Read> WavReader<R> {
         }
         if checked.is_ok() && S::CODING.is_some() {
             let buffer = self.buffer.take(); // A container at the end of the buffer is read as without it.
-            self.next = self.next_container();
+            self.next = Container::of(&self.containers());
             let item = self.next_sample();
+            self.next = self.next.filter(|_| buffer.is_none());
             self.buffer = buffer;
-            self.next = self.next_container();
             return item;
         }
         // A type that doesn't read these samples takes no byte, and one of the user's own takes what it takes.
@@ -325,7 +277,7 @@ impl<R: Read> WavReader<R> {
         }
         self.ahead.clear();
         (self.given, self.fault) = (0, None);
-        self.next = self.next_container();
+        self.next = Container::of(&self.containers()).filter(|_| self.buffer.is_none());
     }
 
     // Decodes the next samples, at most so many, if none is ahead and the type is read in blocks: those that
@@ -357,7 +309,7 @@ impl<R: Read> WavReader<R> {
         self.samples_read += count as u64 + u64::from(fault.is_some());
         self.not_taken += if fault.is_some() { (width - bytes.len() % width) as i64 } else { 0 };
         (self.fault, self.bytes) = (fault, scratch);
-        self.next = Next::Ahead;
+        self.next = None;
     }
 
     fn fold_samples<S: Sample, B, F: FnMut(B, Result<S>) -> B>(&mut self, mut value: B, mut f: F) -> B {
@@ -379,7 +331,7 @@ impl WavReader<io::BufReader<fs::File>> {
     pub fn open<P: AsRef<path::Path>>(filename: P) -> Result<WavReader<io::BufReader<fs::File>>> {
         let mut reader = WavReader::new(io::BufReader::with_capacity(CAPACITY, fs::File::open(filename)?))?;
         reader.buffer = Some(Buffer { look: BufRead::fill_buf, take: BufRead::consume });
-        reader.next = Next::Ahead;
+        reader.next = None;
         Ok(reader)
     }
 }

@@ -1,5 +1,4 @@
-use crate::proved::{self, Recorder};
-use crate::reader::walk_to_data;
+use crate::proved::{self, Recorder, Walk};
 use crate::sample::Encode;
 use crate::spec::{as_ints, containers};
 use crate::{Error, Result, Sample, SampleFormat, WavSpec, WavSpecEx, BLOCK};
@@ -176,9 +175,8 @@ impl<W: Write + Seek> WavWriter<W> {
 
     /// The same, with containers of another width.
     pub fn new_with_spec_ex(mut writer: W, spec_ex: WavSpecEx) -> Result<WavWriter<W>> {
-        let header = spec_ex.header()?;
+        let (header, recorder) = (proved::header(&spec_ex.into(), 0)?, Recorder::begin(&spec_ex.into())?);
         writer.write_all(&header)?;
-        let recorder = Recorder::begin(&spec_ex.into())?;
         Ok(WavWriter::at(writer, header.len() as u64, spec_ex, recorder))
     }
 
@@ -282,7 +280,7 @@ impl<W: Read + Write + Seek> WavWriter<W> {
     /// Appends to a file, of which the writer has to be at the beginning: the next sample follows those
     /// that its header counts. A fact chunk stays as it is.
     pub fn new_append(mut writer: W) -> Result<WavWriter<W>> {
-        let info = walk_to_data(&mut writer)?;
+        let info = Walk::over(&mut writer)??;
         let recorder = Recorder::append(&info)?;
         let place = recorder.place(0)?;
         writer.seek(SeekFrom::Start(place))?;
@@ -299,7 +297,7 @@ impl WavWriter<io::BufWriter<fs::File>> {
     /// Appends to a file as `new_append` does.
     pub fn append<P: AsRef<path::Path>>(filename: P) -> Result<WavWriter<io::BufWriter<fs::File>>> {
         let mut reader = io::BufReader::new(fs::OpenOptions::new().read(true).write(true).open(filename)?);
-        let info = walk_to_data(&mut reader)?;
+        let info = Walk::over(&mut reader)??;
         let recorder = Recorder::append(&info)?;
         let (place, mut file) = (recorder.place(0)?, reader.into_inner());
         file.seek(SeekFrom::Start(place))?;
