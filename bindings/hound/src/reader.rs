@@ -1,7 +1,7 @@
 use crate::error::early_end;
 use crate::proved::{self, Container};
 use crate::sample::check;
-use crate::spec::{as_ints, containers};
+use crate::spec::containers;
 use crate::{Result, Sample, SampleFormat, WavSpec, WavSpecEx, BLOCK};
 use std::io::{self, BufRead, Read};
 use std::{fs, marker, mem, path};
@@ -25,8 +25,7 @@ fn finish_container<R: Read>(reader: &mut R, bytes: &mut [u8], width: usize, fir
         count = first;
         read_on(reader, &mut bytes[..(first + width - 1) / width * width], &mut count)
     });
-    let is_whole = count > 0 && count % width == 0;
-    (count, result.err().or_else(|| if is_whole { None } else { Some(early_end()) }))
+    (count, result.err().or_else(|| if count > 0 && count % width == 0 { None } else { Some(early_end()) }))
 }
 
 /// Reads the first 12 bytes of a file, and returns the length that they say the file has.
@@ -55,18 +54,11 @@ pub struct WavReader<R> {
     ahead: Vec<i32>,
     given: usize,
     fault: Option<io::Error>,
-    bytes: Vec<u8>,
     buffer: Option<Buffer<R>>,
 }
 
 // How the buffer of the reader of `open` is looked at, and bytes of it are taken.
-struct Buffer<R> {
-    look: fn(&mut R) -> io::Result<&[u8]>,
-    take: fn(&mut R, usize),
-}
-
-// How many bytes that reader takes from the file at once.
-const CAPACITY: usize = 1 << 15;
+type Buffer<R> = (fn(&mut R) -> io::Result<&[u8]>, fn(&mut R, usize));
 
 impl<R: Read> WavReader<R> {
     /// Reads the header, and makes a reader of the samples after it.
@@ -83,7 +75,6 @@ impl<R: Read> WavReader<R> {
             ahead: Vec::new(),
             given: 0,
             fault: None,
-            bytes: Vec::new(),
             buffer: None,
         })
     }
@@ -113,7 +104,6 @@ impl<R: Read> WavReader<R> {
     }
 
     /// How many samples the file has, of all channels together, whatever was read.
-    #[allow(clippy::len_without_is_empty)]
     pub fn len(&self) -> u32 {
         self.num_samples as u32
     }
@@ -130,9 +120,9 @@ impl<R: Read> WavReader<R> {
         R: io::Seek,
     {
         self.put_back();
-        let sample = u64::from(time) * u64::from(self.spec.channels);
-        let taken = self.samples_read as i64 * self.width() - self.not_taken;
-        self.reader.seek(io::SeekFrom::Current(sample as i64 * self.width() - taken))?;
+        let (sample, width) = (u64::from(time) * u64::from(self.spec.channels), i64::from(self.bytes_per_sample));
+        let taken = self.samples_read as i64 * width - self.not_taken;
+        self.reader.seek(io::SeekFrom::Current(sample as i64 * width - taken))?;
         (self.samples_read, self.not_taken) = (sample, 0);
         Ok(())
     }
@@ -150,10 +140,6 @@ impl<R: Read> WavReader<R> {
             }
         }
         (wanted, Ok(()))
-    }
-
-    fn width(&self) -> i64 {
-        self.bytes_per_sample.into()
     }
 
     fn containers(&self) -> proved::Spec {
@@ -256,23 +242,21 @@ impl<R: Read> WavReader<R> {
             return item;
         }
         // A type that doesn't read these samples takes no byte, and one of the user's own takes what it takes.
-        let WavSpec { sample_format, bits_per_sample, .. } = self.spec;
         let mut reader = self.reader.by_ref().take(u64::MAX);
         let sample = match checked {
-            Ok(_) => S::read(&mut reader, sample_format, self.bytes_per_sample, bits_per_sample),
+            Ok(_) => S::read(&mut reader, self.spec.sample_format, self.bytes_per_sample, self.spec.bits_per_sample),
             Err(error) => Err(error.into()),
         };
-        let taken = (u64::MAX - reader.limit()) as i64;
         self.samples_read += 1;
-        self.not_taken += self.width() - taken;
+        self.not_taken += i64::from(self.bytes_per_sample) - (u64::MAX - reader.limit()) as i64;
         Some(sample)
     }
 
     // The reader of `open` takes the samples that were given, and keeps those that are ahead. What a closure
     // that panicked left of other readers is lost, and counts as read.
     fn put_back(&mut self) {
-        if let Some(buffer) = &self.buffer {
-            (buffer.take)(&mut self.reader, self.given * usize::from(self.bytes_per_sample));
+        if let Some((_, take)) = self.buffer {
+            take(&mut self.reader, self.given * usize::from(self.bytes_per_sample));
             self.samples_read -= self.left_ahead();
         }
         self.ahead.clear();
@@ -292,11 +276,11 @@ impl<R: Read> WavReader<R> {
         if most == 0 {
             return;
         }
-        let mut scratch = mem::take(&mut self.bytes);
-        let (bytes, fault) = match &self.buffer {
-            Some(buffer) => (buffer.look)(&mut self.reader).map_or_else(|fault| (&[][..], Some(fault)), |bytes| (bytes, None)),
+        let mut scratch;
+        let (bytes, fault) = match self.buffer {
+            Some((look, _)) => look(&mut self.reader).map_or_else(|fault| (&[][..], Some(fault)), |bytes| (bytes, None)),
             None => {
-                scratch.resize(most * width, 0);
+                scratch = vec![0; most * width];
                 let first = self.reader.read(&mut scratch);
                 let (count, fault) = finish_container(&mut self.reader, &mut scratch, width, first);
                 (&scratch[..count], fault)
@@ -304,12 +288,11 @@ impl<R: Read> WavReader<R> {
         };
         let count = most.min(bytes.len() / width);
         self.ahead.resize(count, 0);
-        let decoded = proved::decode(&as_ints(spec), bytes, &mut self.ahead);
+        let decoded = proved::decode(&proved::Spec { format: SampleFormat::Int, ..spec }, bytes, &mut self.ahead);
         debug_assert_eq!(decoded, Ok(count));
         self.samples_read += count as u64 + u64::from(fault.is_some());
         self.not_taken += if fault.is_some() { (width - bytes.len() % width) as i64 } else { 0 };
-        (self.fault, self.bytes) = (fault, scratch);
-        self.next = None;
+        (self.fault, self.next) = (fault, None);
     }
 
     fn fold_samples<S: Sample, B, F: FnMut(B, Result<S>) -> B>(&mut self, mut value: B, mut f: F) -> B {
@@ -329,8 +312,8 @@ impl<R: Read> WavReader<R> {
 impl WavReader<io::BufReader<fs::File>> {
     /// Opens a file, and reads its header.
     pub fn open<P: AsRef<path::Path>>(filename: P) -> Result<WavReader<io::BufReader<fs::File>>> {
-        let mut reader = WavReader::new(io::BufReader::with_capacity(CAPACITY, fs::File::open(filename)?))?;
-        reader.buffer = Some(Buffer { look: BufRead::fill_buf, take: BufRead::consume });
+        let mut reader = WavReader::new(io::BufReader::with_capacity(8 * BLOCK, fs::File::open(filename)?))?;
+        reader.buffer = Some((BufRead::fill_buf, BufRead::consume));
         reader.next = None;
         Ok(reader)
     }

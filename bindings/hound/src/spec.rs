@@ -63,8 +63,3 @@ pub(crate) fn containers(format: SampleFormat, bits: u16, width: u16) -> proved:
     let bits_per_sample = if width == 0 { 0 } else { bits };
     proved::Spec { sample_rate: 1, channels: 1, bits_per_sample, bytes_per_sample: width, format }
 }
-
-/// The integers of 32 bits that have these containers.
-pub(crate) fn as_ints(spec: proved::Spec) -> proved::Spec {
-    proved::Spec { format: SampleFormat::Int, ..spec }
-}
