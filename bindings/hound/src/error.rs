@@ -37,10 +37,7 @@ impl fmt::Display for Error {
 
 impl error::Error for Error {
     fn source(&self) -> Option<&(dyn error::Error + 'static)> {
-        match self {
-            Error::IoError(error) => Some(error),
-            _ => None,
-        }
+        if let Error::IoError(error) = self { Some(error) } else { None }
     }
 }
 

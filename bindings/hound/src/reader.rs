@@ -1,7 +1,7 @@
 use crate::error::early_end;
-use crate::proved;
+use crate::proved::{self, Container};
 use crate::sample::check;
-use crate::spec::{as_ints, containers};
+use crate::spec::containers;
 use crate::{Result, Sample, SampleFormat, WavSpec, WavSpecEx, BLOCK};
 use std::io::{self, BufRead, Read};
 use std::{fs, marker, mem, path};
@@ -25,26 +25,7 @@ fn finish_container<R: Read>(reader: &mut R, bytes: &mut [u8], width: usize, fir
         count = first;
         read_on(reader, &mut bytes[..(first + width - 1) / width * width], &mut count)
     });
-    let is_whole = count > 0 && count % width == 0;
-    (count, result.err().or_else(|| if is_whole { None } else { Some(early_end()) }))
-}
-
-/// Reads up to the data, and not a byte of them.
-pub(crate) fn walk_to_data<R: Read>(reader: &mut R) -> Result<proved::Info> {
-    let (mut walk, mut place, mut bytes) = (proved::Walk::new(), 0, [0; 1024]);
-    loop {
-        let skipped = (walk.place() - place).min(bytes.len() as u64) as usize;
-        let wanted = if skipped > 0 { skipped } else { walk.length() };
-        let mut count = 0;
-        read_on(reader, &mut bytes[..wanted], &mut count)?;
-        place += count as u64;
-        if skipped == 0 || count < wanted {
-            let part = if skipped == 0 { count } else { 0 };
-            if let Some(info) = walk.take(&bytes[..part])? {
-                return Ok(info);
-            }
-        }
-    }
+    (count, result.err().or_else(|| if count > 0 && count % width == 0 { None } else { Some(early_end()) }))
 }
 
 /// Reads the first 12 bytes of a file, and returns the length that they say the file has.
@@ -63,61 +44,39 @@ pub struct WavReader<R> {
     bytes_per_sample: u16,
     num_samples: u64,
     // How many count as read, with those that are ahead, and how many of their bytes weren't taken: of
-    // samples that were refused, and of torn ones.
+    // samples that were rejected, and of torn ones.
     samples_read: u64,
     not_taken: i64,
-    next: Next,
+    // Of samples that are read one by one, their containers; none of what is ahead.
+    next: Option<Container>,
     // Samples that are decoded and weren't asked for, from `given` on, and the fault after them: of `open`,
     // which leaves their bytes in the buffer of its reader, and of a fold whose closure panicked.
     ahead: Vec<i32>,
     given: usize,
     fault: Option<io::Error>,
-    bytes: Vec<u8>,
     buffer: Option<Buffer<R>>,
 }
 
-// How the next sample comes: from those that are ahead, or from its container.
-#[derive(Clone, Copy, PartialEq)]
-enum Next {
-    Ahead,
-    Int8,
-    Int16,
-    Int24,
-    Int24In4,
-    Int32,
-    Float,
-    Unreadable,
-}
-
 // How the buffer of the reader of `open` is looked at, and bytes of it are taken.
-struct Buffer<R> {
-    look: fn(&mut R) -> io::Result<&[u8]>,
-    take: fn(&mut R, usize),
-}
-
-// How many bytes that reader takes from the file at once.
-const CAPACITY: usize = 1 << 15;
+type Buffer<R> = (fn(&mut R) -> io::Result<&[u8]>, fn(&mut R, usize));
 
 impl<R: Read> WavReader<R> {
     /// Reads the header, and makes a reader of the samples after it.
     pub fn new(mut reader: R) -> Result<WavReader<R>> {
-        let info = walk_to_data(&mut reader)?;
-        let mut reader = WavReader {
+        let info = proved::Walk::over(&mut reader)??;
+        Ok(WavReader {
             reader,
             spec: WavSpecEx::from(info.spec).spec,
             bytes_per_sample: info.spec.bytes_per_sample,
             num_samples: u64::from(info.samples),
             samples_read: 0,
             not_taken: 0,
-            next: Next::Unreadable,
+            next: Container::of(&info.spec),
             ahead: Vec::new(),
             given: 0,
             fault: None,
-            bytes: Vec::new(),
             buffer: None,
-        };
-        reader.next = reader.next_container();
-        Ok(reader)
+        })
     }
 
     /// What the file says of its samples.
@@ -145,7 +104,6 @@ impl<R: Read> WavReader<R> {
     }
 
     /// How many samples the file has, of all channels together, whatever was read.
-    #[allow(clippy::len_without_is_empty)]
     pub fn len(&self) -> u32 {
         self.num_samples as u32
     }
@@ -162,9 +120,9 @@ impl<R: Read> WavReader<R> {
         R: io::Seek,
     {
         self.put_back();
-        let sample = u64::from(time) * u64::from(self.spec.channels);
-        let taken = self.samples_read as i64 * self.width() - self.not_taken;
-        self.reader.seek(io::SeekFrom::Current(sample as i64 * self.width() - taken))?;
+        let (sample, width) = (u64::from(time) * u64::from(self.spec.channels), i64::from(self.bytes_per_sample));
+        let taken = self.samples_read as i64 * width - self.not_taken;
+        self.reader.seek(io::SeekFrom::Current(sample as i64 * width - taken))?;
         (self.samples_read, self.not_taken) = (sample, 0);
         Ok(())
     }
@@ -184,10 +142,6 @@ impl<R: Read> WavReader<R> {
         (wanted, Ok(()))
     }
 
-    fn width(&self) -> i64 {
-        self.bytes_per_sample.into()
-    }
-
     fn containers(&self) -> proved::Spec {
         containers(self.spec.sample_format, self.spec.bits_per_sample, self.bytes_per_sample)
     }
@@ -198,20 +152,6 @@ impl<R: Read> WavReader<R> {
 
     fn left(&self) -> usize {
         (self.num_samples + self.left_ahead()).saturating_sub(self.samples_read) as usize
-    }
-
-    fn next_container(&self) -> Next {
-        let spec = self.containers();
-        match (self.spec.sample_format, spec.bits_per_sample, spec.bytes_per_sample) {
-            _ if self.buffer.is_some() => Next::Ahead,
-            _ if check::<i32>(&spec).is_err() && check::<f32>(&spec).is_err() => Next::Unreadable,
-            (SampleFormat::Float, ..) => Next::Float,
-            (_, 8, _) => Next::Int8,
-            (_, 16, _) => Next::Int16,
-            (_, 24, 3) => Next::Int24,
-            (_, 24, _) => Next::Int24In4,
-            _ => Next::Int32,
-        }
     }
 
     #[inline(always)]
@@ -237,19 +177,17 @@ impl<R: Read> WavReader<R> {
     fn next_quickly<S: Sample>(&mut self) -> Option<S> {
         let (coding, size) = (S::CODING?, mem::size_of::<S>());
         let is_int = coding.format == SampleFormat::Int;
-        if self.next == Next::Ahead || self.samples_read >= self.num_samples {
-            return self.next_ahead();
-        }
-        let sample = match self.next {
-            Next::Int16 if is_int && size >= 2 => proved::value_16(u16::from_le_bytes(self.container()?).into()),
-            Next::Int24 if is_int && size >= 4 => {
+        let sample = match self.next.filter(|_| self.samples_read < self.num_samples) {
+            None => return self.next_ahead(),
+            Some(Container::Int16) if is_int && size >= 2 => proved::value_16(u16::from_le_bytes(self.container()?).into()),
+            Some(Container::Int24) if is_int && size >= 4 => {
                 let [low, middle, high] = self.container()?;
                 proved::value_24(u32::from(u16::from_le_bytes([low, middle])) | u32::from(high) << 16)
             }
-            Next::Int32 if is_int && size >= 4 => proved::value_32(u32::from_le_bytes(self.container()?)),
-            Next::Int8 if is_int => proved::value_8(u8::from_le_bytes(self.container()?).into()),
-            Next::Int24In4 if is_int && size >= 4 => proved::value_24(u32::from_le_bytes(self.container()?)),
-            Next::Float if !is_int => i32::from_le_bytes(self.container()?),
+            Some(Container::Int32) if is_int && size >= 4 => proved::value_32(u32::from_le_bytes(self.container()?)),
+            Some(Container::Int8) if is_int => proved::value_8(u8::from_le_bytes(self.container()?).into()),
+            Some(Container::Int24In4) if is_int && size >= 4 => proved::value_24(u32::from_le_bytes(self.container()?)),
+            Some(Container::Float) if !is_int => i32::from_le_bytes(self.container()?),
             _ => return None,
         };
         self.samples_read += 1;
@@ -297,35 +235,33 @@ impl<R: Read> WavReader<R> {
         }
         if checked.is_ok() && S::CODING.is_some() {
             let buffer = self.buffer.take(); // A container at the end of the buffer is read as without it.
-            self.next = self.next_container();
+            self.next = Container::of(&self.containers());
             let item = self.next_sample();
+            self.next = self.next.filter(|_| buffer.is_none());
             self.buffer = buffer;
-            self.next = self.next_container();
             return item;
         }
         // A type that doesn't read these samples takes no byte, and one of the user's own takes what it takes.
-        let WavSpec { sample_format, bits_per_sample, .. } = self.spec;
         let mut reader = self.reader.by_ref().take(u64::MAX);
         let sample = match checked {
-            Ok(_) => S::read(&mut reader, sample_format, self.bytes_per_sample, bits_per_sample),
+            Ok(_) => S::read(&mut reader, self.spec.sample_format, self.bytes_per_sample, self.spec.bits_per_sample),
             Err(error) => Err(error.into()),
         };
-        let taken = (u64::MAX - reader.limit()) as i64;
         self.samples_read += 1;
-        self.not_taken += self.width() - taken;
+        self.not_taken += i64::from(self.bytes_per_sample) - (u64::MAX - reader.limit()) as i64;
         Some(sample)
     }
 
     // The reader of `open` takes the samples that were given, and keeps those that are ahead. What a closure
     // that panicked left of other readers is lost, and counts as read.
     fn put_back(&mut self) {
-        if let Some(buffer) = &self.buffer {
-            (buffer.take)(&mut self.reader, self.given * usize::from(self.bytes_per_sample));
+        if let Some((_, take)) = self.buffer {
+            take(&mut self.reader, self.given * usize::from(self.bytes_per_sample));
             self.samples_read -= self.left_ahead();
         }
         self.ahead.clear();
         (self.given, self.fault) = (0, None);
-        self.next = self.next_container();
+        self.next = Container::of(&self.containers()).filter(|_| self.buffer.is_none());
     }
 
     // Decodes the next samples, at most so many, if none is ahead and the type is read in blocks: those that
@@ -340,11 +276,11 @@ impl<R: Read> WavReader<R> {
         if most == 0 {
             return;
         }
-        let mut scratch = mem::take(&mut self.bytes);
-        let (bytes, fault) = match &self.buffer {
-            Some(buffer) => (buffer.look)(&mut self.reader).map_or_else(|fault| (&[][..], Some(fault)), |bytes| (bytes, None)),
+        let mut scratch;
+        let (bytes, fault) = match self.buffer {
+            Some((look, _)) => look(&mut self.reader).map_or_else(|fault| (&[][..], Some(fault)), |bytes| (bytes, None)),
             None => {
-                scratch.resize(most * width, 0);
+                scratch = vec![0; most * width];
                 let first = self.reader.read(&mut scratch);
                 let (count, fault) = finish_container(&mut self.reader, &mut scratch, width, first);
                 (&scratch[..count], fault)
@@ -352,12 +288,11 @@ impl<R: Read> WavReader<R> {
         };
         let count = most.min(bytes.len() / width);
         self.ahead.resize(count, 0);
-        let decoded = proved::decode(&as_ints(spec), bytes, &mut self.ahead);
+        let decoded = proved::decode(&proved::Spec { format: SampleFormat::Int, ..spec }, bytes, &mut self.ahead);
         debug_assert_eq!(decoded, Ok(count));
         self.samples_read += count as u64 + u64::from(fault.is_some());
         self.not_taken += if fault.is_some() { (width - bytes.len() % width) as i64 } else { 0 };
-        (self.fault, self.bytes) = (fault, scratch);
-        self.next = Next::Ahead;
+        (self.fault, self.next) = (fault, None);
     }
 
     fn fold_samples<S: Sample, B, F: FnMut(B, Result<S>) -> B>(&mut self, mut value: B, mut f: F) -> B {
@@ -377,9 +312,9 @@ impl<R: Read> WavReader<R> {
 impl WavReader<io::BufReader<fs::File>> {
     /// Opens a file, and reads its header.
     pub fn open<P: AsRef<path::Path>>(filename: P) -> Result<WavReader<io::BufReader<fs::File>>> {
-        let mut reader = WavReader::new(io::BufReader::with_capacity(CAPACITY, fs::File::open(filename)?))?;
-        reader.buffer = Some(Buffer { look: BufRead::fill_buf, take: BufRead::consume });
-        reader.next = Next::Ahead;
+        let mut reader = WavReader::new(io::BufReader::with_capacity(8 * BLOCK, fs::File::open(filename)?))?;
+        reader.buffer = Some((BufRead::fill_buf, BufRead::consume));
+        reader.next = None;
         Ok(reader)
     }
 }

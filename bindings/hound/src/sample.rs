@@ -40,24 +40,6 @@ pub(crate) fn check<S: Sample>(spec: &proved::Spec) -> proved::Result<usize> {
     S::CODING.map_or(Ok(0), |coding| (coding.decode)(spec, &[], &mut []))
 }
 
-fn write_container<S: proved::Coded, W: io::Write>(sample: S, spec: proved::Spec, writer: &mut W) -> Result<()> {
-    let mut container = [0; 4];
-    let width = proved::encode(&spec, &[sample], &mut container)?;
-    Ok(writer.write_all(&container[..width])?)
-}
-
-fn read_container<S: Sample + proved::Coded + Copy + Default, R: io::Read>(reader: &mut R, spec: proved::Spec) -> Result<S> {
-    check::<S>(&spec)?; // An error of the type takes no byte.
-    let (mut container, mut count, mut sample) = ([0; 4], 0, [S::default()]);
-    let container = &mut container[..usize::from(spec.bytes_per_sample)];
-    read_on(reader, container, &mut count)?;
-    if count < container.len() {
-        return Err(early_end().into());
-    }
-    proved::decode(&spec, container, &mut sample)?;
-    Ok(sample[0])
-}
-
 macro_rules! sample {
     ($type:ident, $format:ident, $from:expr, $to:expr, $as_i16:expr) => {
         impl Sample for $type {
@@ -66,11 +48,20 @@ macro_rules! sample {
             }
 
             fn write_padded<W: io::Write>(self, writer: &mut W, bits: u16, byte_width: u16) -> Result<()> {
-                write_container(self, containers(SampleFormat::$format, bits, byte_width), writer)
+                let mut container = [0; 4];
+                let width = proved::encode(&containers(SampleFormat::$format, bits, byte_width), &[self], &mut container)?;
+                Ok(writer.write_all(&container[..width])?)
             }
 
             fn read<R: io::Read>(reader: &mut R, format: SampleFormat, bytes: u16, bits: u16) -> Result<$type> {
-                read_container(reader, containers(format, bits, bytes))
+                let (spec, mut container, mut count, mut sample) = (containers(format, bits, bytes), [0; 4], 0, [Default::default()]);
+                check::<$type>(&spec)?; // An error of the type takes no byte.
+                read_on(reader, &mut container[..usize::from(bytes)], &mut count)?;
+                if count < usize::from(bytes) {
+                    return Err(early_end().into());
+                }
+                proved::decode(&spec, &container[..count], &mut sample)?;
+                Ok(sample[0])
             }
 
             #[inline(always)]

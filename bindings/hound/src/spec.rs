@@ -1,14 +1,5 @@
 use crate::proved;
-use crate::Result;
-
-/// Whether samples are integers or floats.
-#[derive(Clone, Copy, Debug, PartialEq, Eq)]
-pub enum SampleFormat {
-    /// Floats of 32 bits, usually from -1 to 1.
-    Float,
-    /// Integers.
-    Int,
-}
+pub use crate::proved::Format as SampleFormat;
 
 /// What a file says of its samples.
 #[derive(Clone, Copy, Debug, PartialEq, Eq)]
@@ -40,7 +31,7 @@ impl WavSpec {
     ///
     /// If the spec can't be written.
     pub fn into_header_for_infinite_file(self) -> Vec<u8> {
-        let mut header = self.with_default_width().header().expect("a spec that can be written");
+        let mut header = proved::header(&self.with_default_width().into(), 0).expect("a spec that can be written");
         let data_length = header.len() - 4;
         header[4..8].fill(0xff);
         header[data_length..].fill(0xff);
@@ -53,13 +44,6 @@ impl WavSpec {
     }
 }
 
-impl WavSpecEx {
-    // The header of a file of no samples.
-    pub(crate) fn header(self) -> Result<Vec<u8>> {
-        Ok(proved::header(&self.into(), 0)?)
-    }
-}
-
 impl From<WavSpecEx> for proved::Spec {
     fn from(WavSpecEx { spec, bytes_per_sample }: WavSpecEx) -> proved::Spec {
         let containers = containers(spec.sample_format, spec.bits_per_sample, bytes_per_sample);
@@ -69,26 +53,13 @@ impl From<WavSpecEx> for proved::Spec {
 
 impl From<proved::Spec> for WavSpecEx {
     fn from(spec: proved::Spec) -> WavSpecEx {
-        let sample_format = match spec.format {
-            proved::Format::Int => SampleFormat::Int,
-            proved::Format::Float => SampleFormat::Float,
-        };
-        let proved::Spec { channels, sample_rate, bits_per_sample, bytes_per_sample, .. } = spec;
+        let proved::Spec { channels, sample_rate, bits_per_sample, bytes_per_sample, format: sample_format } = spec;
         WavSpecEx { spec: WavSpec { channels, sample_rate, bits_per_sample, sample_format }, bytes_per_sample }
     }
 }
 
 /// What encoding and decoding look at. No bytes are those of no container, and not the default.
 pub(crate) fn containers(format: SampleFormat, bits: u16, width: u16) -> proved::Spec {
-    let format = match format {
-        SampleFormat::Int => proved::Format::Int,
-        SampleFormat::Float => proved::Format::Float,
-    };
     let bits_per_sample = if width == 0 { 0 } else { bits };
     proved::Spec { sample_rate: 1, channels: 1, bits_per_sample, bytes_per_sample: width, format }
-}
-
-/// The integers of 32 bits that have these containers.
-pub(crate) fn as_ints(spec: proved::Spec) -> proved::Spec {
-    proved::Spec { format: proved::Format::Int, ..spec }
 }

@@ -1,7 +1,6 @@
-use crate::proved::{self, Recorder};
-use crate::reader::walk_to_data;
+use crate::proved::{self, Recorder, Walk};
 use crate::sample::Encode;
-use crate::spec::{as_ints, containers};
+use crate::spec::containers;
 use crate::{Error, Result, Sample, SampleFormat, WavSpec, WavSpecEx, BLOCK};
 use std::io::{self, Read, Seek, SeekFrom, Write};
 use std::{fs, iter, mem, path};
@@ -28,16 +27,14 @@ struct Core<W> {
     buffer: Vec<i32>,
     count: usize,
     format: SampleFormat,
-    // The integers that the bits of the file hold.
-    least: i32,
-    most: i32,
+    unused: u32, // how many bits of 32 an integer of the file has no use for
     bytes: Vec<u8>,
 }
 
 impl<W: Write + Seek> Core<W> {
     #[inline(always)]
     fn buffer<S: Sample>(&mut self, sample: i32, format: SampleFormat) -> Result<()> {
-        let fits = format == SampleFormat::Float || self.least <= sample && sample <= self.most;
+        let fits = format == SampleFormat::Float || sample << self.unused >> self.unused == sample;
         match self.buffer.get_mut(self.count) {
             Some(slot) if fits && self.format == format => {
                 *slot = sample;
@@ -111,7 +108,7 @@ impl<W: Write + Seek> Core<W> {
     fn spill(&mut self) -> Result<()> {
         if self.count > 0 {
             let buffer = mem::take(&mut self.buffer);
-            let result = self.encode(&as_ints(self.containers(self.format)), &buffer[..self.count], proved::encode);
+            let result = self.encode(&self.containers(SampleFormat::Int), &buffer[..self.count], proved::encode);
             self.buffer = buffer;
             result?;
             self.count = 0;
@@ -176,14 +173,12 @@ impl<W: Write + Seek> WavWriter<W> {
 
     /// The same, with containers of another width.
     pub fn new_with_spec_ex(mut writer: W, spec_ex: WavSpecEx) -> Result<WavWriter<W>> {
-        let header = spec_ex.header()?;
+        let (header, recorder) = (proved::header(&spec_ex.into(), 0)?, Recorder::begin(&spec_ex.into())?);
         writer.write_all(&header)?;
-        let recorder = Recorder::begin(&spec_ex.into())?;
         Ok(WavWriter::at(writer, header.len() as u64, spec_ex, recorder))
     }
 
     fn at(writer: W, place: u64, spec_ex: WavSpecEx, recorder: Recorder) -> WavWriter<W> {
-        let unused = 32 - u32::from(spec_ex.spec.bits_per_sample.clamp(1, 32));
         WavWriter {
             core: Core {
                 spec_ex,
@@ -194,8 +189,7 @@ impl<W: Write + Seek> WavWriter<W> {
                 buffer: Vec::new(),
                 count: 0,
                 format: SampleFormat::Int,
-                least: i32::MIN >> unused,
-                most: i32::MAX >> unused,
+                unused: 32 - u32::from(spec_ex.spec.bits_per_sample.clamp(1, 32)),
                 bytes: Vec::new(),
             },
             batch: Vec::new(),
@@ -234,8 +228,7 @@ impl<W: Write + Seek> WavWriter<W> {
     #[cold]
     fn make_batch(&mut self, count: usize) {
         let spec = self.spec();
-        assert_eq!(spec.sample_format, SampleFormat::Int, "a batch is of integers");
-        assert_eq!(spec.bits_per_sample, 16, "a batch is of 16 bits");
+        assert_eq!((spec.sample_format, spec.bits_per_sample), (SampleFormat::Int, 16), "a batch is of integers of 16 bits");
         self.batch.resize(count.max(1), 0);
     }
 
@@ -264,7 +257,6 @@ impl<W: Write + Seek> WavWriter<W> {
     }
 
     /// How many samples the file has up to now, of all channels together.
-    #[allow(clippy::len_without_is_empty)]
     pub fn len(&self) -> u32 {
         self.core.samples() as u32
     }
@@ -282,7 +274,7 @@ impl<W: Read + Write + Seek> WavWriter<W> {
     /// Appends to a file, of which the writer has to be at the beginning: the next sample follows those
     /// that its header counts. A fact chunk stays as it is.
     pub fn new_append(mut writer: W) -> Result<WavWriter<W>> {
-        let info = walk_to_data(&mut writer)?;
+        let info = Walk::over(&mut writer)??;
         let recorder = Recorder::append(&info)?;
         let place = recorder.place(0)?;
         writer.seek(SeekFrom::Start(place))?;
@@ -299,7 +291,7 @@ impl WavWriter<io::BufWriter<fs::File>> {
     /// Appends to a file as `new_append` does.
     pub fn append<P: AsRef<path::Path>>(filename: P) -> Result<WavWriter<io::BufWriter<fs::File>>> {
         let mut reader = io::BufReader::new(fs::OpenOptions::new().read(true).write(true).open(filename)?);
-        let info = walk_to_data(&mut reader)?;
+        let info = Walk::over(&mut reader)??;
         let recorder = Recorder::append(&info)?;
         let (place, mut file) = (recorder.place(0)?, reader.into_inner());
         file.seek(SeekFrom::Start(place))?;
@@ -314,8 +306,7 @@ impl WavWriter<io::BufWriter<fs::File>> {
     pub fn create_durable<P: AsRef<path::Path>>(filename: P, spec: WavSpec) -> Result<WavWriter<io::BufWriter<fs::File>>> {
         let file = fs::File::create(&filename)?;
         file.sync_all()?;
-        let folder = fs::canonicalize(filename)?.parent().map(fs::File::open);
-        folder.map_or(Ok(()), |folder| folder?.sync_all())?;
+        fs::File::open(fs::canonicalize(filename)?.parent().unwrap_or(path::Path::new("/")))?.sync_all()?;
         let mut writer = WavWriter::new(io::BufWriter::new(file), spec)?;
         writer.core.sync = |file| file.flush().and_then(|()| file.get_ref().sync_data());
         Ok(writer)

@@ -4,7 +4,7 @@
 //! are as they were before.
 #![warn(missing_docs)]
 
-use std::{error, fmt};
+use std::{error, fmt, io};
 
 // Each error, its code, and the sentence of hound.h for it, which scripts/check_errors compares.
 macro_rules! errors {
@@ -364,6 +364,7 @@ pub fn info(file: &[u8]) -> Result<Info> {
 
 /// A walk to the data of a file that isn't in memory, or comes from a pipe. It requests one part of
 /// the file after the other, none of the data, and of a chunk that it skips the last byte alone.
+/// [`Walk::over`] reads them in order.
 ///
 /// ```no_run
 /// use std::io::{Read, Seek, SeekFrom};
@@ -388,6 +389,30 @@ impl Walk {
     /// A walk that requests the first bytes of a file.
     pub fn new() -> Walk {
         Walk(c::Walk { length: 12, ..c::Walk::default() })
+    }
+
+    /// Reads up to the data, and not a byte of them. A read that is interrupted is an error, as any other.
+    pub fn over<R: io::Read>(reader: &mut R) -> io::Result<Result<Info>> {
+        let (mut walk, mut place, mut bytes) = (Walk::new(), 0, [0; 1024]);
+        loop {
+            let skipped = (walk.place() - place).min(bytes.len() as u64) as usize;
+            let wanted = if skipped > 0 { skipped } else { walk.length() };
+            let mut count = 0;
+            while count < wanted {
+                match reader.read(&mut bytes[count..wanted])? {
+                    0 => break,
+                    more => count += more,
+                }
+            }
+            place += count as u64;
+            if skipped == 0 || count < wanted {
+                match walk.take(&bytes[..if skipped == 0 { count } else { 0 }]) {
+                    Ok(Some(info)) => return Ok(Ok(info)),
+                    Ok(None) => {}
+                    Err(error) => return Ok(Err(error)),
+                }
+            }
+        }
     }
 
     /// Where in the file the requested bytes begin.
@@ -588,6 +613,38 @@ pub fn decode<S: Coded>(spec: &Spec, bytes: &[u8], out: &mut [S]) -> Result<usiz
 /// Encodes samples without a file around them, and returns how many bytes they take.
 pub fn encode<S: Coded>(spec: &Spec, samples: &[S], out: &mut [u8]) -> Result<usize> {
     checked(S::encode(&spec.to_c(), samples, out))
+}
+
+/// The single containers, and so the call for the integer of one.
+#[derive(Clone, Copy, Debug, PartialEq, Eq)]
+pub enum Container {
+    /// One byte: `value_8`.
+    Int8,
+    /// Two bytes: `value_16`.
+    Int16,
+    /// Three bytes: `value_24`.
+    Int24,
+    /// 24 bits in four bytes: `value_24`.
+    Int24In4,
+    /// Four bytes: `value_32`.
+    Int32,
+    /// Four bytes, which are the pattern of a float.
+    Float,
+}
+
+impl Container {
+    /// The containers of a spec with its bytes, if they are read.
+    pub fn of(spec: &Spec) -> Option<Container> {
+        Some(match (spec.format, spec.bits_per_sample, spec.bytes_per_sample) {
+            (Format::Int, 8, 1) => Container::Int8,
+            (Format::Int, 16, 2) => Container::Int16,
+            (Format::Int, 24, 3) => Container::Int24,
+            (Format::Int, 24, 4) => Container::Int24In4,
+            (Format::Int, 32, 4) => Container::Int32,
+            (Format::Float, 32, 4) => Container::Float,
+            _ => return None,
+        })
+    }
 }
 
 /// The integer of one container of 8 bits. Its bytes are the low ones of a number, the first byte the

@@ -1,7 +1,7 @@
 //! The calls over small files.
 use hound_bindings::{
     append_to, decode, encode, find_damage, from_f32, header, info, read, read_into, repair, size, sizes, to_f32, value_16, value_24, value_32, value_8, write,
-    write_to, Error, Format, Spec, State, Walk, ERRORS,
+    write_to, Container, Error, Format, Recorder, Spec, State, Walk, ERRORS,
 };
 
 const SPEC: Spec = Spec {
@@ -135,4 +135,46 @@ fn single_containers() {
     assert_eq!((value_16(0x8000), value_16(0x17fff)), (-32768, 32767));
     assert_eq!((value_24(0x80_0000), value_24(0x17f_ffff)), (-8_388_608, 8_388_607));
     assert_eq!((value_32(0x8000_0000), value_32(u32::MAX)), (i32::MIN, -1));
+}
+
+#[test]
+fn the_containers_are_those_that_are_decoded() {
+    let mut known = 0;
+    for format in [Format::Int, Format::Float] {
+        for (bits, bytes) in (0..70).flat_map(|bits| (1..10).map(move |bytes| (bits, bytes))) {
+            let spec = Spec { bits_per_sample: bits, bytes_per_sample: bytes, format, ..SPEC };
+            let decodes = decode::<i32>(&spec, &[], &mut []).is_ok() || decode::<f32>(&spec, &[], &mut []).is_ok();
+            assert_eq!(Container::of(&spec).is_some(), decodes, "{spec:?}");
+            known += decodes as u32;
+        }
+    }
+    assert_eq!(known, 6);
+}
+
+#[test]
+fn a_walk_over_a_reader_takes_no_byte_of_the_data() {
+    let mut file = write(&SPEC, &[2i16, 3]).unwrap();
+    file.splice(12..12, *b"junk\x03\0\0\0abc\0");
+    let mut rest = &file[..];
+    let found = Walk::over(&mut rest).unwrap().unwrap();
+    assert_eq!((found.samples, found.data_start, rest), (2, 56, &[2, 0, 3, 0][..]));
+    assert_eq!(Walk::over(&mut &file[..20]).unwrap(), Err(Error::Ended));
+    assert_eq!(Walk::over(&mut &b"RIFX"[..]).unwrap(), Err(Error::NoRiffTag));
+}
+
+#[test]
+fn a_recorder_goes_on_after_a_failed_write() {
+    let mut recorder = Recorder::append(&info(&write(&SPEC, &[2i16]).unwrap()).unwrap()).unwrap();
+    assert_eq!((recorder.samples(), recorder.place(1)), (1, Ok(46)));
+    assert_eq!(recorder.wrote(1, false), Ok(()));
+    assert_eq!(recorder.place(1), Err(Error::NeedsCheckpoint));
+    assert!(recorder.next_effect(true).unwrap().unwrap().is_sync());
+    let mut places = Vec::new();
+    while let Some(effect) = recorder.next_effect(true).unwrap() {
+        places.push((effect.place(), effect.bytes().to_vec()));
+    }
+    assert_eq!(places, [(0, vec![]), (4, vec![38, 0, 0, 0]), (40, vec![2, 0, 0, 0]), (0, vec![])]);
+    assert_eq!(recorder.place(2_147_483_629), Err(Error::TooLong));
+    recorder.next_effect(true).unwrap();
+    assert_eq!(recorder.next_effect(false).err(), Some(Error::SyncFailed));
 }
