@@ -1,6 +1,6 @@
 -- A recorder, whose caller writes the file.
-use Rattle.std.specs.Prelude.{◌≡◌, ◌⊎◌, ℕ, ◌+◌, ◌-◌, ◌*◌, ◌%◌, ◌<◌, ◌≤◌, ◌==◌, if◌then◌else◌, Bool, true, false, List, ◌∷◌, length, Option, None, Some, Result, Ok, Err}
-use Rattle.hound_spec.specs.{IsPair, IsWritable, greatest_u32, header, riff_size}
+use Rattle.std.specs.Prelude.{◌≡◌, ◌⊎◌, ℕ, ◌+◌, ◌-◌, ◌*◌, ◌%◌, ◌<◌, ◌≤◌, ◌==◌, if◌then◌else◌, Bool, true, false, List, ◌∷◌, Option, None, Some, Result, Ok, Err}
+use Rattle.hound_spec.specs.{IsPair, IsWritable, data_start, greatest_u32, riff_size}
 use Rattle.hound_spec.specs.declared.spec.WavSpecEx.{WavSpecEx}
 use Rattle.hound_writer.specs.Effects.{checkpoint, nth}
 use Rattle.hound_writer.specs.declared.effects.Effect.{Effect}
@@ -22,7 +22,7 @@ recorder_of start len width = record {
 -- what the call for a new file does
 abbrev pub BeginsRecorder : WavSpecEx → Result Recorder RecorderError → Type 0
 BeginsRecorder s (Ok recorder) = IsWritable s
-    × (recorder ≡ recorder_of (length (header s 0 0)) 0 s.bytes_per_sample)
+    × (recorder ≡ recorder_of (data_start s) 0 s.bytes_per_sample)
 BeginsRecorder s (Err error) = (IsWritable s → ⊥) × (error ≡ NotWritable)
 
 -- a file has so many bytes of data where a recorder's begin

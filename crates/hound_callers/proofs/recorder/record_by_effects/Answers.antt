@@ -1,7 +1,6 @@
 use Rattle.std.proofs.lemmas.Grind.{common_steps}
-use Rattle.std.proofs.Common.{arith, ap, refl, subst, ◌∙◌}
+use Rattle.std.proofs.Common.{arith, refl, subst}
 use Rattle.hound.specs.{Opened, data_start, recorder_of, recording}
-use Rattle.hound.proofs.Knowing.{length-header}
 use Rattle.hound_callers.specs.Recorder.{IsRecorderOf, Saves}
 use Rattle.hound_callers.proofs.Performing.{log_of, canonical_saved, careful_saves}
 use Rattle.hound_callers.proofs.recorder.record_by_effects.Goals as goal
@@ -23,7 +22,7 @@ returns-clause-kept g c tells keeps =
       none = refl;
       width = grind (arith, common_steps);
       after_head = grind (arith, common_steps);
-      is = c.in-Ok.ensures.1 ∙ ap (λ n. recorder_of n 0 s.bytes_per_sample) (length-header s 0 0);
+      is = c.in-Ok.ensures.1;
       medium = refl;
     } in
     let (actions, saves, (last, acts, there)) = c.save_blocks.ensures.saved tells keeps w is in
