@@ -114,16 +114,12 @@ const CONTAINERS: [&[u8]; 3] = [&[2, 0], &[0xfd, 0xff, 5, 0], &[0xf9, 0xff]];
 
 // Three samples of 8 bits, and the file that sox makes of them.
 const ODD: [&[u8]; 2] = [&[0x80, 0x81], &[0x7f]];
+
 const ODD_FILE: &[u8; 48] = b"RIFF\x28\0\0\0WAVEfmt \x10\0\0\0\x01\0\x01\0\x44\xac\0\0\
     \x44\xac\0\0\x01\0\x08\0data\x03\0\0\0\x80\x81\x7f\0";
 
 // Whether all blocks are saved, synced, and are this file.
-fn saves(
-    alloc: Global,
-    spec_ex: WavSpecEx,
-    blocks: &[&[u8]],
-    file: &[u8],
-) -> hound::Result<bool> {
+fn saves(alloc: Global, spec_ex: WavSpecEx, blocks: &[&[u8]], file: &[u8]) -> hound::Result<bool> {
     let mut journal = Journal::new(alloc, Vec::new(alloc))?;
     let count = record_by_effects(&mut journal, spec_ex, blocks)?;
     let taken = journal.taken();
