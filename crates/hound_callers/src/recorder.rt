@@ -117,14 +117,15 @@ fn save_blocks<M: Medium>(medium: &mut M, recorder: &mut Recorder, blocks: &[&[u
     blocks.len()
 }
 
-/// Records blocks of containers into a new file, with a checkpoint after each, until a call fails, and
-/// returns how many blocks were saved. It writes the bytes and performs the effects itself.
+/// Records blocks of containers into a new file, with a checkpoint after each, until a call fails or a
+/// block doesn't fit, and returns how many blocks were saved. It writes the bytes and performs the
+/// effects itself. It is an error if the file isn't begun (`refused`).
 ///
-/// Its actions are the write and the checkpoint of each of these blocks, and then those of the next one, up
-/// to the one that failed; whatever sectors keep what was written since the medium was flushed, what
-/// is left counts, and has lost no sample of a checkpoint (`kept`). Once all blocks are saved the file
-/// is the canonical one of their samples (`file`). The medium must be new: its place is 0, and nothing
-/// has been written to it yet.
+/// Its actions are the write and the checkpoint of each of these blocks, and then those of the next one,
+/// up to the one that failed; whatever sectors keep what was written since the medium was flushed,
+/// what is left counts, and has lost no sample of a checkpoint (`kept`). Once all blocks are saved the
+/// file is the canonical one of their samples (`file`). The medium must be new: its place is 0, and
+/// nothing has been written to it yet.
 pub fn record_by_effects<M: Medium>(
     medium: &mut M,
     spec_ex: WavSpecEx,
