@@ -177,8 +177,8 @@ impl<R: Read> WavReader<R> {
     fn next_quickly<S: Sample>(&mut self) -> Option<S> {
         let (coding, size) = (S::CODING?, mem::size_of::<S>());
         let is_int = coding.format == SampleFormat::Int;
-        let sample = match self.next.filter(|_| self.samples_read < self.num_samples) {
-            None => return self.next_ahead(),
+        let sample = match self.next {
+            next if next.is_none() || self.samples_read >= self.num_samples => return self.next_ahead(),
             Some(Container::Int16) if is_int && size >= 2 => proved::value_16(u16::from_le_bytes(self.container()?).into()),
             Some(Container::Int24) if is_int && size >= 4 => {
                 let [low, middle, high] = self.container()?;
@@ -190,13 +190,13 @@ impl<R: Read> WavReader<R> {
             Some(Container::Float) if !is_int => i32::from_le_bytes(self.container()?),
             _ => return None,
         };
-        self.samples_read += 1;
         Some((coding.from)(sample))
     }
 
     #[inline(always)]
     fn container<const WIDTH: usize>(&mut self) -> Option<[u8; WIDTH]> {
         let mut container = [0; WIDTH];
+        self.samples_read += 1;
         match self.reader.read(&mut container) {
             Ok(count) if count == WIDTH => Some(container),
             first => self.read_rest(&mut container, first).then_some(container),
@@ -210,7 +210,6 @@ impl<R: Read> WavReader<R> {
         let width = container.len();
         let (count, fault) = finish_container(&mut self.reader, container, width, first);
         self.not_taken += (width - count) as i64;
-        self.samples_read += u64::from(fault.is_some());
         self.fault = fault;
         self.fault.is_none()
     }
