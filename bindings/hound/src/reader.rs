@@ -4,7 +4,7 @@ use crate::sample::check;
 use crate::spec::containers;
 use crate::{Result, Sample, SampleFormat, WavSpec, WavSpecEx, BLOCK};
 use std::io::{self, BufRead, Read};
-use std::{fs, marker, mem, path};
+use std::{fs, marker, mem, panic, path};
 
 /// Reads on from byte `count` of these, until they or the reader end.
 pub(crate) fn read_on<R: Read>(reader: &mut R, bytes: &mut [u8], count: &mut usize) -> io::Result<()> {
@@ -56,6 +56,10 @@ pub struct WavReader<R> {
     fault: Option<io::Error>,
     buffer: Option<Buffer<R>>,
 }
+
+// What a closure that panics leaves can be read on, though a fault can't be looked at after a panic.
+impl<R: panic::UnwindSafe> panic::UnwindSafe for WavReader<R> {}
+impl<R: panic::RefUnwindSafe> panic::RefUnwindSafe for WavReader<R> {}
 
 // How the buffer of the reader of `open` is looked at, and bytes of it are taken.
 type Buffer<R> = (fn(&mut R) -> io::Result<&[u8]>, fn(&mut R, usize));
