@@ -4,7 +4,7 @@
 //! hound, and no proof.
 //!
 //! A program that depends on hound needs these lines in its `Cargo.toml`, with the URL of this repository,
-//! and no other change. Where there is a `Cargo.lock` with hound in it, `cargo update hound` is needed once.
+//! and no other change. Where there is a `Cargo.lock` with hound in it, `cargo update -p hound` is needed once.
 //!
 //! ```toml
 //! [patch.crates-io]
@@ -46,6 +46,7 @@
 //! - A fold, and what is made of one (`for_each`, `sum`, `count`), reads blocks. After a closure that
 //!   panicked the next sample is the one after the last, but the reader may have given more bytes.
 //! - `WavReader<R>` isn't covariant in `R`.
+//! - Where a header is wrong, more of its bytes may have been taken.
 //!
 //! Writing:
 //!
