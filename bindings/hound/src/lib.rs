@@ -1,8 +1,15 @@
-//! The API of hound 3.5.1, a library for WAV files, over proved code: what is read and written of the
-//! format, and the order of writes, are the exports of `hound_c`, which `hound_bindings` calls. Here are
-//! only hound's types and buffers.
+//! The API of hound 3.5.1, a library for WAV files, over proved code: the walk over the chunks of a file,
+//! headers, sizes, containers and the order of writes are exports of `hound_c`, which `hound_bindings`
+//! calls. Here are hound's types and the buffers between them and those calls, which tests compare with
+//! hound, and no proof.
 //!
-//! A program that depends on hound needs no change but in its `Cargo.toml`.
+//! A program that depends on hound needs these lines in its `Cargo.toml`, with the URL of this repository,
+//! and no other change. Where there is a `Cargo.lock` with hound in it, `cargo update -p hound` is needed once.
+//!
+//! ```toml
+//! [patch.crates-io]
+//! hound = { git = "URL" }
+//! ```
 //!
 //! ```
 //! # let path = std::env::temp_dir().join(format!("hound-page-{}.wav", std::process::id()));
@@ -28,6 +35,31 @@
 //!
 //! What hound doesn't have is marked "own": [`WavReader::read_samples`], [`WavWriter::write_samples`],
 //! [`WavWriter::create_durable`], [`repair_file`].
+//!
+//! # Differences from hound 3.5.1
+//!
+//! Reading:
+//!
+//! - The pad byte after an odd chunk is skipped, and each chunk takes its whole length.
+//! - `seek` leads to its frame also after samples that were rejected or torn, and where 24 bits are in four
+//!   bytes.
+//! - A fold, and what is made of one (`for_each`, `sum`, `count`), reads blocks. After a closure that
+//!   panicked the next sample is the one after the last, but the reader may have given more bytes.
+//! - `WavReader<R>` isn't covariant in `R`.
+//! - Where a header is wrong, more of its bytes may have been taken.
+//!
+//! Writing:
+//!
+//! - A pad byte, which the RIFF size counts, follows odd data.
+//! - Up to 4096 samples are buffered. A fault is reported by the call that meets it; the samples that were
+//!   accepted stay in the buffer, and the next call writes them at their place. So there is no call for each
+//!   sample, and `flush` or `finalize` is needed before the writer is looked at.
+//! - `flush` in an unfinished frame stores all samples, then it returns `UnfinishedSample`.
+//! - A file that its sizes can't count, which hound makes with wrong sizes, is an `IoError`.
+//! - A spec that can't be written is `Unsupported`, and nothing is written: hound panics, or writes wrong
+//!   headers.
+//! - Files of 24 bits in four bytes are appended to.
+//! - `write_sample_unchecked` is checked, and safe: rustc warns of an `unsafe` around it.
 #![forbid(unsafe_code)]
 #![warn(missing_docs)]
 

@@ -4,7 +4,7 @@ use crate::sample::check;
 use crate::spec::containers;
 use crate::{Result, Sample, SampleFormat, WavSpec, WavSpecEx, BLOCK};
 use std::io::{self, BufRead, Read};
-use std::{fs, marker, mem, path};
+use std::{fs, marker, mem, panic, path};
 
 /// Reads on from byte `count` of these, until they or the reader end.
 pub(crate) fn read_on<R: Read>(reader: &mut R, bytes: &mut [u8], count: &mut usize) -> io::Result<()> {
@@ -56,6 +56,10 @@ pub struct WavReader<R> {
     fault: Option<io::Error>,
     buffer: Option<Buffer<R>>,
 }
+
+// What a closure that panics leaves can be read on, though a fault can't be looked at after a panic.
+impl<R: panic::UnwindSafe> panic::UnwindSafe for WavReader<R> {}
+impl<R: panic::RefUnwindSafe> panic::RefUnwindSafe for WavReader<R> {}
 
 // How the buffer of the reader of `open` is looked at, and bytes of it are taken.
 type Buffer<R> = (fn(&mut R) -> io::Result<&[u8]>, fn(&mut R, usize));
@@ -177,8 +181,8 @@ impl<R: Read> WavReader<R> {
     fn next_quickly<S: Sample>(&mut self) -> Option<S> {
         let (coding, size) = (S::CODING?, mem::size_of::<S>());
         let is_int = coding.format == SampleFormat::Int;
-        let sample = match self.next.filter(|_| self.samples_read < self.num_samples) {
-            None => return self.next_ahead(),
+        let sample = match self.next {
+            next if next.is_none() || self.samples_read >= self.num_samples => return self.next_ahead(),
             Some(Container::Int16) if is_int && size >= 2 => proved::value_16(u16::from_le_bytes(self.container()?).into()),
             Some(Container::Int24) if is_int && size >= 4 => {
                 let [low, middle, high] = self.container()?;
@@ -190,13 +194,13 @@ impl<R: Read> WavReader<R> {
             Some(Container::Float) if !is_int => i32::from_le_bytes(self.container()?),
             _ => return None,
         };
-        self.samples_read += 1;
         Some((coding.from)(sample))
     }
 
     #[inline(always)]
     fn container<const WIDTH: usize>(&mut self) -> Option<[u8; WIDTH]> {
         let mut container = [0; WIDTH];
+        self.samples_read += 1;
         match self.reader.read(&mut container) {
             Ok(count) if count == WIDTH => Some(container),
             first => self.read_rest(&mut container, first).then_some(container),
@@ -210,7 +214,6 @@ impl<R: Read> WavReader<R> {
         let width = container.len();
         let (count, fault) = finish_container(&mut self.reader, container, width, first);
         self.not_taken += (width - count) as i64;
-        self.samples_read += u64::from(fault.is_some());
         self.fault = fault;
         self.fault.is_none()
     }

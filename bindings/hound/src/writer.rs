@@ -63,10 +63,6 @@ impl<W: Write + Seek> Core<W> {
         containers(format, self.spec_ex.spec.bits_per_sample, self.spec_ex.bytes_per_sample)
     }
 
-    fn samples(&self) -> u64 {
-        self.recorder.samples() + self.count as u64
-    }
-
     fn write_at(&mut self, place: u64, bytes: &[u8]) -> io::Result<()> {
         if self.place.take() != Some(place) {
             self.writer.seek(SeekFrom::Start(place))?;
@@ -157,7 +153,7 @@ impl<W: Write + Seek> Core<W> {
         if flushes {
             self.writer.flush()?;
         }
-        match self.samples() % u64::from(self.spec_ex.spec.channels) {
+        match self.recorder.samples() % u64::from(self.spec_ex.spec.channels) {
             0 => Ok(()),
             _ => Err(Error::UnfinishedSample),
         }
@@ -258,7 +254,7 @@ impl<W: Write + Seek> WavWriter<W> {
 
     /// How many samples the file has up to now, of all channels together.
     pub fn len(&self) -> u32 {
-        self.core.samples() as u32
+        (self.core.recorder.samples() + self.core.count as u64) as u32
     }
 }
 

@@ -239,6 +239,14 @@ fn a_file_that_was_cut_off_is_repaired() {
     assert_eq!(hound::repair_file(&path).unwrap().was, hound::RepairState::Whole);
 }
 
+#[test]
+fn readers_and_writers_are_sent_shared_and_survive_panics() {
+    fn can_be<T: Send + Sync + std::panic::UnwindSafe + std::panic::RefUnwindSafe>() {}
+    can_be::<WavReader<io::BufReader<fs::File>>>();
+    can_be::<hound::WavIntoSamples<io::BufReader<fs::File>, i16>>();
+    can_be::<WavWriter<io::BufWriter<fs::File>>>();
+}
+
 /// A file of 4 GiB, of which only the header is kept.
 struct Long {
     header: Cursor<Vec<u8>>,

@@ -1,6 +1,7 @@
 //! A writer of which each call fails in turn, once or from there on, a write after half of its bytes: after an Ok
 //! `finalize` the original reads the accepted samples, exactly; after an error those of the last `flush` that was Ok, and
-//! maybe more of the accepted. The package keeps this; of the original it is counted.   faults
+//! maybe more of the accepted. The package keeps this; of the original it is counted. (An append that can't begin leaves the
+//! file as it was.)   faults
 use dropin::{both, Tally};
 use std::cell::RefCell;
 use std::collections::BTreeMap;
@@ -106,9 +107,7 @@ both! {
         if plan.appends && record.ended {
             disk.0.borrow_mut().file.set_position(0);
             record.flushed = record.accepted.len();
-            let begun = record.accepted.len();
             write(WavWriter::new_append(disk.clone()), plan, &mut record);
-            record.ended |= record.accepted.len() == begun;
         }
         record
     }
