@@ -12,6 +12,7 @@ use Rattle.hound.specs.Run.{asked_by}
 use Rattle.hound.specs.declared.session.Step.{Step}
 pub use Rattle.hound_spec.proofs.HeaderLemmas.{length-header}
 pub use Rattle.hound_reader.proofs.WrittenLemmas.{length-concat}
+pub use Rattle.hound_writer.proofs.Publishing.{reads_all}
 pub use Rattle.hound_writer.proofs.Samples.{samples_out}
 
 -- a call of which something is known is among the calls

@@ -1,14 +1,15 @@
 -- Effects that are performed one after the other, as a recorder says.
 use Rattle.std.proofs.lemmas.Bool.{false≢true}
 use Rattle.std.proofs.lemmas.Grind.{common_steps}
-use Rattle.std.proofs.Common.{◌≡◌, ◌<◌, ◌≤◌, ◌+◌, ◌/◌, ◌%◌, ℕ, zero, suc, Bool, true, false, List, [], ◌∷◌, ◌++◌, drop, drop-cons, get_or, length, map, inl, inr, Option, Some, None, Result, Ok, Err, MatchResult, OnOk, IsErr, is_ok, refl, rules, sym, ◌∙◌, ap, subst, append_assoc, arith}
+use Rattle.std.proofs.Common.{◌≡◌, ◌<◌, ◌≤◌, ◌+◌, ◌-◌, ◌*◌, ◌/◌, ◌%◌, ℕ, zero, suc, Bool, true, false, List, [], ◌∷◌, ◌++◌, drop, drop-cons, get_or, length, map, take, inl, inr, Option, Some, None, Result, Ok, Err, MatchResult, OnOk, IsErr, is_ok, refl, rules, sym, ◌∙◌, ap, subst, append_assoc, arith}
 use Rattle.std.specs.declared.io.Error.{Error as IoFault}
-use Rattle.std.proofs.Math.Nat.{div-add-mod'}
+use Rattle.std.proofs.Math.Nat.{div-add-mod', mul-div_cancel, mul-mod_left}
+use Rattle.hound.proofs.Knowing.{length-concat, reads_all}
+use Rattle.std.proofs.lemmas.List.{append-nil}
 use Rattle.std.specs.Borrow.{Bor}
-use Rattle.std.specs.Io.{StartsWith}
-use Rattle.std.specs.List.{flat_map}
-use Rattle.hound.specs.{Acted, Action, Acts, ActsAll, AreBytes, AreKnown, Call, Effect, HasData, HasPublished, IsCareful, KeptWithin, Log, MediumState, NextEffect, Performed, Performs, Places, PutsAt, Recorder, RecorderError, WavSpecEx, WriterState, accepted_by_all, accepted_of, advanced, block, canonical, checkpoint, effects_of, known_of, length_with, log_state, new_file, nth, overlay, recorder_of, save}
-use Rattle.hound_callers.specs.Recorder.{ActsTo, IsRecorderOf, IsRefused, RecordsTo, Saves, StopsIn, containers_of_block, done, failed, longer}
+use Rattle.std.specs.List.{AllByRecursion, concat, flat_map}
+use Rattle.hound.specs.{Acted, Action, Acts, ActsAll, AreBytes, AreKnown, Call, Effect, HasData, HasPublished, IsCareful, KeptWithin, Log, MediumState, NextEffect, Performed, Performs, Places, PutsAt, Recorder, RecorderError, WavSpecEx, WriterState, accepted_by_all, accepted_of, advanced, block, checkpoint, data_start, effects_of, field, known_of, length_with, log_state, mark_of, new_file, nth, overlay, publish, recorder_of, save}
+use Rattle.hound_callers.specs.Recorder.{ActsTo, IsRecorderOf, IsRefused, RecordsTo, Saves, ReadsBlocks, StopsIn, AreDone, containers_of_block, done, failed, longer}
 use Rattle.hound.specs.declared.RecorderError.TheVariants.{NotWritable, UnfinishedFrame, TooLong, NeedsCheckpoint, SyncFailed}
 
 -- a file in this state
@@ -241,47 +242,107 @@ careful_saves r (bytes ∷ blocks) (suc n) actions (rest, is, saves) =
     rw is (careful_done (block bytes.now) (done save ∷ rest)
     (careful_done save rest (careful_saves (longer r (length bytes.now)) blocks n rest saves)))
 
--- the actions of blocks that were all saved
-abbrev saved : List (Bor (List ℕ)) → List Acted
-saved [] = []
-saved (bytes ∷ blocks) = done (block bytes.now) ∷ done save ∷ saved blocks
+-- the calls of a block that was saved, and of the actions after it
+block_known : (s : WavSpecEx) (bytes : Bor (List ℕ)) (rest : List Acted) (calls : List Call)
+    → AreKnown (map (known_of s) (done (block bytes.now) ∷ done save ∷ rest)) calls
+    → (one two : Call) × (later : List Call) × (calls ≡ one ∷ two ∷ later)
+    × (accepted_of one.asked (mark_of one.answer) ≡ containers_of_block s bytes) × HasPublished two
+    × AreKnown (map (known_of s) rest) later
+block_known s bytes rest [] are = absurd are
+block_known s bytes rest (one ∷ []) are = absurd are.1
+block_known s bytes rest (one ∷ two ∷ later) ((asked, mark), (has_all, known)) =
+    (one, two, later, refl, (λ i. accepted_of (asked i) (mark i)), has_all, known)
 
-all_saved : (r : Recorder) (blocks : List (Bor (List ℕ))) (n : ℕ) (actions : List Acted)
-    → n ≡ length blocks → Saves r blocks n actions → actions ≡ saved blocks
-all_saved r [] n actions all (none, is) = is
-all_saved r (bytes ∷ blocks) zero actions all saves = absurd (omega (arith, all))
-all_saved r (bytes ∷ blocks) (suc n) actions all (rest, is, saves) =
-    let same = all_saved (longer r (length bytes.now)) blocks n rest (omega (arith, all)) saves in
-    is ∙ ap (λ l. done (block bytes.now) ∷ done save ∷ l) same
+-- calls that accepted and published nothing
+abbrev Idle : List Call → Type 0
+Idle calls = AllByRecursion (λ call. call.asked ≡ publish → ⊥) calls × (accepted_by_all calls ≡ [])
 
--- the last call of blocks that were saved published them
-pub all_published : (s : WavSpecEx) (blocks : List (Bor (List ℕ))) (calls : List Call) → 0 < length blocks
-    → AreKnown (map (known_of s) (saved blocks)) calls
-    → (before : List Call) × (end : Call) × (calls ≡ before ++ (end ∷ [])) × HasPublished end
-    × (accepted_by_all before ≡ flat_map (containers_of_block s) blocks)
-all_published s [] calls some are = absurd (omega (arith, some))
-all_published s (bytes ∷ blocks) [] some are = absurd are
-all_published s (bytes ∷ blocks) (one ∷ []) some are = absurd are.1
-all_published s (bytes ∷ []) (one ∷ end ∷ []) some ((asked, mark), (has_all, none)) =
-    (one ∷ [], end, refl, has_all, λ i. accepted_of (asked i) (mark i) ++ [])
-all_published s (bytes ∷ []) (one ∷ end ∷ other ∷ calls) some are = absurd are.1.1
-all_published s (bytes ∷ next ∷ blocks) (one ∷ two ∷ calls) some ((asked, mark), ((publish, done), are)) =
-    let (before, end, parts, has_all, is) = all_published s (next ∷ blocks) calls (omega arith) are in (
-      one ∷ two ∷ before,
-      end,
-      ap (λ l. one ∷ two ∷ l) parts,
+idle_none : (s : WavSpecEx) (rest : List Acted) (calls : List Call) → rest ≡ []
+    → AreKnown (map (known_of s) rest) calls → Idle calls
+idle_none s rest [] is are = (tt, refl)
+idle_none s rest (call ∷ calls) is are = absurd (rw is at are)
+
+idle_failed : (s : WavSpecEx) (bytes : List ℕ) (e : IoFault) (calls : List Call)
+    → AreKnown (map (known_of s) (failed (block bytes) e ∷ [])) calls → Idle calls
+idle_failed s bytes e [] are = absurd are
+idle_failed s bytes e (call ∷ []) ((asked, mark), none) =
+    (((λ is. cc), tt), λ i. accepted_of (asked i) (mark i) ++ [])
+idle_failed s bytes e (call ∷ other ∷ calls) are = absurd are.1
+
+idle_then : (r : Recorder) (s : WavSpecEx) (blocks : List (Bor (List ℕ))) (rest : List Acted)
+    (calls : List Call) → Saves r blocks 0 rest → AreDone rest → AreKnown (map (known_of s) rest) calls
+    → Idle calls
+idle_then r s [] rest calls (none, is) all are = idle_none s rest calls is are
+idle_then r s (bytes ∷ blocks) rest calls (inl (refused, is)) all are = idle_none s rest calls is are
+idle_then r s (bytes ∷ blocks) rest calls (inr (inl (e, is))) all are =
+    idle_failed s bytes.now e calls (rw is at are)
+idle_then r s (bytes ∷ blocks) rest calls (inr (inr (e, is))) all are =
+    let (first, (second, more)) = rw is at all in absurd (false≢true (second refl))
+
+-- the last checkpoint has published the blocks that were saved, and the calls after it changed nothing
+published : (r : Recorder) (s : WavSpecEx) (blocks : List (Bor (List ℕ))) (n : ℕ) (actions : List Acted)
+    (calls : List Call) → Saves r blocks (suc n) actions → AreDone actions
+    → AreKnown (map (known_of s) actions) calls
+    → (before later : List Call) × (flush : Call) × (calls ≡ before ++ (flush ∷ later))
+    × HasPublished flush × AllByRecursion (λ call. call.asked ≡ publish → ⊥) later
+    × (accepted_by_all before ≡ flat_map (containers_of_block s) (take (suc n) blocks))
+    × (accepted_by_all calls ≡ flat_map (containers_of_block s) (take (suc n) blocks))
+published r s [] n actions calls (none, is) all are = absurd (omega (arith, none))
+published r s (bytes ∷ blocks) zero actions calls (rest, is, saves) all are =
+    let (one, two, later, parts, first, has_all, known) = block_known s bytes rest calls (rw is at are) in
+    let (writes, none) = idle_then (longer r (length bytes.now)) s blocks rest later saves (rw is at all).1.1 known in (
+      one ∷ [],
+      later,
+      two,
+      parts,
       has_all,
-      λ i. accepted_of (asked i) (mark i) ++ (accepted_of (publish i) (done i) ++ is i),
+      writes,
+      (λ i. first i ++ []),
+      ap accepted_by_all parts ∙ (λ i. first i ++ (accepted_of (has_all.0 i) (has_all.1 i) ++ none i)),
+    )
+published r s (bytes ∷ blocks) (suc n) actions calls (rest, is, saves) all are =
+    let (one, two, more, parts, first, has_all, known) = block_known s bytes rest calls (rw is at are) in
+    let (before, later, flush, split, last, writes, so_far, sum) =
+    published (longer r (length bytes.now)) s blocks n rest more saves (rw is at all).1.1 known in (
+      one ∷ two ∷ before,
+      later,
+      flush,
+      parts ∙ ap (λ l. one ∷ two ∷ l) split,
+      last,
+      writes,
+      (λ i. first i ++ (accepted_of (has_all.0 i) (has_all.1 i) ++ so_far i)),
+      ap accepted_by_all parts ∙ (λ i. first i ++ (accepted_of (has_all.0 i) (has_all.1 i) ++ sum i)),
     )
 
--- so the file is the canonical one of all blocks
-pub canonical_saved : (r : Recorder) (s : WavSpecEx) (old : MediumState) (blocks : List (Bor (List ℕ)))
-    (n : ℕ) (actions : List Acted) (log : Log) → n ≡ length blocks → 0 < n → Saves r blocks n actions
+-- so the file is read as those blocks
+reads_saved : (r : Recorder) (s : WavSpecEx) (old : MediumState) (blocks : List (Bor (List ℕ))) (n : ℕ)
+    (actions : List Acted) (log : Log) → Saves r blocks (suc n) actions → AreDone actions
     → KeptWithin true true log_state s (new_file old) (map (known_of s) actions) log log.state
-    → StartsWith log.state.contents (canonical s (flat_map (containers_of_block s) blocks))
-canonical_saved r s old blocks n actions log all some saves kept =
-    let (before, end, parts, has_all, is) =
-    all_published s blocks kept.left.recorded.calls (omega (arith, all, some))
-    (rw (all_saved r blocks n actions all saves) at kept.left.recorded.are_known) in
-    subst (λ l. StartsWith log.state.contents (canonical s l)) is
-    (kept.promised.at_end.canonical before end parts has_all)
+    → ReadsBlocks s (take (suc n) blocks) log.state.contents
+reads_saved r s old blocks n actions log saves all kept frames =
+    let list = flat_map (containers_of_block s) (take (suc n) blocks) in
+    let calls = kept.left.recorded.calls in
+    let p = kept.promised.promises in
+    let end = kept.promised.at_end in
+    let m = log.state in
+    let (before, later, flush, parts, has_all, writes, so_far, sum) =
+    published r s blocks n actions calls saves all kept.left.recorded.are_known in
+    let at : calls ≡ before ++ (flush ∷ (later ++ [])) = rw append-nil parts in
+    let split : calls ≡ (before ++ (flush ∷ [])) ++ (later ++ []) = rw append_assoc at in
+    let says = p.published before later [] flush (length m.past) at has_all writes
+    (p.in_order (before ++ (flush ∷ [])) later [] split).0 (omega arith) in
+    let wide = length-concat s.bytes_per_sample list (rw sum at end.wide) in
+    let size : field (data_start s - 4) m.contents ≡ length list * s.bytes_per_sample =
+    ap (field (data_start s - 4)) (sym p.now) ∙ says ∙ ap (λ l. length (concat l)) so_far ∙ wide in
+    let count : length list * s.bytes_per_sample / s.bytes_per_sample ≡ length list =
+    mul-div_cancel (length list) end.sound.1 in
+    reads_all s (data_start s) (length list * s.bytes_per_sample) list m.contents
+    (mul-mod_left (length list) s.bytes_per_sample) (rw count frames) (sym count) size (rw sum at end.counts)
+
+pub reads_any : (r : Recorder) (s : WavSpecEx) (old : MediumState) (blocks : List (Bor (List ℕ))) (n : ℕ)
+    (actions : List Acted) (log : Log) → 0 < n → Saves r blocks n actions → AreDone actions
+    → KeptWithin true true log_state s (new_file old) (map (known_of s) actions) log log.state
+    → ReadsBlocks s (take n blocks) log.state.contents
+reads_any r s old blocks zero actions log some saves all kept = absurd (omega (arith, some))
+reads_any r s old blocks (suc n) actions log some saves all kept =
+    reads_saved r s old blocks n actions log saves all kept

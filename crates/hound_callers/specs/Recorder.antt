@@ -1,8 +1,9 @@
 -- What a caller does that performs a recorder's effects itself.
-use Rattle.std.specs.Prelude.{◌≡◌, ◌⊎◌, ℕ, zero, suc, ◌+◌, ◌/◌, ◌%◌, ◌<◌, ◌≤◌, List, [], ◌∷◌, length, Ok, Err}
+use Rattle.std.specs.Prelude.{◌≡◌, ◌⊎◌, ℕ, zero, suc, ◌+◌, ◌/◌, ◌%◌, ◌<◌, ◌≤◌, List, [], ◌∷◌, length, Ok, Err, is_ok, true}
 use Rattle.std.specs.Borrow.{Bor}
+use Rattle.std.specs.List.{AllByRecursion, flat_map}
 use Rattle.std.specs.declared.io.Error.{Error as IoFault}
-use Rattle.hound.specs.{Acted, Action, ActsAll, Log, MediumState, Recorder, WavSpecEx, WriterState, block, containers, greatest_u32, recorder_of, riff_size, save}
+use Rattle.hound.specs.{Acted, Action, ActsAll, Log, MediumState, ReadsAs, Recorder, WavSpecEx, WriterState, block, containers, data_start, greatest_u32, recorder_of, riff_size, save}
 
 -- an action that was done, or failed
 abbrev pub done : Action → Acted
@@ -37,6 +38,16 @@ Saves r (bytes ∷ blocks) (suc n) actions = (rest : List Acted)
 -- the samples of a block
 abbrev pub containers_of_block : WavSpecEx → Bor (List ℕ) → List (List ℕ)
 containers_of_block s bytes = containers s.bytes_per_sample (length bytes.now / s.bytes_per_sample) bytes.now
+
+-- each checkpoint that was begun was done
+abbrev pub AreDone : List Acted → Type 0
+AreDone actions = AllByRecursion (λ one. one.action ≡ save → is_ok one.result ≡ true) actions
+
+-- the file is read as exactly these blocks, if they are whole frames
+abbrev pub ReadsBlocks : WavSpecEx → List (Bor (List ℕ)) → List ℕ → Type 0
+ReadsBlocks s blocks contents =
+    let list = flat_map (containers_of_block s) blocks in
+    length list % s.spec.channels ≡ 0 → ReadsAs s (data_start s) list contents
 
 -- the recorder of this recording, in a file of this state
 pub record IsRecorderOf (r : Recorder) (w : WriterState Log) (state : MediumState) : Type 0 where

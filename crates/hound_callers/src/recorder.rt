@@ -1,10 +1,8 @@
 // A recorder whose caller performs the effects, on a medium.
 ghost use Rattle.std.specs.Prelude.{◌≡◌, ◌<◌, ◌≤◌, List, [], ◌++◌, IfErr, IfOk, Ok, MatchResult, OnErr, OnOk, Result, ◌∷◌, drop, is_ok, length, map, take, true};
-ghost use Rattle.std.specs.Io.{StartsWith};
-ghost use Rattle.std.specs.List.{flat_map};
 ghost use Rattle.std.specs.declared.io.Error.{Error as IoFault};
-ghost use Rattle.hound.specs.{Acted, HasData, IsNotBegun, KeptWithin, Log, Performed, Performs, PutsAt, WhereKeeps, WhereTells, WriterState, block, canonical, checkpoint, data_start, known_of, log_state, new_file, recorder_of, save};
-ghost use Rattle.hound_callers.specs.Recorder.{ActsTo, IsRecorderOf, RecordsTo, Saves, StopsIn, containers_of_block, done, longer};
+ghost use Rattle.hound.specs.{Acted, HasData, IsNotBegun, KeptWithin, Log, Performed, Performs, PutsAt, WhereKeeps, WhereTells, WriterState, block, checkpoint, data_start, known_of, log_state, new_file, recorder_of, save};
+ghost use Rattle.hound_callers.specs.Recorder.{ActsTo, AreDone, IsRecorderOf, ReadsBlocks, RecordsTo, Saves, StopsIn, done, longer};
 
 use hound::{
     Effect, Error, Medium, Recorder, RecorderError, WavSpecEx, a_recording_survives_a_loss,
@@ -123,9 +121,9 @@ fn save_blocks<M: Medium>(medium: &mut M, recorder: &mut Recorder, blocks: &[&[u
 ///
 /// Its actions are the write and the checkpoint of each of these blocks, and then those of the next one,
 /// up to the one that failed; whatever sectors keep what was written since the medium was flushed,
-/// what is left counts, and has lost no sample of a checkpoint (`kept`). Once all blocks are saved the
-/// file is the canonical one of their samples (`file`). The medium must be new: its place is 0, and
-/// nothing has been written to it yet.
+/// what is left counts, and has lost no sample of a checkpoint. Unless it was the checkpoint that failed, the
+/// file is read as exactly the samples of the blocks that were saved. The medium must be new: its
+/// place is 0, and nothing has been written to it yet.
 pub fn record_by_effects<M: Medium>(
     medium: &mut M,
     spec_ex: WavSpecEx,
@@ -140,10 +138,8 @@ pub fn record_by_effects<M: Medium>(
         × Saves (recorder_of (data_start spec_ex) 0 spec_ex.bytes_per_sample) blocks.now n actions
         × (log : Log) × (log.state ≡ M.state medium.new)
         × KeptWithin true true log_state spec_ex (new_file (M.state medium.old))
-        (map (known_of spec_ex) actions) log log.state)) }
-    ensures file { IfOk result (λ n. WhereKeeps M.tells M.keeps (0 < n → n ≡ length blocks.now
-        → StartsWith (M.state medium.new).contents (canonical spec_ex
-        (flat_map (containers_of_block spec_ex) blocks.now)))) }
+        (map (known_of spec_ex) actions) log log.state
+        × (AreDone actions → 0 < n → ReadsBlocks spec_ex (take n blocks.now) (M.state medium.new).contents))) }
 {
     a_recording_survives_a_loss();
     let Ok(mut recorder) = Recorder::begin(spec_ex) else {

@@ -2,7 +2,7 @@ use Rattle.std.proofs.lemmas.Grind.{common_steps}
 use Rattle.std.proofs.Common.{arith, refl, subst}
 use Rattle.hound.specs.{Opened, data_start, recorder_of, recording}
 use Rattle.hound_callers.specs.Recorder.{IsRecorderOf, Saves}
-use Rattle.hound_callers.proofs.Performing.{log_of, canonical_saved, careful_saves}
+use Rattle.hound_callers.proofs.Performing.{careful_saves, log_of, reads_any}
 use Rattle.hound_callers.proofs.recorder.record_by_effects.Goals as goal
 
 pub returns-clause-kept : goal.returns-clause-kept
@@ -27,20 +27,14 @@ returns-clause-kept g c tells keeps =
     } in
     let (actions, saves, (last, acts, there)) = c.save_blocks.ensures.saved tells keeps w is in
     let n = c.save_blocks.result in
-    let blocks = c.args.blocks.now in (
+    let blocks = c.args.blocks.now in
+    let kept = c.a_recording_survives_a_loss.ensures.new s old log actions last opens
+    (c.requires.past tells keeps, c.requires.flushed tells keeps)
+    (careful_saves c.in-Ok.recorder blocks n actions saves) acts in (
       actions,
       subst (λ r. Saves r blocks n actions) is.is saves,
       last.medium,
       there,
-      c.a_recording_survives_a_loss.ensures.new s old log actions last opens
-          (c.requires.past tells keeps, c.requires.flushed tells keeps)
-          (careful_saves c.in-Ok.recorder blocks n actions saves) acts,
+      kept,
+      λ all some. rw there at (reads_any c.in-Ok.recorder s old blocks n actions last.medium some saves all kept),
     )
-
-pub returns-clause-file : goal.returns-clause-file
-returns-clause-file g c tells keeps some all =
-    let (actions, saves, log, there, kept) = returns-clause-kept g c tells keeps in
-    let s = c.args.spec_ex in
-    let file = canonical_saved (recorder_of (data_start s) 0 s.bytes_per_sample) s _ c.args.blocks.now
-    c.save_blocks.result actions log all some saves kept in
-    rw there at file
