@@ -94,22 +94,22 @@ module _ (w : WriterState Log) (m : Log) (good : Good w) where
 
   sync_call : (r : Result (Unit {0}) IoFault) → Flushes r w.medium.state m.state
       → IsCall (write (whole_containers w.spec_ex [])) (is_ok r) w (record w { medium = m })
-  sync_call (Ok x) flush =
-      let now = good_over w m good (stands_still w good (data_end w) m (fine x) flush) in
-      record {
-        answer = Ok tt;
-        does = accepts_no now (goes_still w good (data_end w) m (fine x) flush);
+  sync_call r flush =
+      let now = good_over w m good (stands_still w good (data_end w) m r flush) in
+      let out = goes_still w good (data_end w) m r flush in
+      go r now out
+    where
+      go : (r : Result (Unit {0}) IoFault) → Good (record w { medium = m })
+          → GoesOut true true log_state (data_end w) (is_ok r) w (record w { medium = m })
+          → IsCall (write (whole_containers w.spec_ex [])) (is_ok r) w (record w { medium = m })
+      go (Ok x) now out = record { answer = Ok tt; does = accepts_no now out; mark = refl; good = now }
+      go (Err e) now out = record {
+        answer = Err (IoError e);
+        does = accepts_cut true true log_state (data_end w) w over [] e out
+            (omega (arith, good.sound.fits)) (none_whole w.spec_ex.bytes_per_sample);
         mark = refl;
         good = now;
       }
-  sync_call (Err e) flush = record {
-    answer = Err (IoError e);
-    does = accepts_cut true true log_state (data_end w) w over [] e
-        (goes_still w good (data_end w) m (bad e) flush) (omega (arith, good.sound.fits))
-        (none_whole w.spec_ex.bytes_per_sample);
-    mark = refl;
-    good = good_over w m good (stands_still w good (data_end w) m (bad e) flush);
-  }
 
 -- an action is a call
 pub acts_call : (action : Action) (r : Result (Unit {0}) IoFault) (w : WriterState Log) (m : Log)
@@ -122,12 +122,12 @@ acts_call (block bytes) (Ok x) w m good (room, whole, puts) =
       does = accepts_all true true log_state w good.none good.sound (λ _. good.stands) m bytes room
           whole (λ _. all) (λ _ _. w.medium.replays);
       mark = refl;
-      good = record {
-        none = good.none;
-        sound = sound_more true true log_state w good.none good.sound (λ _. good.stands) m bytes room whole;
-        stands = stands_more w.spec_ex w.data_start w.out (w.out + length bytes) m.state.contents
-            (omega arith) (still true true log_state w (λ _. good.stands) m bytes _ refl all);
-      };
+      good =
+          let none = good.none in
+          let sound = sound_more true true log_state w good.none good.sound (λ _. good.stands) m bytes room whole in
+          let stands = stands_more w.spec_ex w.data_start w.out (w.out + length bytes) m.state.contents
+          (omega arith) (still true true log_state w (λ _. good.stands) m bytes _ refl all) in
+          search rules;
     }
 acts_call (block bytes) (Err e) w m good (room, whole, puts) =
     let some = as_out (w.data_start + w.out) bytes (bad e) w.medium.state m.state puts in

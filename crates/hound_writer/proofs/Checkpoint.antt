@@ -53,11 +53,7 @@ pub record Good (w : WriterState Log) : Type 0 where
 -- the same over what an effect has left
 pub good_over : (w : WriterState Log) (m : Log) → Good w
     → IsStanding w.spec_ex w.data_start w.out m.state.contents → Good (record w { medium = m })
-good_over w m good stands = record {
-  none = good.none;
-  sound = sound_with w m w.out w.waiting good.sound good.sound.whole good.sound.fits;
-  stands = stands;
-}
+good_over w m good stands = grind (arith, common_steps, sound_with)
 
 -- the effects after the first sync
 abbrev sizes_of : WriterState Log → List Effect

@@ -1,5 +1,4 @@
 -- A careful recording writes at ascending places only since it was synced.
-use Rattle.std.proofs.lemmas.Bool.{false≢true}
 use Rattle.std.proofs.lemmas.Grind.{common_steps}
 use Rattle.std.proofs.Common.{◌≡◌, ◌⊎◌, ℕ, zero, suc, ◌+◌, ◌%◌, ◌≤◌, Bool, true, false, List, [], ◌∷◌, ◌++◌, length, take, inl, inr, Result, Ok, Err, is_ok, refl, rules, ◌∙◌, ap, subst, arith, length-take}
 use Rattle.std.specs.Prelude.{⊤}
