@@ -32,9 +32,8 @@ impl WavSpec {
     /// If the spec can't be written.
     pub fn into_header_for_infinite_file(self) -> Vec<u8> {
         let mut header = proved::header(&self.with_default_width().into(), 0).expect("a spec that can be written");
-        let data_length = header.len() - 4;
         header[4..8].fill(0xff);
-        header[data_length..].fill(0xff);
+        header.iter_mut().rev().take(4).for_each(|byte| *byte = 0xff);
         header
     }
 

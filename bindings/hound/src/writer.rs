@@ -52,7 +52,10 @@ impl<W: Write + Seek> Core<W> {
         S::CODING.map_or(Ok(()), |coding| {
             (coding.encode)(&self.containers(coding.format), &[(coding.from)(sample)], &mut [0; 4])?;
             self.spill()?;
-            let room = if self.next_place(BLOCK).is_ok() { BLOCK } else { self.next_place(1).map(|_| 1)? };
+            // At the end of the longest file samples are buffered one by one; where none has room the buffer is empty.
+            let room = if self.next_place(BLOCK).is_ok() { BLOCK } else { 1 };
+            self.buffer.truncate(room - 1);
+            self.next_place(room)?;
             self.buffer.resize(room, 0);
             self.format = coding.format;
             self.buffer::<S>(sample, coding.format)

@@ -287,12 +287,13 @@ impl Seek for Long {
 #[test]
 fn a_file_gets_no_longer_than_its_sizes_count() {
     let mut header = written::<i16>(MONO, &[]);
-    header[40..44].copy_from_slice(&(4_294_967_258u32 - 6).to_le_bytes());
+    header[40..44].copy_from_slice(&(4_294_967_258u32 - 2 * 4100).to_le_bytes());
     let mut file = Long { header: Cursor::new(header), place: 0 };
     let mut writer = WavWriter::new_append(&mut file).unwrap();
-    for sample in 0..3i16 {
-        writer.write_sample(sample).unwrap();
-    }
+    writer.write_sample(1i16).unwrap();
+    writer.write_samples(&[2i16; 4090]).unwrap();
+    assert!(matches!(writer.write_samples(&[3i16; 10]), Err(Error::IoError(_))));
+    assert_eq!((0..20).filter(|_| writer.write_sample(3i16).is_ok()).count(), 9);
     assert!(matches!(writer.write_sample(3i16), Err(Error::IoError(_))));
     assert_eq!(writer.len(), 4_294_967_258 / 2);
     writer.finalize().unwrap();
