@@ -1,6 +1,6 @@
 // Calls whose allocations fail, each in turn: all memory is taken by blocks that stay untouched,
 // except for one block, and freed before anything is compared.
-use crate::helpers::{FOUR_SAMPLES, empty_tape, integers, name_of, sixteen, tape_of, write_up};
+use crate::helpers::{FOUR_SAMPLES, empty_tape, integers, sixteen, tape_of, write_up};
 use hound::{
     Begin, End, Error, Journal, Medium, Placed, SampleFormat, Step, Tape, WavReader, WavWriter,
     run_session,
@@ -14,11 +14,16 @@ use std::{env, fs, io, process};
 // The words of a medium without memory.
 const NO_MEMORY: &str = "IoError of kind OutOfMemory";
 
-// The name of an error, which for a fault says whether memory was missing.
+// The words of an error: the reason of an ill-formed file, or the name of the variant.
 fn words_of(error: &Error) -> &'static str {
     match error {
         Error::IoError(fault) if fault.kind() == ErrorKind::OutOfMemory => NO_MEMORY,
-        _ => name_of(*error),
+        Error::Unsupported => "Unsupported",
+        Error::InvalidSampleFormat => "InvalidSampleFormat",
+        Error::UnfinishedSample => "UnfinishedSample",
+        Error::TooLong => "TooLong",
+        Error::OutOfMemory => "OutOfMemory",
+        _ => "another error",
     }
 }
 
