@@ -122,7 +122,7 @@ fn spec_of(channels: &str, rate: &str, bits: &str) -> Option<WavSpec>
 {
     Some(WavSpec {
         channels: digits(channels, 65535)? as u16,
-        sample_rate: digits(rate, 4_294_967_295)?,
+        sample_rate: digits(rate, u32::MAX)?,
         bits_per_sample: digits(bits, 65535)? as u16,
         sample_format: SampleFormat::Int,
     })

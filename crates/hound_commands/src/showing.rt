@@ -3,7 +3,7 @@ ghost use Rattle.std.specs.Prelude.{◌≡◌, ◌+◌, ◌<◌, ◌≤◌, ◌+
 ghost use Rattle.std.specs.List.{flat_map};
 ghost use Rattle.hound_reader.specs.{meaning_at, refusal_at};
 ghost use Rattle.hound_commands.specs.Showing.{GetsBeginning, GetsBuffered, Shows, ShowsSamples, ShowsUntil, StopsSamples, sample_line, show_refusal, spec_line};
-ghost use Rattle.hound_text.specs.{integer_line, pattern_line};
+ghost use Rattle.hound_text.specs.{HasLineRoom, integer_line, pattern_line};
 
 use crate::failure::Failure;
 use hound_reader::WavReader;
@@ -71,7 +71,7 @@ trait Line: Sample + Copy {
 
     // Appends the line of the sample.
     fn push_to(self, lines: &mut Lines)
-        requires { length lines.old + 24 ≤ 16384 }
+        requires { HasLineRoom lines.old }
         ensures { lines.new ≡ lines.old ++ line self };
 }
 
@@ -166,7 +166,7 @@ fn push_lines<S: Line, O: io::Write>(
 // Writes the lines where there is no room for one more.
 #[inline(always)]
 fn make_room<O: io::Write>(lines: &mut Lines, output: &mut O) -> io::Result<()>
-    ensures room { OnOk result (length lines.new + 24 ≤ 16384) }
+    ensures room { OnOk result (HasLineRoom lines.new) }
     ensures moved { OnOk result (GetsBuffered (O.contents output.old) (O.contents output.new)
         lines.new lines.old) }
     ensures stopped { OnErr result (GetsBeginning (O.contents output.old) (O.contents output.new)

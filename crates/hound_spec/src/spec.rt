@@ -84,7 +84,7 @@ impl WavSpecEx {
             && spec.channels >= 1
             && spec.sample_rate >= 1
             && block_align <= 65535
-            && block_align as u64 * spec.sample_rate as u64 <= 4_294_967_295
+            && block_align as u64 * spec.sample_rate as u64 <= u32::MAX as u64
     }
 }
 

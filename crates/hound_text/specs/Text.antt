@@ -1,5 +1,5 @@
 -- Texts of numbers, and the text of numbers that are written.
-use Rattle.std.specs.Prelude.{◌≡◌, ℕ, ℤ, ⊤, Bool, cond, ◌||◌, ◌==◌, pos, neg_ℤ, FitsSigned, List, [], ◌∷◌, drop, ◌/◌, ◌%◌, ◌^◌, zero, suc, false, ◌++◌}
+use Rattle.std.specs.Prelude.{◌≡◌, ℕ, ℤ, ⊤, Bool, cond, ◌||◌, ◌==◌, pos, neg_ℤ, FitsSigned, List, [], ◌∷◌, drop, ◌+◌, ◌/◌, ◌%◌, ◌^◌, ◌≤◌, length, zero, suc, false, ◌++◌}
 use Rattle.std.specs.Int.{w32}
 use Rattle.std.specs.List.{filter, slice_split}
 use Rattle.std.specs.Str.Parse.{IsNumeral, digits_value, starts_with_minus}
@@ -50,6 +50,14 @@ SaysNoNumbers text = (numbers : List ℤ) → SaysNumbers text numbers → ⊥
 abbrev pub padded_digits : ℕ → ℕ → ℕ → List ℕ
 padded_digits base zero n = []
 padded_digits base (suc k) n = digit_glyph false (n / base ^ k % base) ∷ padded_digits base k n
+
+-- how many bytes of lines are buffered at most
+abbrev pub lines_capacity : ℕ
+lines_capacity = 16384
+
+-- there is room for a line more, which has fewer than 24 bytes
+abbrev pub HasLineRoom : List ℕ → Type 0
+HasLineRoom lines = length lines + 24 ≤ lines_capacity
 
 -- a line with an integer in base 10
 abbrev pub integer_line : ℤ → List ℕ

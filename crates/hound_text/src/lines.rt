@@ -1,6 +1,6 @@
 // Lines of numbers, buffered for the output.
 ghost use Rattle.std.specs.Prelude.{◌≡◌, ◌+◌, ◌<◌, ◌≤◌, ◌↔◌, ℕ, false, IsTrue, [], ◌∷◌, ◌++◌, decimal, length, List, take, ◌-◌, IsOk, Ok, Some, min};
-ghost use Rattle.hound_text.specs.Text.{integer_line, pattern_line};
+ghost use Rattle.hound_text.specs.Text.{HasLineRoom, integer_line, lines_capacity, pattern_line};
 ghost use Rattle.hound_number.specs.{Writes};
 
 use crate::output::write_text;
@@ -11,11 +11,17 @@ use std::{io, mem};
 static PAIRS: [u8; 200] =
     *b"00010203040506070809101112131415161718192021222324252627282930313233343536373839404142434445464748495051525354555657585960616263646566676869707172737475767778798081828384858687888990919293949596979899";
 
+// How many bytes of lines are buffered: a `BufWriter` hands so many on as they are.
+const CAPACITY: usize = 16384;
+
+// Room for a line: more bytes than any has.
+const LINE_ROOM: usize = 24;
+
 /// Lines that were made and not yet written. Contracts see the list of their bytes.
 #[derive(Drop)]
 pub struct Lines {
-    // Their bytes, and then any others. A `BufWriter` hands so many on as they are.
-    bytes: [u8; 16384],
+    // Their bytes, and then any others.
+    bytes: [u8; CAPACITY],
     length: usize,
 }
 
@@ -24,7 +30,7 @@ impl Model for Lines {
 
     ghost view = { λ lines. take lines.length lines.bytes };
 
-    ghost invariant = { λ lines. lines.length ≤ 16384 };
+    ghost invariant = { λ lines. lines.length ≤ lines_capacity };
 }
 
 impl Lines {
@@ -33,7 +39,7 @@ impl Lines {
         ensures { result ≡ [] }
     {
         Lines {
-            bytes: [0; 16384],
+            bytes: [0; CAPACITY],
             length: 0,
         }
     }
@@ -41,15 +47,15 @@ impl Lines {
     /// Whether there is room for a line more.
     #[inline(always)]
     pub fn has_room(&self) -> bool
-        ensures { IsTrue result ↔ (length self.now + 24 ≤ 16384) }
+        ensures { IsTrue result ↔ HasLineRoom self.now }
     {
-        self.length <= 16384 - 24
+        self.length <= CAPACITY - LINE_ROOM
     }
 
     /// Appends a line with an integer.
     #[inline(always)]
     pub fn push_integer(&mut self, number: i32)
-        requires { length self.old + 24 ≤ 16384 }
+        requires { HasLineRoom self.old }
         ensures { self.new ≡ self.old ++ integer_line number }
     {
         if number < 0 {
@@ -62,7 +68,7 @@ impl Lines {
     /// Appends a line with a pattern of bits: eight digits in base 16.
     #[inline(always)]
     pub fn push_pattern(&mut self, pattern: u32)
-        requires { length self.old + 24 ≤ 16384 }
+        requires { HasLineRoom self.old }
         ensures { self.new ≡ self.old ++ pattern_line pattern }
     {
         let mut place: u32 = 8;
@@ -76,7 +82,7 @@ impl Lines {
 
     #[inline(always)]
     fn push(&mut self, byte: u8)
-        requires { length self.old < 16384 }
+        requires { length self.old < lines_capacity }
         ensures { self.new ≡ self.old ++ byte ∷ [] }
     {
         self.bytes[self.length] = byte;
@@ -86,7 +92,7 @@ impl Lines {
     // Appends the digits of a number in base 10, which are made in pairs from the last ones on.
     #[inline(always)]
     fn push_decimal(&mut self, mut number: u32)
-        requires { length self.old + 10 ≤ 16384 }
+        requires { length self.old + 10 ≤ lines_capacity }
         ensures { self.new ≡ self.old ++ decimal number }
     {
         let mut text = [0; 10];
@@ -106,7 +112,7 @@ impl Lines {
 
     // Appends text.
     fn append(&mut self, text: &[u8])
-        requires { length self.old + length text.now ≤ 16384 }
+        requires { length self.old + length text.now ≤ lines_capacity }
         ensures { self.new ≡ self.old ++ text.now }
     {
         let start = self.length;
@@ -135,9 +141,9 @@ impl io::Write for Lines {
     fn write(&mut self, buf: &[u8]) -> io::Result<usize>
         ensures bound { WritesAtMost result buf.now }
         ensures bytes { WriteAppends (Some self.old) (Some self.new) result buf.now }
-        ensures count { result ≡ Ok (min (length buf.now) (16384 - length self.old)) }
+        ensures count { result ≡ Ok (min (length buf.now) (lines_capacity - length self.old)) }
     {
-        let count = buf.len().min(16384 - self.length);
+        let count = buf.len().min(CAPACITY - self.length);
         self.append(&buf[..count]);
         Ok(count)
     }

@@ -10,6 +10,9 @@ ghost use Rattle.hound_text.specs.declared.numbers.Refusal.TheVariants.{BadNumbe
 use std::alloc::Global;
 use std::io;
 
+// How many bytes of the input are read at once.
+const INPUT_LENGTH: usize = 16384;
+
 /// Why a text isn't read. It has one byte, where an error that holds an `io::Error` has a hundred,
 /// and it is part of the result for each number.
 #[derive(Clone, Copy)]
@@ -119,8 +122,8 @@ pub fn read_numbers<R: io::Read>(alloc: Global, input: &mut R) -> Result<Vec<i32
 {
     let mut numbers = Vec::new(alloc);
     let mut place = Place::Between;
-    let mut buffer = [0; 16384];
-    let mut room: usize = 4_294_967_295;
+    let mut buffer = [0; INPUT_LENGTH];
+    let mut room = u32::MAX as usize;
     loop {
         let Ok(count) = input.read(&mut buffer) else {
             return Err(Refusal::InputOrOutput);

@@ -1,8 +1,10 @@
 // The outcome of a sample.
 ghost use Rattle.std.specs.Prelude.{◌≡◌, Err};
-ghost use Rattle.hound_writer.specs.Parts.{result_of};
+ghost use Rattle.hound_sample.specs.{all_containers};
+ghost use Rattle.hound_writer.specs.{outcome_of, result_of};
 ghost use Rattle.hound_writer.specs.declared.outcome.Outcome.TheVariants.{Accepted};
 
+use hound_sample::{Sample, check_containers};
 use hound_spec::Error;
 use std::io;
 
@@ -47,4 +49,17 @@ pub(crate) fn error_of_outcome(outcome: Outcome, fault: &io::Error) -> Error
         error = Error::TooLong;
     }
     error
+}
+
+/// The outcome of samples by the first one that has no container, if there is one.
+#[cold]
+#[inline(never)]
+pub(crate) fn first_outcome<S: Sample + Copy>(samples: &[S], bits: u16, width: u16) -> Outcome
+    ensures { result ≡ outcome_of (all_containers (λ s. S.container s bits width) samples.now) }
+{
+    match check_containers(samples, bits, width) {
+        Ok(()) => Outcome::Accepted,
+        Err(Error::TooWide) => Outcome::TooWide,
+        Err(_) => Outcome::Unsupported,
+    }
 }

@@ -4,9 +4,9 @@ ghost use Rattle.hound_spec.specs.{riff_size};
 ghost use Rattle.hound_writer.specs.Parts.{IsLimit, IsPublishResult};
 
 use crate::block::{BLOCK_LENGTH, Block};
-use crate::many::{first_outcome, put_samples_at_end};
-use crate::outcome::Outcome;
-use crate::patch::{patch, put_at_end};
+use crate::end::{put_at_end, put_samples_at_end};
+use crate::outcome::{Outcome, first_outcome};
+use crate::patch::patch;
 use hound_medium::Medium;
 use hound_sample::{Sample, have_containers};
 use hound_spec::{Error, Result, WavSpecEx, riff_size};

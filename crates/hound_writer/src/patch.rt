@@ -1,52 +1,12 @@
-// The parts of a writer's calls.
+// A patch: the two sizes, in their fields.
 ghost use Rattle.hound_medium.specs.{WhereKeeps, WhereTells};
-ghost use Rattle.std.specs.Prelude.{◌≡◌, ◌+◌, ◌≤◌, ◌<◌, length, false, OnOk, not};
+ghost use Rattle.std.specs.Prelude.{◌≡◌, ◌+◌, ◌≤◌, length, OnOk};
 ghost use Rattle.hound_number.specs.{bytes_of};
-ghost use Rattle.hound_writer.specs.{PatchesAtEach, PutsAt, Patches, all_out};
+ghost use Rattle.hound_writer.specs.{PatchesAtEach, PutsAt, Patches};
 
 use hound_medium::{Medium, put_all};
 use hound_number::le_u32;
 use std::io;
-
-/// Writes bytes at the end of the written data, where the medium may be already. A fault is
-/// saved, and the medium may have moved then.
-pub(crate) fn put_at_end<M: Medium>(
-    medium: &mut M,
-    may_have_moved: &mut bool,
-    fault: &mut io::Error,
-    end: u64,
-    bytes: &[u8],
-) -> bool
-    requires { WhereTells M.tells (may_have_moved.old ≡ false → (M.state medium.old).place ≡ end) }
-    ensures puts { WhereTells M.tells (PutsAt M.keeps end bytes.now (all_out result)
-        (M.state medium.old) (M.state medium.new)) }
-    ensures moved { may_have_moved.new ≡ not result }
-{
-    if let Err(error) = go_and_put(medium, *may_have_moved, end, bytes) {
-        *may_have_moved = true;
-        *fault = error;
-        return false;
-    }
-    *may_have_moved = false;
-    true
-}
-
-// Writes bytes at a place, where the medium may be already.
-fn go_and_put<M: Medium>(
-    medium: &mut M,
-    may_have_moved: bool,
-    at: u64,
-    bytes: &[u8],
-) -> io::Result<()>
-    requires { WhereTells M.tells (may_have_moved ≡ false → (M.state medium.old).place ≡ at) }
-    ensures { WhereTells M.tells (PutsAt M.keeps at bytes.now result (M.state medium.old)
-        (M.state medium.new)) }
-{
-    if may_have_moved {
-        medium.go(at)?;
-    }
-    put_all(medium, bytes)
-}
 
 // Writes a size into its field.
 fn put_size<M: Medium>(medium: &mut M, at: u64, size: u32) -> io::Result<()>

@@ -1,7 +1,7 @@
 use Rattle.std.proofs.Common.{◌-◌, ◌*◌, ◌≡◌, ◌≤◌, IsTrue, length}
 use Rattle.hound_medium.specs.{PutsFirst}
 use Rattle.hound_sample.specs.{joined_containers}
-use Rattle.hound_writer.proofs.many.put_samples.Given as goal
+use Rattle.hound_writer.proofs.end.put_samples.Given as goal
 
 abbrev pub invariant-loop-done : goal.invariant-loop-done
 invariant-loop-done g l = record {

@@ -1,7 +1,7 @@
 use Rattle.std.proofs.Common.{◌≡◌, ◌+◌, ◌*◌, ◌-◌, length, ap, ◌∙◌, arith, rules}
 use Rattle.hound_sample.proofs.Joined.{have_part, joined_size}
 use Rattle.hound_writer.proofs.PutsMany.{piece_cut, piece_out}
-use Rattle.hound_writer.proofs.many.put_samples.Goals as goal
+use Rattle.hound_writer.proofs.end.put_samples.Goals as goal
 
 pub extend_by-requires-clause-have : goal.extend_by-requires-clause-have
 extend_by-requires-clause-have g c =

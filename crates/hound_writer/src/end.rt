@@ -1,28 +1,61 @@
-// Many samples that are accepted by one call.
-ghost use Rattle.std.specs.Prelude.{◌≡◌, ◌≤◌, false, not, IsOk};
+// What is written at the end of the written data: bytes, or the containers of samples.
+ghost use Rattle.std.specs.Prelude.{◌≡◌, ◌≤◌, false, true, not, IsOk};
 ghost use Rattle.hound_medium.specs.{PutsAll, WhereTells};
 ghost use Rattle.hound_sample.specs.{all_containers, joined_containers};
-ghost use Rattle.hound_writer.specs.{all_out, PutsAt, containers_in, outcome_of, sample_bytes};
+ghost use Rattle.hound_writer.specs.{all_out, PutsAt, containers_in, sample_bytes};
 
 use crate::block::{BLOCK_LENGTH, Block};
-use crate::outcome::Outcome;
-use crate::patch::put_at_end;
 use hound_medium::{Medium, put_all};
-use hound_sample::{Sample, check_containers};
-use hound_spec::{Error, WavSpecEx};
+use hound_sample::Sample;
+use hound_spec::WavSpecEx;
 use std::io;
 
-/// The outcome of samples by the first one that has no container, if there is one.
-#[cold]
-#[inline(never)]
-pub(crate) fn first_outcome<S: Sample + Copy>(samples: &[S], bits: u16, width: u16) -> Outcome
-    ensures { result ≡ outcome_of (all_containers (λ s. S.container s bits width) samples.now) }
+/// Writes bytes at the end of the written data, where the medium may be already. A fault is
+/// saved, and the medium may have moved then.
+pub(crate) fn put_at_end<M: Medium>(
+    medium: &mut M,
+    may_have_moved: &mut bool,
+    fault: &mut io::Error,
+    end: u64,
+    bytes: &[u8],
+) -> bool
+    requires { WhereTells M.tells (may_have_moved.old ≡ false → (M.state medium.old).place ≡ end) }
+    ensures puts { WhereTells M.tells (PutsAt M.keeps end bytes.now (all_out result)
+        (M.state medium.old) (M.state medium.new)) }
+    ensures moved { may_have_moved.new ≡ not result }
 {
-    match check_containers(samples, bits, width) {
-        Ok(()) => Outcome::Accepted,
-        Err(Error::TooWide) => Outcome::TooWide,
-        Err(_) => Outcome::Unsupported,
+    if let Err(error) = go_and_put(medium, *may_have_moved, end, bytes) {
+        return save_fault(error, may_have_moved, fault);
     }
+    *may_have_moved = false;
+    true
+}
+
+// Saves the fault of a write, after which the medium may have moved; false, since not all is written.
+fn save_fault(error: io::Error, may_have_moved: &mut bool, fault: &mut io::Error) -> bool
+    ensures moved { may_have_moved.new ≡ true }
+    ensures not_all { result ≡ false }
+{
+    *may_have_moved = true;
+    *fault = error;
+    false
+}
+
+// Writes bytes at a place, where the medium may be already.
+fn go_and_put<M: Medium>(
+    medium: &mut M,
+    may_have_moved: bool,
+    at: u64,
+    bytes: &[u8],
+) -> io::Result<()>
+    requires { WhereTells M.tells (may_have_moved ≡ false → (M.state medium.old).place ≡ at) }
+    ensures { WhereTells M.tells (PutsAt M.keeps at bytes.now result (M.state medium.old)
+        (M.state medium.new)) }
+{
+    if may_have_moved {
+        medium.go(at)?;
+    }
+    put_all(medium, bytes)
 }
 
 // Writes the containers of samples, a block at a time, or stops at the first `put` that fails.
@@ -77,9 +110,7 @@ pub(crate) fn put_samples_at_end<M: Medium, S: Sample + Copy>(
     }
     let bits = spec_ex.spec.bits_per_sample;
     if let Err(error) = put_samples(medium, block, samples, bits, spec_ex.bytes_per_sample) {
-        *may_have_moved = true;
-        *fault = error;
-        return false;
+        return save_fault(error, may_have_moved, fault);
     }
     true
 }
