@@ -9,7 +9,7 @@ use hound_repair::set_sizes;
 use hound_sample::Sample;
 use hound_spec::{SampleFormat, is_pair};
 
-/// AppendsInPlace samples after those of the file in the first bytes, and returns its new length.
+/// Appends samples after those of the file in the first bytes, and returns its new length.
 pub(crate) fn append_block<S: Sample + Copy>(
     file: &mut [u8],
     used: usize,

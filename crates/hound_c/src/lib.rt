@@ -98,7 +98,7 @@ pub extern "C" fn hound_walk_next(walk: &mut HoundWalk, bytes: &[u8], info: &mut
     }
 }
 
-/// ReadsInto integers into sixteen bits.
+/// Reads integers into sixteen bits.
 #[unsafe(no_mangle)]
 pub extern "C" fn hound_read_i16(file: &[u8], first: u64, out: &mut [i16]) -> i64
     ensures { Returns result (ReadsInto (int_refusal 2) (λ _. int_meaning) file.now first out.old out.new) }
@@ -106,7 +106,7 @@ pub extern "C" fn hound_read_i16(file: &[u8], first: u64, out: &mut [i16]) -> i6
     code_of(read_block::<i16>(file, first, out))
 }
 
-/// ReadsInto integers.
+/// Reads integers.
 #[unsafe(no_mangle)]
 pub extern "C" fn hound_read_i32(file: &[u8], first: u64, out: &mut [i32]) -> i64
     ensures { Returns result (ReadsInto (int_refusal 4) (λ _. int_meaning) file.now first out.old out.new) }
@@ -114,7 +114,7 @@ pub extern "C" fn hound_read_i32(file: &[u8], first: u64, out: &mut [i32]) -> i6
     code_of(read_block::<i32>(file, first, out))
 }
 
-/// ReadsInto floats, as their bits.
+/// Reads floats, as their bits.
 #[unsafe(no_mangle)]
 pub extern "C" fn hound_read_f32(file: &[u8], first: u64, out: &mut [FloatBits]) -> i64
     ensures { Returns result
@@ -131,7 +131,7 @@ pub extern "C" fn hound_size(spec: &HoundSpec, samples: u64) -> i64
     code_of(file_size(*spec, samples))
 }
 
-/// WritesFile the header of the file of so many samples.
+/// Writes the header of the file of so many samples.
 #[unsafe(no_mangle)]
 pub extern "C" fn hound_header(spec: &HoundSpec, samples: u64, out: &mut [u8]) -> i64
     ensures { Returns result (GivesHeader (spec_from_c spec.now) samples out.old out.new) }
@@ -139,7 +139,7 @@ pub extern "C" fn hound_header(spec: &HoundSpec, samples: u64, out: &mut [u8]) -
     code_of(write_header(*spec, samples, out))
 }
 
-/// WritesFile the RIFF size and the data length of the file of so many samples, whose data begin at a
+/// Writes the RIFF size and the data length of the file of so many samples, whose data begin at a
 /// place.
 #[unsafe(no_mangle)]
 pub extern "C" fn hound_sizes(
@@ -153,7 +153,7 @@ pub extern "C" fn hound_sizes(
     code_of(write_sizes(*spec, data_start, samples, out))
 }
 
-/// WritesFile the whole file of these samples.
+/// Writes the whole file of these samples.
 #[unsafe(no_mangle)]
 pub extern "C" fn hound_write_i16(spec: &HoundSpec, samples: &[i16], out: &mut [u8]) -> i64
     ensures { Returns result (WritesFile Int int_container (spec_from_c spec.now) samples.now out.old out.new) }
@@ -161,7 +161,7 @@ pub extern "C" fn hound_write_i16(spec: &HoundSpec, samples: &[i16], out: &mut [
     code_of(write_file::<i16>(*spec, SampleFormat::Int, samples, out))
 }
 
-/// WritesFile the whole file of these samples.
+/// Writes the whole file of these samples.
 #[unsafe(no_mangle)]
 pub extern "C" fn hound_write_i32(spec: &HoundSpec, samples: &[i32], out: &mut [u8]) -> i64
     ensures { Returns result (WritesFile Int int_container (spec_from_c spec.now) samples.now out.old out.new) }
@@ -169,7 +169,7 @@ pub extern "C" fn hound_write_i32(spec: &HoundSpec, samples: &[i32], out: &mut [
     code_of(write_file::<i32>(*spec, SampleFormat::Int, samples, out))
 }
 
-/// WritesFile the whole file of these floats, given as their bits.
+/// Writes the whole file of these floats, given as their bits.
 #[unsafe(no_mangle)]
 pub extern "C" fn hound_write_f32(spec: &HoundSpec, samples: &[FloatBits], out: &mut [u8]) -> i64
     ensures { Returns result (WritesFile Float (λ v. pattern_container v.0)
@@ -178,7 +178,7 @@ pub extern "C" fn hound_write_f32(spec: &HoundSpec, samples: &[FloatBits], out: 
     code_of(write_file::<FloatBits>(*spec, SampleFormat::Float, samples, out))
 }
 
-/// AppendsInPlace samples after those of the file in the first `used` bytes.
+/// Appends samples after those of the file in the first `used` bytes.
 #[unsafe(no_mangle)]
 pub extern "C" fn hound_append_i16(file: &mut [u8], used: usize, samples: &[i16]) -> i64
     ensures { Returns result (AppendsInPlace Int int_container samples.now used file.old file.new) }

@@ -47,7 +47,7 @@ fn decode_front<S: Decode>(spec_ex: WavSpecEx, bytes: &[u8], out: &mut [S]) -> u
     count
 }
 
-/// ReadsInto samples from one on into the front of `out`, and returns how many.
+/// Reads samples from one on into the front of `out`, and returns how many.
 pub(crate) fn read_block<S: Decode>(file: &[u8], first: u64, out: &mut [S]) -> Result<usize, Fault>
     ensures { ReadsInto S.decode_refusal S.value file.now first out.old out.new result }
 {

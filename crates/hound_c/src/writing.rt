@@ -51,7 +51,7 @@ pub(crate) fn write_data_at<S: Sample + Copy>(
     }
 }
 
-// WritesFile the header to the front of `out`.
+// Writes the header to the front of `out`.
 fn put_header(spec_ex: WavSpecEx, riff_size: u32, data_length: u32, out: &mut [u8])
     requires writable { IsWritable spec_ex }
     requires room { data_start spec_ex ≤ length out.old }
@@ -105,7 +105,7 @@ pub(crate) fn file_size(spec: HoundSpec, samples: u64) -> Result<usize, Fault>
     Ok(sizes_of(spec_ex, header_length(spec_ex), samples)?.1)
 }
 
-/// WritesFile the header of a file of so many samples to the front of `out`, and returns its length.
+/// Writes the header of a file of so many samples to the front of `out`, and returns its length.
 pub(crate) fn write_header(spec: HoundSpec, samples: u64, out: &mut [u8]) -> Result<usize, Fault>
     ensures gives { GivesHeader (spec_from_c spec) samples out.old out.new result }
     ensures small { IfOk result (λ n. n ≤ 68) }
@@ -123,7 +123,7 @@ pub(crate) fn write_header(spec: HoundSpec, samples: u64, out: &mut [u8]) -> Res
     Ok(data_start)
 }
 
-/// WritesFile the two sizes of a file of so many samples, whose data begin at a place, to the first eight
+/// Writes the two sizes of a file of so many samples, whose data begin at a place, to the first eight
 /// bytes of `out`, and returns how many bytes that file has.
 pub(crate) fn write_sizes(
     spec: HoundSpec,
@@ -158,7 +158,7 @@ pub(crate) fn write_sizes(
     Ok(size)
 }
 
-/// WritesFile the file of these samples to the front of `out`, and returns its length.
+/// Writes the file of these samples to the front of `out`, and returns its length.
 pub(crate) fn write_file<S: Sample + Copy>(
     spec: HoundSpec,
     format: SampleFormat,

@@ -1,4 +1,2 @@
-pub mod Twelve
-pub mod Either
 pub mod Recording
 pub mod Recorder

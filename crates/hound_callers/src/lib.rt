@@ -1,22 +1,19 @@
 //! What a user builds over the public items of `hound` alone: functions that prove something of
-//! their own from its contracts, and two sample types.
+//! their own from its contracts.
 #![tactic(auto)]
 
 mod callers;
 mod editing;
-mod either;
 mod example;
 mod reading;
 mod recorder;
 mod recording;
-mod twelve;
 
 pub use callers::{
     give_up_batch, open_written, publish, record_checkpoint, repair_recording, sample_at,
     samples_of,
 };
 pub use editing::append_blocks;
-pub use either::EitherSample;
 pub use example::record_and_read;
 pub use reading::{opened_meanwhile, read_block, read_from, reopen};
 pub use recorder::record_by_effects;
@@ -25,4 +22,3 @@ pub use recording::{
     record_checkpoints, record_mixed, record_safely, record_steps, record_twelve,
     record_twelve_and_repair, record_twelve_through_a_loss, write_if_short,
 };
-pub use twelve::Twelve;

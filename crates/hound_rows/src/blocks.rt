@@ -5,7 +5,7 @@ use crate::readers::Sum;
 use crate::row::Row;
 use crate::values::{Kind, Value, at_type, put_value};
 use hound::{FloatBits, Medium, Result, WavReader, WavWriter};
-use hound_callers::Twelve;
+use hound_types::Twelve;
 use std::io;
 
 // For a longer slice only a sum is shown.

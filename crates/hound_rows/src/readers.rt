@@ -9,7 +9,7 @@ use crate::row::{Row, find, parts};
 use crate::sweep::Sweep;
 use crate::values::{Kind, Value, at_type, show};
 use hound::{Error, FloatBits, Journal, Source, Tape, WavReader, read_wave_header};
-use hound_callers::Twelve;
+use hound_types::Twelve;
 use std::io;
 
 /// `riff BYTES OPTION..`

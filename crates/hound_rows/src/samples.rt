@@ -3,7 +3,7 @@ use crate::row::Row;
 use crate::sink::Sink;
 use crate::values::{Kind, Value, at_type, show};
 use hound::{FloatBits, Sample, SampleFormat};
-use hound_callers::Twelve;
+use hound_types::Twelve;
 
 /// `encode TYPE VALUE BITS WIDTH`, `write TYPE VALUE BITS SINK`, `write_padded TYPE VALUE BITS
 /// WIDTH SINK`, `decode TYPE FORMAT WIDTH BITS BYTES` and `short TYPE VALUE`

@@ -2,7 +2,7 @@
 use crate::line::Line;
 use crate::row::Row;
 use hound::{FloatBits, Sample};
-use hound_callers::Twelve;
+use hound_types::Twelve;
 
 /// A type of samples.
 pub trait Value: Sample + Copy {

@@ -12,7 +12,7 @@ use crate::values::{Kind, Value, at_type};
 use hound::{
     Begin, Error, FloatBits, Medium, Result, SampleFormat, SampleWriter16, Source, WavWriter,
 };
-use hound_callers::Twelve;
+use hound_types::Twelve;
 use std::result;
 
 // What is done with a writer.

@@ -2,10 +2,11 @@
 use crate::helpers::{FOUR_SAMPLES, empty_tape, integers, read_all, sixteen, tape_of};
 use hound::{Durable, Journal, Step, Tape, WavReader, WavSpecEx, WavWriter};
 use hound_callers::{
-    Twelve, append_blocks, finish_durable, opened_meanwhile, pack_one, publish_and_continue,
+    append_blocks, finish_durable, opened_meanwhile, pack_one, publish_and_continue,
     record_at_once, record_batch, record_by_effects, record_mixed, record_safely, record_steps,
     record_twelve, record_twelve_and_repair, record_twelve_through_a_loss, write_if_short,
 };
+use hound_types::Twelve;
 use std::alloc::Global;
 use std::test::Fail;
 

@@ -1,0 +1,2 @@
+pub mod Twelve
+pub mod Either
