@@ -1,8 +1,10 @@
 // The workloads of blocks: many samples a call.
+ghost use Rattle.std.specs.Prelude.{◌≡◌};
+
 use crate::case::{Blocks, Kind, Place};
 use crate::measure::{Measured, file_of, full_tape, written};
 use crate::pattern::{Eight, Float, Pattern, Sixteen, Summed, ThirtyTwo, TwentyFour};
-use hound::{Error, Medium, Result, WavReader, WavWriter};
+use hound::{Error, Medium, Placed, Result, Tape, WavReader, WavSpec, WavWriter};
 use std::alloc::Global;
 use std::path::Path;
 use std::time::Instant;
@@ -49,25 +51,40 @@ fn read_pattern<P: Pattern>(
 ) -> Result<Measured> {
     let file = file_of::<P>(rt.alloc(), 1, count)?;
     let mut block = samples_of::<P>(rt.alloc(), blocks.length as u32)?;
-    let (check, time) = match blocks.place {
-        Place::Memory => {
-            let start = Instant::now(rt)?;
-            let check = read_blocks(WavReader::new(file.as_slice())?, &mut block)?;
-            (check, start.elapsed(rt)?)
-        }
+    let (check, nanoseconds) = match blocks.place {
+        Place::Memory => read_memory(rt, &file, &mut block)?,
         Place::Disk => {
             fs::write(rt, path, file.as_slice())?;
-            let start = Instant::now(rt)?;
-            let reader = WavReader::open(rt, rt.alloc(), path)?;
-            let check = read_blocks(reader, &mut block)?;
-            (check, start.elapsed(rt)?)
+            read_file(rt, path, &mut block)?
         }
     };
     Ok(Measured {
         bytes: file.len() as u64,
-        nanoseconds: time.as_nanos(),
+        nanoseconds,
         check,
     })
+}
+
+// The sum of all samples of a file in memory, and how long it took.
+fn read_memory<S: Summed>(
+    rt: &HostRuntime,
+    file: &[u8],
+    block: &mut [S],
+) -> Result<(i64, u128)> {
+    let start = Instant::now(rt)?;
+    let check = read_blocks(WavReader::new(file)?, block)?;
+    Ok((check, start.elapsed(rt)?.as_nanos()))
+}
+
+// The same of one on disk.
+fn read_file<S: Summed>(
+    rt: &HostRuntime,
+    path: Path<'_>,
+    block: &mut [S],
+) -> Result<(i64, u128)> {
+    let start = Instant::now(rt)?;
+    let check = read_blocks(WavReader::open(rt, rt.alloc(), path)?, block)?;
+    Ok((check, start.elapsed(rt)?.as_nanos()))
 }
 
 // The sum of all samples, by blocks of as many as the slice has.
@@ -99,24 +116,45 @@ fn write_pattern<P: Pattern>(
     path: Path<'_>,
 ) -> Result<Measured> {
     let samples = samples_of::<P>(rt.alloc(), count)?;
-    let spec = P::spec(1);
+    let length = blocks.length as usize;
     match blocks.place {
         Place::Memory => {
-            let mut tape = full_tape(rt.alloc(), spec, count)?;
-            let start = Instant::now(rt)?;
-            let writer = WavWriter::new(&mut tape, spec)?;
-            write_blocks(writer, samples.as_slice(), blocks.length as usize)?;
-            let time = start.elapsed(rt)?;
-            Ok(written(tape.bytes(), time.as_nanos()))
+            let tape = full_tape(rt.alloc(), P::spec(1), count)?;
+            write_memory(rt, P::spec(1), &samples, length, tape)
         }
-        Place::Disk => {
-            let start = Instant::now(rt)?;
-            let writer = WavWriter::create(rt, rt.alloc(), path, spec)?;
-            write_blocks(writer, samples.as_slice(), blocks.length as usize)?;
-            let time = start.elapsed(rt)?;
-            Ok(written(&fs::read(rt, path)?, time.as_nanos()))
-        }
+        Place::Disk => write_file(rt, P::spec(1), &samples, length, path),
     }
+}
+
+// Writes samples into memory by blocks of this many.
+fn write_memory<S: Summed>(
+    rt: &HostRuntime,
+    spec: WavSpec,
+    samples: &[S],
+    length: usize,
+    mut tape: Tape,
+) -> Result<Measured>
+    requires { (⟦<Tape as Placed>⟧.state tape).place ≡ 0 }
+{
+    let start = Instant::now(rt)?;
+    write_blocks(WavWriter::new(&mut tape, spec)?, samples, length)?;
+    let time = start.elapsed(rt)?;
+    Ok(written(tape.bytes(), time.as_nanos()))
+}
+
+// The same into a file on disk.
+fn write_file<S: Summed>(
+    rt: &HostRuntime,
+    spec: WavSpec,
+    samples: &[S],
+    length: usize,
+    path: Path<'_>,
+) -> Result<Measured> {
+    let start = Instant::now(rt)?;
+    let writer = WavWriter::create(rt, rt.alloc(), path, spec)?;
+    write_blocks(writer, samples, length)?;
+    let time = start.elapsed(rt)?;
+    Ok(written(&fs::read(rt, path)?, time.as_nanos()))
 }
 
 // Writes samples by blocks of this many, and closes the file.

@@ -45,14 +45,7 @@ fn convert(
 {
     let mut reader = WavReader::open(rt, rt.alloc(), from)?;
     let old = reader.spec();
-    let mut new = reader.spec_ex(); // The width of the containers stays where the bits do.
-    if bits != old.bits_per_sample || old.sample_format == SampleFormat::Float {
-        new = WavSpecEx::from(WavSpec {
-            bits_per_sample: bits,
-            sample_format: SampleFormat::Int,
-            ..old
-        });
-    }
+    let new = converted(reader.spec_ex(), bits);
     let mut writer = WavWriter::create_with_spec_ex(rt, rt.alloc(), to, new)?;
     let channels = usize::from(old.channels.max(1));
     let length = channels * (4096 / channels).max(1);
@@ -68,14 +61,7 @@ fn convert(
         };
         let count = (count - count % channels).min(block.len());
         let frames = &mut block[..count];
-        for (sample, float) in frames.iter_mut().zip(&floats) {
-            let (value, is_clipped) = match old.sample_format {
-                SampleFormat::Int => change_bits(*sample, old.bits_per_sample.clamp(1, 32), bits),
-                SampleFormat::Float => float_to_int(float.to_f32(), bits),
-            };
-            *sample = value;
-            clipped = clipped.saturating_add(u32::from(is_clipped));
-        }
+        clipped = clipped.saturating_add(convert_block(frames, &floats, old, bits));
         writer.write_samples(frames)?;
         if count < block.len() {
             end = result;
@@ -84,4 +70,33 @@ fn convert(
     }
     writer.finalize()?;
     Ok((clipped, end))
+}
+
+// The spec of the new file. The width of the containers stays where the bits do.
+fn converted(old: WavSpecEx, bits: u16) -> WavSpecEx {
+    if old.spec.bits_per_sample == bits && old.spec.sample_format == SampleFormat::Int {
+        return old;
+    }
+    WavSpecEx::from(WavSpec {
+        bits_per_sample: bits,
+        sample_format: SampleFormat::Int,
+        ..old.spec
+    })
+}
+
+// Gives integers, or the floats that are to take their place, so many bits: how many were clipped.
+fn convert_block(samples: &mut [i32], floats: &[FloatBits], old: WavSpec, bits: u16) -> u32
+    requires some { 0 < bits }
+    requires most { bits ≤ 32 }
+{
+    let mut clipped = 0u32;
+    for (sample, float) in samples.iter_mut().zip(floats) {
+        let (value, is_clipped) = match old.sample_format {
+            SampleFormat::Int => change_bits(*sample, old.bits_per_sample.clamp(1, 32), bits),
+            SampleFormat::Float => float_to_int(float.to_f32(), bits),
+        };
+        *sample = value;
+        clipped = clipped.saturating_add(u32::from(is_clipped));
+    }
+    clipped
 }

@@ -43,12 +43,7 @@ fn dither(rt: &HostRuntime, from: Path<'_>, to: Path<'_>) -> hound::Result<u32> 
     // Up to a block that isn't full, the last one. A `for` is known to end; a `loop` needs a proof.
     for _ in 0..u64::MAX {
         let (count, result) = reader.read_samples(&mut block);
-        for sample in block[..count].iter_mut() {
-            let noise = i32::from(random.step()) + i32::from(random.step()) - 255;
-            let (dithered, is_clipped) = change_bits(sample.saturating_add(noise), 24, 16);
-            clipped = clipped.saturating_add(u32::from(is_clipped));
-            *sample = dithered;
-        }
+        clipped = clipped.saturating_add(random.dither(&mut block[..count]));
         writer.write_samples(&block[..count])?;
         result?;
         if count < block.len() {
@@ -70,5 +65,17 @@ impl Random {
     fn step(&mut self) -> u8 {
         self.state = self.state.wrapping_mul(1664525).wrapping_add(1013904223);
         (self.state >> 24) as u8
+    }
+
+    // Dithers samples of 24 bits to 16: how many were clipped.
+    fn dither(&mut self, samples: &mut [i32]) -> u32 {
+        let mut clipped = 0u32;
+        for sample in samples.iter_mut() {
+            let noise = i32::from(self.step()) + i32::from(self.step()) - 255;
+            let (dithered, is_clipped) = change_bits(sample.saturating_add(noise), 24, 16);
+            clipped = clipped.saturating_add(u32::from(is_clipped));
+            *sample = dithered;
+        }
+        clipped
     }
 }

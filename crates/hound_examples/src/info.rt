@@ -14,19 +14,23 @@ pub fn main(rt: HostRuntime) -> hound::Result<ExitCode> {
         eprintln!(rt; "usage: info FILE")?;
         return Ok(ExitCode::from(2));
     };
-    let path = Path::new(name.as_str());
-    let mut file = BufReader::new(rt.alloc(), fs::open(&rt, path)?)?;
+    let mut file = BufReader::new(rt.alloc(), fs::open(&rt, Path::new(name.as_str()))?)?;
     if read_wave_header(&mut file).is_ok() {
         show_chunks(&rt, &mut file)?;
     }
     file.rewind()?;
+    show_file(&rt, file)
+}
+
+// The spec and the length, or where reading fails.
+fn show_file<R: io::Read + Drop>(rt: &HostRuntime, file: R) -> hound::Result<ExitCode> {
     let mut counting = Counting {
         reader: file,
         taken: 0,
     };
     match WavReader::new(&mut counting) {
         Ok(reader) => {
-            show(&rt, &reader)?;
+            show(rt, &reader)?;
             Ok(ExitCode::SUCCESS)
         }
         Err(error) => {

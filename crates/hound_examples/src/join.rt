@@ -14,6 +14,10 @@ pub fn main(rt: HostRuntime) -> hound::Result<ExitCode> {
         eprintln!(rt; "usage: join OUT IN..")?;
         return Ok(ExitCode::from(2));
     };
+    if first == to || others.contains(to) {
+        eprintln!(rt; "a file can't be read and written at once")?;
+        return Ok(ExitCode::from(1));
+    }
     let spec_ex = spec_of(&rt, first)?;
     for from in others {
         if spec_of(&rt, from)? != spec_ex {
@@ -21,23 +25,21 @@ pub fn main(rt: HostRuntime) -> hound::Result<ExitCode> {
             return Ok(ExitCode::from(1));
         }
     }
-    if first == to || others.contains(to) {
-        eprintln!(rt; "a file can't be read and written at once")?;
-        return Ok(ExitCode::from(1));
-    }
-    let path = Path::new(to.as_str());
-    let mut writer = WavWriter::create_with_spec_ex(&rt, rt.alloc(), path, spec_ex)?;
-    copy_file(&rt, first, &mut writer)?;
-    for from in others {
-        copy_file(&rt, from, &mut writer)?;
-    }
-    writer.finalize()?;
+    join(&rt, Path::new(to.as_str()), spec_ex, &words[2..])?;
     Ok(ExitCode::SUCCESS)
 }
 
 // The spec of a file, with the width of its containers.
 fn spec_of(rt: &HostRuntime, file: &str) -> hound::Result<WavSpecEx> {
     Ok(WavReader::open(rt, rt.alloc(), Path::new(file))?.spec_ex())
+}
+
+fn join(rt: &HostRuntime, to: Path<'_>, spec_ex: WavSpecEx, from: &[String]) -> hound::Result<()> {
+    let mut writer = WavWriter::create_with_spec_ex(rt, rt.alloc(), to, spec_ex)?;
+    for file in from {
+        copy_file(rt, file, &mut writer)?;
+    }
+    writer.finalize()
 }
 
 fn copy_file<W: Medium>(

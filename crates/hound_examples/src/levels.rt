@@ -7,38 +7,54 @@
 ghost use Rattle.std.specs.Prelude.{◌<◌, ◌≤◌};
 
 use hound::{WavReader, int_to_float};
-use std::env;
 use std::path::Path;
 use std::process::ExitCode;
+use std::{env, io};
 
 pub fn main(rt: HostRuntime) -> hound::Result<ExitCode> {
     let Some(file) = env::args(&rt)?.nth(1) else {
         eprintln!(rt; "usage: levels FILE")?;
         return Ok(ExitCode::from(2));
     };
-    let mut reader = WavReader::open(&rt, rt.alloc(), Path::new(file.as_str()))?;
+    show(&rt, Path::new(file.as_str()))?;
+    Ok(ExitCode::SUCCESS)
+}
+
+fn show(rt: &HostRuntime, path: Path<'_>) -> hound::Result<()> {
+    let mut reader = WavReader::open(rt, rt.alloc(), path)?;
     let spec = reader.spec();
     let channels = usize::from(spec.channels.max(1));
     let tenth = (spec.sample_rate / 10).max(1) as usize;
     let most = (tenth * channels).min(reader.len() as usize);
     let mut samples = vec![in rt.alloc(); 0i32; most]?;
-    let bits = spec.bits_per_sample.clamp(1, 32);
     for frame in (0..reader.duration()).step_by(tenth) {
         reader.seek(frame)?;
         let (count, result) = reader.read_samples(&mut samples);
         let seconds = f64::from(frame) / f64::from(spec.sample_rate);
-        for channel in 0..channels.min(count) {
-            let (square, peak) = level_of(&samples[channel..count], channels, bits);
-            let rms = 10.0 * square.log10();
-            let peak = 20.0 * peak.log10();
-            println!(rt;
-                "{seconds:.1} s  channel {}  RMS {rms:.2} dBFS, peak {peak:.2} dBFS",
-                channel + 1
-            )?;
-        }
+        show_tenth(rt, seconds, &samples[..count], channels, spec.bits_per_sample)?;
         result?;
     }
-    Ok(ExitCode::SUCCESS)
+    Ok(())
+}
+
+// A line for each channel.
+fn show_tenth(
+    rt: &HostRuntime,
+    seconds: f64,
+    samples: &[i32],
+    channels: usize,
+    bits: u16,
+) -> io::Result<()> {
+    for channel in 0..channels.min(samples.len()) {
+        let (square, peak) = level_of(&samples[channel..], channels, bits.clamp(1, 32));
+        let rms = 10.0 * square.log10();
+        let peak = 20.0 * peak.log10();
+        println!(rt;
+            "{seconds:.1} s  channel {}  RMS {rms:.2} dBFS, peak {peak:.2} dBFS",
+            channel + 1
+        )?;
+    }
+    Ok(())
 }
 
 // The mean square of each so many-th sample, and the largest of these, the first one among them; full

@@ -12,41 +12,46 @@ use std::process::ExitCode;
 
 pub fn main(rt: HostRuntime) -> hound::Result<ExitCode> {
     let words: Vec<String> = env::args(&rt)?.collect(rt.alloc())?;
-    let words: Vec<&str> = words
-        .iter()
-        .skip(1)
-        .map(|word| word.as_str())
-        .collect(rt.alloc())?;
-    let (file, found) = match words.as_slice() {
-        [file] => (
-            *file,
-            find_damage_in_file(&rt, rt.alloc(), Path::new(file))?,
-        ),
-        [file, "--yes"] => (*file, repair_file(&rt, rt.alloc(), Path::new(file))?),
-        [file, "--to-end"] => (*file, repair_file_to_end(&rt, rt.alloc(), Path::new(file))?),
-        _ => {
-            eprintln!(rt; "usage: mend FILE [--yes | --to-end]")?;
-            return Ok(ExitCode::from(2));
-        }
+    let (file, option) = match words.as_slice() {
+        [_, file] => (file, None),
+        [_, file, option] => (file, Some(option.as_str())),
+        _ => return usage(&rt),
     };
-    let Repair {
-        frames,
-        left_over,
-        was,
-        ..
-    } = found;
-    println!(rt; "{frames} frames, {left_over} bytes left over")?;
-    println!(rt; "{was}")?;
-    if words.len() == 1 && was == RepairState::CutOff {
-        return Ok(ExitCode::SUCCESS);
+    let path = Path::new(file.as_str());
+    let Some(found) = mend(&rt, path, option)? else {
+        return usage(&rt);
+    };
+    println!(rt; "{} frames, {} bytes left over", found.frames, found.left_over)?;
+    println!(rt; "{}", found.was)?;
+    if option.is_some() || found.was != RepairState::CutOff {
+        println!(rt; "read {} frames", count_frames(&rt, path)?)?;
     }
-    let mut reader = WavReader::open(&rt, rt.alloc(), Path::new(file))?;
+    Ok(ExitCode::SUCCESS)
+}
+
+fn usage(rt: &HostRuntime) -> hound::Result<ExitCode> {
+    eprintln!(rt; "usage: mend FILE [--yes | --to-end]")?;
+    Ok(ExitCode::from(2))
+}
+
+// What a file holds, which is mended if there is an option; none for a word that is no option.
+fn mend(rt: &HostRuntime, path: Path<'_>, option: Option<&str>) -> hound::Result<Option<Repair>> {
+    let found = match option {
+        None => find_damage_in_file(rt, rt.alloc(), path)?,
+        Some("--yes") => repair_file(rt, rt.alloc(), path)?,
+        Some("--to-end") => repair_file_to_end(rt, rt.alloc(), path)?,
+        Some(_) => return Ok(None),
+    };
+    Ok(Some(found))
+}
+
+// How many frames are read.
+fn count_frames(rt: &HostRuntime, path: Path<'_>) -> hound::Result<u32> {
+    let mut reader = WavReader::open(rt, rt.alloc(), path)?;
     let mut count = 0u32;
     for sample in reader.samples::<i32>() {
         sample?;
         count = count.saturating_add(1);
     }
-    let channels = u32::from(reader.spec().channels.max(1));
-    println!(rt; "read {} frames", count / channels)?;
-    Ok(ExitCode::SUCCESS)
+    Ok(count / u32::from(reader.spec().channels.max(1)))
 }

@@ -19,38 +19,24 @@ use std::path::Path;
 use std::process::ExitCode;
 use std::{env, io};
 
+// How samples are recorded.
+#[derive(Clone, Copy)]
+struct Options {
+    spec: WavSpec,
+    is_durable: bool,
+    is_appended: bool,
+}
+
 pub fn main(rt: HostRuntime) -> hound::Result<ExitCode> {
     let words: Vec<String> = env::args(&rt)?.collect(rt.alloc())?;
     let [_, file, count, options @ ..] = words.as_slice() else {
         return usage(&rt);
     };
-    let Ok(count @ 1..) = count.parse::<u32>() else {
+    let (Ok(count @ 1..), Some(options)) = (count.parse::<u32>(), options_of(options)) else {
         return usage(&rt);
     };
-    let (mut channels, mut rate, mut bits) = (1, 44100, 16);
-    let (mut is_durable, mut is_appended) = (false, false);
-    for option in options {
-        let (name, number) = match option.split_once("=") {
-            Some((name, number)) => (name, Some(number.parse::<u32>())),
-            None => (option.as_str(), None),
-        };
-        match (name, number) {
-            ("channels", Some(Ok(number @ 1..=65535))) => channels = number as u16,
-            ("rate", Some(Ok(number))) => rate = number,
-            ("bits", Some(Ok(number @ (8 | 16 | 24 | 32)))) => bits = number as u16,
-            ("durable", None) => is_durable = true,
-            ("append", None) => is_appended = true,
-            _ => return usage(&rt),
-        }
-    }
-    let spec = WavSpec {
-        channels,
-        sample_rate: rate,
-        bits_per_sample: bits,
-        sample_format: SampleFormat::Int,
-    };
-    let (alloc, path) = (rt.alloc(), Path::new(file.as_str()));
-    let is_whole = match (is_durable, is_appended) {
+    let (alloc, path, spec) = (rt.alloc(), Path::new(file.as_str()), options.spec);
+    let is_whole = match (options.is_durable, options.is_appended) {
         (false, false) => record(&rt, WavWriter::create(&rt, alloc, path, spec)?, count)?,
         (false, true) => record(&rt, WavWriter::append(&rt, alloc, path)?, count)?,
         (true, false) => record(
@@ -61,6 +47,37 @@ pub fn main(rt: HostRuntime) -> hound::Result<ExitCode> {
         (true, true) => record(&rt, WavWriter::append_durable(&rt, alloc, path)?, count)?,
     };
     Ok(ExitCode::from(if is_whole { 0 } else { 1 }))
+}
+
+// What the words say, if each is an option.
+fn options_of(words: &[String]) -> Option<Options> {
+    let mut options = Options {
+        spec: WavSpec {
+            channels: 1,
+            sample_rate: 44100,
+            bits_per_sample: 16,
+            sample_format: SampleFormat::Int,
+        },
+        is_durable: false,
+        is_appended: false,
+    };
+    for word in words {
+        let (name, number) = match word.split_once("=") {
+            Some((name, number)) => (name, Some(number.parse::<u32>())),
+            None => (word.as_str(), None),
+        };
+        match (name, number) {
+            ("channels", Some(Ok(number @ 1..=65535))) => options.spec.channels = number as u16,
+            ("rate", Some(Ok(number))) => options.spec.sample_rate = number,
+            ("bits", Some(Ok(number @ (8 | 16 | 24 | 32)))) => {
+                options.spec.bits_per_sample = number as u16;
+            }
+            ("durable", None) => options.is_durable = true,
+            ("append", None) => options.is_appended = true,
+            _ => return None,
+        }
+    }
+    Some(options)
 }
 
 fn usage(rt: &HostRuntime) -> hound::Result<ExitCode> {

@@ -32,12 +32,16 @@ fn reverse(rt: &HostRuntime, from: Path<'_>, to: Path<'_>) -> hound::Result<()> 
     let mut samples = vec![in rt.alloc(); 0i32; reader.len() as usize]?;
     let (count, end) = reader.read_samples(&mut samples);
     let frames = &mut samples[..count - count % channels];
-    frames.reverse();
-    for frame in frames.chunks_mut(channels) {
-        frame.reverse();
-    }
+    reverse_frames(frames, channels);
     let mut writer = WavWriter::create_with_spec_ex(rt, rt.alloc(), to, reader.spec_ex())?;
     writer.write_samples(frames)?;
     writer.finalize()?;
     end
+}
+
+fn reverse_frames(samples: &mut [i32], channels: usize) {
+    samples.reverse();
+    for frame in samples.chunks_mut(channels.max(1)) {
+        frame.reverse();
+    }
 }

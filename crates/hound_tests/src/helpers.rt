@@ -12,7 +12,7 @@ use std::io;
 use std::test::Fail;
 
 // Integers with these bits and bytes of a sample.
-pub(crate) fn integers(
+pub fn integers(
     channels: u16,
     sample_rate: u32,
     bits: u16,
@@ -30,7 +30,7 @@ pub(crate) fn integers(
 }
 
 // Integers of 16 bits at 44100 Hz.
-pub(crate) fn sixteen(channels: u16) -> WavSpec
+pub fn sixteen(channels: u16) -> WavSpec
     ensures { (result.sample_format ≡ Int) × (result.bits_per_sample ≡ 16) }
 {
     WavSpec {
@@ -42,7 +42,7 @@ pub(crate) fn sixteen(channels: u16) -> WavSpec
 }
 
 // Mono, 44100 Hz, 16 bits: 2, -3, 5, -7.
-pub(crate) const FOUR_SAMPLES: [u8; 52] = [
+pub const FOUR_SAMPLES: [u8; 52] = [
     0x52, 0x49, 0x46, 0x46, 0x2c, 0x00, 0x00, 0x00, 0x57, 0x41, 0x56, 0x45, 0x66, 0x6d, 0x74, 0x20,
     0x10, 0x00, 0x00, 0x00, 0x01, 0x00, 0x01, 0x00, 0x44, 0xac, 0x00, 0x00, 0x88, 0x58, 0x01, 0x00,
     0x02, 0x00, 0x10, 0x00, 0x64, 0x61, 0x74, 0x61, 0x08, 0x00, 0x00, 0x00, 0x02, 0x00, 0xfd, 0xff,
@@ -50,28 +50,28 @@ pub(crate) const FOUR_SAMPLES: [u8; 52] = [
 ];
 
 // The same without samples.
-pub(crate) const NO_SAMPLES: [u8; 44] = [
+pub const NO_SAMPLES: [u8; 44] = [
     0x52, 0x49, 0x46, 0x46, 0x24, 0x00, 0x00, 0x00, 0x57, 0x41, 0x56, 0x45, 0x66, 0x6d, 0x74, 0x20,
     0x10, 0x00, 0x00, 0x00, 0x01, 0x00, 0x01, 0x00, 0x44, 0xac, 0x00, 0x00, 0x88, 0x58, 0x01, 0x00,
     0x02, 0x00, 0x10, 0x00, 0x64, 0x61, 0x74, 0x61, 0x00, 0x00, 0x00, 0x00,
 ];
 
 // A tape without bytes.
-pub(crate) fn empty_tape(alloc: Global) -> Tape
+pub fn empty_tape(alloc: Global) -> Tape
     ensures { (⟦<Tape as Placed>⟧.state result).place ≡ 0 }
 {
     Tape::new(Vec::new(alloc))
 }
 
 // A tape of these bytes, at the first of them.
-pub(crate) fn tape_of(alloc: Global, bytes: &[u8]) -> Result<Tape, Fail>
+pub fn tape_of(alloc: Global, bytes: &[u8]) -> Result<Tape, Fail>
     ensures { IfOk result (λ t. (⟦<Tape as Placed>⟧.state t).place ≡ 0) }
 {
     Ok(Tape::new(bytes.to_vec(alloc)?))
 }
 
 // Writes these samples, up to the first error.
-pub(crate) fn write_all<S: Sample + Copy, W: Medium>(
+pub fn write_all<S: Sample + Copy, W: Medium>(
     writer: &mut WavWriter<W>,
     samples: &[S],
 ) -> hound::Result<()> {
@@ -82,7 +82,7 @@ pub(crate) fn write_all<S: Sample + Copy, W: Medium>(
 }
 
 // Writes as many samples by one batch, which count up from the first.
-pub(crate) fn write_up<W: Medium>(
+pub fn write_up<W: Medium>(
     writer: &mut WavWriter<W>,
     alloc: Global,
     first: i16,
@@ -106,7 +106,7 @@ pub(crate) fn write_up<W: Medium>(
 }
 
 // The samples that a reader gives, up to the first error.
-pub(crate) fn read_all<S: Sample, R: io::Read + Drop>(
+pub fn read_all<S: Sample, R: io::Read + Drop>(
     alloc: Global,
     reader: WavReader<R>,
 ) -> hound::Result<Vec<S>> {
@@ -119,7 +119,7 @@ pub(crate) fn read_all<S: Sample, R: io::Read + Drop>(
 }
 
 // Whether the next item is this number.
-pub(crate) fn gives<S: Sample + PartialEq, R: io::Read + Drop>(
+pub fn gives<S: Sample + PartialEq, R: io::Read + Drop>(
     reader: &mut WavReader<R>,
     number: S,
 ) -> bool {
@@ -144,7 +144,7 @@ fn seeks_to<R: Source>(
 }
 
 // From each frame to each other one, and back to the first.
-pub(crate) fn seeks_everywhere<R: Source>(
+pub fn seeks_everywhere<R: Source>(
     reader: WavReader<R>,
     numbers: &[i32],
 ) -> hound::Result<bool> {
@@ -163,7 +163,7 @@ pub(crate) fn seeks_everywhere<R: Source>(
 }
 
 // The name of an error, or of an ill-formed file the reason.
-pub(crate) fn name_of(error: Error) -> &'static str {
+pub fn name_of(error: Error) -> &'static str {
     match error {
         Error::IoError(_) => "IoError",
         Error::FormatError(reason) => reason,
@@ -177,7 +177,7 @@ pub(crate) fn name_of(error: Error) -> &'static str {
 }
 
 // "done" if a call did what it should, "not so" if it found something else.
-pub(crate) fn answer_of(returned: hound::Result<bool>) -> &'static str {
+pub fn answer_of(returned: hound::Result<bool>) -> &'static str {
     match returned {
         Ok(true) => "done",
         Ok(false) => "not so",

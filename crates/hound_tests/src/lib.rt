@@ -1,28 +1,20 @@
-//! Tests over the public items of `hound`, for what its rows (`hound_rows`) can't do. Callers that
-//! prove something, files on a disk, allocations that fail, and the words that clauses import.
+//! Tests over the public items of `hound`, for what its rows (`hound_rows`) can't do: allocations that
+//! fail, the words that clauses import, and the examples of the documentation. `helpers` serves
+//! `hound_caller_tests` too.
 #![tactic(auto)]
 
 #[cfg(test)]
 mod answers;
 #[cfg(test)]
-mod calling;
-#[cfg(test)]
 mod documented;
 #[cfg(test)]
 mod durable;
-#[cfg(test)]
-mod files;
-#[cfg(test)]
-mod helpers;
-#[cfg(test)]
-mod losses;
+pub mod helpers;
 #[cfg(test)]
 mod memory;
 #[cfg(test)]
 mod passes;
 #[cfg(test)]
 mod program;
-#[cfg(test)]
-mod recording;
 #[cfg(test)]
 mod words;

@@ -1,5 +1,5 @@
 // The functions of `callers` and `reading`, each run once.
-use crate::helpers::{FOUR_SAMPLES, NO_SAMPLES, empty_tape, sixteen, tape_of};
+use hound_tests::helpers::{FOUR_SAMPLES, NO_SAMPLES, empty_tape, sixteen, tape_of};
 use hound::{Source, WavReader, WavWriter};
 use hound_callers::{
     open_written, publish, read_block, read_from, record_at_once, record_checkpoint, reopen,

@@ -1,5 +1,5 @@
 // The recorders of `hound_callers`, each run once.
-use crate::helpers::{FOUR_SAMPLES, empty_tape, integers, read_all, sixteen, tape_of};
+use hound_tests::helpers::{FOUR_SAMPLES, empty_tape, integers, read_all, sixteen, tape_of};
 use hound::{Durable, Journal, Step, Tape, WavReader, WavSpecEx, WavWriter};
 use hound_callers::{
     append_blocks, finish_durable, opened_meanwhile, pack_one, publish_and_continue,

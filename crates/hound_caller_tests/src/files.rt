@@ -1,5 +1,5 @@
 // Files on disk. What is done to a file is a row of a table (`ROWS`).
-use crate::helpers::{
+use hound_tests::helpers::{
     FOUR_SAMPLES, NO_SAMPLES, answer_of, integers, read_all, seeks_everywhere, sixteen, write_all,
 };
 use hound::{
