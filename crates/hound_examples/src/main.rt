@@ -14,10 +14,14 @@ mod levels;
 mod memory;
 mod mend;
 mod merge;
+mod mix;
 mod mulaw;
+mod normalize;
 mod pipe;
 mod record;
+mod resample;
 mod reverse;
+mod silences;
 mod sine;
 mod split;
 mod stream;
@@ -42,18 +46,22 @@ fn main(rt: HostRuntime) -> hound::Result<ExitCode> {
         "memory" => memory::main(rt),
         "mend" => mend::main(rt),
         "merge" => merge::main(rt),
+        "mix" => mix::main(rt),
         "mulaw" => mulaw::main(rt),
+        "normalize" => normalize::main(rt),
         "pipe" => pipe::main(rt),
         "record" => record::main(rt),
+        "resample" => resample::main(rt),
         "reverse" => reverse::main(rt),
+        "silences" => silences::main(rt),
         "sine" => sine::main(rt),
         "split" => split::main(rt),
         "stream" => stream::main(rt),
         "tone" => tone::main(rt),
         _ => {
             println!(rt;
-                "append convert dither faulty floats info join levels memory mend merge mulaw pipe \
-                 record reverse sine split stream tone"
+                "append convert dither faulty floats info join levels memory mend merge mix mulaw \
+                 normalize pipe record resample reverse silences sine split stream tone"
             )?;
             Ok(ExitCode::SUCCESS)
         }

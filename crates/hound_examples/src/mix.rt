@@ -1,0 +1,58 @@
+// mix IN IN OUT: adds two files of integers with one spec, sample by sample.
+//
+// It prints how many samples were clipped: `1 samples clipped`. Where one file is shorter, silence follows
+// it.
+use hound::{Error, Medium, WavReader, WavWriter};
+use std::path::Path;
+use std::process::ExitCode;
+use std::{env, io};
+
+pub fn main(rt: HostRuntime) -> hound::Result<ExitCode> {
+    let words: Vec<String> = env::args(&rt)?.collect(rt.alloc())?;
+    let [_, one, other, to] = words.as_slice() else {
+        eprintln!(rt; "usage: mix IN IN OUT")?;
+        return Ok(ExitCode::from(2));
+    };
+    if one == to || other == to {
+        eprintln!(rt; "a file can't be read and written at once")?;
+        return Ok(ExitCode::from(1));
+    }
+    let (one, other) = (Path::new(one.as_str()), Path::new(other.as_str()));
+    let clipped = mix(&rt, one, other, Path::new(to.as_str()))?;
+    println!(rt; "{clipped} samples clipped")?;
+    Ok(ExitCode::SUCCESS)
+}
+
+// How many samples were clipped.
+fn mix(rt: &HostRuntime, one: Path<'_>, other: Path<'_>, to: Path<'_>) -> hound::Result<u32> {
+    let one = WavReader::open(rt, rt.alloc(), one)?;
+    let other = WavReader::open(rt, rt.alloc(), other)?;
+    if one.spec_ex() != other.spec_ex() {
+        return Err(Error::Unsupported);
+    }
+    let mut writer = WavWriter::create_with_spec_ex(rt, rt.alloc(), to, one.spec_ex())?;
+    let clipped = add(one, other, &mut writer)?;
+    writer.finalize()?;
+    Ok(clipped)
+}
+
+fn add<R: io::Read + Drop, W: Medium>(
+    one: WavReader<R>,
+    other: WavReader<R>,
+    writer: &mut WavWriter<W>,
+) -> hound::Result<u32> {
+    let largest = i32::MAX >> (32 - writer.spec().bits_per_sample.clamp(1, 32));
+    let length = one.len().max(other.len());
+    let (mut one, mut other) = (one.into_samples::<i32>(), other.into_samples::<i32>());
+    let mut clipped = 0u32;
+    for _ in 0..length {
+        let (a, b) = (
+            one.next().unwrap_or(Ok(0))?,
+            other.next().unwrap_or(Ok(0))?,
+        );
+        let sample = a.saturating_add(b).min(largest).max(!largest);
+        clipped = clipped.saturating_add(u32::from(sample != a.wrapping_add(b)));
+        writer.write_sample(sample)?;
+    }
+    Ok(clipped)
+}
