@@ -1,8 +1,8 @@
 // Blocks: many samples that are read or written by one call.
-use crate::counting::Counted;
-use crate::line::Line;
+use hound_row::counting::Counted;
+use hound_row::line::Line;
 use crate::readers::Sum;
-use crate::row::Row;
+use hound_row::row::Row;
 use crate::values::{Kind, Value, at_type, put_value};
 use hound::{FloatBits, Medium, Result, WavReader, WavWriter};
 use hound_types::Twelve;

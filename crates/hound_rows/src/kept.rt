@@ -3,8 +3,8 @@ ghost use Rattle.std.specs.Prelude.{◌≡◌, ◌≤◌};
 
 use crate::media::{set_faults, show_contents, show_counts};
 use crate::moments::show_moments;
-use crate::recorded::{Call, Recorded};
-use crate::row::Row;
+use hound_row::recorded::{Call, Recorded};
+use hound_row::row::Row;
 use hound::{Medium, Placed, Source, Tape};
 
 // For more calls only the number is shown.

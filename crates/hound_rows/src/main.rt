@@ -3,30 +3,21 @@
 #![tactic(auto)]
 
 mod blocks;
-mod bytes;
-mod counting;
-mod crc;
-mod feed;
 mod kept;
-mod line;
 mod media;
 mod moments;
 mod numbers;
 mod readers;
-mod recorded;
 mod repairs;
-mod row;
 mod samples;
 mod scales;
 mod sessions;
-mod sink;
 mod specs;
-mod sweep;
 mod tool;
 mod values;
 mod writers;
 
-use row::Row;
+use hound_row::row::Row;
 use std::io;
 use std::io::{BufWriter, ErrorKind, Write};
 use std::process::ExitCode;

@@ -1,7 +1,7 @@
 // Rows of media, and of what they did.
 ghost use Rattle.std.specs.Prelude.{◌≡◌, ◌≤◌};
 
-use crate::row::{Row, find, name_and_value};
+use hound_row::row::{Row, find, name_and_value};
 use hound::{Error, Journal, Medium, Source, Tape};
 use std::io;
 

@@ -1,9 +1,9 @@
 // What a file is after each byte written.
-use crate::line::Line;
+use hound_row::line::Line;
 use crate::media::bytes_after;
 use crate::readers::{Sum, left};
 use crate::repairs::repaired;
-use crate::row::Row;
+use hound_row::row::Row;
 use hound::{Error, FloatBits, Journal, SampleFormat, Tape, WavReader};
 
 /// Shows what the file is after each byte from this one on, as it is or once it is repaired, if

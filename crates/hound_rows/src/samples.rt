@@ -1,6 +1,6 @@
 // Rows of single samples.
-use crate::row::Row;
-use crate::sink::Sink;
+use hound_row::row::Row;
+use hound_row::sink::Sink;
 use crate::values::{Kind, Value, at_type, show};
 use hound::{FloatBits, Sample, SampleFormat};
 use hound_types::Twelve;

@@ -1,7 +1,7 @@
 // Rows of samples in another scale.
 ghost use Rattle.std.specs.Prelude.{◌<◌, ◌≤◌};
 
-use crate::row::Row;
+use hound_row::row::Row;
 use crate::values::Value;
 use hound::{FloatBits, change_bits, float_to_int, int_to_float};
 

@@ -1,7 +1,7 @@
 // Rows of specs, headers and errors.
 ghost use Rattle.std.specs.Prelude.{◌≡◌};
 
-use crate::row::Row;
+use hound_row::row::Row;
 use hound::{Error, SampleFormat, WavSpec, WavSpecEx};
 use hound_spec::header_of;
 

@@ -1,6 +1,6 @@
 // Rows of the program.
-use crate::feed::Feed;
-use crate::row::{Row, parts};
+use hound_row::feed::Feed;
+use hound_row::row::{Row, parts};
 use hound_commands::run;
 use std::io;
 use std::io::ErrorKind;

@@ -1,6 +1,6 @@
 // The types of samples in rows.
-use crate::line::Line;
-use crate::row::Row;
+use hound_row::line::Line;
+use hound_row::row::Row;
 use hound::{FloatBits, Sample};
 use hound_types::Twelve;
 

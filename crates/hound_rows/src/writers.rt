@@ -3,11 +3,11 @@ ghost use Rattle.std.specs.Prelude.{◌≡◌, ◌≤◌};
 ghost use Rattle.hound.specs.{WhereTells};
 
 use crate::blocks::write_block;
-use crate::counting::Counted;
+use hound_row::counting::Counted;
 use crate::kept::{Kept, recorded_of, tape_of};
-use crate::row::{Row, find, name_and_value, parts};
+use hound_row::row::{Row, find, name_and_value, parts};
 use crate::sessions::{first_moment, has_moments, has_repaired};
-use crate::sweep::Sweep;
+use hound_row::sweep::Sweep;
 use crate::values::{Kind, Value, at_type};
 use hound::{
     Begin, Error, FloatBits, Medium, Result, SampleFormat, SampleWriter16, Source, WavWriter,

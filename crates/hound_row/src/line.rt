@@ -1,6 +1,6 @@
 // The line that a row results in.
 use crate::crc::Crc;
-use hound::Error;
+use hound_spec::Error;
 use std::alloc::Global;
 use std::fmt::Display;
 use std::io;
@@ -163,7 +163,7 @@ impl Line {
     }
 
     /// The result of a call.
-    pub fn answer(&mut self, answer: hound::Result<()>) {
+    pub fn answer(&mut self, answer: hound_spec::Result<()>) {
         match answer {
             Ok(()) => self.word("ok"),
             Err(error) => self.error(error),

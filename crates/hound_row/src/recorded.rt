@@ -1,9 +1,9 @@
 // A journal that records the calls made of it.
 ghost use Rattle.std.specs.Prelude.{◌≡◌, false};
 ghost use Rattle.std.proofs.lemmas.Bool.{false≢true};
-ghost use Rattle.hound.specs.{MediumState, unknown};
+ghost use Rattle.hound_medium.specs.{MediumState, unknown};
 
-use hound::{Journal, Medium, Placed, Source};
+use hound_medium::{Journal, Medium, Placed, Source};
 use std::alloc::Global;
 use std::io;
 use std::io::ErrorKind;
@@ -33,7 +33,7 @@ pub struct Recorded {
 
 impl Recorded {
     /// Over these bytes.
-    pub fn over(alloc: Global, bytes: Vec<u8>) -> hound::Result<Recorded> {
+    pub fn over(alloc: Global, bytes: Vec<u8>) -> hound_spec::Result<Recorded> {
         Ok(Recorded {
             journal: Journal::new(alloc, bytes)?,
             calls: Vec::new(alloc),

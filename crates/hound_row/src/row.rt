@@ -1,6 +1,6 @@
 // A row, and its result.
 use crate::line::Line;
-use hound::{SampleFormat, WavSpec, WavSpecEx};
+use hound_spec::{SampleFormat, WavSpec, WavSpecEx};
 use std::alloc::Global;
 use std::io::ErrorKind;
 use std::str::FromStr;

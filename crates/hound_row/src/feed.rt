@@ -1,10 +1,10 @@
 // What rows read from.
 ghost use Rattle.std.specs.Prelude.{◌≡◌, false};
 ghost use Rattle.std.proofs.lemmas.Bool.{false≢true};
-ghost use Rattle.hound.specs.{unknown};
+ghost use Rattle.hound_medium.specs.{unknown};
 
 use crate::row::{Row, find};
-use hound::{Placed, Source};
+use hound_medium::{Placed, Source};
 use std::io;
 use std::io::ErrorKind;
 
