@@ -182,6 +182,11 @@ int64_t hound_append_f32(uint8_t *file, size_t capacity, size_t used, const floa
    was missing. Where chunks follow the data, or both sizes are right, nothing is written. */
 int64_t hound_repair(uint8_t *file, size_t capacity, size_t used, hound_repair_t *found) HOUND_NONNULL;
 
+/* The same where all that follows the header of the data is samples, also what looks like chunks or a tag: for a
+   recording that was cut off, and that hound_repair takes for one with chunks after the data. It finds
+   HOUND_WHOLE or HOUND_CUT_OFF. */
+int64_t hound_repair_to_end(uint8_t *file, size_t capacity, size_t used, hound_repair_t *found) HOUND_NONNULL;
+
 /* Looks at a file as hound_repair does, and changes nothing of it. Returns 0, and reports in `found`
    what hound_repair would, or the error that hound_repair returns, where that isn't HOUND_NO_ROOM. */
 int32_t hound_find_damage(const uint8_t *file, size_t length, hound_repair_t *found) HOUND_NONNULL;

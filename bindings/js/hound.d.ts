@@ -86,7 +86,8 @@ export function findDamage(file: WavFile): Promise<Damage>;
 
 /**
  * Repairs a file whose recording was cut off, and returns how it was found and the repaired file, in which only the two
- * sizes and a missing pad byte differ. A file that is whole, or that chunks or a tag follow, is returned as it is.
+ * sizes and a missing pad byte differ. A file that is whole, or that chunks or a tag follow, is returned as it is; with
+ * `toEnd` all that follows the header of the data is taken for samples, also what looks like chunks.
  */
-export function repair(file: Uint8Array): Promise<Damage & { file: Uint8Array }>;
-export function repair(file: Blob): Promise<Damage & { file: Blob }>;
+export function repair(file: Uint8Array, options?: { toEnd?: boolean }): Promise<Damage & { file: Uint8Array }>;
+export function repair(file: Blob, options?: { toEnd?: boolean }): Promise<Damage & { file: Blob }>;

@@ -323,11 +323,13 @@ export function findDamage(file) {
 
 /**
  * Repairs a file whose recording was cut off, and returns how it was found and the repaired file, in which only the two
- * sizes and a missing pad byte differ. A file that is whole, or that chunks or a tag follow, is returned as it is.
+ * sizes and a missing pad byte differ. A file that is whole, or that chunks or a tag follow, is returned as it is; with
+ * `toEnd` all that follows the header of the data is taken for samples, also what looks like chunks.
  */
-export function repair(file) {
+export function repair(file, { toEnd = false } = {}) {
   return lookAt(file, (memory, size, dataStart) => {
-    const length = checked(memory.call("repair", memory.at(FIRST), size + 1, size, memory.at(FOUND)));
+    const call = toEnd ? "repair_to_end" : "repair";
+    const length = checked(memory.call(call, memory.at(FIRST), size + 1, size, memory.at(FOUND)));
     const found = foundIn(memory);
     if (found.state !== "cutOff") return { ...found, file };
     const sizes = [4, dataStart - 4].flatMap((place) => [...memory.bytes.subarray(FIRST + place, FIRST + place + 4)]);

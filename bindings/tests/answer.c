@@ -36,6 +36,7 @@ static int64_t call(const char *name, const uint64_t *a) {
     if (!strcmp(name, "checkpoint_next")) return hound_checkpoint_next(AT(hound_recorder, 0), (int32_t)a[1], AT(hound_effect, 2));
     if (!strcmp(name, "size")) return hound_size(AT(hound_spec, 0), a[1]);
     if (!strcmp(name, "repair")) return hound_repair(AT(uint8_t, 0), a[1], a[2], AT(hound_repair_t, 3));
+    if (!strcmp(name, "repair_to_end")) return hound_repair_to_end(AT(uint8_t, 0), a[1], a[2], AT(hound_repair_t, 3));
 #define CONTAINERS(suffix, type)                                                                                                  \
     if (!strcmp(name, "decode_" #suffix)) return hound_decode_##suffix(AT(hound_spec, 0), AT(uint8_t, 1), a[2], AT(type, 3), a[4]); \
     if (!strcmp(name, "encode_" #suffix)) return hound_encode_##suffix(AT(hound_spec, 0), AT(type, 1), a[2], AT(uint8_t, 3), a[4]);

@@ -476,6 +476,41 @@ static void repairs(void) {
     must(hound_repair(odd, 46, 45, &found) == 46 && odd[45] == 0 && odd[4] == 38, "a pad byte");
 }
 
+/* Files that a chunk follows, which a repair to the end takes for samples: its 12 bytes are six more of 16 bits; of 8
+   bits 11 are an odd number. */
+static void repairs_to_the_end(void) {
+    static const uint8_t chunk[12] = {'L', 'I', 'S', 'T', 4, 0, 0, 0, 'I', 'N', 'F', 'O'};
+    uint8_t file[64], before[64];
+    hound_repair_t found;
+    memcpy(before, four, 52);
+    memcpy(before + 52, chunk, sizeof chunk);
+    memcpy(file, before, sizeof file);
+    must(hound_repair(file, 64, 64, &found) == 64 && !memcmp(file, before, 64), "a file that a chunk follows stays");
+    must(found.state == HOUND_HAS_CHUNKS_AFTER_DATA && found.frames == 4 && found.left_over == 0, "a chunk after the data");
+    must(hound_repair_to_end(file, 64, 64, &found) == 64 && !memcmp(file + 44, before + 44, 20), "a chunk is taken for samples");
+    must(found.state == HOUND_CUT_OFF && found.frames == 10 && found.left_over == 0 && found.spec.bytes_per_sample == 2, "what a repair to the end finds");
+    whole(file, 64, 44, 20, "a file that was repaired to the end");
+    must(hound_repair_to_end(file, 64, 64, &found) == 64 && found.state == HOUND_WHOLE, "a second repair to the end");
+    file[22] = 2, file[32] = 4, put32(file + 28, 4 * 44100); /* two channels, and frames of four bytes */
+    must(hound_repair_to_end(file, 64, 63, &found) == 63 && found.frames == 4 && found.left_over == 3, "a torn frame at the end");
+
+    hound_spec spec = {44100, 1, 8, 0, HOUND_INT};
+    must(hound_write_i16(&spec, shorts, 1, before, 64) == 46, "a byte and its pad byte");
+    must(hound_repair_to_end(before, 46, 46, &found) == 46 && found.state == HOUND_WHOLE && found.frames == 1, "a pad byte is no sample");
+    memcpy(before + 45, chunk, 10);
+    memcpy(file, before, sizeof file);
+    memset(&found, 7, sizeof found);
+    must(hound_repair_to_end(file, 55, 55, &found) == HOUND_NO_ROOM, "a repair to the end without room for a pad byte");
+    must(hound_repair_to_end(file, 55, 56, &found) == HOUND_NO_ROOM, "a repair to the end where more is used than there is");
+    must(hound_repair_to_end(file, 55, 43, &found) == HOUND_ENDED, "a repair to the end of a cut header");
+    file[32] = 6, file[34] = 48, put32(file + 28, 6 * 44100); /* bits, in six bytes */
+    must(hound_repair_to_end(file, 64, 55, &found) == HOUND_NOT_WRITABLE, "a repair to the end of 48 bits");
+    file[32] = 1, file[34] = 8, put32(file + 28, 44100);
+    must(!memcmp(file, before, 64) && found.state == 0x07070707 && found.frames == 0x07070707, "an error of a repair to the end changes nothing");
+    must(hound_repair_to_end(file, 64, 55, &found) == 56 && found.frames == 11, "a repair to the end of odd data");
+    whole(file, 56, 44, 11, "odd data that were repaired to the end");
+}
+
 /* The RIFF size counts all bytes but the first 8, in 32 bits: files of the most samples, of one more, and of two more
    than there are. */
 static void sizes_of_32_bits(char type, int kind, uint8_t *file, const void *silence, size_t room) {
@@ -512,6 +547,10 @@ static void long_files(void) {
     sizes_of_32_bits('h', 1, file, silence, room);
     sizes_of_32_bits('i', 4, file, silence, room);
     sizes_of_32_bits('f', 5, file, silence, room);
+    hound_repair_t found;
+    must(written('h', &bytes, 0, file, room) == 44, "a file of no samples");
+    must(hound_repair(file, room, room, &found) == HOUND_TOO_LONG && hound_repair_to_end(file, room, room, &found) == HOUND_TOO_LONG, "a repair past 32 bits");
+    must(hound_repair_to_end(file, room, 4294967303, &found) == HOUND_TOO_LONG && hound_repair_to_end(file, room, 4294967302, &found) == 4294967302, "the longest file that is repaired");
     munmap(file, room);
     munmap(silence, room);
 }
@@ -543,6 +582,7 @@ int main(void) {
     no_recorders();
     floats();
     repairs();
+    repairs_to_the_end();
     long_files();
     texts();
     puts("calls: each call returned what it must");

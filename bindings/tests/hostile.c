@@ -83,7 +83,7 @@ int main(int argc, char **argv) {
             if (a > 0) for (int64_t j = 0; j < a; j++) must(c == a || c == HOUND_TRUNCATED, "both widths");
         }
         memcpy(copy, file, length);
-        hound_repair_t damage, repaired;
+        hound_repair_t damage, repaired, to_end;
         memset(&damage, 7, sizeof damage);
         int32_t looked = hound_find_damage(file, length, &damage);
         must(!memcmp(copy, file, length) && looked <= 0, "looking changes nothing");
@@ -92,6 +92,10 @@ int main(int argc, char **argv) {
         must(looked == (mended < 0 ? mended : 0), "what is looked at is repaired");
         must(looked < 0 || (!memcmp(&damage.spec, &repaired.spec, sizeof damage.spec) && damage.frames == repaired.frames
                             && damage.left_over == repaired.left_over && damage.state == repaired.state), "the same damage");
+        memcpy(base, file, length);
+        must(hound_repair_to_end(base, sizeof base, length, &to_end) < 0 ? mended < 0 && !memcmp(copy, base, length)
+                 : mended >= 0 && to_end.state != HOUND_HAS_CHUNKS_AFTER_DATA
+                       && (repaired.state == HOUND_HAS_CHUNKS_AFTER_DATA || !memcmp(&repaired, &to_end, sizeof to_end)), "a repair to the end");
         uint32_t more = some(8);
         int64_t grown = hound_append_i32(file, length, length, samples, more); /* fits only with nothing to add, or into a pad */
         if (grown < 0) must(!memcmp(copy, file, length), "an error changes nothing");

@@ -45,9 +45,12 @@ async function compare(bytes, kind) {
     must(same(read, expected), "read", bytes, type, read, expected);
   }
 
-  const found = await given("repair", hound.repair(kind)), length = call("repair", file, bytes.length + 1, bytes.length, start);
-  if (length < 0) must(found === names.get(length), "repair", bytes, found, length);
-  else must(found.frames === view.getUint32(start + 12, true) && found.leftOver === view.getUint32(start + 16, true) && same(await bytesOf(found.file), memory.subarray(file, file + length)), "repair", bytes, found);
+  for (const [what, toEnd] of [["repair", false], ["repair_to_end", true]]) {
+    put(bytes);
+    const found = await given(what, hound.repair(kind, { toEnd })), length = call(what, file, bytes.length + 1, bytes.length, start);
+    if (length < 0) must(found === names.get(length), what, bytes, found, length);
+    else must(found.frames === view.getUint32(start + 12, true) && found.leftOver === view.getUint32(start + 16, true) && same(await bytesOf(found.file), memory.subarray(file, file + length)), what, bytes, found);
+  }
 
   put(bytes);
   const samples = new Int16Array(code < 0 || channels > 64 ? 0 : 2 * channels).fill(100), longer = await given("append", hound.append(kind, samples, { overwrite: true }));
@@ -66,5 +69,5 @@ for (const line of fs.readFileSync(0, "latin1").split("\n")) {
   const bytes = new Uint8Array(Buffer.from(last, "hex"));
   await compare(bytes, files++ % 2 ? new Blob([bytes]) : bytes);
 }
-for (const what of ["info", "read", "repair", "append"]) must(tried.get(what) >= 50, what, [], tried.get(what));
+for (const what of ["info", "read", "repair", "repair_to_end", "append"]) must(tried.get(what) >= 50, what, [], tried.get(what));
 console.log(`package: ${files} files, and of these ${[...tried].map(([what, count]) => `${count} ${what}`).join(", ")} without an error`);

@@ -96,6 +96,7 @@ def requests(file, some):
             yield f"checkpoint_next @{FOUND} #{some.choice((0, 1, 77))} @{OUT}"
             for room in (used, used + 1, used - (used > 0)):
                 yield f"repair @{FILE} {room} {used} @{FOUND}"
+                yield f"repair_to_end @{FILE} {room} {used} @{FOUND}"
         yield f"decode_{suffix} @{SPEC} @{FILE} {used} @{OUT} {ROOM // 4}"
         capacities = (ROOM, some.randrange(ROOM))
         for capacity in capacities:

@@ -162,10 +162,10 @@ def check_record(program):
 STATES = ["whole", "cut_off", "followed"]
 
 
-def repaired_by_model(data):
+def repaired_by_model(how, data):
     """What a repair finds and leaves, or the codes that its error may have; then all stays."""
     try:
-        damage = model.Damage(data, True)
+        damage = model.Damage(data, how == "mend")
     except model.Refused as error:
         text = str(error)
         codes = {"Unsupported": {Cause.UNSUPPORTED, Cause.NOT_WRITABLE}, "TooLong": {Cause.TOO_LONG}}
@@ -173,11 +173,15 @@ def repaired_by_model(data):
     return damage.words(), damage.mend(data)
 
 
-def repaired(data):
+# The calls of the C interface for the repairs of the rows.
+REPAIRS = {"mend": hound._repair, "to_end": hound._repair_to_end}
+
+
+def repaired(how, data):
     """The same by the C interface, with room for a pad byte."""
     memory, report = bytearray(data + b"U"), hound._Repair()
     with hound._address(memory) as (address, capacity):
-        n = hound._repair(address, capacity, len(data), ctypes.byref(report))
+        n = REPAIRS[how](address, capacity, len(data), ctypes.byref(report))
     if n < 0:
         assert memory[len(data) :] == b"U"
         return {Cause(-n)}, bytes(memory[: len(data)])
@@ -193,15 +197,16 @@ def check_repairs():
     with open(os.path.join(TOP, "crates", "hound_rows", "stdin")) as rows:
         for line in rows:
             words = line.rstrip("\n").split(" ")
-            if words[:2] != ["repair", "mend"]:
+            if words[0] != "repair" or words[1] not in REPAIRS:
                 continue
             data = model.bytes_of(words[2])
             for length in range(len(data) + 1) if "cuts" in words else [len(data)]:
-                (wanted, left), (got, memory) = repaired_by_model(data[:length]), repaired(data[:length])
-                same = got <= wanted if isinstance(wanted, set) and isinstance(got, set) else got == wanted
-                if not same or memory != left:
-                    sys.exit(f"rows: a repair of {data[:length].hex()} gives {got} and not {wanted}")
-                count += 1
+                for how in REPAIRS:
+                    (wanted, left), (got, memory) = repaired_by_model(how, data[:length]), repaired(how, data[:length])
+                    same = got <= wanted if isinstance(wanted, set) and isinstance(got, set) else got == wanted
+                    if not same or memory != left:
+                        sys.exit(f"rows: the repair {how} of {data[:length].hex()} gives {got} and not {wanted}")
+                    count += 1
     return count
 
 

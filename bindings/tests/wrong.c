@@ -30,6 +30,16 @@ REAL(int64_t, repair, (uint8_t *file, size_t capacity, size_t used, hound_repair
     return n == (int64_t)capacity && has("repair that fills") ? INT64_MAX : n;
 }
 
+REAL(int64_t, repair_to_end, (uint8_t *file, size_t capacity, size_t used, hound_repair_t *found)) {
+    if (has("to the end it looks for chunks")) return __real_hound_repair(file, capacity, used, found);
+    hound_repair_t before = *found;
+    int64_t n = __real_hound_repair_to_end(file, capacity, used, found);
+    if (n >= 0 && has("to the end it reports nothing")) *found = before;
+    if (n < 0 && has("to the end it reports at an error")) found->state = HOUND_WHOLE;
+    if (n > (int64_t)used && has("to the end it needs no pad byte")) return (int64_t)used;
+    return n;
+}
+
 REAL(int32_t, find_damage, (const uint8_t *file, size_t length, hound_repair_t *found)) {
     int32_t code = __real_hound_find_damage(file, length, found);
     if (code == 0) report(&found->spec);

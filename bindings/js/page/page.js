@@ -2,8 +2,8 @@
 import { HoundError, info, read, repair, write } from "../hound.js";
 
 const element = (id) => document.getElementById(id);
-const [drop, said, busy, stop, result, save, wave, place, axis, player, facts] =
-  ["drop", "said", "busy", "stop", "result", "save", "wave", "place", "axis", "player", "facts"].map(element);
+const [drop, said, busy, stop, result, save, choice, end, wave, place, axis, zoom, player, facts] =
+  ["drop", "said", "busy", "stop", "result", "save", "choice", "end", "wave", "place", "axis", "zoom", "player", "facts"].map(element);
 const [input, audio, canvas, progress] = ["input", "audio", "canvas", "progress"].map((name) => document.querySelector(name));
 
 // What is said of a file that can't be read, where hound.h's sentence is too short for somebody who knows no format.
@@ -14,14 +14,15 @@ const HINTS = {
   UNSUPPORTED: "Its sound is compressed; this page reads plain samples only.",
   NOT_WRITABLE: "This page reads integers of 8, 16, 24 and 32 bits, and floats of 32 bits.",
 };
-// How many samples are read at once to be drawn, how many channels are drawn at most, and how many samples a copy has.
-const AT_ONCE = 1 << 20, LANES = 32, COPIED = 1 << 28;
+// How many samples are read at once to be drawn, how many channels are drawn at most, how many frames are shown at least,
+// and how many samples a copy has at most.
+const AT_ONCE = 1 << 20, LANES = 32, LEAST = 64, COPIED = 1 << 28;
 
 const number = (n) => n.toLocaleString("en");
 const counted = (n, what) => `${number(n)} ${what}${n === 1 ? "" : "s"}`;
 
-function time(seconds, digits = 3) {
-  const minutes = Math.floor(seconds / 60), hours = Math.floor(minutes / 60);
+function time(exact, digits = 3) {
+  const seconds = Number(exact.toFixed(digits)), minutes = Math.floor(seconds / 60), hours = Math.floor(minutes / 60);
   const rest = (seconds % 60).toFixed(digits).padStart(digits ? 3 + digits : 2, "0");
   return hours ? `${hours}:${String(minutes % 60).padStart(2, "0")}:${rest}` : `${minutes}:${rest}`;
 }
@@ -37,24 +38,34 @@ function failure(file, error) {
   return `${file.name} could not be read: ${error.message}`;
 }
 
-/** What is said of a file that was looked at. */
-function verdict({ state, frames, leftOver, sampleRate }) {
+const lengthOfTime = ({ frames, sampleRate }) => sampleRate ? frames / sampleRate : 0;
+
+/** What is said of a file that was looked at, and repaired to its end if that was asked for. */
+function verdict(found, toEnd) {
+  const { state, frames, leftOver } = found;
   if (state === "whole") return ["The file is whole: both of its sizes are right. There is nothing to repair.", "good"];
   if (state === "hasChunksAfterData") return ["Chunks or a tag follow the sound, as programs write them. There is nothing to repair.", "good"];
   const left = leftOver ? ` ${counted(leftOver, "byte")} of a torn frame ${leftOver === 1 ? "is" : "are"} left over.` : "";
-  return [`The recording was cut off. ${counted(frames, "frame")} (${time(sampleRate ? frames / sampleRate : 0)}) come${frames === 1 ? "s" : ""} back.${left}`, "cut"];
+  const cause = toEnd ? "All bytes up to the end are taken for sound." : "The recording was cut off.";
+  return [`${cause} ${counted(frames, "frame")} (${time(lengthOfTime(found))}) come${frames === 1 ? "s" : ""} back.${left}`, "cut"];
+}
+
+/** The second choice where chunks or a tag follow the sound: what it is, and its button. */
+function otherChoice(file, { frames, channels, bytesPerSample, dataStart }, toEnd) {
+  if (toEnd) return ["If it ends in noise now, chunks or a tag were there, and the file needs no repair.", "Back to the file as it was"];
+  const rest = file.size - dataStart - frames * channels * bytesPerSample;
+  return [`Is the end of the recording missing here? Then it was cut off, and its last ${number(rest)} bytes only look like chunks or a tag.`, "Repair to the end"];
 }
 
 /** The header's fields, with a hint for each that needs one. */
 function rows(file, head, found) {
   const { sampleRate, channels, bitsPerSample, bytesPerSample, isFloat, dataStart } = found;
   const width = bytesPerSample * 8 === bitsPerSample ? "" : ` in ${bytesPerSample} bytes`;
-  const duration = time(sampleRate ? found.frames / sampleRate : 0);
   return [
     ["File", `${file.name}, ${counted(file.size, "byte")}`],
-    ["Duration", `${duration}, ${counted(found.frames, "frame")}`, "A frame has one sample of each channel."],
+    ["Duration", `${time(lengthOfTime(found))}, ${counted(found.frames, "frame")}`, "A frame has one sample of each channel."],
     ["Sample rate", `${number(sampleRate)} Hz`, "Frames a second."],
-    ["Channels", number(channels)],
+    ["Channels", number(channels), ...(channels > LANES ? [`The first ${LANES} are drawn.`] : [])],
     ["Samples", `${isFloat ? "floats" : "integers"} of ${bitsPerSample} bits${width}`],
     ["Sound begins", `at byte ${number(dataStart)}`],
     ...(found.state === "cutOff" ? [["Header", head ? `counts ${counted(head.frames, "frame")}` : "counts no whole frames", "The repaired file counts all whole frames that are there."]] : []),
@@ -81,8 +92,8 @@ function takePeaks(peaks, samples, first) {
     for (let channel = 0; channel < channels; channel++) {
       let least = Infinity, most = -Infinity;
       for (let i = Math.max(0, frame - 1) * channels + channel; i < end * channels; i += channels) {
-        least = Math.min(least, samples[i]);
-        most = Math.max(most, samples[i]);
+        if (samples[i] < least) least = samples[i];
+        if (samples[i] > most) most = samples[i];
       }
       const k = column * channels + channel;
       low[k] = Math.min(low[k], least);
@@ -108,58 +119,92 @@ function draw({ columns, channels, low, high, scale }) {
   }
 }
 
-/** Writes the times under the waveform: at most one for each 90 pixels. */
-function drawAxis(seconds) {
-  const most = Math.max(2, Math.floor(axis.clientWidth / 90));
-  const step = [0.001, 0.002, 0.005, 0.01, 0.02, 0.05, 0.1, 0.2, 0.5, 1, 2, 5, 10, 15, 30, 60, 120, 300, 600, 900, 1800, 3600, 7200, 18000, 36000, 86400]
+/** Writes the times under the waveform: at most one for each 100 pixels. */
+function drawAxis(from, seconds) {
+  const most = Math.max(2, Math.floor(axis.clientWidth / 100));
+  const step = [1e-5, 2e-5, 5e-5, 1e-4, 2e-4, 5e-4, 0.001, 0.002, 0.005, 0.01, 0.02, 0.05, 0.1, 0.2, 0.5, 1, 2, 5, 10, 15, 30, 60, 120, 300, 600, 900, 1800, 3600, 7200, 18000, 36000, 86400]
     .find((one) => seconds / one <= most) ?? seconds;
-  const marks = [];
-  for (let i = 0; i * step < seconds && marks.length <= most; i++) {
-    const mark = document.createElement("span");
-    mark.textContent = time(i * step, step < 0.01 ? 3 : step < 1 ? 2 : 0);
-    mark.style.left = `${100 * i * step / seconds}%`;
-    if (i * step / seconds < 1 - 60 / axis.clientWidth) marks.push(mark);
+  const digits = step < 1 ? Math.max(2, Math.ceil(-Math.log10(step))) : 0, marks = [];
+  for (let i = Math.ceil(from / step); i * step < from + seconds && marks.length <= most; i++) {
+    const mark = document.createElement("span"), share = (i * step - from) / seconds;
+    mark.textContent = time(i * step, digits);
+    mark.style.left = `${100 * share}%`;
+    if (share < 1 - (60 + 8 * digits) / axis.clientWidth) marks.push(mark);
   }
   axis.replaceChildren(...marks);
 }
 
-/** Reads a recording in blocks and draws it; `goesOn` says whether to read on. */
-async function drawAll(file, found, goesOn) {
-  const { frames, channels, isFloat, bitsPerSample, sampleRate } = found;
-  const columns = Math.max(1, Math.min(frames, Math.round(wave.clientWidth * devicePixelRatio)));
+/** Reads the frames in view in blocks and draws them, until something else is drawn or that is stopped. */
+async function drawView() {
+  const mine = ++drawings, { found, first, count } = shown;
+  const { channels, isFloat, bitsPerSample } = found;
+  const columns = Math.max(1, Math.min(count, Math.round(wave.clientWidth * devicePixelRatio)));
   const low = new Float32Array(columns * channels).fill(Infinity), high = new Float32Array(columns * channels).fill(-Infinity);
-  const peaks = { columns, frames, channels, low, high, scale: isFloat ? 1 : 2 ** (1 - bitsPerSample) };
+  const peaks = { columns, frames: count, channels, low, high, scale: isFloat ? 1 : 2 ** (1 - bitsPerSample) };
   const block = Math.max(1, Math.floor(AT_ONCE / channels));
-  shown = { peaks, seconds: sampleRate ? frames / sampleRate : 0 };
+  shown.peaks = peaks;
   redraw();
-  for (let first = 0, drawn = performance.now(); first < frames; first += block) {
-    takePeaks(peaks, await read(file, { start: first, frames: Math.min(block, frames - first) }), first);
-    if (!goesOn()) break;
-    progress.value = Math.min(1, (first + block) / frames);
-    busy.hidden = first + block >= frames;
+  for (let done = 0, drawn = performance.now(); done < count; done += block) {
+    takePeaks(peaks, await read(found.file, { start: first + done, frames: Math.min(block, count - done) }), done);
+    if (mine !== drawings) return;
+    progress.value = Math.min(1, (done + block) / count);
+    busy.hidden = done + block >= count;
     if (performance.now() - drawn < 250) continue;
     draw(peaks);
     drawn = performance.now();
   }
+  draw(peaks);
 }
 
-/** A copy in 16 bits, for a browser that plays no other samples. */
-async function copied(file, { frames, channels, isFloat, bitsPerSample, sampleRate }) {
+/** Shows so many frames from one on, as far as there are any. */
+function look(first, count) {
+  const { frames } = shown.found;
+  shown.count = Math.min(frames, Math.max(LEAST, Math.round(count)));
+  shown.first = Math.max(0, Math.min(frames - shown.count, Math.round(first)));
+  return drawView();
+}
+
+/** Shows more or fewer frames; the one at this share of the view stays where it is. */
+function zoomBy(factor, share) {
+  const { found, first, count } = shown, wanted = Math.min(found.frames, Math.max(LEAST, count * factor));
+  return look(first + share * (count - wanted), wanted);
+}
+
+/** Where the player is, as a share of the view; nothing if it isn't there. */
+function played() {
+  const share = (audio.currentTime / audio.duration * shown.found.frames - shown.first) / shown.count;
+  return share > 0 && share <= 1 ? share : null;
+}
+
+/** A copy in 16 bits, for a browser that plays no other samples; nothing if it isn't wanted any more. */
+async function copied({ file, frames, channels, isFloat, bitsPerSample, sampleRate }, isCurrent) {
   const samples = new Int16Array(frames * channels), block = Math.max(1, Math.floor(AT_ONCE / channels));
   const scale = isFloat ? 32768 : 2 ** (16 - bitsPerSample);
   for (let first = 0; first < frames; first += block) {
     const part = await read(file, { start: first, frames: Math.min(block, frames - first) });
+    if (!isCurrent()) return null;
     samples.set(Int16Array.from(part, (value) => Math.max(-32768, Math.min(32767, Math.round(value * scale)))), first * channels);
   }
   return new Blob([await write(samples, { sampleRate, channels })], { type: "audio/wav" });
 }
 
-let turn = 0, shown = null, urls = [];
+// The number of the file that is looked at, and of the drawing; what is shown, and the addresses of its files.
+let turn = 0, drawings = 0, shown = null, urls = [];
 
 function redraw() {
   if (!shown) return;
-  draw(shown.peaks);
-  drawAxis(shown.seconds);
+  const { found, first, count, peaks } = shown, whole = lengthOfTime(found);
+  const [from, seconds] = [first, count].map((n) => found.frames ? whole * n / found.frames : 0);
+  const part = count < found.frames ? `, from ${time(from)} to ${time(from + seconds)}` : "";
+  canvas.setAttribute("aria-label", `Waveform of ${counted(found.channels, "channel")}, ${time(whole, 0)} long${part}`);
+  draw(peaks);
+  drawAxis(from, seconds);
+  showPlace();
+}
+
+function showPlace() {
+  place.hidden = played() === null;
+  place.style.left = `${100 * played()}%`;
 }
 
 function urlOf(blob) {
@@ -168,7 +213,8 @@ function urlOf(blob) {
 }
 
 function clear() {
-  for (const part of [result, save, place, busy, player]) part.hidden = true;
+  for (const part of [result, save, choice, place, busy, player]) part.hidden = true;
+  drawings++;
   audio.removeAttribute("src");
   audio.load();
   urls.forEach((url) => URL.revokeObjectURL(url));
@@ -182,41 +228,44 @@ function play(found, isCurrent) {
     audio.onerror = null;
     if (!isCurrent()) return;
     player.hidden = false;
-    player.textContent = "This browser doesn't play such samples.";
-    if (found.frames === 0 || found.frames * found.channels > COPIED) return;
-    const copy = await copied(found.file, found).catch(() => null); // There is no memory for it, or the rate is 0.
-    if (!copy || !isCurrent()) return;
-    audio.src = urlOf(copy);
-    player.textContent += " The player has a copy in 16 bits.";
+    const { frames, channels } = found, tell = (rest) => { player.textContent = `This browser doesn't play such samples${rest}.`; };
+    if (frames === 0) return tell("");
+    if (frames * channels > COPIED) return tell(", and they are too many for a copy in 16 bits");
+    tell(", so a copy in 16 bits is made");
+    const copy = await copied(found, isCurrent).catch(() => null); // There is no memory for it, or the rate is 0.
+    if (!isCurrent()) return;
+    tell(copy ? ", so the player has a copy in 16 bits" : ", and a copy in 16 bits can't be made");
+    if (copy) audio.src = urlOf(copy);
   };
   audio.src = urlOf(found.file);
 }
 
-async function open(file) {
+/** Looks at a file; `toEnd` is whether all of it is taken for sound. */
+async function open(file, toEnd = false) {
   const mine = ++turn, isCurrent = () => mine === turn;
-  let stopped = false;
   clear();
   say(`Looking at ${file.name}.`);
-  stop.onclick = () => { stopped = true; };
   try {
-    const head = await info(file).catch(() => null), found = await repair(file);
+    const head = await info(file).catch(() => null), repaired = await repair(file, { toEnd });
+    const found = { ...repaired, dataStart: (await info(repaired.file)).dataStart };
     if (!isCurrent()) return;
-    const { dataStart } = await info(found.file);
-    if (!isCurrent()) return;
-    showRows(rows(file, head, { ...found, dataStart }));
+    showRows(rows(file, head, found));
     result.hidden = false;
-    canvas.setAttribute("aria-label", `Waveform of ${counted(found.channels, "channel")}, ${time(found.sampleRate ? found.frames / found.sampleRate : 0, 0)} long`);
     play(found, isCurrent);
     if (found.state === "cutOff") {
       const name = file.name.replace(/(\.wave?)?$/i, " repaired.wav");
       Object.assign(save, { href: urls[0], hidden: false, download: name, textContent: `Save the repaired file as ${name}` });
     }
-    say(...verdict(found));
-    await drawAll(found.file, found, () => isCurrent() && !stopped);
-    if (!isCurrent()) return;
-    busy.hidden = true;
-    redraw();
-    said.dataset.done = mine;
+    if (toEnd || found.state === "hasChunksAfterData") {
+      [choice.firstChild.textContent, end.textContent] = otherChoice(file, found, toEnd);
+      end.onclick = () => open(file, !toEnd);
+      choice.hidden = false;
+    }
+    say(...verdict(found, toEnd));
+    zoom.hidden = found.frames <= LEAST;
+    shown = { file, found };
+    await look(0, found.frames);
+    if (isCurrent()) said.dataset.done = mine;
   } catch (error) {
     if (!isCurrent()) return;
     say(failure(file, error), "bad");
@@ -234,12 +283,33 @@ for (const kind of ["dragover", "dragleave", "drop"]) {
     open(input.files[0]);
   });
 }
-audio.ontimeupdate = () => {
-  place.hidden = !audio.duration;
-  place.style.left = `${100 * audio.currentTime / (audio.duration || 1)}%`;
-};
+
+/** The share of the view that is under the pointer. */
+const pointedAt = (event) => (event.clientX - canvas.getBoundingClientRect().left) / canvas.clientWidth;
+
+/** Makes a change of the view, during which the file may turn out to be gone. */
+function change(view) {
+  const { file } = shown, mine = turn;
+  view().catch((error) => mine === turn && say(failure(file, error), "bad"));
+}
+
+audio.ontimeupdate = () => shown && showPlace();
 wave.onclick = (event) => {
-  if (audio.duration) audio.currentTime = audio.duration * (event.clientX - wave.getBoundingClientRect().left) / wave.clientWidth;
+  if (audio.duration) audio.currentTime = audio.duration * (shown.first + pointedAt(event) * shown.count) / shown.found.frames;
+};
+wave.addEventListener("wheel", (event) => {
+  if (!event.ctrlKey || zoom.hidden) return; // A pinch comes as this, too.
+  event.preventDefault();
+  change(() => zoomBy(event.deltaY < 0 ? 0.8 : 1.25, pointedAt(event)));
+}, { passive: false });
+element("nearer").onclick = () => change(() => zoomBy(0.5, played() ?? 0.5));
+element("wider").onclick = () => change(() => zoomBy(2, played() ?? 0.5));
+element("earlier").onclick = () => change(() => look(shown.first - shown.count / 2, shown.count));
+element("later").onclick = () => change(() => look(shown.first + shown.count / 2, shown.count));
+stop.onclick = () => {
+  drawings++;
+  busy.hidden = true;
+  redraw();
 };
 addEventListener("resize", redraw);
 matchMedia("(prefers-color-scheme: dark)").addEventListener("change", redraw);

@@ -133,6 +133,20 @@ test("chunks and a tag after the data stay", async () => {
   }
 });
 
+test("with toEnd chunks and a tag are taken for samples", async () => {
+  for (const after of [LIST, [...text("TAG"), ...Array(125).fill(32)]]) {
+    for (const file of kinds(byHand([1, 0], { after }))) {
+      const { state, frames, leftOver, file: repaired } = await repair(file, { toEnd: true });
+      assert.deepEqual({ state, frames, leftOver }, { state: "cutOff", frames: 1 + after.length / 2, leftOver: 0 });
+      assert.deepEqual(await bytes(repaired), byHand([1, 0, ...after]));
+      assert.equal((await repair(repaired, { toEnd: true })).state, "whole");
+    }
+  }
+  const odd = byHand([1], { bits: 8, after: LIST });
+  assert.deepEqual(await bytes((await repair(odd, { toEnd: true })).file), byHand([1, ...LIST], { bits: 8, after: [0] }));
+  await fails(repair(byHand([1, 0], { channels: 0 }), { toEnd: true }), "ZERO_CHANNELS");
+});
+
 test("frames are appended", async () => {
   for (const file of kinds(byHand([1, 0, 2, 0]))) {
     assert.deepEqual(await bytes(await append(file, Int16Array.of(3, -1))), byHand([1, 0, 2, 0, 3, 0, 255, 255]));

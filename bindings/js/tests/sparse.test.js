@@ -8,11 +8,11 @@ const FILES = 400, LONG = 1 << 21, PAGE = 65536;
 const { exports: hound } = new WebAssembly.Instance(module);
 const start = PAGE * hound.memory.grow(LONG / PAGE + 3);
 
-/** What hound_repair finds in a whole file, and leaves of it; or its error's code. */
-function whole(file) {
+/** What hound_repair or hound_repair_to_end finds in a whole file, and leaves of it; or its error's code. */
+function whole(call, file) {
   const memory = new Uint8Array(hound.memory.buffer, start), view = new DataView(hound.memory.buffer, start);
   memory.set(file, PAGE);
-  const length = Number(hound.hound_repair(BigInt(start + PAGE), BigInt(file.length + 1), BigInt(file.length), BigInt(start)));
+  const length = Number(hound[call](BigInt(start + PAGE), BigInt(file.length + 1), BigInt(file.length), BigInt(start)));
   if (length < 0) return length;
   const [frames, leftOver, state] = [12, 16, 20].map((n) => view.getUint32(n, true));
   return { state: ["whole", "cutOff", "hasChunksAfterData"][state], frames, leftOver, file: memory.slice(PAGE, PAGE + length) };
@@ -53,8 +53,9 @@ async function made() {
 test("parts and the whole give the same", async () => {
   const seen = new Map();
   for (let i = 0; i < FILES; i++) {
-    const bytes = await made(), file = of(bytes, new Blob([bytes])), expected = whole(bytes);
-    const found = await repair(file).catch((error) => error), looked = await findDamage(file).catch((error) => error);
+    const bytes = await made(), file = of(bytes, new Blob([bytes])), toEnd = i % 4 === 3;
+    const expected = whole(toEnd ? "hound_repair_to_end" : "hound_repair", bytes);
+    const found = await repair(file, { toEnd }).catch((error) => error), looked = toEnd ? found : await findDamage(file).catch((error) => error);
     seen.set(expected.state ?? expected, 1 + (seen.get(expected.state ?? expected) ?? 0));
     if (typeof expected === "number") {
       assert.ok(found instanceof HoundError && looked instanceof HoundError && found.code === looked.code, `${found}`);

@@ -7,7 +7,7 @@ export async function uses(blob: Blob, bytes: Uint8Array): Promise<string> {
   const written: Uint8Array = await write(wide, { sampleRate: 8000, channels: 2, bitsPerSample: 24, bytesPerSample: 4 });
   const longer: Blob = await append(blob, any, { overwrite: true });
   const found: Damage = await findDamage(written);
-  const mended: Blob = (await repair(longer)).file;
+  const mended: Blob = (await repair(longer, { toEnd: true })).file;
   const head: Info = await info(mended);
   // @ts-expect-error: a repaired Uint8Array is no Blob.
   const wrong: Blob = (await repair(bytes)).file;

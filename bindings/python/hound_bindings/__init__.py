@@ -136,7 +136,7 @@ def _function(name: str, *arguments: Any, result: Any = _I64) -> Any:
 
 _info = _function("info", _POINTER, _SIZE, _POINTER, result=ctypes.c_int32)
 _size = _function("size", _POINTER, _U64)
-_repair = _function("repair", _POINTER, _SIZE, _SIZE, _POINTER)
+_repair, _repair_to_end = (_function(name, _POINTER, _SIZE, _SIZE, _POINTER) for name in ("repair", "repair_to_end"))
 _read = {t: _function("read_" + t, _POINTER, _SIZE, _U64, _POINTER, _SIZE) for t in ("i16", "i32", "f32")}
 _write = {t: _function("write_" + t, _POINTER, _POINTER, _SIZE, _POINTER, _SIZE) for t in ("i16", "i32", "f32")}
 _append = {t: _function("append_" + t, _POINTER, _SIZE, _SIZE, _POINTER, _SIZE) for t in ("i16", "i32", "f32")}
@@ -551,32 +551,34 @@ def append(path: Path, samples: Any, overwrite: bool = False, durable: bool = Fa
         return max(size, keep)
 
 
-def _repaired(start: Any, used: int, room: int) -> Tuple[Repair, int, bytes]:
+def _repaired(call: Any, start: Any, used: int, room: int) -> Tuple[Repair, int, bytes]:
     """Repairs a file in memory, and returns what was found, the length, and the bytes before the data
     if they changed."""
     found = _Repair()
-    size = _checked(_repair(start, room, used, ctypes.byref(found)))
+    size = _checked(call(start, room, used, ctypes.byref(found)))
     report = Repair(State(found.state), found.frames, found.left_over)
     changed = report.state == State.CUT_OFF
     return report, size, _copy(start, _info_of(start, size).data_start) if changed else b""
 
 
-def repair(path: Path, durable: bool = False) -> Repair:
+def repair(path: Path, durable: bool = False, to_end: bool = False) -> Repair:
     """Repairs a file whose recording was cut off, and says how it was found.
 
     It writes the two sizes, and then a missing pad byte; with `durable` it syncs before and after the
-    sizes. A file that is whole, or that chunks follow, is only read. At an error the file is as it was,
-    as far as the system lets it.
+    sizes. A file that is whole, or that chunks follow, is only read; with `to_end` all that follows the
+    header of the data is taken for samples, also what looks like chunks. At an error the file is as it
+    was, as far as the system lets it.
     """
+    call = _repair_to_end if to_end else _repair
     with io.open(path, "rb") as file, _mapped(file.fileno()) as (start, used):
         try:
-            report, size, new = _repaired(start, used, used)
+            report, size, new = _repaired(call, start, used, used)
         except HoundError as error:
             if error.cause != Cause.NO_ROOM:
                 raise
             # A pad byte is missing, for which the mapping has no room.
             with _image(start, used, used + 1) as memory:
-                report, size, new = _repaired(memory, used, used + 1)
+                report, size, new = _repaired(call, memory, used, used + 1)
         old = file.read(len(new))
     if new:
         with io.open(path, "r+b", buffering=0) as file:

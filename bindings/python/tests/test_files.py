@@ -190,6 +190,15 @@ class Files(unittest.TestCase):
         self.assertEqual(hound.repair(self.path, durable=True), (State.CUT_OFF, 3, 0))
         self.assert_file(by_hand(b"\x81\x82\x83", width=1, after=b"\0"))
 
+    def test_a_repair_to_the_end_takes_chunks_for_samples(self):
+        self.leave(by_hand(b"\1\2", after=CHUNK))
+        self.assertEqual(hound.repair(self.path, to_end=True), (State.CUT_OFF, 1 + len(CHUNK) // 2, 0))
+        self.assert_file(by_hand(b"\1\2" + CHUNK))
+        self.assertEqual(hound.repair(self.path, to_end=True)[0], State.WHOLE)
+        self.leave(by_hand(b"\1", after=CHUNK, width=1))  # No pad byte is there.
+        self.assertEqual(hound.repair(self.path, to_end=True), (State.CUT_OFF, 1 + len(CHUNK), 0))
+        self.assert_file(by_hand(b"\1" + CHUNK, width=1, after=bytes(1)))
+
     def test_short_writes_continue(self):
         pwrite = os.pwrite
         with mock.patch("os.pwrite", lambda file, content, place: pwrite(file, content[:3], place)):

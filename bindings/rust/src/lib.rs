@@ -201,6 +201,7 @@ mod c {
         pub fn hound_to_f32(samples: *const i32, count: usize, bits: u16, out: *mut f32, capacity: usize) -> i64;
         pub fn hound_from_f32(samples: *const f32, count: usize, bits: u16, out: *mut i32, capacity: usize, clipped: *mut u64) -> i64;
         pub fn hound_repair(file: *mut u8, capacity: usize, used: usize, found: *mut Repair) -> i64;
+        pub fn hound_repair_to_end(file: *mut u8, capacity: usize, used: usize, found: *mut Repair) -> i64;
         pub fn hound_recorder_begin(spec: *const Spec, recorder: *mut Recorder) -> i32;
         pub fn hound_recorder_append(info: *const Info, recorder: *mut Recorder) -> i32;
         pub fn hound_recorder_place(recorder: *const Recorder, samples: u64) -> i64;
@@ -594,6 +595,15 @@ pub fn repair(file: &mut [u8], used: usize) -> Result<Repair> {
     let mut found = c::Repair::default();
     // SAFETY: as above.
     let length = checked(unsafe { c::hound_repair(file.as_mut_ptr(), file.len(), used, &mut found) })?;
+    Ok(Repair::from_c(found, length))
+}
+
+/// Repairs the file in the first `used` bytes, and takes all that follows the header of its data for samples,
+/// also what looks like chunks.
+pub fn repair_to_end(file: &mut [u8], used: usize) -> Result<Repair> {
+    let mut found = c::Repair::default();
+    // SAFETY: as above.
+    let length = checked(unsafe { c::hound_repair_to_end(file.as_mut_ptr(), file.len(), used, &mut found) })?;
     Ok(Repair::from_c(found, length))
 }
 

@@ -1,6 +1,6 @@
 //! The calls over small files.
 use hound_bindings::{
-    append_to, decode, encode, find_damage, from_f32, header, info, read, read_into, repair, size, sizes, to_f32, value_16, value_24, value_32, value_8, write,
+    append_to, decode, encode, find_damage, from_f32, header, info, read, read_into, repair, repair_to_end, size, sizes, to_f32, value_16, value_24, value_32, value_8, write,
     write_to, Container, Error, Format, Recorder, Spec, State, Walk, ERRORS,
 };
 
@@ -42,6 +42,18 @@ fn a_cut_file_is_repaired() {
     let found = repair(&mut file, 49).unwrap();
     assert_eq!((found.state, found.frames, found.left_over, found.length), (State::CutOff, 2, 1, 49));
     assert_eq!(read::<i16>(&file[..49]).unwrap(), [2, 3]);
+}
+
+#[test]
+fn a_repair_to_the_end_takes_a_chunk_for_samples() {
+    let mut file = write(&SPEC, &[2i16, 3]).unwrap();
+    file.extend(b"LIST\x04\0\0\0INFO");
+    let (mut to_end, used) = (file.clone(), file.len());
+    assert_eq!(repair(&mut file, used).unwrap().state, State::HasChunksAfterData);
+    let found = repair_to_end(&mut to_end, used).unwrap();
+    assert_eq!((found.state, found.frames, found.left_over, found.length), (State::CutOff, 8, 0, used));
+    assert_eq!(read::<i16>(&to_end).unwrap(), [2, 3, 0x494c, 0x5453, 4, 0, 0x4e49, 0x4f46]);
+    assert_eq!(repair_to_end(&mut file, used + 1), Err(Error::NoRoom));
 }
 
 #[test]

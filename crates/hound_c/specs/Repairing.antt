@@ -1,5 +1,5 @@
 -- What repairing does.
-use Rattle.std.specs.Prelude.{◌≡◌, ◌⊎◌, ℕ, ◌<◌, ◌≤◌, List, length, take, true, Result, Ok, Err}
+use Rattle.std.specs.Prelude.{◌≡◌, ◌⊎◌, ℕ, Bool, ◌<◌, ◌≤◌, List, length, take, true, Result, Ok, Err}
 use Rattle.hound_reader.specs.declared.cause.Cause.TheVariants.{Unsupported}
 use Rattle.hound_writer.specs.{by_bytes, too_long}
 use Rattle.hound_repair.specs.{IsFoundAt, IsRepairFault, LacksRoom, RepairsBytes}
@@ -38,14 +38,15 @@ IsDamageFault bytes TooLong = IsRepairFault bytes too_long
 IsDamageFault bytes _ = ⊥
 
 -- why a file isn't repaired
-abbrev pub IsFileFault : ℕ → List ℕ → Fault → Type 0
-IsFileFault used old NoRoom = (length old < used) ⊎ LacksRoom used old
-IsFileFault used old fault = IsDamageFault (take used old) fault
+abbrev pub IsFileFault : Bool → ℕ → List ℕ → Fault → Type 0
+IsFileFault looks used old NoRoom = (length old < used) ⊎ LacksRoom looks used old
+IsFileFault looks used old fault = IsDamageFault (take used old) fault
 
--- what repairing does, by its outcome: the first n bytes are what `repair` leaves of the file, all
--- of them in the caller's memory, and what it found is reported; or all stays
-abbrev pub RepairsFile : ℕ → List ℕ → List ℕ → HoundRepair → HoundRepair → Result ℕ Fault → Type 0
-RepairsFile used old new was now (Ok n) = (used ≤ length old) × (n ≤ length new)
-    × (found : Repair) × RepairsBytes used n found old new × IsReported found now
-RepairsFile used old new was now (Err fault) = (new ≡ old) × (now ≡ was)
-    × IsFileFault used old fault
+-- what repairing does, by its outcome: the first n bytes are what `repair` leaves of the file, or
+-- `repair_to_end` where no chunks are looked for, all of them in the caller's memory, and what it
+-- found is reported; or all stays
+abbrev pub RepairsFile : Bool → ℕ → List ℕ → List ℕ → HoundRepair → HoundRepair → Result ℕ Fault → Type 0
+RepairsFile looks used old new was now (Ok n) = (used ≤ length old) × (n ≤ length new)
+    × (found : Repair) × RepairsBytes looks used n found old new × IsReported found now
+RepairsFile looks used old new was now (Err fault) = (new ≡ old) × (now ≡ was)
+    × IsFileFault looks used old fault

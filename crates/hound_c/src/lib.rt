@@ -16,7 +16,7 @@ mod value;
 mod walking;
 mod writing;
 
-ghost use Rattle.std.specs.Prelude.{◌≡◌, ◌*◌, ℕ, ℤ, List, None, length, not, pos, take};
+ghost use Rattle.std.specs.Prelude.{◌≡◌, ◌*◌, ℕ, ℤ, List, None, false, length, not, pos, take, true};
 ghost use Rattle.std.specs.Option.{option_len, option_map_or};
 ghost use Rattle.std.specs.Result.{result_unwrap_or};
 ghost use Rattle.std.specs.Ordering.{int_eq};
@@ -40,6 +40,7 @@ use appending::append_block;
 use fault::{Fault, code_of, code_of_fault};
 use head::find_samples;
 use hound_reader::{Step, count_samples, take_part};
+use hound_repair::Rest;
 use hound_sample::FloatBits;
 use hound_spec::SampleFormat;
 use hound_writer::Recorder;
@@ -221,9 +222,17 @@ pub extern "C" fn hound_find_damage(file: &[u8], found: &mut HoundRepair) -> i32
 /// Repairs the file in the first `used` bytes.
 #[unsafe(no_mangle)]
 pub extern "C" fn hound_repair(file: &mut [u8], used: usize, found: &mut HoundRepair) -> i64
-    ensures { Returns result (RepairsFile used file.old file.new found.old found.new) }
+    ensures { Returns result (RepairsFile true used file.old file.new found.old found.new) }
 {
-    code_of(repair_file(file, used, found))
+    code_of(repair_file(file, used, Rest::MayBeChunks, found))
+}
+
+/// The same where all that follows the header of the data is samples, whatever it looks like.
+#[unsafe(no_mangle)]
+pub extern "C" fn hound_repair_to_end(file: &mut [u8], used: usize, found: &mut HoundRepair) -> i64
+    ensures { Returns result (RepairsFile false used file.old file.new found.old found.new) }
+{
+    code_of(repair_file(file, used, Rest::IsSamples, found))
 }
 
 /// Decodes samples of a spec, of eight bits.

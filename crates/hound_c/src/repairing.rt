@@ -1,12 +1,12 @@
 // Files that are repaired.
 ghost use Rattle.std.specs.Prelude.{◌≡◌, ◌<◌, ◌≤◌, IfErr, IfOk, length, true, ℕ};
 ghost use Rattle.hound_c.specs.Repairing.{IsDamageFault, IsReported, RepairsFile, state_code};
-ghost use Rattle.hound_repair.specs.{IsFoundAt};
+ghost use Rattle.hound_repair.specs.{IsFoundAt, may_be_chunks};
 
 use crate::fault::Fault;
 use crate::head::find_head;
 use crate::spec::{HoundRepair, spec_for_c};
-use hound_repair::{Repair, RepairState, Unrepaired, find_damage_in_bytes, repair_bytes};
+use hound_repair::{Repair, RepairState, Rest, Unrepaired, find_damage_in_bytes, repair_bytes};
 
 // The number of how a file was found.
 fn state_code(state: RepairState) -> u32
@@ -47,20 +47,22 @@ pub(crate) fn find_file_damage(file: &[u8]) -> Result<Repair, Fault>
     }
 }
 
-/// Repairs the file in the first bytes, reports what was found, and returns its length.
+/// Repairs the file in the first bytes, reports what was found, and returns its length; `rest` says what
+/// follows its data.
 pub(crate) fn repair_file(
     file: &mut [u8],
     used: usize,
+    rest: Rest,
     found: &mut HoundRepair,
 ) -> Result<usize, Fault>
-    ensures repairs { RepairsFile used file.old file.new found.old found.new result }
+    ensures repairs { RepairsFile (may_be_chunks rest) used file.old file.new found.old found.new result }
     ensures within { IfOk result (λ n. n ≤ length file.old) }
 {
     if used > file.len() {
         return Err(Fault::NoRoom);
     }
     let head = find_head(&file[..used])?;
-    match repair_bytes(file, used, head) {
+    match repair_bytes(file, used, head, rest) {
         Ok((repair, length)) => {
             *found = repair_for_c(repair);
             Ok(length)

@@ -1,5 +1,5 @@
 -- Files in memory that are repaired where they are.
-use Rattle.std.proofs.Common.{◌≡◌, ℕ, ◌+◌, ◌-◌, ◌≤◌, true, refl, subst, List, ◌++◌, length, take, drop, sym, ap, ◌∙◌, arith, append_assoc, length-append}
+use Rattle.std.proofs.Common.{◌≡◌, ℕ, ◌+◌, ◌-◌, ◌≤◌, Bool, refl, subst, List, ◌++◌, length, take, drop, sym, ap, ◌∙◌, arith, append_assoc, length-append}
 use Rattle.std.proofs.lemmas.List.{drop-drop, drop-take, length-take-le}
 use Rattle.std.proofs.lemmas.Slice.{drop-append-drop}
 use Rattle.std.proofs.Math.Seq.{take-append-add}
@@ -42,16 +42,16 @@ two_put p riff len c x y behind inside x_is y_is =
     ∙ ap (λ l. take 4 c ++ (l ++ (drop 8 (take p c) ++ (bytes_of 4 len ++ drop (p + 4) c)))) x_is
 
 -- a file that was cut off, with its sizes and the missing bytes
-pub repairs_in_place : (used n : ℕ) (old pad new : List ℕ) (d : Damage) (found : Repair)
-    (looked : MediumState) → IsSoundDamage d → FindsDamage true (as_medium (take used old)) d looked
+pub repairs_in_place : (looks : Bool) (used n : ℕ) (old pad new : List ℕ) (d : Damage) (found : Repair)
+    (looked : MediumState) → IsSoundDamage d → FindsDamage looks (as_medium (take used old)) d looked
     → d.was ≡ CutOff → missing_pad d.sizes.data_length d.held ≡ pad
     → take n new ≡ with_sizes (d.head.data_start - 4) d.sizes.riff_size d.sizes.data_length (take used old) ++ pad
-    → drop n new ≡ drop n old → found ≡ repair_of d → RepairsBytes used n found old new
-repairs_in_place used n old pad new d found looked sound finds cut missing is rest found_is =
+    → drop n new ≡ drop n old → found ≡ repair_of d → RepairsBytes looks used n found old new
+repairs_in_place looks used n old pad new d found looked sound finds cut missing is rest found_is =
     let file = take used old in
     record {
-      repairs = subst (λ f. Repairs true (as_medium file) f (as_medium (take n new))) (sym found_is)
-          (repairs_cut true (as_medium file) (as_medium (take n new)) (repair_of d) _ _ finds.found sound.spec cut
+      repairs = subst (λ f. Repairs looks (as_medium file) f (as_medium (take n new))) (sym found_is)
+          (repairs_cut looks (as_medium file) (as_medium (take n new)) (repair_of d) _ _ finds.found sound.spec cut
           (mended_by d sound file pad (take n new) finds.held_is missing is
           ∙ ap (λ k. mended d.head.data_start k file) (length_is d sound cut)) refl refl);
       rest = rest;

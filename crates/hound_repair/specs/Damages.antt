@@ -95,9 +95,10 @@ abbrev pub as_medium : List ℕ → MediumState
 as_medium bytes = record unknown { contents = bytes }
 
 -- the first n bytes are what a repair leaves of the first ones, and what is after them stays
-pub record RepairsBytes (used n : ℕ) (found : Repair) (old new : List ℕ) : Type 0 where
-  pub repairs : Repairs true (as_medium (take used old)) found (as_medium (take n new))
-  pub rest : drop n new ≡ drop n old
+pub record RepairsBytes (looks : Bool) (used n : ℕ) (found : Repair) (old new : List ℕ) : Type 0
+  where
+    pub repairs : Repairs looks (as_medium (take used old)) found (as_medium (take n new))
+    pub rest : drop n new ≡ drop n old
 
 -- the fault of the bytes that keeps them from being repaired
 abbrev pub bytes_fault : Unrepaired → Option AppendFault
@@ -111,18 +112,18 @@ IsUnmeasured head bytes why = (fault : AppendFault) × (bytes_fault why ≡ Some
     × (repair_fault head.spec_ex head.data_length head.data_start (held head.data_start bytes) ≡ Some fault)
 
 -- a pad byte is missing from a file that was cut off and takes all of the memory
-pub record LacksRoom (used : ℕ) (bytes : List ℕ) : Type 0 where
+pub record LacksRoom (looks : Bool) (used : ℕ) (bytes : List ℕ) : Type 0 where
   pub found : Repair
   pub len : ℕ
   pub start : ℕ
-  pub is : IsFoundAt true (take used bytes) found len start
+  pub is : IsFoundAt looks (take used bytes) found len start
   pub was : found.was ≡ CutOff
   pub pad : missing_pad (found_length found) (held start (take used bytes)) ≡ 0 ∷ []
   pub full : length bytes ≤ used
 
 -- why a file with this head in the first bytes isn't repaired
-abbrev pub IsUnrepaired : FileHead → ℕ → List ℕ → Unrepaired → Type 0
-IsUnrepaired head used bytes NoRoom = LacksRoom used bytes
-IsUnrepaired head used bytes why =
+abbrev pub IsUnrepaired : Bool → FileHead → ℕ → List ℕ → Unrepaired → Type 0
+IsUnrepaired looks head used bytes NoRoom = LacksRoom looks used bytes
+IsUnrepaired looks head used bytes why =
     repair_fault head.spec_ex head.data_length head.data_start
     (held head.data_start (take used bytes)) ≡ bytes_fault why

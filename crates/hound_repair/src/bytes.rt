@@ -2,7 +2,7 @@
 ghost use Rattle.std.specs.Prelude.{◌≡◌, ℕ, ◌+◌, ◌≤◌, IfOk, IfErr, length, take, true};
 ghost use Rattle.hound_reader.specs.{Head, IsDataPlace, IsSoundSpec};
 ghost use Rattle.hound_writer.specs.{with_sizes};
-ghost use Rattle.hound_repair.specs.Damages.{FindsDamage, IsSoundDamage, IsUnmeasured, IsUnrepaired, RepairsBytes, as_medium};
+ghost use Rattle.hound_repair.specs.Damages.{FindsDamage, IsSoundDamage, IsUnmeasured, IsUnrepaired, RepairsBytes, as_medium, may_be_chunks};
 ghost use Rattle.hound_repair.specs.Repairing.{IsFoundAt};
 
 use crate::look::{Damage, Rest, measure};
@@ -36,18 +36,18 @@ pub fn set_sizes(bytes: &mut [u8], place: usize, riff_size: u32, data_length: u3
     bytes[place..place + 4].copy_from_slice(&le_u32(data_length));
 }
 
-// Looks at the file with this head that takes all of these bytes.
-fn measure_bytes(bytes: &[u8], head: FileHead) -> result::Result<Damage, Unrepaired>
+// Looks at the file with this head that takes all of these bytes; `rest` says what follows its data.
+fn measure_bytes(bytes: &[u8], head: FileHead, rest: Rest) -> result::Result<Damage, Unrepaired>
     requires sound { IsSoundSpec head.spec_ex }
     requires start { IsDataPlace head.data_start }
     requires head { Head bytes.now head.spec_ex head.data_length head.data_start }
     ensures sound { IfOk result IsSoundDamage }
     ensures finds { IfOk result (λ damage.
-        FindsDamage true (as_medium bytes.now) damage (as_medium bytes.now)) }
+        FindsDamage (may_be_chunks rest) (as_medium bytes.now) damage (as_medium bytes.now)) }
     ensures fault { IfErr result (IsUnmeasured head bytes.now) }
 {
     let mut window = Window { bytes };
-    match measure(&mut window, head, Rest::MayBeChunks) {
+    match measure(&mut window, head, rest) {
         Ok(damage) => Ok(damage),
         Err(Error::Unsupported) => Err(Unrepaired::Unsupported),
         Err(Error::TooLong) => Err(Unrepaired::TooLong),
@@ -66,31 +66,34 @@ pub fn find_damage_in_bytes(bytes: &[u8], head: FileHead) -> result::Result<Repa
         × IsFoundAt true bytes.now found len start) }
     ensures fault { IfErr result (IsUnmeasured head bytes.now) }
 {
-    match measure_bytes(bytes, head) {
+    match measure_bytes(bytes, head, Rest::MayBeChunks) {
         Ok(damage) => Ok(damage.repair()),
         Err(why) => Err(why),
     }
 }
 
 /// Repairs the file with this head that is in the first `used` bytes as [`repair`](crate::repair)
-/// does one in a medium, and returns what was found and the new length of the file: one more where
-/// a pad byte was missing. At an error nothing is written.
+/// does one in a medium, or [`repair_to_end`](crate::repair_to_end) where the rest is samples, and
+/// returns what was found and the new length of the file: one more where a pad byte was missing. At
+/// an error nothing is written.
 pub fn repair_bytes(
     bytes: &mut [u8],
     used: usize,
     head: FileHead,
+    rest: Rest,
 ) -> result::Result<(Repair, usize), Unrepaired>
     requires used { used ≤ length bytes.old }
     requires sound { IsSoundSpec head.spec_ex }
     requires start { IsDataPlace head.data_start }
     requires head { Head (take used bytes.old) head.spec_ex head.data_length head.data_start }
     ensures sound { IfOk result (λ done. IsSoundSpec done.0.spec_ex) }
-    ensures repairs { IfOk result (λ done. RepairsBytes used done.1 done.0 bytes.old bytes.new) }
+    ensures repairs { IfOk result (λ done.
+        RepairsBytes (may_be_chunks rest) used done.1 done.0 bytes.old bytes.new) }
     ensures within { IfOk result (λ done. done.1 ≤ length bytes.old) }
     ensures kept { IfErr result (λ why. (bytes.new ≡ bytes.old)
-        × IsUnrepaired head used bytes.old why) }
+        × IsUnrepaired (may_be_chunks rest) head used bytes.old why) }
 {
-    let damage = match measure_bytes(&bytes[..used], head) {
+    let damage = match measure_bytes(&bytes[..used], head, rest) {
         Ok(damage) => damage,
         Err(why) => return Err(why),
     };

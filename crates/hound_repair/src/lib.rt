@@ -18,6 +18,6 @@ pub use file::{find_damage_in_file, repair_file, repair_file_to_end};
 pub use laws::{
     a_half_mended_file_is_repaired, a_repair_keeps_stored_samples, a_second_repair_writes_nothing,
 };
-pub use look::find_damage;
+pub use look::{Rest, find_damage};
 pub use mend::{repair, repair_to_end};
 pub use sizes::{Repair, RepairState};

@@ -32,8 +32,8 @@ const ID3_LENGTH: u64 = 128;
 const ID3_TAG: [u8; 3] = *b"TAG";
 
 /// What follows data of the length that the header says.
-#[derive(Clone, Copy, PartialEq, Eq)]
-pub(crate) enum Rest {
+#[derive(Clone, Copy, Debug, PartialEq, Eq)]
+pub enum Rest {
     /// Maybe chunks or a tag, which are looked for.
     MayBeChunks,
 
