@@ -16,16 +16,16 @@ use Rattle.hound_sample.specs.declared.item.ItemError.TheVariants as items
 -- that it doesn't read
 pub data ReadRefusal : Type 0 where
   other_format : ReadRefusal
-  refused : Refusal → ReadRefusal
+  misfit : Refusal → ReadRefusal
 
 -- why an integer type of so many bytes doesn't read samples of a format, a width and used bits, if
 -- it doesn't
 abbrev pub int_refusal : ℕ → SampleFormat → ℕ → ℕ → Option ReadRefusal
 int_refusal most Float width bits = Some other_format
 int_refusal most Int width bits =
-    if nat_lt most width then Some (refused too_wide)
+    if nat_lt most width then Some (misfit too_wide)
     else if is_pair Int bits width then None
-    else Some (refused unsupported)
+    else Some (misfit unsupported)
 
 -- the integer of a container: one byte counts from -128; more are signed, and those after the used
 -- bits mean nothing
@@ -42,9 +42,9 @@ low_i16 v = signed_number (take 2 (signed_bytes_of 4 v))
 abbrev pub float_refusal : SampleFormat → ℕ → ℕ → Option ReadRefusal
 float_refusal Int width bits = Some other_format
 float_refusal Float width bits =
-    if nat_lt 4 width then Some (refused too_wide)
+    if nat_lt 4 width then Some (misfit too_wide)
     else if is_pair Float bits width then None
-    else Some (refused unsupported)
+    else Some (misfit unsupported)
 
 -- the pattern of a container of four bytes
 abbrev pub pattern : List ℕ → ℕ
@@ -53,7 +53,7 @@ pattern container = number container
 -- the error for why a type doesn't read samples
 abbrev pub error_of_read : ReadRefusal → Error
 error_of_read other_format = InvalidSampleFormat
-error_of_read (refused refusal) = error_of refusal
+error_of_read (misfit refusal) = error_of refusal
 
 -- Ok if a type reads samples, else the error
 abbrev pub read_error : Option ReadRefusal → Result (Unit {0}) Error
