@@ -1,17 +1,20 @@
 -- What is known of calls, and the calls; and lemmas of the layers below for the proofs of callers.
 use Rattle.std.proofs.lemmas.Grind.{common_steps}
-use Rattle.std.proofs.Common.{◌≡◌, ℕ, Bool, true, false, List, [], ◌∷◌, ◌++◌, map, Result, Ok, Err, OnOk, is_ok, refl, ap, arith}
+use Rattle.std.proofs.Common.{◌≡◌, ℕ, ◌-◌, Bool, true, false, List, [], ◌∷◌, ◌++◌, length, map, Result, Ok, Err, OnOk, is_ok, refl, sym, ◌∙◌, ap, arith}
+use Rattle.std.specs.List.{AllByRecursion, concat}
 use Rattle.std.proofs.lemmas.Bool.{false≢true}
 use Rattle.hound_spec.specs.declared.error.Error.{Error}
 use Rattle.hound_spec.specs.declared.error.Error.TheVariants.{UnfinishedSample}
+use Rattle.hound_medium.specs.{MediumState}
 use Rattle.hound_sample.specs.{Refusal, too_wide, unsupported}
-use Rattle.hound_writer.specs.{AcceptAnswer, AreKnown, Asked, Call, FitAnswer, IsKnown, Known, WriterState, made, mark_of, marked, asked_by_all, publish}
+use Rattle.hound_writer.specs.{AcceptAnswer, AreKnown, Asked, Begun, Call, FitAnswer, IsKnown, Known, WriterState, asked_by_all, field, found_in, made, mark_of, marked, publish, start_of}
 use Rattle.hound_spec.specs.declared.spec.WavSpecEx.{WavSpecEx}
-use Rattle.hound.specs.Headline.{HasPublished, accepted_as_seen, accepted_by_all, accepted_of, seen}
+use Rattle.hound.specs.Headline.{HasPublished, HoldsAtEnd, accepted_as_seen, accepted_by_all, accepted_of, seen}
 use Rattle.hound.specs.Run.{asked_by}
 use Rattle.hound.specs.declared.session.Step.{Step}
 pub use Rattle.hound_spec.proofs.HeaderLemmas.{length-header}
 pub use Rattle.hound_reader.proofs.WrittenLemmas.{length-concat}
+pub use Rattle.hound_writer.proofs.Heads.{head_inside}
 pub use Rattle.hound_writer.proofs.Publishing.{reads_all}
 pub use Rattle.hound_writer.proofs.Samples.{samples_out}
 
@@ -51,6 +54,27 @@ published before after calls are =
     let (first, last, flush, parts, before_are, is, after_are) =
     among (seen before) after (marked publish true) calls are in
     (first, last, flush, parts, is, accepted before first before_are)
+
+-- calls of which these are known publish nothing if these don't
+publish_none : (known : List Known) (calls : List Call) → AreKnown known calls
+    → AllByRecursion (λ (one : Known). one.asked ≡ publish → ⊥) known
+    → AllByRecursion (λ (call : Call). call.asked ≡ publish → ⊥) calls
+publish_none [] [] are none = tt
+publish_none (one ∷ known) (call ∷ calls) are none =
+    ((λ is. none.0 (sym are.0.0 ∙ is)), publish_none known calls are.1 none.1)
+publish_none _ _ are none = absurd are
+
+-- so the length stays that of the last flush
+pub lasts : (s : WavSpecEx) (file : Begun) (before : List (Asked × Bool)) (after : List Known)
+    (calls : List Call) (m : MediumState) → HoldsAtEnd s file calls m
+    → AreKnown (seen before ++ (marked publish true ∷ after)) calls
+    → AllByRecursion (λ (one : Known). one.asked ≡ publish → ⊥) after
+    → field (start_of s file - 4) m.contents ≡ length (concat (found_in file ++ accepted_as_seen before))
+lasts s file before after calls m holds are none =
+    let (first, last, flush, parts, before_are, is, after_are) =
+    among (seen before) after (marked publish true) calls are in
+    holds.lasts first last flush parts is (publish_none after last after_are none)
+    ∙ ap (λ l. length (concat (found_in file ++ l))) (accepted before first before_are)
 
 -- the mark of a call for samples is its being Ok
 pub mark_is_ok : {W : Type 0} (asked : Result (List (List ℕ)) Refusal) (w : WriterState W)

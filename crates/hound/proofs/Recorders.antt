@@ -9,13 +9,12 @@ use Rattle.hound_medium.specs.{placed, MediumState}
 use Rattle.hound_durable.specs.{Ascends, place_of}
 use Rattle.hound_durable.proofs.Ascending.{length_put, place_after, place_before}
 use Rattle.hound_sample.specs.{too_wide}
-use Rattle.hound_writer.specs.{Acted, ActsAll, Begun, Call, IsCareful, IsFresh, IsSound, CountsAtMost, LeavesWriter, Left, Log, Opened, Opens, Performed, PutsAt, Resumed, WriterState, field, found_in, known_of, log_state, recording, start_of, write}
+use Rattle.hound_writer.specs.{Begun, Call, Directed, IsOrdered, IsSound, CountsAtMost, IsSynced, Known, LeavesWriter, Left, Log, Performed, PutsAt, Recorded, WriterState, field, found_in, handed_in, log_state, start_of, write}
+use Rattle.hound_writer.specs.declared.recorder.Recorder.{Recorder}
 use Rattle.hound_writer.specs.declared.effects.Effect.TheVariants.{Size, Sync}
 use Rattle.hound_writer.proofs.Accepting.{type_refuses}
-use Rattle.hound_writer.proofs.Acting.{acts_lead, opened, resumed}
-use Rattle.hound_writer.proofs.Checkpoint.{Good}
-use Rattle.hound_writer.proofs.Ordering.{Calm, actions_ordered, header_in_order, in_order_none}
-use Rattle.hound_writer.proofs.Recording.{call_at, lead_more, opens_spec}
+use Rattle.hound_writer.proofs.Directing.{at_none}
+use Rattle.hound_writer.proofs.Recording.{call_at, lead_more}
 use Rattle.hound_writer.proofs.Samples.{length_written}
 use Rattle.hound_writer.proofs.Sizes.{riff_length}
 use Rattle.hound_writer.proofs.AtMost.{inside}
@@ -23,45 +22,29 @@ use Rattle.hound.specs.Headline.{Kept, KeptWithin, Promises, begins_at}
 use Rattle.hound.proofs.Calling.{went}
 use Rattle.hound.proofs.Keeping.{first_of, keeps_promises, left_kept, survives_counted}
 
--- what actions left that were done from a first writer on
-module _ (s : WavSpecEx) (file : Begun) (first : WriterState Log)
-    (opens : Opens true true log_state s file first × Good first) (actions : List Acted)
-    (last : WriterState Log) (did : ActsAll actions first last) where
-  left : Left true true log_state s file (map (known_of s) actions) last.medium
-  unfolding Left
-  left =
-      let (calls, lead, known) = acts_lead s actions first last
-      (opens_spec true true log_state s file first opens.0) opens.1 did in
-      record {
-        last = last;
-        recorded = record {
-          first = first;
-          calls = calls;
-          opens = opens.0;
-          lead = lead;
-          are_known = known;
-        };
-        is = refl;
-      }
+-- what calls left that a recorder directed
+module _ (s : WavSpecEx) (file : Begun) (known : List Known) (w : WriterState Log)
+    (recorded : Recorded true true log_state s file known w) where
+  left : Left true true log_state s file known w.medium
+  unfolding Left Recorded
+  left = record { last = w; recorded = recorded; is = refl }
 
-  pub acts_kept : Kept true true log_state s file (map (known_of s) actions) last.medium
-  acts_kept =
-      left_kept true true log_state (λ m _ _. m.replays) s file (map (known_of s) actions) last.medium
-      left refl refl
+  kept : Kept true true log_state s file known w.medium
+  kept = left_kept true true log_state (λ m _ _. m.replays) s file known w.medium left refl refl
 
   abbrev m : MediumState
-  m = last.medium.state
+  m = w.medium.state
 
   abbrev calls : List Call
-  calls = acts_kept.left.recorded.calls
+  calls = kept.left.recorded.calls
 
   -- one call more, which is rejected and so leaves all as it is, began at the end
   abbrev refused : Call
-  refused = call_at true true log_state (write (Err too_wide)) (Err TooWide) acts_kept.left.last
+  refused = call_at true true log_state (write (Err too_wide)) (Err TooWide) kept.left.last
 
   still_promised : Promises s (start_of s file) (found_in file) (calls ++ refused ∷ []) m
   still_promised =
-      let left = acts_kept.left in
+      let left = kept.left in
       let r = left.recorded in
       let is_first = first_of true true log_state s file r.first r.opens in
       let counts = (went true true log_state refl calls r.first left.last r.lead).counts
@@ -75,55 +58,56 @@ module _ (s : WavSpecEx) (file : Begun) (first : WriterState Log)
       (λ _ _. left.last.medium.replays))) refl refl (λ m. m.replays))
 
   begins_same : (list : List Call) → begins_at (list ++ refused ∷ []) m.past ≡ begins_at list m.past
-  begins_same [] = ap (λ (log : Log). length log.state.past) (sym acts_kept.left.is)
+  begins_same [] = ap (λ (log : Log). length log.state.past) (sym kept.left.is)
   begins_same (call ∷ list) = refl
 
-  pub acts_kept_within : Calm m
-      → KeptWithin true true log_state s file (map (known_of s) actions) last.medium m
-  acts_kept_within calm =
-      let p = acts_kept.promised.promises in
+  kept_within : (high : ℕ) → IsOrdered high m
+      → KeptWithin true true log_state s file known w.medium m
+  kept_within high order =
+      let p = kept.promised.promises in
       record {
-        left = acts_kept.left;
-        promised = acts_kept.promised;
+        left = kept.left;
+        promised = kept.promised;
         survives = survives_counted s (start_of s file) (found_in file) calls m m.flushed m.faults p
-            (omega arith) calm.within calm.ascends
+            (omega arith) order.within order.ascends
             (λ begun sector contents some one lost.
             (still_promised.after_loss calls [] refused m.flushed (length m.past) sector contents refl
-            (omega (arith, begun, begins_same calls)) calm.within
-            (omega (arith, begins_same [])) (omega arith) calm.ascends some one lost).0);
+            (omega (arith, begun, begins_same calls)) order.within
+            (omega (arith, begins_same [])) (omega arith) order.ascends some one lost).0);
         left_after = λ before after flush at has_all sector contents some one lost.
             inr (inr (
               m.flushed,
               length m.past,
               sector,
               p.flushed before after flush at has_all,
-              calm.within,
+              order.within,
               omega arith,
-              calm.ascends,
+              order.ascends,
               some,
               one,
               lost,
             ));
       }
 
--- careful actions on a new file
-pub new_calm : (s : WavSpecEx) (old : MediumState) (log : Log) (actions : List Acted)
-    (last : WriterState Log) → Opened s old log → IsFresh old → IsCareful actions
-    → ActsAll actions (recording s (data_start s) 0 log) last → Calm last.medium.state
-new_calm s old log actions last opens fresh careful did =
-    let w = recording s (data_start s) 0 log in
-    actions_ordered actions w last (opened s old log opens).1.sound.after_head
-    (header_in_order s old log opens fresh) careful did
+module _ (s : WavSpecEx) (file : Begun) (known : List Known) (r : Recorder) where
+  pub directed_kept : (m : MediumState) → Directed s file known r true m → r.number ≡ 0
+      → (log : Log) × (log.state ≡ m) × Kept true true log_state s file known log
+  directed_kept m d none =
+      let (done, same) = at_none r d.result d.writer.medium d.log none d.performed in
+      (d.writer.medium, ap log_state (sym same) ∙ d.state, kept s file known d.writer d.recorded)
 
--- and on one that was there
-pub resumed_calm : (s : WavSpecEx) (samples start : ℕ) (log : Log) (actions : List Acted)
-    (last : WriterState Log) → Resumed s samples start log → IsFresh log.state → IsCareful actions
-    → ActsAll actions (recording s start (samples * s.bytes_per_sample) log) last
-    → Calm last.medium.state
-resumed_calm s samples start log actions last is fresh careful did =
-    let w = recording s start (samples * s.bytes_per_sample) log in
-    actions_ordered actions w last (resumed s samples start log is).1.sound.after_head
-    (in_order_none (w.data_start + w.bytes_written) log.state (omega (arith, fresh.1, ap length fresh.0))) careful did
+  pub directed_survives : (m : MediumState) → Directed s file known r true m → r.number ≡ 0
+      → IsSynced (handed_in file)
+      → (log : Log) × (log.state ≡ m) × KeptWithin true true log_state s file known log m
+  directed_survives m d none synced =
+      let (done, same) = at_none r d.result d.writer.medium d.log none d.performed in
+      let here : d.writer.medium.state ≡ m = ap log_state (sym same) ∙ d.state in
+      let (high, order, low) = d.order synced in (
+        d.writer.medium,
+        here,
+        subst (KeptWithin true true log_state s file known d.writer.medium) here
+            (kept_within s file known d.writer d.recorded high order),
+      )
 
 -- without the RIFF size nothing is published
 pub riff_left_out : (w : WriterState Log) (end : Log) → w.buffered ≡ [] → IsSound w

@@ -1,5 +1,6 @@
 // What holds for every run.
 ghost use Rattle.std.specs.Prelude.{◌≡◌, ◌<◌, ◌≤◌, ◌-◌, ◌*◌, ◌/◌, ℕ, Bool, true, IsTrue, List, [], ◌∷◌, ◌++◌, Ok, Result, is_ok, length, map};
+ghost use Rattle.std.specs.List.{AllByRecursion, concat};
 ghost use Rattle.std.specs.declared.io.Error.{Error as IoFault};
 ghost use Rattle.hound_spec.specs.declared.error.Error.{Error};
 ghost use Rattle.hound_spec.specs.declared.spec.WavSpecEx.{WavSpecEx};
@@ -7,7 +8,8 @@ ghost use Rattle.hound_spec.specs.{canonical, data_start, riff_size};
 ghost use Rattle.hound_medium.specs.{MediumState, WhereKeeps, WhereTells};
 ghost use Rattle.hound_durable.specs.{Ascends, place_of, within};
 ghost use Rattle.hound_sample.specs.{Refusal, containers, int_container};
-ghost use Rattle.hound_writer.specs.{mark_of, AcceptAnswer, Accepts, ChangesSizesOnly, appended, AcceptsEach, i16_bytes, AreKnown, Asked, Begun, Call, IsKnown, Known, Lead, Left, asked_by_all, found_in, made, marked, new_file, publish, start_of, IsSameFile, Finishes, WriterState, IsWhole, accepted_samples, data_length, AreFrames, IsPublishResult, IsSound, CountsAtMost, LeavesWriter, PutsAt, field, Log, Performed, checkpoint, log_state, Acted, ActsAll, IsCareful, IsFresh, Opened, Resumed, known_of, recording, resumed_file};
+ghost use Rattle.hound_writer.specs.{mark_of, AcceptAnswer, Accepts, ChangesSizesOnly, appended, AcceptsEach, i16_bytes, AreKnown, Asked, Begun, Call, IsKnown, Known, Lead, Left, asked_by_all, found_in, made, marked, new_file, publish, start_of, IsSameFile, Finishes, WriterState, IsWhole, accepted_samples, data_length, AreFrames, IsPublishResult, IsSound, CountsAtMost, LeavesWriter, PutsAt, field, Log, Performed, checkpoint, handed_in, log_state, Directed, IsSynced};
+ghost use Rattle.hound_writer.specs.declared.recorder.Recorder.{Recorder};
 ghost use Rattle.hound_writer.specs.declared.effects.Effect.TheVariants.{Size, Sync};
 ghost use Rattle.hound_repair.specs.{ReadsFrames, Repairs};
 ghost use Rattle.hound_repair.specs.declared.sizes.Repair.{Repair};
@@ -15,7 +17,7 @@ ghost use Rattle.hound_repair.specs.declared.sizes.RepairState.TheVariants.{HasC
 ghost use Rattle.hound.specs.declared.session.Begin.TheVariants.{New};
 ghost use Rattle.hound.specs.declared.session.Begin.{Begin};
 ghost use Rattle.hound.specs.declared.session.End.{End};
-ghost use Rattle.hound.specs.Headline.{HasPublished, Holds, IsLeftAfter, Keeps, Kept, KeptWithin, accepted_as_seen, accepted_by_all, begins_at, seen};
+ghost use Rattle.hound.specs.Headline.{HasPublished, Holds, HoldsAtEnd, IsLeftAfter, Keeps, Kept, KeptWithin, accepted_as_seen, accepted_by_all, begins_at, seen};
 ghost use Rattle.hound.specs.Run.{BeginsAs, EndsAs, Ran, asked_by, containers_of};
 ghost use Rattle.hound.specs.Sessions.{RunsOn, all_steps};
 
@@ -110,7 +112,7 @@ pub fn what_is_kept<M: Medium>()
 /// What a caller knows of calls holds of them, one by one (`among`). Calls whose marks are all known
 /// accepted what these say (`accepted`). So a `flush` that was seen to publish, after calls whose marks
 /// are known, is one of those that [`what_is_kept`] speaks of, and published what these say
-/// (`published`).
+/// (`published`); and if no other follows, that is what the length counts (`lasts`).
 pub fn what_is_known()
     ensures among { (before after : List Known) (one : Known) (calls : List Call)
         → AreKnown (before ++ (one ∷ after)) calls → (first last : List Call) × (call : Call)
@@ -122,6 +124,12 @@ pub fn what_is_known()
         → AreKnown (seen before ++ (marked publish true ∷ after)) calls →
         (first last : List Call) × (flush : Call) × (calls ≡ first ++ (flush ∷ last))
         × HasPublished flush × (accepted_by_all first ≡ accepted_as_seen before) }
+    ensures lasts { (s : WavSpecEx) (file : Begun) (before : List (Asked × Bool)) (after : List Known)
+        (calls : List Call) (m : MediumState) → HoldsAtEnd s file calls m
+        → AreKnown (seen before ++ (marked publish true ∷ after)) calls
+        → AllByRecursion (λ (one : Known). one.asked ≡ publish → ⊥) after
+        → field (start_of s file - 4) m.contents
+        ≡ length (concat (found_in file ++ accepted_as_seen before)) }
 {}
 
 /// The mark of a call for samples is its being Ok: by its answer it is never `UnfinishedSample`, whose
@@ -161,43 +169,21 @@ pub fn a_checkpoint_publishes()
         → LeavesWriter true true log_state answer w (record w { medium = end }) }
 {}
 
-/// A recording whose caller writes the samples and performs the effects keeps all that a list of calls
-/// promises, whatever failed: of a new file, and of one that was there (`resumed`), as a walk found it.
+/// A recording that a recorder directed ([`a_recorder_directs`](crate::a_recorder_directs)) keeps all that a list of calls promises
+/// (`kept`). If all was synced in the file
+/// as it was handed in, it has written at ascending places only since it was synced, within a
+/// checkpoint too (`ascends`); so a loss of power loses no sample of a checkpoint, and what it
+/// leaves counts (`survives`).
 pub fn a_recording_is_kept()
-    ensures new { (s : WavSpecEx) (old : MediumState) (log : Log) (actions : List Acted)
-        (last : WriterState Log) → Opened s old log
-        → ActsAll actions (recording s (data_start s) 0 log) last
-        → Kept true true log_state s (new_file old) (map (known_of s) actions) last.medium }
-    ensures resumed { (s : WavSpecEx) (samples start : ℕ) (log : Log) (actions : List Acted)
-        (last : WriterState Log) → Resumed s samples start log
-        → ActsAll actions (recording s start (samples * s.bytes_per_sample) log) last
-        → Kept true true log_state s (resumed_file s samples start log) (map (known_of s) actions) last.medium }
-{}
-
-/// If each action that failed was followed by a sync, or by none, a loss of power at the end of such a
-/// recording, within an action too, loses no sample of a checkpoint; and what it leaves counts.
-pub fn a_recording_survives_a_loss()
-    ensures new { (s : WavSpecEx) (old : MediumState) (log : Log) (actions : List Acted)
-        (last : WriterState Log) → Opened s old log → IsFresh old → IsCareful actions
-        → ActsAll actions (recording s (data_start s) 0 log) last
-        → KeptWithin true true log_state s (new_file old) (map (known_of s) actions) last.medium last.medium.state }
-    ensures resumed { (s : WavSpecEx) (samples start : ℕ) (log : Log) (actions : List Acted)
-        (last : WriterState Log) → Resumed s samples start log → IsFresh log.state → IsCareful actions
-        → ActsAll actions (recording s start (samples * s.bytes_per_sample) log) last
-        → KeptWithin true true log_state s (resumed_file s samples start log)
-        (map (known_of s) actions) last.medium last.medium.state }
-{}
-
-/// Wherever it ends, such a recording has written at ascending places only since it was synced.
-pub fn a_recording_ascends()
-    ensures new { (s : WavSpecEx) (old : MediumState) (log : Log) (actions : List Acted)
-        (last : WriterState Log) → Opened s old log → IsFresh old → IsCareful actions
-        → ActsAll actions (recording s (data_start s) 0 log) last
-        → Ascends last.medium.state.past last.medium.state.flushed (length last.medium.state.past) }
-    ensures resumed { (s : WavSpecEx) (samples start : ℕ) (log : Log) (actions : List Acted)
-        (last : WriterState Log) → Resumed s samples start log → IsFresh log.state → IsCareful actions
-        → ActsAll actions (recording s start (samples * s.bytes_per_sample) log) last
-        → Ascends last.medium.state.past last.medium.state.flushed (length last.medium.state.past) }
+    ensures kept { (s : WavSpecEx) (file : Begun) (known : List Known) (r : Recorder) (m : MediumState)
+        → Directed s file known r true m → r.number ≡ 0
+        → (log : Log) × (log.state ≡ m) × Kept true true log_state s file known log }
+    ensures survives { (s : WavSpecEx) (file : Begun) (known : List Known) (r : Recorder) (m : MediumState)
+        → Directed s file known r true m → r.number ≡ 0 → IsSynced (handed_in file)
+        → (log : Log) × (log.state ≡ m) × KeptWithin true true log_state s file known log m }
+    ensures ascends { (s : WavSpecEx) (file : Begun) (known : List Known) (r : Recorder) (ok : Bool)
+        (m : MediumState) → Directed s file known r ok m → IsSynced (handed_in file)
+        → Ascends m.past m.flushed (length m.past) }
 {}
 
 /// Other orders of effects don't serve. Where the RIFF size is left out, and isn't right already, nothing is

@@ -101,13 +101,13 @@ pub use hound_spec::{
 };
 pub use hound_writer::{
     Effect, Recorder, RecorderError, SampleWriter16, WavWriter, a_block_is_its_samples,
-    one_append_answer,
+    a_recorder_directs, one_append_answer,
 };
 pub use laws::{
-    a_batch_is_its_values, a_checkpoint_publishes, a_recording_ascends, a_recording_is_kept,
-    a_recording_survives_a_loss, a_repair_loses_no_published_sample, a_run_leaves_its_calls,
-    a_write_is_marked_by_its_ok, an_append_keeps_the_front, calls_are_a_run, other_orders_lose,
-    sessions_leave_one_file, what_a_loss_leaves, what_is_kept, what_is_known,
+    a_batch_is_its_values, a_checkpoint_publishes, a_recording_is_kept,
+    a_repair_loses_no_published_sample, a_run_leaves_its_calls, a_write_is_marked_by_its_ok,
+    an_append_keeps_the_front, calls_are_a_run, other_orders_lose, sessions_leave_one_file,
+    what_a_loss_leaves, what_is_kept, what_is_known,
 };
 pub use runs::run_session;
 pub use session::{Begin, End, Step};

@@ -2,7 +2,7 @@
 use hound_tests::helpers::{FOUR_SAMPLES, empty_tape, integers, read_all, sixteen, tape_of};
 use hound::{Durable, Journal, Step, Tape, WavReader, WavSpecEx, WavWriter};
 use hound_callers::{
-    append_blocks, finish_durable, opened_meanwhile, pack_one, publish_and_continue,
+    append_blocks, append_by_effects, finish_durable, opened_meanwhile, pack_one, publish_and_continue,
     record_at_once, record_batch, record_by_effects, record_mixed, record_safely, record_steps,
     record_twelve, record_twelve_and_repair, record_twelve_through_a_loss, write_if_short,
 };
@@ -147,6 +147,40 @@ fn keeps(alloc: Global, blocks: &[&[u8]]) -> hound::Result<bool> {
     Ok(last == 3)
 }
 
+// The samples that are read once blocks were appended to a file in a medium that fails from this call
+// on, and how many blocks were saved, if the file could be appended to.
+fn appended(
+    alloc: Global,
+    file: &[u8],
+    blocks: &[&[u8]],
+    fail_from: u64,
+) -> hound::Result<(Vec<i16>, usize)> {
+    let mut journal = Journal::new(alloc, file.to_vec(alloc)?)?;
+    journal.fail(fail_from, u64::MAX);
+    let count = append_by_effects(&mut journal, file, blocks).unwrap_or(0);
+    let bytes = journal.bytes_after(alloc, journal.taken())?;
+    Ok((read_all::<i16, _>(alloc, WavReader::new(&bytes[..])?)?, count))
+}
+
+// Whether the samples of the file stay, and those of the blocks that were saved follow, wherever the
+// medium fails; and nothing is written to a file without its last byte.
+fn resumes(alloc: Global, file: &[u8], blocks: &[&[u8]]) -> hound::Result<bool> {
+    let mut last = 0;
+    for fail_from in 0..40u64 {
+        let (found, count) = appended(alloc, file, blocks, fail_from)?;
+        let all = [2i16, -3, 5, -7, 2, -3, 5, -7];
+        let least = [4, 5, 7, 8][count.min(3)];
+        if !all.starts_with(found.as_slice()) || found.len() < least || count < last {
+            return Ok(false);
+        }
+        last = count;
+    }
+    let cut = &file[..file.len().saturating_sub(1)];
+    let mut journal = Journal::new(alloc, cut.to_vec(alloc)?)?;
+    let refused = append_by_effects(&mut journal, cut, blocks).is_err();
+    Ok(last == 3 && refused && journal.taken() == 0)
+}
+
 fn takes_a_batch(alloc: Global) -> hound::Result<bool> {
     let mut writer = WavWriter::new(empty_tape(alloc), sixteen(1))?;
     record_batch(alloc, &mut writer, &[300, -301])?;
@@ -260,6 +294,7 @@ fn effects_leave_what_was_saved(rt: HostRuntime) -> Result<(), Fail> {
     assert!(rt; saves(alloc, integers(1, 44100, 16, 2), blocks, &FOUR_SAMPLES)?);
     assert!(rt; saves(alloc, integers(1, 44100, 8, 1), odd, ODD_FILE)?);
     assert!(rt; keeps(alloc, blocks)?);
+    assert!(rt; resumes(alloc, &FOUR_SAMPLES, blocks)?);
     Ok(())
 }
 

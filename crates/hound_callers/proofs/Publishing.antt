@@ -15,10 +15,21 @@ module _ {V : Type 0} (f : V → Result (List (List ℕ)) Refusal) where
   seen_more blocks i d inside = grind (arith, common_steps)
 
   -- their calls accepted the containers
-  accepted : (blocks : List V)
+  pub accepted : (blocks : List V)
       → accepted_as_seen (published_calls f blocks) ≡ flat_map (λ block. if_marked true (f block)) blocks
   accepted [] = refl
   accepted (block ∷ blocks) = λ i. if_marked true (f block) ++ accepted blocks i
+
+  -- the last call of some blocks is a flush, before which all their containers were accepted
+  pub last_call : (blocks : List V) → 0 < length blocks → (written : List (Asked × Bool))
+      × (published_calls f blocks ≡ written ++ (publish, true) ∷ [])
+      × (accepted_as_seen written ≡ accepted_as_seen (published_calls f blocks))
+  last_call blocks some =
+      let (first, last, split) = last_of blocks some in
+      let same : published_calls f blocks
+      ≡ (published_calls f first ++ (write (f last), true) ∷ []) ++ (publish, true) ∷ [] =
+      ap (published_calls f) split ∙ simp (flat_map-append, append_assoc) in
+      (_, same, sym (ap accepted_as_seen same ∙ simp (flat_map-append, append-nil)))
 
   -- The flush of the last of some blocks is among the calls, and those before it accepted the
   -- containers of these blocks.
@@ -32,15 +43,10 @@ module _ {V : Type 0} (f : V → Result (List (List ℕ)) Refusal) where
       → (before after : List Call) × (flush : Call) × (calls ≡ before ++ (flush ∷ after))
       × HasPublished flush × HaveContainers f blocks (accepted_by_all before)
   last_flush blocks more end calls some all published are =
-      let (first, last, split) = last_of blocks some in
-      let written = published_calls f first ++ (write (f last), true) ∷ [] in
-      let same : published_calls f blocks ≡ written ++ (publish, true) ∷ [] =
-      ap (published_calls f) split ∙ simp (flat_map-append, append_assoc) in
+      let (written, same, is_all) = last_call blocks some in
       let parts : (seen (published_calls f blocks) ++ more) ++ end
       ≡ seen written ++ (marked publish true ∷ (more ++ end)) =
       ap (λ l. (seen l ++ more) ++ end) same ∙ simp (map-append, append_assoc) in
       let (before, after, flush, are_parts, has_all, is) =
       published written (more ++ end) calls (subst (λ l. AreKnown l calls) parts are) in
-      let has : accepted_by_all before ≡ accepted_as_seen (published_calls f blocks) =
-      is ∙ sym (ap accepted_as_seen same ∙ simp (flat_map-append, append-nil)) in
-      (before, after, flush, are_parts, has_all, (all, has ∙ accepted blocks))
+      (before, after, flush, are_parts, has_all, (all, is ∙ is_all ∙ accepted blocks))

@@ -1,12 +1,12 @@
-// A recorder whose caller performs the effects, on a medium.
-ghost use Rattle.std.specs.Prelude.{◌≡◌, ◌<◌, ◌≤◌, List, [], ◌++◌, IfErr, IfOk, Ok, MatchResult, OnErr, OnOk, Result, ◌∷◌, drop, is_ok, length, map, take, true};
-ghost use Rattle.std.specs.declared.io.Error.{Error as IoFault};
-ghost use Rattle.hound.specs.{Acted, HasData, IsNotBegun, KeptWithin, Log, Performed, Performs, PutsAt, WhereKeeps, WhereTells, WriterState, block, checkpoint, data_start, known_of, log_state, new_file, recorder_of, save};
-ghost use Rattle.hound_callers.specs.Recorder.{ActsTo, AreDone, IsRecorderOf, ReadsBlocks, RecordsTo, Saves, StopsIn, done, longer};
+// Recorders whose caller performs the effects, on a medium.
+ghost use Rattle.std.specs.Prelude.{◌≡◌, ◌≤◌, ℕ, List, [], ◌++◌, ◌∷◌, Bool, IfErr, IfOk, OnErr, OnOk, drop, is_ok, length, take, true};
+ghost use Rattle.hound.specs.{Asked, Begun, Directed, IsNotBegun, IsSynced, Known, Performs, PutsAt, Readable, Recorder, WavSpecEx, WhereKeeps, WhereTells, new_file, publish, resumed_file, seen};
+ghost use Rattle.hound_callers.specs.Recorder.{IsReady, Saves, Stops, StopsAt, longer, samples_of};
+ghost use Rattle.hound_callers.specs.Recording.{published_calls};
 
 use hound::{
-    Effect, Error, Medium, Recorder, RecorderError, WavSpecEx, a_recording_survives_a_loss,
-    header_of, put_all,
+    Effect, Error, Medium, Recorder, RecorderError, WavReader, WavSpecEx, a_recorder_directs,
+    a_recording_is_kept, header_of, put_all,
 };
 use std::{io, result};
 
@@ -36,14 +36,13 @@ fn perform_checkpoint<M: Medium>(
     medium: &mut M,
     recorder: &mut Recorder,
 ) -> result::Result<(), RecorderError>
-    requires ready { (recorder.old.number ≡ 0) × (recorder.old.condition ≡ 0) }
-    requires data { HasData recorder.old recorder.old.data_length }
-    ensures performed { WhereKeeps M.tells M.keeps ((first : Log) → first.state ≡ M.state medium.old
-        → (performed : Result Unit IoFault) × (last : Log) × (is_ok performed ≡ is_ok result)
-        × (last.state ≡ M.state medium.new)
-        × Performed (checkpoint recorder.old.data_start recorder.old.data_length) performed first last) }
+    requires { IsReady recorder.old }
     ensures same { OnOk result (recorder.new ≡ recorder.old) }
+    ensures directed { WhereKeeps M.tells M.keeps ((s : WavSpecEx) (file : Begun) (known : List Known)
+        → Directed s file known recorder.old true (M.state medium.old) → (recorder.new.number ≡ 0)
+        × Directed s file (known ++ seen ((publish, is_ok result) ∷ [])) recorder.new true (M.state medium.new)) }
 {
+    a_recorder_directs();
     let mut ok = true;
     while let Some(effect) = recorder.next(ok)? {
         ok = perform(medium, effect).is_ok();
@@ -51,61 +50,46 @@ fn perform_checkpoint<M: Medium>(
     Ok(())
 }
 
-// Writes a block of containers after the data.
-fn write_block<M: Medium>(
+// Writes a block of containers after the data, and makes a checkpoint, up to a call that fails.
+fn save_block<M: Medium>(
     medium: &mut M,
     recorder: &mut Recorder,
-    containers: &[u8],
+    block: &[u8],
 ) -> result::Result<(), RecorderError>
-    requires width { 1 ≤ recorder.old.bytes_per_sample }
-    ensures ready { OnOk result ((recorder.new.number ≡ 0) × (recorder.new.condition ≡ 0)) }
-    ensures data { OnOk result (HasData recorder.new recorder.new.data_length) }
-    ensures counted { OnOk result (recorder.new ≡ longer recorder.old (length containers.now)) }
-    ensures written { WhereKeeps M.tells M.keeps ((w : WriterState Log)
-        → IsRecorderOf recorder.old w (M.state medium.old) → MatchResult result
-        (λ _. RecordsTo (done (block containers.now) ∷ []) w recorder.new (M.state medium.new))
-        (λ _. (actions : List Acted) × StopsIn recorder.old containers.now actions
-        × ActsTo actions w (M.state medium.new))) }
+    requires { IsReady recorder.old }
+    ensures counted { OnOk result (recorder.new ≡ longer recorder.old (length block.now)) }
+    ensures saved { OnOk result (WhereKeeps M.tells M.keeps ((s : WavSpecEx) (file : Begun) (known : List Known)
+        → Directed s file known recorder.old true (M.state medium.old)
+        → Directed s file (known ++ seen (published_calls (samples_of s) (block.entry ∷ []))) recorder.new true
+        (M.state medium.new))) }
+    ensures stopped { OnErr result (WhereKeeps M.tells M.keeps ((s : WavSpecEx) (file : Begun) (known : List Known)
+        → Directed s file known recorder.old true (M.state medium.old)
+        → Stops s file known block.entry recorder.new (M.state medium.new))) }
 {
+    a_recorder_directs();
     let width = recorder.bytes_per_sample as usize;
-    if containers.len() % width != 0 {
+    if block.len() % width != 0 {
         return Err(RecorderError::UnfinishedFrame);
     }
-    let samples = (containers.len() / width) as u64;
+    let samples = (block.len() / width) as u64;
     let place = recorder.place(samples)?;
-    let written = write_at(medium, place, containers).is_ok();
+    let written = write_at(medium, place, block).is_ok();
     recorder.wrote(samples, written)?;
     if !written {
         return Err(RecorderError::NeedsCheckpoint);
     }
-    Ok(())
-}
-
-// Writes a block of containers, and makes a checkpoint, up to a call that fails.
-fn save_block<M: Medium>(
-    medium: &mut M,
-    recorder: &mut Recorder,
-    containers: &[u8],
-) -> result::Result<(), RecorderError>
-    requires width { 1 ≤ recorder.old.bytes_per_sample }
-    ensures counted { OnOk result (recorder.new ≡ longer recorder.old (length containers.now)) }
-    ensures saved { WhereKeeps M.tells M.keeps ((w : WriterState Log)
-        → IsRecorderOf recorder.old w (M.state medium.old) → MatchResult result
-        (λ _. RecordsTo (done (block containers.now) ∷ done save ∷ []) w recorder.new (M.state medium.new))
-        (λ _. (actions : List Acted) × StopsIn recorder.old containers.now actions
-        × ActsTo actions w (M.state medium.new))) }
-{
-    write_block(medium, recorder, containers)?;
     perform_checkpoint(medium, recorder)
 }
 
-// Saves blocks until a call fails, and returns how many were saved.
+// Saves blocks until a call fails or a block doesn't fit, and returns how many were saved.
 fn save_blocks<M: Medium>(medium: &mut M, recorder: &mut Recorder, blocks: &[&[u8]]) -> usize
-    requires width { 1 ≤ recorder.old.bytes_per_sample }
+    requires ready { IsReady recorder.old }
     ensures within { result ≤ length blocks.now }
-    ensures saved { WhereKeeps M.tells M.keeps ((w : WriterState Log)
-        → IsRecorderOf recorder.old w (M.state medium.old) → (actions : List Acted)
-        × Saves recorder.old blocks.now result actions × ActsTo actions w (M.state medium.new)) }
+    ensures saved { WhereKeeps M.tells M.keeps ((s : WavSpecEx) (file : Begun)
+        → Directed s file [] recorder.old true (M.state medium.old) → (more : List (Asked × Bool))
+        × StopsAt s recorder.new (drop result blocks.now) more × (recorder.new.number ≡ 0)
+        × Directed s file (seen (published_calls (samples_of s) (take result blocks.now) ++ more))
+        recorder.new true (M.state medium.new)) }
 {
     for i in 0..blocks.len() {
         if save_block(medium, recorder, blocks[i]).is_err() {
@@ -119,32 +103,57 @@ fn save_blocks<M: Medium>(medium: &mut M, recorder: &mut Recorder, blocks: &[&[u
 /// block doesn't fit, and returns how many blocks were saved. It writes the bytes and performs the
 /// effects itself. It is an error if the file isn't begun (`refused`).
 ///
-/// Its actions are the write and the checkpoint of each of these blocks, and then those of the next one,
-/// up to the one that failed; whatever sectors keep what was written since the medium was flushed,
-/// what is left counts, and has lost no sample of a checkpoint. Unless it was the checkpoint that failed, the
-/// file is read as exactly the samples of the blocks that were saved. The medium must be new: its
-/// place is 0, and nothing has been written to it yet.
+/// The medium must be at 0, and synced: of a new one nothing has been written yet.
 pub fn record_by_effects<M: Medium>(
     medium: &mut M,
     spec_ex: WavSpecEx,
     blocks: &[&[u8]],
 ) -> hound::Result<usize>
     requires place { WhereTells M.tells ((M.state medium.old).place ≡ 0) }
-    requires past { WhereKeeps M.tells M.keeps ((M.state medium.old).past ≡ []) }
-    requires flushed { WhereKeeps M.tells M.keeps ((M.state medium.old).flushed ≡ 0) }
+    requires synced { WhereKeeps M.tells M.keeps (IsSynced (M.state medium.old)) }
     ensures refused { IfErr result (λ e. IsNotBegun M.tells M.keeps M.state spec_ex medium.old medium.new e) }
     ensures within { IfOk result (λ n. n ≤ length blocks.now) }
-    ensures kept { IfOk result (λ n. WhereKeeps M.tells M.keeps ((actions : List Acted)
-        × Saves (recorder_of (data_start spec_ex) 0 spec_ex.bytes_per_sample) blocks.now n actions
-        × (log : Log) × (log.state ≡ M.state medium.new)
-        × KeptWithin true true log_state spec_ex (new_file (M.state medium.old))
-        (map (known_of spec_ex) actions) log log.state
-        × (AreDone actions → 0 < n → ReadsBlocks spec_ex (take n blocks.now) (M.state medium.new).contents))) }
+    ensures saved { IfOk result (λ n. WhereKeeps M.tells M.keeps
+        (Saves spec_ex (new_file (M.state medium.old)) blocks.now n (M.state medium.new))) }
 {
-    a_recording_survives_a_loss();
+    a_recorder_directs();
+    a_recording_is_kept();
     let Ok(mut recorder) = Recorder::begin(spec_ex) else {
         return Err(Error::Unsupported);
     };
     put_all(medium, header_of(spec_ex, 0, 0).as_slice())?;
     Ok(save_blocks(medium, &mut recorder, blocks))
+}
+
+/// Appends blocks to a file with these contents, as [`record_by_effects`] records a new one. It is an
+/// error, after which the file is as it was (`refused`), if the contents can't be read, or aren't
+/// appended to, or lack data that the header counts; or if the medium failed.
+pub fn append_by_effects<M: Medium>(
+    medium: &mut M,
+    contents: &[u8],
+    blocks: &[&[u8]],
+) -> hound::Result<usize>
+    requires contents { WhereTells M.tells ((M.state medium.old).contents ≡ contents.now) }
+    requires synced { WhereKeeps M.tells M.keeps (IsSynced (M.state medium.old)) }
+    ensures refused { IfErr result (λ e. WhereTells M.tells
+        ((M.state medium.new).contents ≡ (M.state medium.old).contents)) }
+    ensures within { IfOk result (λ n. n ≤ length blocks.now) }
+    ensures saved { IfOk result (λ n. WhereKeeps M.tells M.keeps ((s : WavSpecEx) × (samples start : ℕ)
+        × Readable contents.now s samples start
+        × Saves s (resumed_file s samples start (M.state medium.old)) blocks.now n (M.state medium.new))) }
+{
+    a_recorder_directs();
+    a_recording_is_kept();
+    let reader = WavReader::new(contents)?;
+    let (spec_ex, samples) = (reader.spec_ex(), reader.len());
+    let start = (contents.len() - reader.into_inner().len()) as u64;
+    let Ok(mut resumed) = Recorder::append(spec_ex, start, samples) else {
+        return Err(Error::Unsupported);
+    };
+    let end = start + resumed.data_length as u64;
+    if end > contents.len() as u64 {
+        return Err(Error::FormatError("the data are cut off"));
+    }
+    medium.go(end)?;
+    Ok(save_blocks(medium, &mut resumed, blocks))
 }

@@ -1,6 +1,7 @@
 -- The effects of a checkpoint publish as a writer does.
 use Rattle.std.proofs.lemmas.Grind.{common_steps}
 use Rattle.std.proofs.Common.{◌≡◌, ℕ, zero, suc, ◌+◌, ◌-◌, ◌%◌, ◌<◌, ◌^◌, Bool, true, false, IsTrue, List, [], ◌∷◌, ◌++◌, replicate, length, Result, Ok, Err, MatchResult, is_ok, refl, rules, sym, ◌∙◌, ap, subst, arith}
+use Rattle.std.specs.Prelude.{if◌then◌else◌}
 use Rattle.std.specs.declared.io.Error.{Error as IoFault}
 use Rattle.hound_number.specs.{bytes_of}
 use Rattle.hound_spec.specs.{riff_size, padding}
@@ -13,6 +14,7 @@ use Rattle.hound_writer.specs.Accepting.{AddsAtEach}
 use Rattle.hound_writer.specs.Effects.{Log, Performed, checkpoint, log_state, pad_effects, size_effects}
 use Rattle.hound_writer.specs.Parts.{all_out, after_out, GoesOut, HasSize, IsConsistent, IsPublishResult, CountsAtMost, Patches, PatchesAtEach, PutsAt, StaysAround}
 use Rattle.hound_writer.specs.Publishing.{PublishesTo}
+use Rattle.hound_writer.specs.Recording.{IsIdle}
 use Rattle.hound_writer.specs.Writer.{WriterState, AreFrames, IsPadded, IsSound, data_length, padded_end}
 use Rattle.hound_writer.specs.declared.effects.Effect.{Effect}
 use Rattle.hound_writer.specs.declared.effects.Effect.TheVariants.{Size, Sync}
@@ -44,22 +46,16 @@ pub as_out : (at : ℕ) (bytes : List ℕ) (r : Result (Unit {0}) IoFault) (old 
 as_out at bytes (Ok x) old new puts = search rules
 as_out at bytes (Err e) old new puts = search rules
 
--- a writer between the actions of a recording: nothing is buffered
-pub record Good (w : WriterState Log) : Type 0 where
-  pub none : w.buffered ≡ []
-  pub sound : IsSound w
-  pub at_most : CountsAtMost w.spec_ex w.data_start w.bytes_written w.medium.state.contents
-
--- the same over what an effect has left
-pub good_over : (w : WriterState Log) (m : Log) → Good w
-    → CountsAtMost w.spec_ex w.data_start w.bytes_written m.state.contents → Good (record w { medium = m })
+-- a writer stays idle over what an effect has left
+pub good_over : (w : WriterState Log) (m : Log) → IsIdle w
+    → CountsAtMost w.spec_ex w.data_start w.bytes_written m.state.contents → IsIdle (record w { medium = m })
 good_over w m good at_most = grind (arith, common_steps, sound_with)
 
 -- the effects after the first sync
 abbrev sizes_of : WriterState Log → List Effect
 sizes_of w = Size 4 (riff_size w.data_start w.bytes_written) ∷ Size (w.data_start - 4) w.bytes_written ∷ Sync ∷ []
 
-module _ (w : WriterState Log) (good : Good w) where
+module _ (w : WriterState Log) (good : IsIdle w) where
   abbrev p : ℕ
   p = w.data_start - 4
 
@@ -166,7 +162,7 @@ module _ (outcome : Result (Unit {0}) IoFault) (are_frames : Bool) (answer : Res
   HasFrames w = (IsTrue are_frames → AreFrames w) × (AreFrames w → IsTrue are_frames)
 
   -- the sizes, once the pad byte is there
-  after_pad : (w : WriterState Log) → Good w → HasFrames w → IsPadded w w.medium.state.contents
+  after_pad : (w : WriterState Log) → IsIdle w → HasFrames w → IsPadded w w.medium.state.contents
       → Performed (sizes_of w) outcome w.medium end → Left w
   after_pad w good frames padded did =
       let both = sizes w good outcome end did in
@@ -183,13 +179,13 @@ module _ (outcome : Result (Unit {0}) IoFault) (are_frames : Bool) (answer : Res
       → GoesOut true true log_state (padded_end w) (is_ok r) w (record w { medium = m })
       → MatchResult r (λ _. Performed effects outcome m end) (λ e. (outcome ≡ Err e) × (end ≡ m))
       → (IsTrue (is_ok r) → Performed effects outcome m end → Left (record w { medium = m })) → Left w
-  step w m (Ok x) effects goes did then =
-      let rest = then refl did in (
+  step w m (Ok x) effects goes did next =
+      let rest = next refl did in (
         published_later true true log_state (padded_end w) end.state.place w (record w { medium = m })
             (record w { medium = end }) answer (omega arith) goes (λ _. w.medium.small) rest.0,
         rest.1,
       )
-  step w m (Err e) effects goes (is_e, last) then =
+  step w m (Err e) effects goes (is_e, last) next =
       let cut_is : answer ≡ Err (IoError e) = subst (λ r. IsPublishResult r are_frames answer) is_e is in
       rw (cut_is, last) (
         published_cut true true log_state (padded_end w) m.state.place w (record w { medium = m }) e
@@ -197,14 +193,14 @@ module _ (outcome : Result (Unit {0}) IoFault) (are_frames : Bool) (answer : Res
         (goes.file refl).around.at_most,
       )
 
-  after_sync : (w : WriterState Log) → Good w → HasFrames w → IsPadded w w.medium.state.contents
+  after_sync : (w : WriterState Log) → IsIdle w → HasFrames w → IsPadded w w.medium.state.contents
       → Performed (Sync ∷ sizes_of w) outcome w.medium end → Left w
   after_sync w good frames padded (m, r, flush, rest) =
       step w m r (sizes_of w) (goes_still w good (padded_end w) m r flush) rest
       (λ ok did. after_pad (record w { medium = m }) (good_over w m good (at_most_still w good (padded_end w) m r flush))
       frames (rw flush.stays.contents padded) did)
 
-  by_parity : (w : WriterState Log) → Good w → HasFrames w → (odd : ℕ) → w.bytes_written % 2 ≡ odd
+  by_parity : (w : WriterState Log) → IsIdle w → HasFrames w → (odd : ℕ) → w.bytes_written % 2 ≡ odd
       → Performed (pad_effects (w.data_start + w.bytes_written) odd ++ size_effects w.data_start w.bytes_written) outcome
       w.medium end → Left w
   by_parity w good frames zero even did =
@@ -222,6 +218,16 @@ module _ (outcome : Result (Unit {0}) IoFault) (are_frames : Bool) (answer : Res
       (padded_odd true true log_state w true 0 (known w good) good.none (λ _ _. w.medium.replays) no m (is_ok r)
       (λ _. put) refl ok) did)
 
-  pub publishes_checkpoint : (w : WriterState Log) → Good w → HasFrames w
+  pub publishes_checkpoint : (w : WriterState Log) → IsIdle w → HasFrames w
       → Performed (checkpoint w.data_start w.bytes_written) outcome w.medium end → Left w
   publishes_checkpoint w good frames did = by_parity w good frames (w.bytes_written % 2) refl did
+
+  -- and those of a recorder: after a failure a sync comes first
+  pub publishes_effects : (clean : Bool) (w : WriterState Log) → IsIdle w → HasFrames w
+      → Performed (if clean then checkpoint w.data_start w.bytes_written
+      else Sync ∷ checkpoint w.data_start w.bytes_written) outcome w.medium end → Left w
+  publishes_effects true w good frames did = publishes_checkpoint w good frames did
+  publishes_effects false w good frames (m, r, flush, rest) =
+      step w m r (checkpoint w.data_start w.bytes_written) (goes_still w good (padded_end w) m r flush) rest
+      (λ ok did. publishes_checkpoint (record w { medium = m }) (good_over w m good (at_most_still w good (padded_end w) m r flush))
+      frames did)

@@ -27,5 +27,5 @@ pub mod OneByOne
 pub mod Recording
 pub mod Fresh
 pub mod Checkpoint
-pub mod Acting
+pub mod Directing
 pub mod Ordering

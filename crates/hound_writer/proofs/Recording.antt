@@ -149,7 +149,7 @@ module _ {W : Type 0} (tells keeps : Bool) (state : W → MediumState) where
   }
 
   -- a writer that has begun a file
-  recorded_first : (s : WavSpecEx) (file : Begun) (w : WriterState W)
+  pub recorded_first : (s : WavSpecEx) (file : Begun) (w : WriterState W)
       → Opens tells keeps state s file w → Recorded tells keeps state s file [] w
   unfolding Recorded
   recorded_first s file w opens =

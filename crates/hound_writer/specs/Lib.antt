@@ -11,8 +11,8 @@ pub use Rattle.hound_writer.specs.Writer.{AreFrames, ChangesSizesOnly, Counts, H
 unfoldable pub use Rattle.hound_writer.specs.Writer.{with_sizes}
 pub use Rattle.hound_writer.specs.Publishing.{Checkpoints, Finishes, IsHalfPublished, IsOldOrNew, IsOutside, LeavesWriter, OncePutBefore, Publishes, PublishesAtEach, PublishesTo, PutsFrom, PutsLast, ReadsAs, place_after}
 pub use Rattle.hound_writer.specs.Effects.{Log, Performed, Performs, checkpoint, log_state, nth, pad_effects, size_effects}
-pub use Rattle.hound_writer.specs.Recording.{Acted, Action, Acts, ActsAll, IsCareful, IsFresh, Opened, Resumed, asked_of, block, known_of, out_after, recording, resumed_file, resync, save}
 pub use Rattle.hound_writer.specs.Recorder.{AppendsRecorder, BeginsRecorder, HasData, HasFailed, HasNoData, NextEffect, Places, Reports, advanced, effects_of, length_with, recorder_of}
+pub use Rattle.hound_writer.specs.Recording.{Directed, IsIdle, IsOrdered, IsRecorderOf, IsSynced, Opened, Resumed, block_known, resumed_file}
 pub mod Accepting
 pub mod Appending
 pub mod Batch
@@ -22,5 +22,5 @@ pub mod Calls
 pub mod Writer
 pub mod Publishing
 pub mod Effects
-pub mod Recording
 pub mod Recorder
+pub mod Recording

@@ -83,7 +83,7 @@ HasFailed ok r = (r.condition ≤ 1) × (0 < r.number) × (ok ≡ false)
 abbrev pub NextEffect : Bool → Recorder → Recorder → Result (Option Effect) RecorderError → Type 0
 NextEffect ok old new (Ok next) = (old.condition ≤ 1) × (0 < old.number → ok ≡ true)
     × HasData old old.data_length × (next ≡ nth (effects_of old) old.number) × (new ≡ advanced old next)
-NextEffect ok old new (Err SyncFailed) = (new ≡ record old { condition = 2 })
+NextEffect ok old new (Err SyncFailed) = (new ≡ record old { number = 0; condition = 2 })
     × ((1 < old.condition) ⊎ (HasFailed ok old × (nth (effects_of old) (old.number - 1) ≡ Some Sync)))
 NextEffect ok old new (Err NeedsCheckpoint) = (new ≡ record old { number = 0; condition = 1 })
     × HasFailed ok old × (nth (effects_of old) (old.number - 1) ≡ Some Sync → ⊥)

@@ -18,7 +18,7 @@ mod write;
 
 pub use batch::SampleWriter16;
 pub use effects::{Effect, checkpoint_effect};
-pub use laws::{a_block_is_its_samples, one_append_answer};
+pub use laws::{a_block_is_its_samples, a_recorder_directs, one_append_answer};
 pub use patch::patch as patch_sizes;
 pub use recorder::{Recorder, RecorderError};
 pub use write::WavWriter;

@@ -168,16 +168,18 @@ impl Recorder {
         ensures { NextEffect ok self.old self.new result }
     {
         if self.condition > 1 {
+            self.number = 0;
             self.condition = 2;
             return Err(RecorderError::SyncFailed);
         }
         self.check_length(self.data_length as u64)?;
         if self.number > 0 && !ok {
-            if let Some(Effect::Sync) = self.effect(self.number - 1) {
+            let failed = self.effect(self.number - 1);
+            self.number = 0;
+            if let Some(Effect::Sync) = failed {
                 self.condition = 2;
                 return Err(RecorderError::SyncFailed);
             }
-            self.number = 0;
             self.condition = 1;
             return Err(RecorderError::NeedsCheckpoint);
         }

@@ -1,4 +1,4 @@
-use Rattle.hound.proofs.Knowing.{among, accepted, published}
+use Rattle.hound.proofs.Knowing.{accepted, among, lasts, published}
 use Rattle.hound.proofs.laws.what_is_known.Goals as goal
 
 pub returns-clause-among : goal.returns-clause-among
@@ -9,3 +9,6 @@ returns-clause-accepted c = accepted
 
 pub returns-clause-published : goal.returns-clause-published
 returns-clause-published c = published
+
+pub returns-clause-lasts : goal.returns-clause-lasts
+returns-clause-lasts c = lasts

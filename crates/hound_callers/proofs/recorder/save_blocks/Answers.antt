@@ -1,59 +1,42 @@
-use Rattle.std.proofs.Common.{◌≡◌, ◌+◌, ◌++◌, [], ap, length, arith, refl}
-use Rattle.std.proofs.lemmas.List.{append-nil}
-use Rattle.hound.specs.{Recorder}
+use Rattle.std.proofs.Common.{◌≡◌, [], append-nil, arith, length, refl, subst, sym, true}
+use Rattle.std.proofs.lemmas.List.{map-append}
+use Rattle.hound.specs.{Directed}
 use Rattle.hound.proofs.Knowing.{at_ok}
-use Rattle.hound_callers.proofs.Performing.{acts_then, by_err, by_ok, none_left, none_saved, one_saved}
+use Rattle.hound_callers.specs.Recorder.{IsReady, samples_of}
+use Rattle.hound_callers.proofs.Performing.{at_err, none_left, none_saved}
+use Rattle.hound_callers.proofs.Publishing.{seen_more}
 use Rattle.hound_callers.proofs.recorder.save_blocks.Goals as goal
-
-pub loop-i-init : goal.loop-i-init
-loop-i-init g c = record {
-  within = omega arith;
-  width = c.requires.width;
-  saved = λ tells keeps w is. (
-    [],
-    (w, refl, is),
-    λ n rest saves. let same : 0 + n ≡ n = omega arith in rw same saves,
-  );
-}
 
 pub loop-i-preserved : goal.loop-i-preserved
 loop-i-preserved g c =
-    let i = c.loop-i.i in
-    let blocks = c.args.blocks.now in
     let ok = c.if-is_err.ensures.negation in
-    let counted = at_ok c.save_block.result ok c.save_block.ensures.counted in
     record {
       within = omega (arith, c.loop-i-test.true);
-      width = omega (arith, c.loop-i.invariant.width, ap (λ (x : Recorder). x.bytes_per_sample) counted);
-      saved = λ tells keeps w is.
-          let (before, (mid, acts, here), go) = c.loop-i.invariant.saved tells keeps w is in
-          let (last, then, there) = by_ok _ _ c.save_block.result ok (c.save_block.ensures.saved tells keeps mid here) in (
-            before ++ _,
-            (last, acts_then before _ w mid last acts then, there),
-            one_saved c.args.recorder.now c.loop-i.recorder c.save_block.new.recorder blocks i _ before c.loop-i-test.true
-                counted go,
-          );
+      ready = subst IsReady (sym (at_ok c.save_block.result ok c.save_block.ensures.counted)) c.loop-i.invariant.ready;
+      directed = λ tells keeps s file d.
+          subst (λ l. Directed s file l c.save_block.new.recorder true (g.M.Placed.state c.save_block.new.medium))
+          (sym (seen_more (samples_of s) c.args.blocks.now c.loop-i.i _ c.loop-i-test.true))
+          (at_ok c.save_block.result ok c.save_block.ensures.saved tells keeps s file _
+          (c.loop-i.invariant.directed tells keeps s file d));
     }
 
 pub returns-then-is_err-clause-saved : goal.returns-then-is_err-clause-saved
-returns-then-is_err-clause-saved g c tells keeps w is =
-    let i = c.loop-i.i in
-    let (before, (mid, acts, here), go) = c.loop-i.invariant.saved tells keeps w is in
-    let (more, stops, (last, then, there)) =
-    by_err _ _ c.save_block.result c.if-is_err.ensures.negation (c.save_block.ensures.saved tells keeps mid here) in
-    let same : i + 0 ≡ i = omega arith in (
-      before ++ more,
-      rw same at (go 0 more (none_saved c.loop-i.recorder c.args.blocks.now i _ more c.loop-i-test.true stops)),
-      (last, acts_then before more w mid last acts then, there),
+returns-then-is_err-clause-saved g c tells keeps s file d =
+    let (more, stops, zero, now) =
+    at_err c.save_block.result c.if-is_err.ensures.negation c.save_block.ensures.stopped tells keeps s file _
+    (c.loop-i.invariant.directed tells keeps s file d) in (
+      more,
+      none_saved s c.save_block.new.recorder c.args.blocks.now c.loop-i.i _ more c.loop-i-test.true stops,
+      zero,
+      rw map-append now,
     )
 
 pub returns-clause-saved : goal.returns-clause-saved
-returns-clause-saved g c tells keeps w is =
-    let i = c.loop-i.i in
-    let (before, (last, acts, here), go) = c.loop-i.invariant.saved tells keeps w is in
-    let same : i + 0 ≡ length c.args.blocks.now =
+returns-clause-saved g c tells keeps s file d =
+    let all : c.loop-i.i ≡ length c.args.blocks.now =
     omega (arith, c.loop-i.invariant.within, c.loop-i-test.false) in (
-      before,
-      rw (same, append-nil) at (go 0 [] (none_left c.loop-i.recorder c.args.blocks.now i c.loop-i-test.false)),
-      (last, acts, here.medium),
+      [],
+      none_left s c.loop-i.recorder c.args.blocks.now _ (omega arith),
+      c.loop-i.invariant.ready.0,
+      rw append-nil (rw all at (c.loop-i.invariant.directed tells keeps s file d)),
     )

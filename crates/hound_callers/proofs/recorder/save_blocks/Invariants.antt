@@ -1,6 +1,7 @@
-use Rattle.std.proofs.Common.{ℕ, ◌+◌, ◌++◌, ◌≤◌, List, drop, length}
-use Rattle.hound.specs.{Acted, Log, WhereKeeps, WriterState}
-use Rattle.hound_callers.specs.Recorder.{IsRecorderOf, RecordsTo, Saves}
+use Rattle.std.proofs.Common.{◌≡◌, ◌≤◌, [], length, take, true}
+use Rattle.hound.specs.{Begun, Directed, WavSpecEx, WhereKeeps, seen}
+use Rattle.hound_callers.specs.Recorder.{IsReady, samples_of}
+use Rattle.hound_callers.specs.Recording.{published_calls}
 use Rattle.hound_callers.proofs.recorder.save_blocks.Given as goal
 
 abbrev pub invariant-loop-i : goal.invariant-loop-i
@@ -8,10 +9,8 @@ invariant-loop-i g l =
     let M = g.M.Placed in
     record {
       within : l.i ≤ length l.blocks;
-      width : 1 ≤ l.recorder.bytes_per_sample;
-      saved : WhereKeeps M.tells M.keeps ((w : WriterState Log)
-          → IsRecorderOf l.fn.recorder w (M.state l.fn.medium) → (before : List Acted)
-          × RecordsTo before w l.recorder (M.state l.medium)
-          × ((n : ℕ) (rest : List Acted) → Saves l.recorder (drop l.i l.blocks) n rest
-          → Saves l.fn.recorder l.blocks (l.i + n) (before ++ rest)));
+      ready : IsReady l.recorder;
+      directed : WhereKeeps M.tells M.keeps ((s : WavSpecEx) (file : Begun)
+          → Directed s file [] l.fn.recorder true (M.state l.fn.medium)
+          → Directed s file (seen (published_calls (samples_of s) (take l.i l.blocks))) l.recorder true (M.state l.medium));
     }

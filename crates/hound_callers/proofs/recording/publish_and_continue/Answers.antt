@@ -11,17 +11,6 @@ unfolding Recorded Left
 left_so_far tells keeps state s file known w recorded =
     record { last = w; recorded = recorded; is = refl }
 
--- a call for samples publishes nothing
-only_writes : (asked : Result (List (List ℕ)) Refusal) (calls : List Call)
-    → AreKnown (made (write asked) ∷ []) calls
-    → AllByRecursion (λ (call : Call). call.asked ≡ publish → ⊥) calls
-only_writes asked (call ∷ []) (is, none) = (λ same. no (sym is.0 ∙ same), tt)
-  where
-    no : write asked ≡ publish → ⊥
-    no same = cc
-only_writes asked (call ∷ other ∷ calls) are = absurd are.1
-only_writes asked [] are = absurd are
-
 pub returns-clause-lasts : goal.returns-clause-lasts
 returns-clause-lasts g c told s file before recorded =
     let M = g.M.Placed in
@@ -34,11 +23,8 @@ returns-clause-lasts g c told s file before recorded =
     (c.write_samples.ensures.recorded s file _ (c.in_ok-flush.ensures.marked s file _ recorded)) in
     let holds = c.what_is_kept.ensures.at_end told s file known w.medium
     (left_so_far M.tells M.keeps M.state s file known w all) in
-    let (first, last, flush, parts, are, is, then) =
-    c.what_is_known.ensures.among (seen before) (call ∷ []) (marked publish true)
-    holds.left.recorded.calls holds.left.recorded.are_known in
-    holds.at_end.lasts first last flush parts is (only_writes _ last then)
-    ∙ ap (λ l. length (concat (found_in file ++ l))) (c.what_is_known.ensures.accepted before first are)
+    c.what_is_known.ensures.lasts s file before (call ∷ []) holds.left.recorded.calls (M.state w.medium)
+    holds.at_end holds.left.recorded.are_known ((λ same. cc), tt)
 
 pub returns-clause-calls : goal.returns-clause-calls
 returns-clause-calls g c = (

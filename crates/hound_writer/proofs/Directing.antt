@@ -1,0 +1,415 @@
+-- What a caller does as its recorder directs are calls of a writer.
+use Rattle.std.proofs.lemmas.Grind.{common_steps}
+use Rattle.std.proofs.lemmas.Bool.{eqb-true, false≢true}
+use Rattle.std.proofs.Common.{◌≡◌, ℕ, zero, suc, ◌+◌, ◌*◌, ◌/◌, ◌%◌, ◌<◌, ◌≤◌, Bool, true, false, IsTrue, List, [], ◌∷◌, ◌++◌, length, drop, take, inl, inr, Option, Some, None, Result, Ok, Err, is_ok, refl, rules, sym, ◌∙◌, ap, subst, arith}
+use Rattle.std.proofs.Math.Nat.{mul-div_cancel, mul-mod_left}
+use Rattle.std.specs.Prelude.{◌==◌, if◌then◌else◌}
+use Rattle.std.specs.declared.io.Error.{Error as IoFault}
+use Rattle.hound_sample.specs.{containers}
+use Rattle.hound_spec.specs.{IsPair, IsWritable, data_start, greatest_u32, header, riff_size}
+use Rattle.hound_spec.proofs.HeaderLemmas.{length-header}
+use Rattle.hound_spec.specs.declared.error.Error.{Error}
+use Rattle.hound_spec.specs.declared.error.Error.TheVariants.{IoError, UnfinishedSample}
+use Rattle.hound_spec.specs.declared.spec.WavSpecEx.{WavSpecEx}
+use Rattle.hound_durable.specs.{Ascends}
+use Rattle.hound_medium.specs.{MediumState}
+use Rattle.hound_reader.specs.{Head, Readable}
+use Rattle.hound_writer.specs.Accepting.{mark_of, whole_containers}
+use Rattle.hound_writer.specs.Appending.{head_fault}
+use Rattle.hound_writer.specs.Beginning.{Begins}
+use Rattle.hound_writer.specs.Calls.{Asked, Begun, Does, Known, Opens, Recorded, handed_in, marked, new_file, publish, write}
+use Rattle.hound_writer.specs.Effects.{Log, Performed, Performs, checkpoint, log_state, nth}
+use Rattle.hound_writer.specs.Parts.{IsPublishResult, PutsAt, of_fields}
+use Rattle.hound_writer.specs.Recorder.{AppendsRecorder, BeginsRecorder, HasData, HasFailed, NextEffect, Places, Reports, effects_of, length_with, recorder_of}
+use Rattle.hound_writer.specs.Recording.{Directed, IsIdle, IsOrdered, IsRecorderOf, IsSynced, Opened, Resumed, block_known, resumed_file}
+use Rattle.hound_writer.specs.Writer.{WriterState, HasRoom, IsSound, accepted_samples, sample_count}
+use Rattle.hound_writer.specs.declared.effects.Effect.{Effect}
+use Rattle.hound_writer.specs.declared.effects.Effect.TheVariants.{Sync}
+use Rattle.hound_writer.specs.declared.recorder.Recorder.{Recorder}
+use Rattle.hound_writer.specs.declared.recorder.RecorderError.{RecorderError}
+use Rattle.hound_writer.specs.declared.recorder.RecorderError.TheVariants.{NotWritable, UnfinishedFrame, TooLong, NeedsCheckpoint, SyncFailed}
+use Rattle.hound_writer.proofs.Accepting.{accepts_all, accepts_none, sound_more, still}
+use Rattle.hound_writer.proofs.Appending.{follows, sound_head, at_most_on}
+use Rattle.hound_writer.proofs.Beginning.{header_file, sound_begin, at_most_begin}
+use Rattle.hound_writer.proofs.Checkpoint.{as_out, bad, fine, good_over, publishes_effects}
+use Rattle.hound_writer.proofs.Containers.{count_bytes}
+use Rattle.hound_writer.proofs.Heads.{head_behind}
+use Rattle.hound_writer.proofs.Ordering.{all_ordered, effects_ordered, header_in_order, in_order_none, puts_in_order, taken_ordered}
+use Rattle.hound_writer.proofs.Recording.{recorded_first, recorded_more, recorded_spec}
+use Rattle.hound_writer.proofs.Samples.{samples_out}
+use Rattle.hound_writer.proofs.AtMost.{at_most_more}
+
+-- what a call with this mark did
+record IsCall (asked : Asked) (ok : Bool) (old new : WriterState Log) : Type 0 where
+  pub answer : Result (Unit {0}) Error
+  pub does : Does true true log_state asked answer old new
+  pub mark : mark_of answer ≡ ok
+  pub idle : IsIdle new
+
+-- the result of the call, by that of the effects and whether there are whole frames
+abbrev told_of : Result (Unit {0}) IoFault → Bool → Result (Unit {0}) Error
+told_of (Err e) frames = Err (IoError e)
+told_of (Ok x) true = Ok x
+told_of (Ok x) false = Err UnfinishedSample
+
+is_told : (r : Result (Unit {0}) IoFault) (frames : Bool)
+    → IsPublishResult r frames (told_of r frames) × (mark_of (told_of r frames) ≡ is_ok r)
+is_told (Err e) frames = (refl, refl)
+is_told (Ok x) true = (refl, refl)
+is_told (Ok x) false = (refl, refl)
+
+is_zero : (n : ℕ) → (b : Bool) × (IsTrue b → n ≡ 0) × (n ≡ 0 → IsTrue b)
+is_zero zero = (true, (λ _. refl), (λ _. refl))
+is_zero (suc n) = (false, (λ is. absurd (false≢true is)), (λ e. absurd (omega (arith, e))))
+
+-- the effects of a checkpoint are a call that publishes
+save_call : (clean : Bool) (r : Result (Unit {0}) IoFault) (w : WriterState Log) (m : Log) → IsIdle w
+    → Performed (if clean then checkpoint w.data_start w.bytes_written
+    else Sync ∷ checkpoint w.data_start w.bytes_written) r w.medium m
+    → IsCall publish (is_ok r) w (record w { medium = m })
+save_call clean r w m idle did =
+    let (frames, so, back) = is_zero (sample_count w % w.spec_ex.spec.channels) in
+    let told = is_told r frames in
+    let (does, at_most) =
+    publishes_effects r frames (told_of r frames) told.0 m clean w idle (so, back) did in
+    record {
+      answer = told_of r frames;
+      does = does;
+      mark = told.1;
+      idle = good_over w m idle at_most;
+    }
+
+-- how many bytes of data there are then: those of a block count if all were written
+abbrev out_after : Result (Unit {0}) IoFault → ℕ → ℕ → ℕ
+out_after (Ok x) more out = out + more
+out_after (Err e) more out = out
+
+-- the write of a block is a call for its samples
+block_call : (bytes : List ℕ) (r : Result (Unit {0}) IoFault) (w : WriterState Log) (m : Log) → IsIdle w
+    → HasRoom w (length bytes) → length bytes % w.spec_ex.bytes_per_sample ≡ 0
+    → PutsAt true (w.data_start + w.bytes_written) bytes r w.medium.state m.state
+    → IsCall (write (whole_containers w.spec_ex bytes)) (is_ok r) w
+    (record w { medium = m; bytes_written = out_after r (length bytes) w.bytes_written })
+block_call bytes (Ok x) w m idle room whole puts =
+    let all = as_out (w.data_start + w.bytes_written) bytes (fine x) w.medium.state m.state puts in
+    record {
+      answer = Ok tt;
+      does = accepts_all true true log_state w idle.none idle.sound (λ _. idle.at_most) m bytes room
+          whole (λ _. all) (λ _ _. w.medium.replays);
+      mark = refl;
+      idle =
+          let none = idle.none in
+          let sound = sound_more true true log_state w idle.none idle.sound (λ _. idle.at_most) m bytes room whole in
+          let at_most = at_most_more w.spec_ex w.data_start w.bytes_written (w.bytes_written + length bytes) m.state.contents
+          (omega arith) (still true true log_state w (λ _. idle.at_most) m bytes _ refl all) in
+          search rules;
+    }
+block_call bytes (Err e) w m idle room whole puts =
+    let some = as_out (w.data_start + w.bytes_written) bytes (bad e) w.medium.state m.state puts in
+    record {
+      answer = Err (IoError e);
+      does = accepts_none true true log_state w idle.none idle.sound (λ _. idle.at_most) m bytes room
+          whole e (λ _. some) (λ _ _. w.medium.replays);
+      mark = refl;
+      idle = good_over w m idle (still true true log_state w (λ _. idle.at_most) m bytes _ refl some);
+    }
+
+-- a recording between two calls
+at_rest : (s : WavSpecEx) (file : Begun) (known : List Known) (r : Recorder) (w : WriterState Log)
+    → Recorded true true log_state s file known w → IsIdle w → IsRecorderOf r w → r.number ≡ 0
+    → (IsSynced (handed_in file) → (high : ℕ) × IsOrdered high w.medium.state
+    × (r.condition ≡ 0 → high ≤ r.data_start + r.data_length))
+    → Directed s file known r true w.medium.state
+at_rest s file known r w recorded idle is none order = record {
+  writer = w;
+  recorded = recorded;
+  idle = idle;
+  is = is;
+  order = order;
+  log = w.medium;
+  state = refl;
+  result = Ok tt;
+  last = λ some. absurd (omega (arith, some, none));
+  performed = rw none (refl, refl);
+}
+
+-- a block that has a place has room
+has_room : (r : Recorder) (w : WriterState Log) (samples more : ℕ) → IsRecorderOf r w → w.buffered ≡ []
+    → more ≡ samples * r.bytes_per_sample → HasData r (length_with r samples) → HasRoom w more
+has_room r w samples more is none long (far, wide, fits) =
+    let sum : r.data_length + samples * r.bytes_per_sample ≡ w.bytes_written + 0 + more = omega (arith, is.1, long) in
+    rw none (subst (λ (x : ℕ × ℕ). riff_size x.0 x.1 ≤ greatest_u32) (λ i. (is.0 i, sum i)) fits)
+
+-- a new file whose header was written
+pub directed_new : (s : WavSpecEx) (old : MediumState) (log : Log) (r : Recorder) → Opened s old log.state
+    → BeginsRecorder s (Ok r) → Directed s (new_file old) [] r true log.state
+directed_new s old log r opens (writable, is) =
+    let start = length (header s 0 0) in
+    let w = of_fields log s start 0 [] [] in
+    let here = length-header s 0 0 in
+    let sound : IsSound w = sound_begin log s start writable here in
+    let begins : Begins true true log_state s old w = record {
+      begun = let begins = here in search rules;
+      file = λ _. header_file true log_state s old log writable opens.begins opens.puts;
+    } in
+    at_rest s (new_file old) [] r w (recorded_first true true log_state s (new_file old) w begins)
+    (record {
+      none = refl;
+      sound = sound;
+      at_most = at_most_begin true log_state s old log writable opens.begins opens.puts;
+    })
+    (rw (is, here) (refl, refl, refl)) (ap (λ (x : Recorder). x.number) is)
+    (λ synced. (data_start s, header_in_order s old log.state opens synced, λ _. rw is (omega arith)))
+
+-- a file that was there, as a walk found it
+no_fault : (s : WavSpecEx) (samples start : ℕ) → 1 ≤ s.bytes_per_sample → samples % s.spec.channels ≡ 0
+    → IsPair s.spec.sample_format s.spec.bits_per_sample s.bytes_per_sample
+    → riff_size start (samples * s.bytes_per_sample) ≤ greatest_u32
+    → head_fault s (samples * s.bytes_per_sample) start ≡ None
+unfolding head_fault
+no_fault s samples start wide frames pair fits =
+    let whole = mul-mod_left samples s.bytes_per_sample in
+    let count = mul-div_cancel samples wide in
+    grind (arith, common_steps)
+
+readable_length : (s : WavSpecEx) (samples start : ℕ) (contents : List ℕ)
+    → (r : Readable contents s samples start) → r.len ≡ samples * s.bytes_per_sample
+readable_length s samples start contents r = grind (arith, common_steps, count_bytes)
+
+pub directed_resumed : (s : WavSpecEx) (samples start : ℕ) (old : MediumState) (log : Log) (r : Recorder)
+    → Resumed s samples start old log.state → AppendsRecorder s start samples (Ok r)
+    → Directed s (resumed_file s samples start old) [] r true log.state
+directed_resumed s samples start old log r is (frames, pair, channels, (far, wide, fits), same) =
+    let len = samples * s.bytes_per_sample in
+    let w = of_fields log s start len [] [] in
+    let head : Head old.contents s len start =
+    subst (λ n. Head old.contents s n start) (readable_length s samples start old.contents is.readable)
+    is.readable.head in
+    let check = no_fault s samples start is.sound.1 frames pair (rw same at fits) in
+    let after = head_behind old.contents s len start head in
+    let sound : IsSound w = sound_head log s len start is.sound after check in
+    let stays = is.goes.stays.contents in
+    let file = λ (told : IsTrue true).
+    follows log_state log s len start old is.sound after head check is.goes in
+    let count : len / s.bytes_per_sample ≡ samples = mul-div_cancel samples is.sound.1 in
+    let found : accepted_samples log_state w ≡ containers s.bytes_per_sample samples (drop start old.contents) =
+    rw count at (samples_out log_state w refl sound)
+    ∙ ap (λ c. containers s.bytes_per_sample samples (drop start c)) stays in
+    let at_most = at_most_on s len start old.contents log.state.contents head stays in
+    let kind = is.sound in
+    let held : start + len ≤ length log.state.contents = rw stays is.held in
+    let begun = resumed_file s samples start old in
+    let opens : Opens true true log_state s begun w = search rules in
+    at_rest s begun [] r w (recorded_first true true log_state s begun w opens)
+    (record { none = refl; sound = sound; at_most = at_most })
+    (rw same (refl, refl, refl)) (ap (λ (x : Recorder). x.number) same)
+    (λ synced. (
+      start + len,
+      in_order_none (start + len) log.state (is.goes.flushed ∙ synced ∙ sym (ap length is.goes.stays.past)),
+      λ _. rw same (omega arith),
+    ))
+
+-- no effect is under way
+pub at_none : (r : Recorder) (result : Result (Unit {0}) IoFault) (first last : Log) → r.number ≡ 0
+    → Performed (take r.number (effects_of r)) result first last → (result ≡ Ok tt) × (last ≡ first)
+at_none r result first last none did = rw none at did
+
+-- the recorder after the report of a block
+reported : (old new : Recorder) (w : WriterState Log) (end : Log) (samples more : ℕ)
+    (result : Result (Unit {0}) IoFault) → IsRecorderOf old w → old.number ≡ 0
+    → more ≡ samples * old.bytes_per_sample
+    → new ≡ (if is_ok result then record old { data_length = length_with old samples } else record old { condition = 1 })
+    → IsRecorderOf new (record w { medium = end; bytes_written = out_after result more w.bytes_written }) × (new.number ≡ 0)
+    × (new.condition ≡ 0 → w.data_start + w.bytes_written + more ≤ new.data_start + new.data_length)
+reported old new w end samples more (Ok x) is none long same =
+    rw same ((is.0, omega (arith, is.1, long), is.2), none, λ _. omega (arith, is.0, is.1, long))
+reported old new w end samples more (Err e) is none long same =
+    rw same ((is.0, is.1, is.2), none, λ clean. absurd (omega (arith, clean)))
+
+-- a block that was written where the recorder said, or a beginning of it
+pub directed_block : (s : WavSpecEx) (file : Begun) (known : List Known) (old new : Recorder)
+    (m : MediumState) (end : Log) (samples place : ℕ) (bytes : List ℕ) (result : Result (Unit {0}) IoFault)
+    → Directed s file known old true m → Places old samples (Ok place)
+    → length bytes ≡ samples * old.bytes_per_sample → PutsAt true place bytes result m end.state
+    → Reports samples (is_ok result) old new (Ok tt)
+    → Directed s file (known ++ block_known bytes (is_ok result) s ∷ []) new true end.state
+directed_block s file known old new m end samples place bytes result d (clean, none, has, there) long puts (places, is) =
+    let w = d.writer in
+    let (done, same) = at_none old d.result w.medium d.log none d.performed in
+    let here : m ≡ w.medium.state = sym d.state ∙ ap log_state same in
+    let at : place ≡ w.data_start + w.bytes_written = there ∙ omega (arith, d.is.0, d.is.1) in
+    let more : length bytes ≡ samples * w.spec_ex.bytes_per_sample = rw d.is.2 at long in
+    let whole : length bytes % w.spec_ex.bytes_per_sample ≡ 0 =
+    rw more (mul-mod_left samples w.spec_ex.bytes_per_sample) in
+    let written : PutsAt true (w.data_start + w.bytes_written) bytes result w.medium.state end.state = rw (here, at) at puts in
+    let call = block_call bytes result w end d.idle (has_room old w samples (length bytes) d.is d.idle.none long has)
+    whole written in
+    let known_more = known ++ block_known bytes (is_ok result) s ∷ [] in
+    let next = record w { medium = end; bytes_written = out_after result (length bytes) w.bytes_written } in
+    let recorded : Recorded true true log_state s file known_more next =
+    subst (λ x. Recorded true true log_state s file (known ++ block_known bytes (is_ok result) x ∷ []) next)
+    (recorded_spec true true log_state s file known w d.recorded)
+    (recorded_more true true log_state (block_known bytes (is_ok result) w.spec_ex)
+    (write (whole_containers w.spec_ex bytes)) call.answer s file known w next (refl, call.mark) d.recorded call.does) in
+    let (fields, number, below) = reported old new w end samples (length bytes) result d.is none long is in
+    at_rest s file known_more new next recorded call.idle fields number
+    (λ synced. let (high, order, low) = d.order synced in (
+      w.data_start + w.bytes_written + length bytes,
+      puts_in_order high (w.data_start + w.bytes_written) bytes result w.medium.state end.state
+          (omega (arith, low clean, d.is.0, d.is.1)) order written,
+      below,
+    ))
+
+-- one effect more was performed
+performed_more : (effects : List Effect) (k : ℕ) (effect : Effect) (r : Result (Unit {0}) IoFault)
+    (first mid last : Log) → Some effect ≡ nth effects k → Performed (take k effects) (Ok tt) first mid
+    → Performs effect r mid.state last.state → Performed (take (suc k) effects) r first last
+performed_more [] k effect r first mid last is before did = cc
+performed_more (one ∷ effects) zero effect r first mid last is (ok, same) did =
+    let this : effect ≡ one = cc in
+    let done : Performs one r first.state last.state =
+    subst (λ (x : Effect × Log). Performs x.0 r x.1.state last.state) (λ i. (this i, same i)) did in
+    by r done
+  where
+    by : (r : Result (Unit {0}) IoFault) → Performs one r first.state last.state
+        → Performed (one ∷ []) r first last
+    by (Ok x) done = (last, Ok x, done, (refl, refl))
+    by (Err e) done = (last, Err e, done, (refl, refl))
+performed_more (one ∷ effects) (suc k) effect r first mid last is (m, Ok x, done, rest) did =
+    (m, Ok x, done, performed_more effects k effect r m mid last is rest did)
+performed_more (one ∷ effects) (suc k) effect r first mid last is (m, Err e, done, (other, same)) did = cc
+
+-- the effects so far are all, if none is left or the last one failed
+performed_all : (effects : List Effect) (k : ℕ) (r : Result (Unit {0}) IoFault) (first last : Log)
+    → (is_ok r ≡ true → None ≡ nth effects k) → Performed (take k effects) r first last
+    → Performed effects r first last
+performed_all [] zero r first last all did = did
+performed_all [] (suc k) r first last all did = did
+performed_all (one ∷ effects) zero r first last all (ok, same) = let none = all (ap is_ok ok) in cc
+performed_all (one ∷ effects) (suc k) r first last all (m, Ok x, done, rest) =
+    (m, Ok x, done, performed_all effects k r m last all rest)
+performed_all (one ∷ effects) (suc k) r first last all (m, Err e, done, end) = (m, Err e, done, end)
+
+-- all were Ok so far
+all_ok : (r : Result (Unit {0}) IoFault) (effects : List Effect) (k : ℕ) (ok : Bool) (first last : Log)
+    → (0 < k → is_ok r ≡ ok) → (0 < k → ok ≡ true) → Performed (take k effects) r first last → r ≡ Ok tt
+all_ok r effects zero ok first last is so did = did.0
+all_ok (Ok x) effects (suc k) ok first last is so did = refl
+all_ok (Err e) effects (suc k) ok first last is so did =
+    absurd (false≢true (is (omega arith) ∙ so (omega arith)))
+
+-- where none is under way, what is reported of the last one is ignored
+pub directed_first : (s : WavSpecEx) (file : Begun) (known : List Known) (r : Recorder) (ok : Bool)
+    (m : MediumState) → Directed s file known r true m → r.number ≡ 0 → Directed s file known r ok m
+directed_first s file known r ok m d none = record {
+  writer = d.writer;
+  recorded = d.recorded;
+  idle = d.idle;
+  is = d.is;
+  order = d.order;
+  log = d.log;
+  state = d.state;
+  result = d.result;
+  last = λ some. absurd (omega (arith, some, none));
+  performed = d.performed;
+}
+
+-- an effect that the recorder returned was performed
+pub directed_effect : (s : WavSpecEx) (file : Begun) (known : List Known) (old new : Recorder) (ok : Bool)
+    (m : MediumState) (end : Log) (effect : Effect) (result : Result (Unit {0}) IoFault)
+    → Directed s file known old ok m → NextEffect ok old new (Ok (Some effect))
+    → Performs effect result m end.state → Directed s file known new (is_ok result) end.state
+directed_effect s file known old new ok m end effect result d (low, so, has, at, is) did =
+    let one : suc old.number ≡ old.number + 1 = omega arith in
+    let before = rw (all_ok d.result (effects_of old) old.number ok d.writer.medium d.log d.last so d.performed) at d.performed in
+    subst (λ r. Directed s file known r (is_ok result) end.state) (sym is) (record {
+      writer = d.writer;
+      recorded = d.recorded;
+      idle = d.idle;
+      is = d.is;
+      order = d.order;
+      log = end;
+      state = refl;
+      result = result;
+      last = λ some. refl;
+      performed = rw one at (performed_more (effects_of old) old.number effect result d.writer.medium d.log end at before
+          (rw (sym d.state) at did));
+    })
+
+-- a checkpoint that has ended
+ended : (s : WavSpecEx) (file : Begun) (known : List Known) (old : Recorder) (ok : Bool) (m : MediumState)
+    (condition : ℕ) (d : Directed s file known old ok m)
+    → (is_ok d.result ≡ true → None ≡ nth (effects_of old) old.number)
+    → (condition ≡ 0 → is_ok d.result ≡ true)
+    → Directed s file (known ++ marked publish (is_ok d.result) ∷ [])
+    (record old { number = 0; condition = condition }) true m
+ended s file known old ok m condition d all clean =
+    let w = d.writer in
+    let whole = performed_all (effects_of old) old.number d.result w.medium d.log all d.performed in
+    let did : Performed (if old.condition == 0 then checkpoint w.data_start w.bytes_written
+    else Sync ∷ checkpoint w.data_start w.bytes_written) d.result w.medium d.log = rw (d.is.0, d.is.1) at whole in
+    let call = save_call (old.condition == 0) d.result w d.log d.idle did in
+    let next = record w { medium = d.log } in
+    let recorded = recorded_more true true log_state (marked publish (is_ok d.result)) publish call.answer s file known w
+    next (refl, call.mark) d.recorded call.does in
+    subst (Directed s file (known ++ marked publish (is_ok d.result) ∷ []) (record old { number = 0; condition = condition }) true)
+    d.state
+    (at_rest s file (known ++ marked publish (is_ok d.result) ∷ []) (record old { number = 0; condition = condition }) next
+    recorded call.idle d.is refl (λ synced.
+    let (high, order, low) = d.order synced in
+    let (top, now, small) = all_ordered (effects_of old) high (old.data_start + old.data_length) d.result w.medium d.log
+    (effects_ordered (old.condition == 0) old.data_start old.data_length high (omega (arith, d.idle.sound.after_head, d.is.0))
+    (λ clean. low (eqb-true old.condition 0 clean)))
+    order whole in
+    (top, now, λ is. small (clean is))))
+
+pub directed_save : (s : WavSpecEx) (file : Begun) (known : List Known) (old new : Recorder) (ok : Bool)
+    (m : MediumState) → Directed s file known old ok m → NextEffect ok old new (Ok None)
+    → Directed s file (known ++ marked publish true ∷ []) new true m
+directed_save s file known old new ok m d (low, so, has, at, is) =
+    let done = all_ok d.result (effects_of old) old.number ok d.writer.medium d.log d.last so d.performed in
+    subst (λ (x : Bool × Recorder). Directed s file (known ++ marked publish x.0 ∷ []) x.1 true m)
+    (λ i. (is_ok (done i), sym is i))
+    (ended s file known old ok m 0 d (λ _. at) (λ _. ap is_ok done))
+
+-- it has ended in an error: an effect has failed
+cut_off : (s : WavSpecEx) (file : Begun) (known : List Known) (old new : Recorder) (ok : Bool)
+    (m : MediumState) (condition : ℕ) → 0 < condition → Directed s file known old ok m → HasFailed ok old
+    → new ≡ record old { number = 0; condition = condition }
+    → (new.number ≡ 0) × Directed s file (known ++ marked publish false ∷ []) new true m
+cut_off s file known old new ok m condition some d (low, begun, failed) is =
+    let result_is : is_ok d.result ≡ false = d.last begun ∙ failed in (
+      ap (λ (x : Recorder). x.number) is,
+      subst (λ (x : Bool × Recorder). Directed s file (known ++ marked publish x.0 ∷ []) x.1 true m)
+          (λ i. (result_is i, sym is i))
+          (ended s file known old ok m condition d (λ fine. absurd (false≢true (sym result_is ∙ fine)))
+          (λ none. absurd (omega (arith, some, none)))),
+    )
+
+pub directed_cut : (s : WavSpecEx) (file : Begun) (known : List Known) (old new : Recorder) (ok : Bool)
+    (m : MediumState) (error : RecorderError) → Directed s file known old ok m → old.condition ≤ 1
+    → NextEffect ok old new (Err error)
+    → (new.number ≡ 0) × Directed s file (known ++ marked publish false ∷ []) new true m
+directed_cut s file known old new ok m SyncFailed d low (is, inl high) = absurd (omega (arith, low, high))
+directed_cut s file known old new ok m SyncFailed d low (is, inr (has, sync)) =
+    cut_off s file known old new ok m 2 (omega arith) d has is
+directed_cut s file known old new ok m NeedsCheckpoint d low (is, has, other) =
+    cut_off s file known old new ok m 1 (omega arith) d has is
+directed_cut s file known old new ok m NotWritable d low (is, _, never) =
+    let sound = d.idle.sound in let fields = d.is in grind (arith, common_steps)
+directed_cut s file known old new ok m TooLong d low (is, _, never) =
+    let sound = d.idle.sound in let none = d.idle.none in let fields = d.is in grind (arith, common_steps)
+directed_cut s file known old new ok m UnfinishedFrame d low (is, _, never) = absurd never
+
+-- within a checkpoint, too, places ascend
+pub directed_ascends : (s : WavSpecEx) (file : Begun) (known : List Known) (r : Recorder) (ok : Bool)
+    (m : MediumState) → Directed s file known r ok m → IsSynced (handed_in file)
+    → Ascends m.past m.flushed (length m.past)
+directed_ascends s file known r ok m d synced =
+    let (high, order, low) = d.order synced in
+    let (last, ordered) = taken_ordered (effects_of r) r.number high (r.data_start + r.data_length)
+    (effects_ordered (r.condition == 0) r.data_start r.data_length high (omega (arith, d.idle.sound.after_head, d.is.0))
+    (λ clean. low (eqb-true r.condition 0 clean))) in
+    let (top, now, small) =
+    all_ordered (take r.number (effects_of r)) high last d.result d.writer.medium d.log ordered order d.performed in
+    subst (λ (m : MediumState). Ascends m.past m.flushed (length m.past)) d.state now.ascends
