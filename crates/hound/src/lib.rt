@@ -92,8 +92,7 @@ pub use hound_repair::{
     repair_file_to_end, repair_to_end,
 };
 pub use hound_sample::{
-    FloatBits, Sample, change_bits, float_to_int, int_to_float, integers_come_back,
-    i16s_are_kept,
+    FloatBits, Sample, change_bits, float_to_int, i16s_are_kept, int_to_float, integers_come_back,
 };
 pub use hound_spec::{
     Error, Result, SampleFormat, WavSpec, WavSpecEx, extensions_come_back, fields_come_back,

@@ -66,22 +66,14 @@ fn read_pattern<P: Pattern>(
 }
 
 // The sum of all samples of a file in memory, and how long it took.
-fn read_memory<S: Summed>(
-    rt: &HostRuntime,
-    file: &[u8],
-    block: &mut [S],
-) -> Result<(i64, u128)> {
+fn read_memory<S: Summed>(rt: &HostRuntime, file: &[u8], block: &mut [S]) -> Result<(i64, u128)> {
     let start = Instant::now(rt)?;
     let check = read_blocks(WavReader::new(file)?, block)?;
     Ok((check, start.elapsed(rt)?.as_nanos()))
 }
 
 // The same of one on disk.
-fn read_file<S: Summed>(
-    rt: &HostRuntime,
-    path: Path<'_>,
-    block: &mut [S],
-) -> Result<(i64, u128)> {
+fn read_file<S: Summed>(rt: &HostRuntime, path: Path<'_>, block: &mut [S]) -> Result<(i64, u128)> {
     let start = Instant::now(rt)?;
     let check = read_blocks(WavReader::open(rt, rt.alloc(), path)?, block)?;
     Ok((check, start.elapsed(rt)?.as_nanos()))

@@ -1,13 +1,13 @@
 // Files on disk. What is done to a file is a row of a table (`ROWS`).
-use hound_tests::helpers::{
-    FOUR_SAMPLES, NO_SAMPLES, answer_of, integers, read_all, seeks_everywhere, sixteen, write_all,
-};
 use hound::{
     FloatBits, Medium, RepairState, SyncedFile, WavReader, WavWriter, find_damage_in_file,
     repair_file, repair_file_to_end,
 };
 use hound_callers::record_and_read;
 use hound_commands::run_append;
+use hound_tests::helpers::{
+    FOUR_SAMPLES, NO_SAMPLES, answer_of, integers, read_all, seeks_everywhere, sixteen, write_all,
+};
 use std::io::ErrorKind;
 use std::path::{Path, PathBuf};
 use std::test::Fail;

@@ -1,8 +1,8 @@
 // Losses of power over a medium in memory. A machine that loses power is a medium whose calls all
 // fail from then on; of what was written since the last flush any sector may be saved or lost.
-use hound_tests::helpers::integers;
 use hound::{Begin, Durable, End, Journal, Medium, Step, Tape, WavReader, run_durable_session};
 use hound_callers::repair_recording;
+use hound_tests::helpers::integers;
 use std::alloc::Global;
 use std::test::Fail;
 

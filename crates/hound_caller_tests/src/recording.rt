@@ -1,11 +1,12 @@
 // The recorders of `hound_callers`, each run once.
-use hound_tests::helpers::{FOUR_SAMPLES, empty_tape, integers, read_all, sixteen, tape_of};
 use hound::{Durable, Journal, Step, Tape, WavReader, WavSpecEx, WavWriter};
 use hound_callers::{
-    append_blocks, append_by_effects, finish_durable, opened_meanwhile, pack_one, publish_and_continue,
-    record_at_once, record_batch, record_by_effects, record_mixed, record_safely, record_steps,
-    record_twelve, record_twelve_and_repair, record_twelve_through_a_loss, write_if_short,
+    append_blocks, append_by_effects, finish_durable, opened_meanwhile, pack_one,
+    publish_and_continue, record_at_once, record_batch, record_by_effects, record_mixed,
+    record_safely, record_steps, record_twelve, record_twelve_and_repair,
+    record_twelve_through_a_loss, write_if_short,
 };
+use hound_tests::helpers::{FOUR_SAMPLES, empty_tape, integers, read_all, sixteen, tape_of};
 use hound_types::Twelve;
 use std::alloc::Global;
 use std::test::Fail;
@@ -159,7 +160,10 @@ fn appended(
     journal.fail(fail_from, u64::MAX);
     let count = append_by_effects(&mut journal, file, blocks).unwrap_or(0);
     let bytes = journal.bytes_after(alloc, journal.taken())?;
-    Ok((read_all::<i16, _>(alloc, WavReader::new(&bytes[..])?)?, count))
+    Ok((
+        read_all::<i16, _>(alloc, WavReader::new(&bytes[..])?)?,
+        count,
+    ))
 }
 
 // Whether the samples of the file stay, and those of the blocks that were saved follow, wherever the

@@ -11,7 +11,7 @@ use hound::{
     Begin, Durable, End, Error, Medium, Placed, Repair, Sample, SampleWriter16, Source, Step,
     WavSpecEx, WavWriter, a_batch_is_its_values, a_block_is_its_samples, a_durable_medium_ascends,
     a_repair_loses_no_published_sample, a_run_leaves_its_calls, a_write_is_marked_by_its_ok,
-    calls_are_a_run, repair_to_end, run_session, sessions_leave_one_file, i16s_are_kept,
+    calls_are_a_run, i16s_are_kept, repair_to_end, run_session, sessions_leave_one_file,
     what_a_loss_leaves, what_is_kept, what_is_known,
 };
 use hound_types::Twelve;

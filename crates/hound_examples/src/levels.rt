@@ -31,7 +31,13 @@ fn show(rt: &HostRuntime, path: Path<'_>) -> hound::Result<()> {
         reader.seek(frame)?;
         let (count, result) = reader.read_samples(&mut samples);
         let seconds = f64::from(frame) / f64::from(spec.sample_rate);
-        show_tenth(rt, seconds, &samples[..count], channels, spec.bits_per_sample)?;
+        show_tenth(
+            rt,
+            seconds,
+            &samples[..count],
+            channels,
+            spec.bits_per_sample,
+        )?;
         result?;
     }
     Ok(())

@@ -21,7 +21,10 @@ pub fn main(rt: HostRuntime) -> hound::Result<ExitCode> {
     let Some(found) = mend(&rt, path, option)? else {
         return usage(&rt);
     };
-    println!(rt; "{} frames, {} bytes left over", found.frames, found.left_over)?;
+    println!(rt;
+        "{} frames, {} bytes left over",
+        found.frames, found.left_over
+    )?;
     println!(rt; "{}", found.was)?;
     if option.is_some() || found.was != RepairState::CutOff {
         println!(rt; "read {} frames", count_frames(&rt, path)?)?;

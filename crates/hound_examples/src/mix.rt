@@ -46,10 +46,7 @@ fn add<R: io::Read + Drop, W: Medium>(
     let (mut one, mut other) = (one.into_samples::<i32>(), other.into_samples::<i32>());
     let mut clipped = 0u32;
     for _ in 0..length {
-        let (a, b) = (
-            one.next().unwrap_or(Ok(0))?,
-            other.next().unwrap_or(Ok(0))?,
-        );
+        let (a, b) = (one.next().unwrap_or(Ok(0))?, other.next().unwrap_or(Ok(0))?);
         let sample = a.saturating_add(b).min(largest).max(!largest);
         clipped = clipped.saturating_add(u32::from(sample != a.wrapping_add(b)));
         writer.write_sample(sample)?;

@@ -17,9 +17,15 @@ pub fn main(rt: HostRuntime) -> hound::Result<ExitCode> {
         return Ok(ExitCode::from(2));
     };
     let (spec, samples) = load(&rt, Path::new(from.as_str()))?;
-    let peak = samples.iter().fold(0f64, |peak, sample| peak.max(sample.abs()));
+    let peak = samples
+        .iter()
+        .fold(0f64, |peak, sample| peak.max(sample.abs()));
     println!(rt; "peak {:.2} dBFS", 20.0 * peak.log10())?;
-    let gain = if peak > 0.0 { 10f64.powf(-1.0 / 20.0) / peak } else { 1.0 };
+    let gain = if peak > 0.0 {
+        10f64.powf(-1.0 / 20.0) / peak
+    } else {
+        1.0
+    };
     write(&rt, Path::new(to.as_str()), spec, &samples, gain)?;
     Ok(ExitCode::SUCCESS)
 }

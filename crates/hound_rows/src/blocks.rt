@@ -1,10 +1,10 @@
 // Blocks: many samples that are read or written by one call.
-use hound_row::counting::Counted;
-use hound_row::line::Line;
 use crate::readers::Sum;
-use hound_row::row::Row;
 use crate::values::{Kind, Value, at_type, put_value};
 use hound::{FloatBits, Medium, Result, WavReader, WavWriter};
+use hound_row::counting::Counted;
+use hound_row::line::Line;
+use hound_row::row::Row;
 use hound_types::Twelve;
 use std::io;
 

@@ -1,8 +1,8 @@
 // Rows of media, and of what they did.
 ghost use Rattle.std.specs.Prelude.{◌≡◌, ◌≤◌};
 
-use hound_row::row::{Row, find, name_and_value};
 use hound::{Error, Journal, Medium, Source, Tape};
+use hound_row::row::{Row, find, name_and_value};
 use std::io;
 
 // The most bytes that a row reads at once.

@@ -1,10 +1,10 @@
 // What a file is after each byte written.
-use hound_row::line::Line;
 use crate::media::bytes_after;
 use crate::readers::{Sum, left};
 use crate::repairs::repaired;
-use hound_row::row::Row;
 use hound::{Error, FloatBits, Journal, SampleFormat, Tape, WavReader};
+use hound_row::line::Line;
+use hound_row::row::Row;
 
 /// Shows what the file is after each byte from this one on, as it is or once it is repaired, if
 /// that differs from what it was before.

@@ -2,13 +2,13 @@
 ghost use Rattle.std.specs.Prelude.{◌≡◌, ◌≤◌};
 
 use crate::blocks::read_blocks;
-use hound_row::feed::Feed;
-use hound_row::line::Line;
 use crate::media::set_faults;
-use hound_row::row::{Row, find, parts};
-use hound_row::sweep::Sweep;
 use crate::values::{Kind, Value, at_type, show};
 use hound::{Error, FloatBits, Journal, Source, Tape, WavReader, read_wave_header};
+use hound_row::feed::Feed;
+use hound_row::line::Line;
+use hound_row::row::{Row, find, parts};
+use hound_row::sweep::Sweep;
 use hound_types::Twelve;
 use std::io;
 

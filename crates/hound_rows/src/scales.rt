@@ -1,9 +1,9 @@
 // Rows of samples in another scale.
 ghost use Rattle.std.specs.Prelude.{◌<◌, ◌≤◌};
 
-use hound_row::row::Row;
 use crate::values::Value;
 use hound::{FloatBits, change_bits, float_to_int, int_to_float};
+use hound_row::row::Row;
 
 /// `to_float VALUE BITS`, `to_int PATTERN BITS` and `change VALUE OLD_BITS NEW_BITS`
 pub fn answer(row: &mut Row, name: &str, words: &[&str]) {

@@ -2,13 +2,13 @@
 ghost use Rattle.std.specs.Prelude.{◌≡◌, ◌≤◌, length};
 ghost use Rattle.hound.specs.{WhereTells};
 
-use hound_row::counting::Counted;
 use crate::kept::{Kept, recorded_of, tape_of};
-use hound_row::row::{Row, find, name_and_value, parts};
-use hound_row::sweep::Sweep;
 use crate::values::Value;
 use crate::writers::is_finalized;
 use hound::{Begin, End, FloatBits, Result, Step, WavSpecEx, run_session, run_sessions};
+use hound_row::counting::Counted;
+use hound_row::row::{Row, find, name_and_value, parts};
+use hound_row::sweep::Sweep;
 use hound_spec::header_of;
 
 // How many of the steps that aren't marked are listed.

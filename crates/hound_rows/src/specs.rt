@@ -1,8 +1,8 @@
 // Rows of specs, headers and errors.
 ghost use Rattle.std.specs.Prelude.{◌≡◌};
 
-use hound_row::row::Row;
 use hound::{Error, SampleFormat, WavSpec, WavSpecEx};
+use hound_row::row::Row;
 use hound_spec::header_of;
 
 /// `writable SPEC`

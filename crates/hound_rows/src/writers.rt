@@ -3,15 +3,15 @@ ghost use Rattle.std.specs.Prelude.{◌≡◌, ◌≤◌};
 ghost use Rattle.hound.specs.{WhereTells};
 
 use crate::blocks::write_block;
-use hound_row::counting::Counted;
 use crate::kept::{Kept, recorded_of, tape_of};
-use hound_row::row::{Row, find, name_and_value, parts};
 use crate::sessions::{first_moment, has_moments, has_repaired};
-use hound_row::sweep::Sweep;
 use crate::values::{Kind, Value, at_type};
 use hound::{
     Begin, Error, FloatBits, Medium, Result, SampleFormat, SampleWriter16, Source, WavWriter,
 };
+use hound_row::counting::Counted;
+use hound_row::row::{Row, find, name_and_value, parts};
+use hound_row::sweep::Sweep;
 use hound_types::Twelve;
 use std::result;
 

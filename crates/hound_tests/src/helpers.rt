@@ -12,12 +12,7 @@ use std::io;
 use std::test::Fail;
 
 // Integers with these bits and bytes of a sample.
-pub fn integers(
-    channels: u16,
-    sample_rate: u32,
-    bits: u16,
-    bytes_per_sample: u16,
-) -> WavSpecEx {
+pub fn integers(channels: u16, sample_rate: u32, bits: u16, bytes_per_sample: u16) -> WavSpecEx {
     WavSpecEx {
         spec: WavSpec {
             channels,
@@ -144,10 +139,7 @@ fn seeks_to<R: Source>(
 }
 
 // From each frame to each other one, and back to the first.
-pub fn seeks_everywhere<R: Source>(
-    reader: WavReader<R>,
-    numbers: &[i32],
-) -> hound::Result<bool> {
+pub fn seeks_everywhere<R: Source>(reader: WavReader<R>, numbers: &[i32]) -> hound::Result<bool> {
     let mut reader = reader;
     for from in 0..reader.duration() {
         for to in 0..reader.duration() {
