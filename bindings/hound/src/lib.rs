@@ -54,6 +54,8 @@
 //! - Up to 4096 samples are buffered. A fault is reported by the call that meets it; the samples that were
 //!   accepted stay in the buffer, and the next call writes them at their place. So there is no call for each
 //!   sample, and `flush` or `finalize` is needed before the writer is looked at.
+//! - After a write that failed, a part of the samples that were rejected with it may stay after the data. Readers
+//!   don't count them, as with hound, but [`repair_file`] takes them for samples.
 //! - `flush` in an unfinished frame stores all samples, then it returns `UnfinishedSample`.
 //! - A file that its sizes can't count, which hound makes with wrong sizes, is an `IoError`.
 //! - A spec that can't be written is `Unsupported`, and nothing is written: hound panics, or writes wrong

@@ -1,8 +1,8 @@
 use crate::error::early_end;
 use crate::proved::{self, Container};
-use crate::sample::check;
+use crate::sample::{check, Coding};
 use crate::spec::containers;
-use crate::{Result, Sample, SampleFormat, WavSpec, WavSpecEx, BLOCK};
+use crate::{Error, Result, Sample, SampleFormat, WavSpec, WavSpecEx, BLOCK};
 use std::io::{self, BufRead, Read};
 use std::{fs, marker, mem, panic, path};
 
@@ -42,18 +42,19 @@ pub struct WavReader<R> {
     reader: R,
     spec: WavSpec,
     bytes_per_sample: u16,
+    container: Option<Container>,
     num_samples: u64,
-    // How many count as read, with those that are ahead, and how many of their bytes weren't taken: of
-    // samples that were rejected, and of torn ones.
+    // How many count as read, and how many of their bytes weren't taken: of samples that were rejected, and of
+    // torn ones.
     samples_read: u64,
     not_taken: i64,
-    // Of samples that are read one by one, their containers; none of what is ahead.
-    next: Option<Container>,
-    // Samples that are decoded and weren't asked for, from `given` on, and the fault after them: of `open`,
-    // which leaves their bytes in the buffer of its reader, and of a fold whose closure panicked.
+    // Samples that were decoded before they are asked for, the number of the first of them, and the fault after
+    // them: of `open`, which leaves their bytes in the buffer of its reader, and of a fold whose closure panicked.
     ahead: Vec<i32>,
-    given: usize,
+    first_ahead: u64,
     fault: Option<io::Error>,
+    // Up to which number integers, and floats, are read one by one: to the end, or none while some are ahead.
+    single_until: [u64; 2],
     buffer: Option<Buffer<R>>,
 }
 
@@ -68,19 +69,22 @@ impl<R: Read> WavReader<R> {
     /// Reads the header, and makes a reader of the samples after it.
     pub fn new(mut reader: R) -> Result<WavReader<R>> {
         let info = proved::Walk::over(&mut reader)??;
-        Ok(WavReader {
+        let mut reader = WavReader {
             reader,
             spec: WavSpecEx::from(info.spec).spec,
             bytes_per_sample: info.spec.bytes_per_sample,
+            container: Container::of(&info.spec),
             num_samples: u64::from(info.samples),
             samples_read: 0,
             not_taken: 0,
-            next: Container::of(&info.spec),
             ahead: Vec::new(),
-            given: 0,
+            first_ahead: 0,
             fault: None,
+            single_until: [0; 2],
             buffer: None,
-        })
+        };
+        reader.put_back();
+        Ok(reader)
     }
 
     /// What the file says of its samples.
@@ -127,7 +131,7 @@ impl<R: Read> WavReader<R> {
         let (sample, width) = (u64::from(time) * u64::from(self.spec.channels), i64::from(self.bytes_per_sample));
         let taken = self.samples_read as i64 * width - self.not_taken;
         self.reader.seek(io::SeekFrom::Current(sample as i64 * width - taken))?;
-        (self.samples_read, self.not_taken) = (sample, 0);
+        (self.samples_read, self.first_ahead, self.not_taken) = (sample, sample, 0);
         Ok(())
     }
 
@@ -150,72 +154,77 @@ impl<R: Read> WavReader<R> {
         containers(self.spec.sample_format, self.spec.bits_per_sample, self.bytes_per_sample)
     }
 
-    fn left_ahead(&self) -> u64 {
-        (self.ahead.len() - self.given) as u64 + u64::from(self.fault.is_some())
+    fn left(&self) -> usize {
+        self.num_samples.saturating_sub(self.samples_read) as usize
     }
 
-    fn left(&self) -> usize {
-        (self.num_samples + self.left_ahead()).saturating_sub(self.samples_read) as usize
+    // How many of the samples that are ahead were given.
+    #[inline(always)]
+    fn given(&self) -> usize {
+        self.ahead.len().min((self.samples_read - self.first_ahead) as usize)
+    }
+
+    // How this type is made of a sample that is ahead, if it reads these.
+    #[inline(always)]
+    fn coding<S: Sample>(&self) -> Option<Coding<S>> {
+        S::CODING.filter(|coding| coding.format == self.spec.sample_format && usize::from(self.bytes_per_sample) <= mem::size_of::<S>())
     }
 
     #[inline(always)]
     fn next_sample<S: Sample>(&mut self) -> Option<Result<S>> {
-        if let Some(sample) = self.next_quickly() {
+        let single = S::CODING.filter(|coding| self.samples_read < self.single_until[coding.format as usize]);
+        if let Some(item) = single.and_then(|coding| self.read_single(coding)) {
+            return Some(item);
+        }
+        if let Some(sample) = self.next_ahead() {
             return Some(Ok(sample));
         }
-        let item = self.next_slowly()?; // by a way of its own, so that the other keeps its items in registers
+        let item = self.next_slowly()?; // by a way of its own, so that the others keep their items in registers
         Some(item)
     }
 
     // The next sample that is ahead, if this type reads it.
     #[inline(always)]
     fn next_ahead<S: Sample>(&mut self) -> Option<S> {
-        let (coding, sample) = (S::CODING?, *self.ahead.get(self.given)?);
-        let is_read = coding.format == self.spec.sample_format && usize::from(self.bytes_per_sample) <= mem::size_of::<S>();
-        self.given += usize::from(is_read);
-        is_read.then(|| (coding.from)(sample))
-    }
-
-    // The next sample, if it is ahead or its container is read at once.
-    #[inline(always)]
-    fn next_quickly<S: Sample>(&mut self) -> Option<S> {
-        let (coding, size) = (S::CODING?, mem::size_of::<S>());
-        let is_int = coding.format == SampleFormat::Int;
-        let sample = match self.next {
-            next if next.is_none() || self.samples_read >= self.num_samples => return self.next_ahead(),
-            Some(Container::Int16) if is_int && size >= 2 => proved::value_16(u16::from_le_bytes(self.container()?).into()),
-            Some(Container::Int24) if is_int && size >= 4 => {
-                let [low, middle, high] = self.container()?;
-                proved::value_24(u32::from(u16::from_le_bytes([low, middle])) | u32::from(high) << 16)
-            }
-            Some(Container::Int32) if is_int && size >= 4 => proved::value_32(u32::from_le_bytes(self.container()?)),
-            Some(Container::Int8) if is_int => proved::value_8(u8::from_le_bytes(self.container()?).into()),
-            Some(Container::Int24In4) if is_int && size >= 4 => proved::value_24(u32::from_le_bytes(self.container()?)),
-            Some(Container::Float) if !is_int => i32::from_le_bytes(self.container()?),
-            _ => return None,
-        };
+        let (coding, sample) = (self.coding::<S>()?, *self.ahead.get(self.given())?);
+        self.samples_read += 1;
         Some((coding.from)(sample))
     }
 
+    // Reads the next container, of the type's format, if it isn't too wide.
     #[inline(always)]
-    fn container<const WIDTH: usize>(&mut self) -> Option<[u8; WIDTH]> {
+    fn read_single<S: Sample>(&mut self, coding: Coding<S>) -> Option<Result<S>> {
+        let value = match (coding.format, self.container, mem::size_of::<S>()) {
+            (SampleFormat::Float, ..) => self.read_container().map(i32::from_le_bytes),
+            (_, Some(Container::Int16), 2..) => self.read_container().map(|bytes| proved::value_16(u16::from_le_bytes(bytes).into())),
+            (_, Some(Container::Int24), 4..) => self.read_container().map(|[low, middle, high]| {
+                proved::value_24(u32::from(u16::from_le_bytes([low, middle])) | u32::from(high) << 16)
+            }),
+            (_, Some(Container::Int32), 4..) => self.read_container().map(|bytes| proved::value_32(u32::from_le_bytes(bytes))),
+            (_, Some(Container::Int8), _) => self.read_container().map(|bytes| proved::value_8(u8::from_le_bytes(bytes).into())),
+            (_, Some(Container::Int24In4), 4..) => self.read_container().map(|bytes| proved::value_24(u32::from_le_bytes(bytes))),
+            _ => return None,
+        };
+        Some(value.map(coding.from).map_err(Error::IoError))
+    }
+
+    #[inline(always)]
+    fn read_container<const WIDTH: usize>(&mut self) -> io::Result<[u8; WIDTH]> {
         let mut container = [0; WIDTH];
         self.samples_read += 1;
         match self.reader.read(&mut container) {
-            Ok(count) if count == WIDTH => Some(container),
-            first => self.read_rest(&mut container, first).then_some(container),
+            Ok(count) if count == WIDTH => Ok(container),
+            first => self.read_rest(&mut container, first).map(|()| container),
         }
     }
 
-    // After a first read of a container; if it can't be read the next item is the fault.
     #[cold]
     #[inline(never)]
-    fn read_rest(&mut self, container: &mut [u8], first: io::Result<usize>) -> bool {
+    fn read_rest(&mut self, container: &mut [u8], first: io::Result<usize>) -> io::Result<()> {
         let width = container.len();
         let (count, fault) = finish_container(&mut self.reader, container, width, first);
         self.not_taken += (width - count) as i64;
-        self.fault = fault;
-        self.fault.is_none()
+        fault.map_or(Ok(()), Err)
     }
 
     // The end, an error, or a sample that has to be fetched first.
@@ -229,20 +238,16 @@ impl<R: Read> WavReader<R> {
                 return Some(Ok(sample));
             }
         }
-        if let (Ok(_), Some(fault)) = (checked, self.fault.take()) {
-            return Some(Err(fault.into()));
+        if checked.is_ok() && self.fault.is_some() && self.given() == self.ahead.len() {
+            self.samples_read += 1;
+            return self.fault.take().map(|fault| Err(fault.into()));
         }
         self.put_back();
         if self.left() == 0 {
             return None;
         }
-        if checked.is_ok() && S::CODING.is_some() {
-            let buffer = self.buffer.take(); // A container at the end of the buffer is read as without it.
-            self.next = Container::of(&self.containers());
-            let item = self.next_sample();
-            self.next = self.next.filter(|_| buffer.is_none());
-            self.buffer = buffer;
-            return item;
+        if let (Ok(_), Some(coding)) = (checked, S::CODING) {
+            return self.read_single(coding); // a container of which the buffer holds a part
         }
         // A type that doesn't read these samples takes no byte, and one of the user's own takes what it takes.
         let mut reader = self.reader.by_ref().take(u64::MAX);
@@ -258,27 +263,27 @@ impl<R: Read> WavReader<R> {
     // The reader of `open` takes the samples that were given, and keeps those that are ahead. What a closure
     // that panicked left of other readers is lost, and counts as read.
     fn put_back(&mut self) {
-        if let Some((_, take)) = self.buffer {
-            take(&mut self.reader, self.given * usize::from(self.bytes_per_sample));
-            self.samples_read -= self.left_ahead();
+        let given = self.given();
+        match self.buffer {
+            Some((_, take)) => take(&mut self.reader, given * usize::from(self.bytes_per_sample)),
+            None => {
+                self.samples_read += (self.ahead.len() - given) as u64 + u64::from(self.fault.is_some());
+                self.single_until[self.spec.sample_format as usize] = self.container.map_or(0, |_| self.num_samples);
+            }
         }
         self.ahead.clear();
-        (self.given, self.fault) = (0, None);
-        self.next = Container::of(&self.containers()).filter(|_| self.buffer.is_none());
+        (self.first_ahead, self.fault) = (self.samples_read, None);
     }
 
     // Decodes the next samples, at most so many, if none is ahead and the type is read in blocks: those that
     // the buffer of `open` holds, or those that one read gives.
     fn read_ahead<S: Sample>(&mut self, most: usize) {
         let (spec, width) = (self.containers(), usize::from(self.bytes_per_sample));
-        if self.left_ahead() > 0 || S::CODING.is_none() || check::<S>(&spec).is_err() {
+        let most = most.min(BLOCK).min(self.left());
+        if most == 0 || self.given() < self.ahead.len() || self.fault.is_some() || self.coding::<S>().is_none() {
             return;
         }
         self.put_back();
-        let most = most.min(BLOCK).min(self.left());
-        if most == 0 {
-            return;
-        }
         let mut scratch;
         let (bytes, fault) = match self.buffer {
             Some((look, _)) => look(&mut self.reader).map_or_else(|fault| (&[][..], Some(fault)), |bytes| (bytes, None)),
@@ -293,18 +298,21 @@ impl<R: Read> WavReader<R> {
         self.ahead.resize(count, 0);
         let decoded = proved::decode(&proved::Spec { format: SampleFormat::Int, ..spec }, bytes, &mut self.ahead);
         debug_assert_eq!(decoded, Ok(count));
-        self.samples_read += count as u64 + u64::from(fault.is_some());
         self.not_taken += if fault.is_some() { (width - bytes.len() % width) as i64 } else { 0 };
-        (self.fault, self.next) = (fault, None);
+        (self.fault, self.single_until) = (fault, [0; 2]);
     }
 
     fn fold_samples<S: Sample, B, F: FnMut(B, Result<S>) -> B>(&mut self, mut value: B, mut f: F) -> B {
         loop {
             self.read_ahead::<S>(BLOCK);
-            while let Some(sample) = self.next_ahead() {
-                value = f(value, Ok(sample));
+            if let Some(coding) = self.coding::<S>() {
+                let given = self.given();
+                for sample in &self.ahead[given..] {
+                    self.samples_read += 1; // before the closure, which may panic
+                    value = f(value, Ok((coding.from)(*sample)));
+                }
             }
-            match self.next_sample() {
+            match self.next_slowly() {
                 Some(item) => value = f(value, item),
                 None => return value,
             }
@@ -317,7 +325,7 @@ impl WavReader<io::BufReader<fs::File>> {
     pub fn open<P: AsRef<path::Path>>(filename: P) -> Result<WavReader<io::BufReader<fs::File>>> {
         let mut reader = WavReader::new(io::BufReader::with_capacity(8 * BLOCK, fs::File::open(filename)?))?;
         reader.buffer = Some((BufRead::fill_buf, BufRead::consume));
-        reader.next = None;
+        reader.single_until = [0; 2];
         Ok(reader)
     }
 }

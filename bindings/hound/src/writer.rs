@@ -197,7 +197,7 @@ impl<W: Write + Seek> WavWriter<W> {
     }
 
     /// Writes a sample. One that has more bits than the file, or another format, is an error.
-    #[inline]
+    #[inline(always)]
     pub fn write_sample<S: Sample>(&mut self, sample: S) -> Result<()> {
         match S::CODING {
             Some(coding) => self.core.buffer::<S>((coding.to)(sample), coding.format),
@@ -217,18 +217,10 @@ impl<W: Write + Seek> WavWriter<W> {
     /// If the samples of the file aren't integers of 16 bits.
     #[inline]
     pub fn get_i16_writer<'s>(&'s mut self, num_samples: u32) -> SampleWriter16<'s, W> {
-        let count = num_samples as usize;
-        if self.batch.len() < count || self.batch.is_empty() {
-            self.make_batch(count);
-        }
-        SampleWriter16 { core: &mut self.core, batch: &mut self.batch[..count], index: 0 }
-    }
-
-    #[cold]
-    fn make_batch(&mut self, count: usize) {
-        let spec = self.spec();
+        let (spec, count) = (self.spec(), num_samples as usize);
         assert_eq!((spec.sample_format, spec.bits_per_sample), (SampleFormat::Int, 16), "a batch is of integers of 16 bits");
-        self.batch.resize(count.max(1), 0);
+        self.batch.resize(self.batch.len().max(count), 0);
+        SampleWriter16 { core: &mut self.core, batch: &mut self.batch[..count], index: 0 }
     }
 
     /// Writes the buffered samples and the sizes, and flushes the writer. If the program ends after that,
@@ -284,7 +276,7 @@ impl<W: Read + Write + Seek> WavWriter<W> {
 impl WavWriter<io::BufWriter<fs::File>> {
     /// Creates a file, over one that there was, and writes its header.
     pub fn create<P: AsRef<path::Path>>(filename: P, spec: WavSpec) -> Result<WavWriter<io::BufWriter<fs::File>>> {
-        WavWriter::new(io::BufWriter::new(fs::File::create(filename)?), spec)
+        WavWriter::new(io::BufWriter::with_capacity(16 * BLOCK, fs::File::create(filename)?), spec)
     }
 
     /// Appends to a file as `new_append` does.
@@ -294,7 +286,7 @@ impl WavWriter<io::BufWriter<fs::File>> {
         let recorder = Recorder::append(&info)?;
         let (place, mut file) = (recorder.place(0)?, reader.into_inner());
         file.seek(SeekFrom::Start(place))?;
-        Ok(WavWriter::at(io::BufWriter::new(file), place, info.spec.into(), recorder))
+        Ok(WavWriter::at(io::BufWriter::with_capacity(16 * BLOCK, file), place, info.spec.into(), recorder))
     }
 
     /// Creates a file that survives a loss of power (own). When this returns, the empty file and its name
@@ -306,7 +298,7 @@ impl WavWriter<io::BufWriter<fs::File>> {
         let file = fs::File::create(&filename)?;
         file.sync_all()?;
         fs::File::open(fs::canonicalize(filename)?.parent().unwrap_or(path::Path::new("/")))?.sync_all()?;
-        let mut writer = WavWriter::new(io::BufWriter::new(file), spec)?;
+        let mut writer = WavWriter::new(io::BufWriter::with_capacity(16 * BLOCK, file), spec)?;
         writer.core.sync = |file| file.flush().and_then(|()| file.get_ref().sync_data());
         Ok(writer)
     }
