@@ -1,23 +1,23 @@
 -- What a recording keeps whose caller performs the effects.
 use Rattle.std.proofs.lemmas.Grind.{common_steps}
-use Rattle.std.proofs.Common.{◌≡◌, ℕ, ◌+◌, ◌-◌, ◌*◌, ◌<◌, ◌≤◌, true, List, [], ◌∷◌, ◌++◌, length, take, map, inr, Result, Ok, Err, refl, sym, ◌∙◌, ap, subst, arith, length-take}
+use Rattle.std.proofs.Common.{◌≡◌, ℕ, ◌-◌, ◌<◌, ◌≤◌, true, List, [], ◌∷◌, ◌++◌, length, take, inr, Result, Ok, Err, refl, sym, ◌∙◌, ap, subst, arith, length-take}
 use Rattle.hound_number.specs.{bytes_of}
 use Rattle.hound_spec.specs.declared.error.Error.TheVariants.{TooWide}
 use Rattle.hound_spec.specs.declared.spec.WavSpecEx.{WavSpecEx}
-use Rattle.hound_spec.specs.{data_start, riff_size}
+use Rattle.hound_spec.specs.{riff_size}
 use Rattle.hound_medium.specs.{placed, MediumState}
 use Rattle.hound_durable.specs.{Ascends, place_of}
 use Rattle.hound_durable.proofs.Ascending.{length_put, place_after, place_before}
 use Rattle.hound_sample.specs.{too_wide}
-use Rattle.hound_writer.specs.{Begun, Call, Directed, IsOrdered, IsSound, IsStanding, IsSynced, Known, LeavesWriter, Left, Log, Performed, PutsAt, Recorded, WriterState, field, found_in, handed_in, log_state, start_of, write}
+use Rattle.hound_writer.specs.{Begun, Call, Directed, IsOrdered, IsSound, CountsAtMost, IsSynced, Known, LeavesWriter, Left, Log, Performed, PutsAt, Recorded, WriterState, field, found_in, handed_in, log_state, start_of, write}
 use Rattle.hound_writer.specs.declared.recorder.Recorder.{Recorder}
 use Rattle.hound_writer.specs.declared.effects.Effect.TheVariants.{Size, Sync}
 use Rattle.hound_writer.proofs.Accepting.{type_refuses}
 use Rattle.hound_writer.proofs.Directing.{at_none}
 use Rattle.hound_writer.proofs.Recording.{call_at, lead_more}
-use Rattle.hound_writer.proofs.Samples.{length_out}
+use Rattle.hound_writer.proofs.Samples.{length_written}
 use Rattle.hound_writer.proofs.Sizes.{riff_length}
-use Rattle.hound_writer.proofs.Standing.{inside}
+use Rattle.hound_writer.proofs.AtMost.{inside}
 use Rattle.hound.specs.Headline.{Kept, KeptWithin, Promises, begins_at}
 use Rattle.hound.proofs.Calling.{went}
 use Rattle.hound.proofs.Keeping.{first_of, keeps_promises, left_kept, survives_counted}
@@ -110,24 +110,24 @@ module _ (s : WavSpecEx) (file : Begun) (known : List Known) (r : Recorder) wher
       )
 
 -- without the RIFF size nothing is published
-pub riff_left_out : (w : WriterState Log) (end : Log) → w.waiting ≡ [] → IsSound w
-    → IsStanding w.spec_ex w.data_start w.out w.medium.state.contents
-    → (field 4 w.medium.state.contents ≡ riff_size w.data_start w.out → ⊥)
-    → Performed (Sync ∷ Size (w.data_start - 4) w.out ∷ Sync ∷ []) (Ok tt) w.medium end
+pub riff_left_out : (w : WriterState Log) (end : Log) → w.buffered ≡ [] → IsSound w
+    → CountsAtMost w.spec_ex w.data_start w.bytes_written w.medium.state.contents
+    → (field 4 w.medium.state.contents ≡ riff_size w.data_start w.bytes_written → ⊥)
+    → Performed (Sync ∷ Size (w.data_start - 4) w.bytes_written ∷ Sync ∷ []) (Ok tt) w.medium end
     → LeavesWriter true true log_state (Ok tt) w (record w { medium = end }) → ⊥
-riff_left_out w end none sound stands other (m, Ok x, first, (n, Ok y, second, (o, Ok z, third, (is, last)))) leaves =
+riff_left_out w end none sound at_most other (m, Ok x, first, (n, Ok y, second, (o, Ok z, third, (is, last)))) leaves =
     let a = w.medium.state.contents in
-    let there = inside w.spec_ex w.data_start w.out a a stands in
-    let few = length-take second.count (bytes_of 4 w.out) in
+    let there = inside w.spec_ex w.data_start w.bytes_written a a at_most in
+    let few = length-take second.count (bytes_of 4 w.bytes_written) in
     let same = riff_length (w.data_start - 4) m.state.contents (omega (arith, sound.after_head))
     (omega (arith, there, sound.after_head, ap length first.stays.contents))
-    (take second.count (bytes_of 4 w.out)) (omega (arith, few)) in
+    (take second.count (bytes_of 4 w.bytes_written)) (omega (arith, few)) in
     let says = (leaves.publishes refl).riff_says in
-    let size = length_out log_state w none in
+    let size = length_written log_state w none in
     grind (arith, common_steps)
-riff_left_out w end none sound stands other (m, Ok x, first, (n, Ok y, second, (o, Err e, third, (is, last)))) leaves = cc
-riff_left_out w end none sound stands other (m, Ok x, first, (n, Err e, second, (is, last))) leaves = cc
-riff_left_out w end none sound stands other (m, Err e, first, (is, last)) leaves = cc
+riff_left_out w end none sound at_most other (m, Ok x, first, (n, Ok y, second, (o, Err e, third, (is, last)))) leaves = cc
+riff_left_out w end none sound at_most other (m, Ok x, first, (n, Err e, second, (is, last))) leaves = cc
+riff_left_out w end none sound at_most other (m, Err e, first, (is, last)) leaves = cc
 
 -- bytes that are written at or before a byte that isn't synced are a step back
 pub not_synced : {T E : Type 0} (at i : ℕ) (bytes : List ℕ) (result : Result T E) (old new : MediumState)

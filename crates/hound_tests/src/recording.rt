@@ -2,9 +2,10 @@
 use crate::helpers::{FOUR_SAMPLES, empty_tape, integers, read_all, sixteen, tape_of};
 use hound::{Durable, Journal, Step, Tape, WavReader, WavSpecEx, WavWriter};
 use hound_callers::{
-    Twelve, append_blocks, append_by_effects, finish_durable, opened_meanwhile, pack_one, publish_and_continue,
-    record_at_once, record_batch, record_by_effects, record_mixed, record_safely, record_steps,
-    record_twelve, record_twelve_and_repair, record_twelve_through_a_loss, write_if_short,
+    Twelve, append_blocks, append_by_effects, finish_durable, opened_meanwhile, pack_one,
+    publish_and_continue, record_at_once, record_batch, record_by_effects, record_mixed,
+    record_safely, record_steps, record_twelve, record_twelve_and_repair,
+    record_twelve_through_a_loss, write_if_short,
 };
 use std::alloc::Global;
 use std::test::Fail;
@@ -158,7 +159,10 @@ fn appended(
     journal.fail(fail_from, u64::MAX);
     let count = append_by_effects(&mut journal, file, blocks).unwrap_or(0);
     let bytes = journal.bytes_after(alloc, journal.taken())?;
-    Ok((read_all::<i16, _>(alloc, WavReader::new(&bytes[..])?)?, count))
+    Ok((
+        read_all::<i16, _>(alloc, WavReader::new(&bytes[..])?)?,
+        count,
+    ))
 }
 
 // Whether the samples of the file stay, and those of the blocks that were saved follow, wherever the
@@ -189,7 +193,7 @@ fn takes_a_batch(alloc: Global) -> hound::Result<bool> {
 }
 
 // 40000 needs more than sixteen bits.
-fn takes_shorts(alloc: Global) -> hound::Result<bool> {
+fn takes_i16s(alloc: Global) -> hound::Result<bool> {
     let mut writer = WavWriter::new(empty_tape(alloc), sixteen(1))?;
     let mut batch = writer.get_i16_writer(alloc, 2)?;
     let marks = [
@@ -302,7 +306,7 @@ fn batches_steps_and_single_calls_are_recorded(rt: HostRuntime) -> Result<(), Fa
     let alloc = rt.alloc();
     let found = (
         takes_a_batch(alloc)?,
-        takes_shorts(alloc)?,
+        takes_i16s(alloc)?,
         packs(alloc),
         takes_steps(alloc),
         continues(alloc)?,

@@ -1,12 +1,12 @@
 -- What a caller does as its recorder directs are calls of a writer.
 use Rattle.std.proofs.lemmas.Grind.{common_steps}
 use Rattle.std.proofs.lemmas.Bool.{eqb-true, false≢true}
-use Rattle.std.proofs.Common.{◌≡◌, ℕ, zero, suc, ◌+◌, ◌*◌, ◌/◌, ◌%◌, ◌<◌, ◌≤◌, Bool, true, false, IsTrue, List, [], ◌∷◌, ◌++◌, length, drop, take, inl, inr, Option, Some, None, Result, Ok, Err, is_ok, refl, rules, sym, ◌∙◌, ap, subst, arith}
+use Rattle.std.proofs.Common.{◌≡◌, ℕ, zero, suc, ◌+◌, ◌*◌, ◌/◌, ◌%◌, ◌<◌, ◌≤◌, Bool, true, false, IsTrue, List, [], ◌∷◌, ◌++◌, length, drop, take, inl, inr, Some, None, Result, Ok, Err, is_ok, refl, rules, sym, ◌∙◌, ap, subst, arith}
 use Rattle.std.proofs.Math.Nat.{mul-div_cancel, mul-mod_left}
 use Rattle.std.specs.Prelude.{◌==◌, if◌then◌else◌}
 use Rattle.std.specs.declared.io.Error.{Error as IoFault}
 use Rattle.hound_sample.specs.{containers}
-use Rattle.hound_spec.specs.{IsPair, IsWritable, data_start, greatest_u32, header, riff_size}
+use Rattle.hound_spec.specs.{IsPair, data_start, greatest_u32, header, riff_size}
 use Rattle.hound_spec.proofs.HeaderLemmas.{length-header}
 use Rattle.hound_spec.specs.declared.error.Error.{Error}
 use Rattle.hound_spec.specs.declared.error.Error.TheVariants.{IoError, UnfinishedSample}
@@ -20,7 +20,7 @@ use Rattle.hound_writer.specs.Beginning.{Begins}
 use Rattle.hound_writer.specs.Calls.{Asked, Begun, Does, Known, Opens, Recorded, handed_in, marked, new_file, publish, write}
 use Rattle.hound_writer.specs.Effects.{Log, Performed, Performs, checkpoint, log_state, nth}
 use Rattle.hound_writer.specs.Parts.{IsPublishResult, PutsAt, of_fields}
-use Rattle.hound_writer.specs.Recorder.{AppendsRecorder, BeginsRecorder, HasData, HasFailed, NextEffect, Places, Reports, effects_of, length_with, recorder_of}
+use Rattle.hound_writer.specs.Recorder.{AppendsRecorder, BeginsRecorder, HasData, HasFailed, NextEffect, Places, Reports, effects_of, length_with}
 use Rattle.hound_writer.specs.Recording.{Directed, IsIdle, IsOrdered, IsRecorderOf, IsSynced, Opened, Resumed, block_known, resumed_file}
 use Rattle.hound_writer.specs.Writer.{WriterState, HasRoom, IsSound, accepted_samples, sample_count}
 use Rattle.hound_writer.specs.declared.effects.Effect.{Effect}
@@ -29,15 +29,15 @@ use Rattle.hound_writer.specs.declared.recorder.Recorder.{Recorder}
 use Rattle.hound_writer.specs.declared.recorder.RecorderError.{RecorderError}
 use Rattle.hound_writer.specs.declared.recorder.RecorderError.TheVariants.{NotWritable, UnfinishedFrame, TooLong, NeedsCheckpoint, SyncFailed}
 use Rattle.hound_writer.proofs.Accepting.{accepts_all, accepts_none, sound_more, still}
-use Rattle.hound_writer.proofs.Appending.{follows, sound_head, stands_on}
-use Rattle.hound_writer.proofs.Beginning.{header_file, sound_begin, stands_begin}
+use Rattle.hound_writer.proofs.Appending.{follows, sound_head, at_most_on}
+use Rattle.hound_writer.proofs.Beginning.{header_file, sound_begin, at_most_begin}
 use Rattle.hound_writer.proofs.Checkpoint.{as_out, bad, fine, good_over, publishes_effects}
 use Rattle.hound_writer.proofs.Containers.{count_bytes}
 use Rattle.hound_writer.proofs.Heads.{head_behind}
 use Rattle.hound_writer.proofs.Ordering.{all_ordered, effects_ordered, header_in_order, in_order_none, puts_in_order, taken_ordered}
 use Rattle.hound_writer.proofs.Recording.{recorded_first, recorded_more, recorded_spec}
 use Rattle.hound_writer.proofs.Samples.{samples_out}
-use Rattle.hound_writer.proofs.Standing.{stands_more}
+use Rattle.hound_writer.proofs.AtMost.{at_most_more}
 
 -- what a call with this mark did
 record IsCall (asked : Asked) (ok : Bool) (old new : WriterState Log) : Type 0 where
@@ -64,19 +64,19 @@ is_zero (suc n) = (false, (λ is. absurd (false≢true is)), (λ e. absurd (omeg
 
 -- the effects of a checkpoint are a call that publishes
 save_call : (clean : Bool) (r : Result (Unit {0}) IoFault) (w : WriterState Log) (m : Log) → IsIdle w
-    → Performed (if clean then checkpoint w.data_start w.out
-    else Sync ∷ checkpoint w.data_start w.out) r w.medium m
+    → Performed (if clean then checkpoint w.data_start w.bytes_written
+    else Sync ∷ checkpoint w.data_start w.bytes_written) r w.medium m
     → IsCall publish (is_ok r) w (record w { medium = m })
 save_call clean r w m idle did =
     let (frames, so, back) = is_zero (sample_count w % w.spec_ex.spec.channels) in
     let told = is_told r frames in
-    let (does, stands) =
+    let (does, at_most) =
     publishes_effects r frames (told_of r frames) told.0 m clean w idle (so, back) did in
     record {
       answer = told_of r frames;
       does = does;
       mark = told.1;
-      idle = good_over w m idle stands;
+      idle = good_over w m idle at_most;
     }
 
 -- how many bytes of data there are then: those of a block count if all were written
@@ -87,31 +87,31 @@ out_after (Err e) more out = out
 -- the write of a block is a call for its samples
 block_call : (bytes : List ℕ) (r : Result (Unit {0}) IoFault) (w : WriterState Log) (m : Log) → IsIdle w
     → HasRoom w (length bytes) → length bytes % w.spec_ex.bytes_per_sample ≡ 0
-    → PutsAt true (w.data_start + w.out) bytes r w.medium.state m.state
+    → PutsAt true (w.data_start + w.bytes_written) bytes r w.medium.state m.state
     → IsCall (write (whole_containers w.spec_ex bytes)) (is_ok r) w
-    (record w { medium = m; out = out_after r (length bytes) w.out })
+    (record w { medium = m; bytes_written = out_after r (length bytes) w.bytes_written })
 block_call bytes (Ok x) w m idle room whole puts =
-    let all = as_out (w.data_start + w.out) bytes (fine x) w.medium.state m.state puts in
+    let all = as_out (w.data_start + w.bytes_written) bytes (fine x) w.medium.state m.state puts in
     record {
       answer = Ok tt;
-      does = accepts_all true true log_state w idle.none idle.sound (λ _. idle.stands) m bytes room
+      does = accepts_all true true log_state w idle.none idle.sound (λ _. idle.at_most) m bytes room
           whole (λ _. all) (λ _ _. w.medium.replays);
       mark = refl;
       idle =
           let none = idle.none in
-          let sound = sound_more true true log_state w idle.none idle.sound (λ _. idle.stands) m bytes room whole in
-          let stands = stands_more w.spec_ex w.data_start w.out (w.out + length bytes) m.state.contents
-          (omega arith) (still true true log_state w (λ _. idle.stands) m bytes _ refl all) in
+          let sound = sound_more true true log_state w idle.none idle.sound (λ _. idle.at_most) m bytes room whole in
+          let at_most = at_most_more w.spec_ex w.data_start w.bytes_written (w.bytes_written + length bytes) m.state.contents
+          (omega arith) (still true true log_state w (λ _. idle.at_most) m bytes _ refl all) in
           search rules;
     }
 block_call bytes (Err e) w m idle room whole puts =
-    let some = as_out (w.data_start + w.out) bytes (bad e) w.medium.state m.state puts in
+    let some = as_out (w.data_start + w.bytes_written) bytes (bad e) w.medium.state m.state puts in
     record {
       answer = Err (IoError e);
-      does = accepts_none true true log_state w idle.none idle.sound (λ _. idle.stands) m bytes room
+      does = accepts_none true true log_state w idle.none idle.sound (λ _. idle.at_most) m bytes room
           whole e (λ _. some) (λ _ _. w.medium.replays);
       mark = refl;
-      idle = good_over w m idle (still true true log_state w (λ _. idle.stands) m bytes _ refl some);
+      idle = good_over w m idle (still true true log_state w (λ _. idle.at_most) m bytes _ refl some);
     }
 
 -- a recording between two calls
@@ -134,10 +134,10 @@ at_rest s file known r w recorded idle is none order = record {
 }
 
 -- a block that has a place has room
-has_room : (r : Recorder) (w : WriterState Log) (samples more : ℕ) → IsRecorderOf r w → w.waiting ≡ []
+has_room : (r : Recorder) (w : WriterState Log) (samples more : ℕ) → IsRecorderOf r w → w.buffered ≡ []
     → more ≡ samples * r.bytes_per_sample → HasData r (length_with r samples) → HasRoom w more
 has_room r w samples more is none long (far, wide, fits) =
-    let sum : r.data_length + samples * r.bytes_per_sample ≡ w.out + 0 + more = omega (arith, is.1, long) in
+    let sum : r.data_length + samples * r.bytes_per_sample ≡ w.bytes_written + 0 + more = omega (arith, is.1, long) in
     rw none (subst (λ (x : ℕ × ℕ). riff_size x.0 x.1 ≤ greatest_u32) (λ i. (is.0 i, sum i)) fits)
 
 -- a new file whose header was written
@@ -156,7 +156,7 @@ directed_new s old log r opens (writable, is) =
     (record {
       none = refl;
       sound = sound;
-      stands = stands_begin true log_state s old log writable opens.begins opens.puts;
+      at_most = at_most_begin true log_state s old log writable opens.begins opens.puts;
     })
     (rw (is, here) (refl, refl, refl)) (ap (λ (x : Recorder). x.number) is)
     (λ synced. (data_start s, header_in_order s old log.state opens synced, λ _. rw is (omega arith)))
@@ -195,13 +195,13 @@ directed_resumed s samples start old log r is (frames, pair, channels, (far, wid
     let found : accepted_samples log_state w ≡ containers s.bytes_per_sample samples (drop start old.contents) =
     rw count at (samples_out log_state w refl sound)
     ∙ ap (λ c. containers s.bytes_per_sample samples (drop start c)) stays in
-    let stands = stands_on s len start old.contents log.state.contents head stays in
+    let at_most = at_most_on s len start old.contents log.state.contents head stays in
     let kind = is.sound in
     let held : start + len ≤ length log.state.contents = rw stays is.held in
     let begun = resumed_file s samples start old in
     let opens : Opens true true log_state s begun w = search rules in
     at_rest s begun [] r w (recorded_first true true log_state s begun w opens)
-    (record { none = refl; sound = sound; stands = stands })
+    (record { none = refl; sound = sound; at_most = at_most })
     (rw same (refl, refl, refl)) (ap (λ (x : Recorder). x.number) same)
     (λ synced. (
       start + len,
@@ -219,8 +219,8 @@ reported : (old new : Recorder) (w : WriterState Log) (end : Log) (samples more 
     (result : Result (Unit {0}) IoFault) → IsRecorderOf old w → old.number ≡ 0
     → more ≡ samples * old.bytes_per_sample
     → new ≡ (if is_ok result then record old { data_length = length_with old samples } else record old { condition = 1 })
-    → IsRecorderOf new (record w { medium = end; out = out_after result more w.out }) × (new.number ≡ 0)
-    × (new.condition ≡ 0 → w.data_start + w.out + more ≤ new.data_start + new.data_length)
+    → IsRecorderOf new (record w { medium = end; bytes_written = out_after result more w.bytes_written }) × (new.number ≡ 0)
+    × (new.condition ≡ 0 → w.data_start + w.bytes_written + more ≤ new.data_start + new.data_length)
 reported old new w end samples more (Ok x) is none long same =
     rw same ((is.0, omega (arith, is.1, long), is.2), none, λ _. omega (arith, is.0, is.1, long))
 reported old new w end samples more (Err e) is none long same =
@@ -237,15 +237,15 @@ directed_block s file known old new m end samples place bytes result d (clean, n
     let w = d.writer in
     let (done, same) = at_none old d.result w.medium d.log none d.performed in
     let here : m ≡ w.medium.state = sym d.state ∙ ap log_state same in
-    let at : place ≡ w.data_start + w.out = there ∙ omega (arith, d.is.0, d.is.1) in
+    let at : place ≡ w.data_start + w.bytes_written = there ∙ omega (arith, d.is.0, d.is.1) in
     let more : length bytes ≡ samples * w.spec_ex.bytes_per_sample = rw d.is.2 at long in
     let whole : length bytes % w.spec_ex.bytes_per_sample ≡ 0 =
     rw more (mul-mod_left samples w.spec_ex.bytes_per_sample) in
-    let written : PutsAt true (w.data_start + w.out) bytes result w.medium.state end.state = rw (here, at) at puts in
+    let written : PutsAt true (w.data_start + w.bytes_written) bytes result w.medium.state end.state = rw (here, at) at puts in
     let call = block_call bytes result w end d.idle (has_room old w samples (length bytes) d.is d.idle.none long has)
     whole written in
     let known_more = known ++ block_known bytes (is_ok result) s ∷ [] in
-    let next = record w { medium = end; out = out_after result (length bytes) w.out } in
+    let next = record w { medium = end; bytes_written = out_after result (length bytes) w.bytes_written } in
     let recorded : Recorded true true log_state s file known_more next =
     subst (λ x. Recorded true true log_state s file (known ++ block_known bytes (is_ok result) x ∷ []) next)
     (recorded_spec true true log_state s file known w d.recorded)
@@ -254,8 +254,8 @@ directed_block s file known old new m end samples place bytes result d (clean, n
     let (fields, number, below) = reported old new w end samples (length bytes) result d.is none long is in
     at_rest s file known_more new next recorded call.idle fields number
     (λ synced. let (high, order, low) = d.order synced in (
-      w.data_start + w.out + length bytes,
-      puts_in_order high (w.data_start + w.out) bytes result w.medium.state end.state
+      w.data_start + w.bytes_written + length bytes,
+      puts_in_order high (w.data_start + w.bytes_written) bytes result w.medium.state end.state
           (omega (arith, low clean, d.is.0, d.is.1)) order written,
       below,
     ))
@@ -346,8 +346,8 @@ ended : (s : WavSpecEx) (file : Begun) (known : List Known) (old : Recorder) (ok
 ended s file known old ok m condition d all clean =
     let w = d.writer in
     let whole = performed_all (effects_of old) old.number d.result w.medium d.log all d.performed in
-    let did : Performed (if old.condition == 0 then checkpoint w.data_start w.out
-    else Sync ∷ checkpoint w.data_start w.out) d.result w.medium d.log = rw (d.is.0, d.is.1) at whole in
+    let did : Performed (if old.condition == 0 then checkpoint w.data_start w.bytes_written
+    else Sync ∷ checkpoint w.data_start w.bytes_written) d.result w.medium d.log = rw (d.is.0, d.is.1) at whole in
     let call = save_call (old.condition == 0) d.result w d.log d.idle did in
     let next = record w { medium = d.log } in
     let recorded = recorded_more true true log_state (marked publish (is_ok d.result)) publish call.answer s file known w

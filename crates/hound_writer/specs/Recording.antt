@@ -10,7 +10,7 @@ use Rattle.hound_reader.specs.{IsSoundSpec, Readable}
 use Rattle.hound_writer.specs.Accepting.{whole_containers}
 use Rattle.hound_writer.specs.Calls.{Begun, Known, Recorded, appended, handed_in, marked, write}
 use Rattle.hound_writer.specs.Effects.{Log, Performed, log_state}
-use Rattle.hound_writer.specs.Parts.{IsStanding}
+use Rattle.hound_writer.specs.Parts.{CountsAtMost}
 use Rattle.hound_writer.specs.Recorder.{effects_of}
 use Rattle.hound_writer.specs.Writer.{WriterState, IsSound}
 use Rattle.hound_writer.specs.declared.recorder.Recorder.{Recorder}
@@ -45,13 +45,13 @@ pub record IsOrdered (high : ℕ) (m : MediumState) : Type 0 where
 
 -- a writer between two calls of a recording: nothing is buffered
 pub record IsIdle (w : WriterState Log) : Type 0 where
-  pub none : w.waiting ≡ []
+  pub none : w.buffered ≡ []
   pub sound : IsSound w
-  pub stands : IsStanding w.spec_ex w.data_start w.out w.medium.state.contents
+  pub at_most : CountsAtMost w.spec_ex w.data_start w.bytes_written w.medium.state.contents
 
 -- the data of a recorder are those of a writer
 abbrev pub IsRecorderOf : Recorder → WriterState Log → Type 0
-IsRecorderOf r w = (r.data_start ≡ w.data_start) × (r.data_length ≡ w.out)
+IsRecorderOf r w = (r.data_start ≡ w.data_start) × (r.data_length ≡ w.bytes_written)
     × (r.bytes_per_sample ≡ w.spec_ex.bytes_per_sample)
 
 -- What a caller has that did as its recorder said: calls of a writer led to this file, of which these

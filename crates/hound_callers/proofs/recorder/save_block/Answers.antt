@@ -24,8 +24,7 @@ returns-then-not-written-clause-stopped g c tells keeps s file known d =
     let mid = c.a_recorder_directs.ensures.wrote s file known old c.wrote.new.self (g.M.Placed.state c.args.medium.now)
     log (length bytes / old.bytes_per_sample) c.in_ok-place.place bytes c.write_at.result d c.in_ok-place.ensures
     (whole_samples (length bytes) old.bytes_per_sample c.if-block-width-ne0.false)
-    (rw keeps at (c.write_at.ensures tells)) (rw c.is_ok-written.ensures.value at c.in_ok-wrote.ensures) in
-    (
+    (rw keeps at (c.write_at.ensures tells)) (rw c.is_ok-written.ensures.value at c.in_ok-wrote.ensures) in (
       (write (samples_of s c.args.block), false) ∷ [],
       inr (inl refl),
       ap (λ (x : Recorder). x.number) (rw c.if-not-written.true at c.in_ok-wrote.ensures.1) ∙ c.requires.0,
