@@ -1,10 +1,10 @@
 -- What a recording keeps whose caller performs the effects.
 use Rattle.std.proofs.lemmas.Grind.{common_steps}
-use Rattle.std.proofs.Common.{◌≡◌, ℕ, ◌+◌, ◌-◌, ◌*◌, ◌<◌, ◌≤◌, true, List, [], ◌∷◌, ◌++◌, length, take, map, inr, Result, Ok, Err, refl, sym, ◌∙◌, ap, subst, arith, length-take}
+use Rattle.std.proofs.Common.{◌≡◌, ℕ, ◌-◌, ◌<◌, ◌≤◌, true, List, [], ◌∷◌, ◌++◌, length, take, inr, Result, Ok, Err, refl, sym, ◌∙◌, ap, subst, arith, length-take}
 use Rattle.hound_number.specs.{bytes_of}
 use Rattle.hound_spec.specs.declared.error.Error.TheVariants.{TooWide}
 use Rattle.hound_spec.specs.declared.spec.WavSpecEx.{WavSpecEx}
-use Rattle.hound_spec.specs.{data_start, riff_size}
+use Rattle.hound_spec.specs.{riff_size}
 use Rattle.hound_medium.specs.{placed, MediumState}
 use Rattle.hound_durable.specs.{Ascends, place_of}
 use Rattle.hound_durable.proofs.Ascending.{length_put, place_after, place_before}

@@ -2,12 +2,12 @@
 use Rattle.std.proofs.lemmas.Bool.{false≢true}
 use Rattle.std.proofs.lemmas.Grind.{flat_map-append, common_steps}
 use Rattle.std.proofs.lemmas.List.{append-nil, map-append}
-use Rattle.std.proofs.Common.{◌≡◌, ◌<◌, ◌≤◌, ◌+◌, ◌-◌, ◌*◌, ◌/◌, ◌%◌, ℕ, Bool, true, false, List, [], ◌∷◌, ◌++◌, drop, drop-cons, get_or, length, length-take, take, inl, inr, OnErr, OnOk, Option, Some, None, Result, Ok, Err, IsErr, is_ok, refl, sym, ◌∙◌, ap, subst, append_assoc, arith}
+use Rattle.std.proofs.Common.{◌≡◌, ◌<◌, ◌≤◌, ◌+◌, ◌-◌, ◌*◌, ◌/◌, ◌%◌, ℕ, Bool, true, false, List, [], ◌∷◌, ◌++◌, drop, drop-cons, get_or, length, length-take, take, inl, inr, OnErr, OnOk, Option, Some, Result, Ok, Err, IsErr, is_ok, refl, sym, ◌∙◌, ap, append_assoc, arith}
 use Rattle.std.proofs.Math.Nat.{div-add-mod', mul-div_cancel, mul-mod_left}
 use Rattle.std.specs.Borrow.{Bor}
 use Rattle.std.specs.List.{AllByRecursion, flat_map}
 use Rattle.hound.proofs.Knowing.{accepted as accepted_of_known, lasts, length-concat, reads_all}
-use Rattle.hound.specs.{AreBytes, AreKnown, Asked, Begun, Call, Directed, Effect, KeptWithin, Known, Log, MediumState, NextEffect, Places, Recorder, RecorderError, WavSpecEx, accepted_as_seen, accepted_by_all, advanced, checkpoint, effects_of, field, found_in, if_marked, length_with, log_state, marked, nth, overlay, publish, seen, start_of, write}
+use Rattle.hound.specs.{AreBytes, Asked, Begun, Directed, Effect, KeptWithin, Known, Log, MediumState, Places, Recorder, RecorderError, WavSpecEx, accepted_as_seen, accepted_by_all, advanced, effects_of, field, found_in, if_marked, length_with, log_state, marked, nth, overlay, publish, seen, start_of}
 use Rattle.hound.specs.declared.RecorderError.TheVariants.{NotWritable, UnfinishedFrame, TooLong, NeedsCheckpoint, SyncFailed}
 use Rattle.hound_callers.specs.Recorder.{IsReady, IsRefused, ReadsBlocks, Saves, Stops, StopsAt, StopsIn, samples_of}
 use Rattle.hound_callers.specs.Recording.{published_calls}

@@ -15,7 +15,7 @@ use Rattle.hound_writer.specs.Effects.{Log, Performed, checkpoint, log_state, pa
 use Rattle.hound_writer.specs.Parts.{all_out, after_out, GoesOut, HasSize, IsConsistent, IsPublishResult, CountsAtMost, Patches, PatchesAtEach, PutsAt, StaysAround}
 use Rattle.hound_writer.specs.Publishing.{PublishesTo}
 use Rattle.hound_writer.specs.Recording.{IsIdle}
-use Rattle.hound_writer.specs.Writer.{WriterState, AreFrames, IsPadded, IsSound, data_length, padded_end}
+use Rattle.hound_writer.specs.Writer.{WriterState, AreFrames, IsPadded, data_length, padded_end}
 use Rattle.hound_writer.specs.declared.effects.Effect.{Effect}
 use Rattle.hound_writer.specs.declared.effects.Effect.TheVariants.{Size, Sync}
 use Rattle.hound_writer.proofs.Accepting.{goes_beside}

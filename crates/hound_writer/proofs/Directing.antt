@@ -1,12 +1,12 @@
 -- What a caller does as its recorder directs are calls of a writer.
 use Rattle.std.proofs.lemmas.Grind.{common_steps}
 use Rattle.std.proofs.lemmas.Bool.{eqb-true, false≢true}
-use Rattle.std.proofs.Common.{◌≡◌, ℕ, zero, suc, ◌+◌, ◌*◌, ◌/◌, ◌%◌, ◌<◌, ◌≤◌, Bool, true, false, IsTrue, List, [], ◌∷◌, ◌++◌, length, drop, take, inl, inr, Option, Some, None, Result, Ok, Err, is_ok, refl, rules, sym, ◌∙◌, ap, subst, arith}
+use Rattle.std.proofs.Common.{◌≡◌, ℕ, zero, suc, ◌+◌, ◌*◌, ◌/◌, ◌%◌, ◌<◌, ◌≤◌, Bool, true, false, IsTrue, List, [], ◌∷◌, ◌++◌, length, drop, take, inl, inr, Some, None, Result, Ok, Err, is_ok, refl, rules, sym, ◌∙◌, ap, subst, arith}
 use Rattle.std.proofs.Math.Nat.{mul-div_cancel, mul-mod_left}
 use Rattle.std.specs.Prelude.{◌==◌, if◌then◌else◌}
 use Rattle.std.specs.declared.io.Error.{Error as IoFault}
 use Rattle.hound_sample.specs.{containers}
-use Rattle.hound_spec.specs.{IsPair, IsWritable, data_start, greatest_u32, header, riff_size}
+use Rattle.hound_spec.specs.{IsPair, data_start, greatest_u32, header, riff_size}
 use Rattle.hound_spec.proofs.HeaderLemmas.{length-header}
 use Rattle.hound_spec.specs.declared.error.Error.{Error}
 use Rattle.hound_spec.specs.declared.error.Error.TheVariants.{IoError, UnfinishedSample}
@@ -20,7 +20,7 @@ use Rattle.hound_writer.specs.Beginning.{Begins}
 use Rattle.hound_writer.specs.Calls.{Asked, Begun, Does, Known, Opens, Recorded, handed_in, marked, new_file, publish, write}
 use Rattle.hound_writer.specs.Effects.{Log, Performed, Performs, checkpoint, log_state, nth}
 use Rattle.hound_writer.specs.Parts.{IsPublishResult, PutsAt, of_fields}
-use Rattle.hound_writer.specs.Recorder.{AppendsRecorder, BeginsRecorder, HasData, HasFailed, NextEffect, Places, Reports, effects_of, length_with, recorder_of}
+use Rattle.hound_writer.specs.Recorder.{AppendsRecorder, BeginsRecorder, HasData, HasFailed, NextEffect, Places, Reports, effects_of, length_with}
 use Rattle.hound_writer.specs.Recording.{Directed, IsIdle, IsOrdered, IsRecorderOf, IsSynced, Opened, Resumed, block_known, resumed_file}
 use Rattle.hound_writer.specs.Writer.{WriterState, HasRoom, IsSound, accepted_samples, sample_count}
 use Rattle.hound_writer.specs.declared.effects.Effect.{Effect}

@@ -1,4 +1,4 @@
-use Rattle.std.proofs.Common.{◌≡◌, ◌+◌, ◌-◌, ◌*◌, ◌∙◌, List, ℕ, ap, arith, length, length-drop}
+use Rattle.std.proofs.Common.{◌≡◌, ◌-◌, ◌∙◌, List, ℕ, ap, arith, length, length-drop}
 use Rattle.std.specs.Borrow.{Bor}
 use Rattle.hound.proofs.Knowing.{head_inside}
 use Rattle.hound.specs.{Readable, Recorder, resumed_file}

@@ -1,4 +1,4 @@
-use Rattle.std.proofs.Common.{◌≡◌, [], append-nil, arith, length, refl, subst, sym, true}
+use Rattle.std.proofs.Common.{◌≡◌, [], append-nil, arith, length, subst, sym, true}
 use Rattle.std.proofs.lemmas.List.{map-append}
 use Rattle.hound.specs.{Directed}
 use Rattle.hound.proofs.Knowing.{at_ok}

@@ -1,4 +1,4 @@
-use Rattle.std.proofs.Common.{◌≡◌, ◌≤◌, [], length, take, true}
+use Rattle.std.proofs.Common.{◌≤◌, [], length, take, true}
 use Rattle.hound.specs.{Begun, Directed, WavSpecEx, WhereKeeps, seen}
 use Rattle.hound_callers.specs.Recorder.{IsReady, samples_of}
 use Rattle.hound_callers.specs.Recording.{published_calls}

@@ -1,6 +1,5 @@
-use Rattle.std.proofs.Common.{◌≡◌, ℕ, List, [], ◌∷◌, ◌++◌, true, Bool, Result, length, refl, sym, ap, subst, ◌∙◌, append_assoc}
-use Rattle.std.specs.List.{AllByRecursion, concat}
-use Rattle.hound.specs.{AreKnown, Begun, Call, Known, Left, MediumState, Recorded, Refusal, WavSpecEx, WriterState, containers_in, found_in, made, marked, publish, seen, write}
+use Rattle.std.proofs.Common.{List, [], ◌∷◌, ◌++◌, true, Bool, refl, subst, append_assoc}
+use Rattle.hound.specs.{Begun, Known, Left, MediumState, Recorded, WavSpecEx, WriterState, containers_in, made, marked, publish, seen, write}
 use Rattle.hound_callers.proofs.recording.publish_and_continue.Goals as goal
 
 -- what calls led to so far is what they left there
